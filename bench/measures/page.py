@@ -382,7 +382,8 @@ def with_day(text, plain, is_alone):
     now = datetime.date.today()
     day = f"{now.day} {now:%B %Y}"
     if plain:
-        said = f"Measured: both programs on {day}; times are of the processor, served ones of the clock."
+        said = (f"Measured: both programs on {day}; times are medians of nine runs in turn, of the processor, served ones of the "
+                "clock with a client in Python.")
     elif is_alone:
         said = (f"Measured: instructions and memory of the program on {day}; the plain engine and times earlier, over files of "
                 "the same kind, so that ratios are approximate.")
@@ -392,6 +393,12 @@ def with_day(text, plain, is_alone):
     return re.sub(r"^Counted on .*:\n", f"Counted on {day}:\n", text, count=1, flags=re.M)
 
 
+def medians(row, programs):
+    """The number of a row for each program: one run, but of times the median of nine runs in turn, since they vary."""
+    runs = [[row.measure(it) for it in programs] for _ in range(9 if row.unit in TIMES else 1)]
+    return [statistics.median(it) for it in zip(*runs)]
+
+
 def measured_rows(words, program, plain, is_alone):
     """The numbers of both programs, by the names of rows."""
     found, found_plain = {}, {}
@@ -399,9 +406,9 @@ def measured_rows(words, program, plain, is_alone):
         is_compared = row.page == COMPARED
         if words and row.name not in words or is_compared and not plain and (row.unit in TIMES or not is_alone):
             continue
-        found[row.name] = row.measure(program)
-        if plain and is_compared:
-            found_plain[row.name] = row.measure(plain)
+        found[row.name], *other = medians(row, [program, plain] if plain and is_compared else [program])
+        if other:
+            found_plain[row.name] = other[0]
         print(f"{row.name:<20} {rounded(found[row.name])} {row.unit}", flush=True)
     return found, found_plain
 

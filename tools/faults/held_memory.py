@@ -24,7 +24,7 @@ def rows(program, folder):
     try:
         for word, count in ROWS:
             began = time.monotonic()
-            came = hostile.came_to(word, str(count))
+            came = hostile.row_outcome(word, str(count))
             is_right = came == f"{count} put and taken away"
             yield word, f"{came}, in {time.monotonic() - began:.1f} seconds", is_right
     finally:

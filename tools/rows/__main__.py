@@ -57,10 +57,10 @@ class Tables:
         with self.telling:
             print("\n".join(lines), flush=True)
 
-    def came_to(self, kind, row):
+    def row_outcome(self, kind, row):
         """Returns the outcome of a row; a failed kind is reported as such."""
         try:
-            return kind.came_to(row.word, row.text)
+            return kind.row_outcome(row.word, row.text)
         except Exception as fault:  # a row that cannot be tried is a wrong one, and the others are tried
             return f"{type(fault).__name__}: {fault}"
 
@@ -71,7 +71,7 @@ class Tables:
             if self.stop.is_set():
                 raise Stopped
             began = time.monotonic()
-            came = self.came_to(kind, row)
+            came = self.row_outcome(kind, row)
             if came != row.expected and not self.stop.is_set():
                 wrong += 1
                 at = first_difference(row.expected, came)

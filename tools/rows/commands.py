@@ -118,7 +118,7 @@ class Commands(Kind):
         super().__init__(program, room)
         self.cedar = Program(program, room)
 
-    def came_to(self, word, text):
+    def row_outcome(self, word, text):
         answer = getattr(self, f"of_{word}", None)
         return answer(text) if answer else "bad row"
 
@@ -461,7 +461,7 @@ class Blocks(Commands):
             rows.append(Block(at + 1, lines[at], compact(values), expected))
         return rows
 
-    def came_to(self, word, text):
+    def row_outcome(self, word, text):
         return self.gives(json.loads(text))
 
     def gives(self, values):

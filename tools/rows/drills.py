@@ -50,7 +50,7 @@ class Drills(Commands):
             rows.append(Drill(at + 1, lines[at], compact(values), expected))
         return rows
 
-    def came_to(self, word, text):
+    def row_outcome(self, word, text):
         values = json.loads(text)
         if "random" in values:
             return self.of_random(int(values["random"]), int(values["sites"]))

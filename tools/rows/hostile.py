@@ -169,7 +169,7 @@ class Hostile(Served):
         super().__init__(program, room)
         self.site, self.accepted = None, 0
 
-    def came_to(self, word, text):
+    def row_outcome(self, word, text):
         numbers = [int(it) for it in text.split()]
         if self.site is not None:
             self.site.end()
@@ -355,7 +355,7 @@ class HostileFiles(Commands):
 
     CODES = {"schemas": set(range(20, 26)), "files": set(range(10, 20))}
 
-    def came_to(self, word, text):
+    def row_outcome(self, word, text):
         if word not in self.CODES:
             return BAD_ROW
         seed, count = (int(it) for it in text.split())

@@ -268,7 +268,7 @@ class Entities(Served):
         super().__init__(program, room)
         self.site = None
 
-    def came_to(self, word, text):
+    def row_outcome(self, word, text):
         """Returns the outcome of one row."""
         if word == "under":
             return self.under(expanded(text))
@@ -311,7 +311,7 @@ class Extensions(Entities):
     TYPES = {"decimal": "decimal", "address": "ipaddr"}
     FUNCTIONS = {"decimal": "decimal", "address": "ip"}
 
-    def came_to(self, word, text):
+    def row_outcome(self, word, text):
         """Returns the outcome of one row."""
         if word not in self.TYPES:
             return BAD_ROW
@@ -397,7 +397,7 @@ class Summaries(Served):
         super().__init__(program, room)
         self.empty = self.label = None
 
-    def came_to(self, word, text):
+    def row_outcome(self, word, text):
         """Returns the outcome of one row."""
         if word != "summary":
             return BAD_ROW
@@ -459,7 +459,7 @@ class Messages(Served):
         super().__init__(program, room)
         self.declared = self.label = self.site = self.other = None
 
-    def came_to(self, word, text):
+    def row_outcome(self, word, text):
         """Returns the outcome of one row."""
         if word == "under":
             return self.under(expanded(text))
@@ -648,7 +648,7 @@ class Sites(Served):
         super().__init__(program, room)
         self.declared, self.started = b"", {}
 
-    def came_to(self, word, text):
+    def row_outcome(self, word, text):
         """Returns the outcome of one row."""
         if word == "under":
             self.declared = text.encode()
@@ -743,7 +743,7 @@ class Streams(Served):
         self.declared, self.name, self.site = b"", "1", None
         self.tried_at, self.nothing = None, None
 
-    def came_to(self, word, text):
+    def row_outcome(self, word, text):
         """Returns the outcome of one row."""
         match word:
             case "under":

@@ -58,7 +58,7 @@ class Sound(Served):
         ]
         self.standing = set()
 
-    def came_to(self, word, text):
+    def row_outcome(self, word, text):
         names = set(text.split())
         if word != "stored" or not names <= set(ENTITIES):
             return BAD_ROW

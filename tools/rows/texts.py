@@ -20,14 +20,14 @@ class Row:
 class Kind:
     """Answers the rows of a table, in their order, and keeps what a row sets for later ones.
 
-    A kind has `came_to`, and may override `__init__` and `close`, calling these, or `rows_of` for tables of another form.
+    A kind has `row_outcome`, and may override `__init__` and `close`, calling these, or `rows_of` for tables of another form.
     """
 
     def __init__(self, program, room):
         """PROGRAM is an absolute path, ROOM a fresh folder for this table."""
         self.program, self.room = program, room
 
-    def came_to(self, word, text):
+    def row_outcome(self, word, text):
         """Returns the outcome of one row, as a text to compare with the expected one."""
         raise NotImplementedError
 

@@ -6,7 +6,7 @@ use Rattle.ancestor_search.specs.Hierarchy.{Parents, IsAncestor}
 use Rattle.ancestor_search.specs.Decided.{is_same}
 use Rattle.ancestor_search.specs.Deciding.{same_uid, Contains-none}
 use Rattle.ancestor_search.proofs.Levels.{among}
-use Rattle.ancestor_closure.specs.Lists.{IsListOf, IsKeptOf, AgreeBut, IsKeptBut, AddsChild}
+use Rattle.ancestor_closure.specs.Lists.{IsListOf, IsCacheContent, AgreeBut, IsStaleContent, AddsChild}
 use Rattle.ancestor_closure.specs.declared.changing.Change.{Change}
 use Rattle.ancestor_closure.specs.inner.OneChange.{TakesChild, firsts, written, IsInOwn, Enters, Leaves, IsPlanned}
 use Rattle.ancestor_closure.proofs.Paths.{IsListOf-kept, IsAncestor-turned, differ, same_above}
@@ -30,7 +30,7 @@ err_always (Err x) a = a
 
 -- the same lists and children
 pub kept-same : (p : Parents) (anc anc' ch ch' : EntityUid → List EntityUid) (cyc : List EntityUid) → ((q : EntityUid) → anc' q ≡ anc q) → ((q : EntityUid) → ch' q ≡ ch q)
-    → IsKeptOf p anc ch cyc → IsKeptOf p anc' ch' cyc
+    → IsCacheContent p anc ch cyc → IsCacheContent p anc' ch' cyc
 kept-same p anc anc' ch ch' cyc e f k = record {
   above = λ b. subst (λ l. IsListOf p b l) (sym (e b)) (k.above b);
   below = λ a b. subst (λ l. Contains l b ↔ Contains (p b) a) (sym (f a)) (k.below a b);
@@ -38,12 +38,12 @@ kept-same p anc anc' ch ch' cyc e f k = record {
 }
 
 pub but-same : (uid : EntityUid) (p : Parents) (anc anc' ch ch' : EntityUid → List EntityUid) (cyc : List EntityUid) → ((q : EntityUid) → anc' q ≡ anc q) → ((q : EntityUid) → ch' q ≡ ch q)
-    → IsKeptBut uid p anc ch cyc → IsKeptBut uid p anc' ch' cyc
+    → IsStaleContent uid p anc ch cyc → IsStaleContent uid p anc' ch' cyc
 but-same uid p anc anc' ch ch' cyc e f k = record { before = k.before; kept = kept-same k.before anc anc' ch ch' cyc e f k.kept; others = k.others }
 
 -- with the same parents nothing changes
 pub kept-with : (P Q : Parents) (anc ch : EntityUid → List EntityUid) (cyc : List EntityUid) → ((b a : EntityUid) → Contains (P b) a ↔ Contains (Q b) a)
-    → IsKeptOf P anc ch cyc → IsKeptOf Q anc ch cyc
+    → IsCacheContent P anc ch cyc → IsCacheContent Q anc ch cyc
 kept-with P Q anc ch cyc same k = record {
   above = λ b. ((λ a. (λ h. on a b (((k.above b).0 a).0 h), λ up. ((k.above b).0 a).1 (back a b up))), (k.above b).1);
   below = λ a b. (λ h. (same b a).0 ((k.below a b).0 h), λ h. (k.below a b).1 ((same b a).1 h));
@@ -57,8 +57,8 @@ kept-with P Q anc ch cyc same k = record {
     back = same_above Q P (λ b a. (same b a).1)
 
 -- where the entity had no parents and gets none
-pub none_kept : (Q : Parents) (uid : EntityUid) (anc ch : EntityUid → List EntityUid) (cyc : List EntityUid) → IsKeptBut uid Q anc ch cyc → ((x : EntityUid) → Contains (Q uid) x → ⊥)
-    → anc uid ≡ [] → IsKeptOf Q anc ch cyc
+pub none_kept : (Q : Parents) (uid : EntityUid) (anc ch : EntityUid → List EntityUid) (cyc : List EntityUid) → IsStaleContent uid Q anc ch cyc → ((x : EntityUid) → Contains (Q uid) x → ⊥)
+    → anc uid ≡ [] → IsCacheContent Q anc ch cyc
 none_kept Q uid anc ch cyc but none alone = kept-with but.before Q anc ch cyc (λ b a. at b a (is_same uid b) refl) but.kept
   where
     had_none : (x : EntityUid) → Contains (but.before uid) x → ⊥
@@ -73,8 +73,8 @@ none_kept Q uid anc ch cyc but none alone = kept-with but.before Q anc ch cyc (�
     at b a false apart = let e = but.others b apart in (λ h. subst (λ l. Contains l a) e h, λ h. subst (λ l. Contains l a) (sym e) h)
 
 -- where the entity has the parents already that it gets
-pub already_kept : (Q : Parents) (uid : EntityUid) (anc ch : EntityUid → List EntityUid) (cyc : List EntityUid) → IsKeptBut uid Q anc ch cyc
-    → ((x : EntityUid) → Contains (Q uid) x ↔ (Contains (anc uid) x × Contains (ch x) uid)) → IsKeptOf Q anc ch cyc
+pub already_kept : (Q : Parents) (uid : EntityUid) (anc ch : EntityUid → List EntityUid) (cyc : List EntityUid) → IsStaleContent uid Q anc ch cyc
+    → ((x : EntityUid) → Contains (Q uid) x ↔ (Contains (anc uid) x × Contains (ch x) uid)) → IsCacheContent Q anc ch cyc
 already_kept Q uid anc ch cyc but same = kept-with but.before Q anc ch cyc (λ b a. at b a (is_same uid b) refl) but.kept
   where
     own : (a : EntityUid) → Contains (but.before uid) a ↔ Contains (Q uid) a
@@ -88,7 +88,7 @@ already_kept Q uid anc ch cyc but same = kept-with but.before Q anc ch cyc (λ b
     at b a false apart = let e = but.others b apart in (λ h. subst (λ l. Contains l a) e h, λ h. subst (λ l. Contains l a) (sym e) h)
 
 module _ (uid : EntityUid) (P Q : Parents) (agree : AgreeBut uid P Q) (anc ch : EntityUid → List EntityUid) (cyc : List EntityUid)
-    (kept : IsKeptOf P anc ch cyc) (change : Change) (plan : IsPlanned Q uid anc ch change) where
+    (kept : IsCacheContent P anc ch cyc) (change : Change) (plan : IsPlanned Q uid anc ch change) where
   -- a list that is not written is right as it stands
   others : (q : EntityUid) → Contains (firsts change.lists.items) q ⊎ IsListOf Q q (anc q)
   others q = at (is_same uid q) refl
@@ -201,7 +201,7 @@ module _ (uid : EntityUid) (P Q : Parents) (agree : AgreeBut uid P Q) (anc ch : 
                 ],
           )
 
-      pub made : IsKeptOf Q anc2 ch2 cyc2
+      pub made : IsCacheContent Q anc2 ch2 cyc2
       made = record {
         above = above_after;
         below = below_after;
@@ -210,7 +210,7 @@ module _ (uid : EntityUid) (P Q : Parents) (agree : AgreeBut uid P Q) (anc ch : 
 
 -- the change was taken back, in each graph that was kept
 module _ (p Q : Parents) (uid : EntityUid) (anc ch : EntityUid → List EntityUid) (cyc : List EntityUid)
-    (kept : IsKeptOf p anc ch cyc) (change : Change) (plan : IsPlanned Q uid anc ch change)
+    (kept : IsCacheContent p anc ch cyc) (change : Change) (plan : IsPlanned Q uid anc ch change)
     (ch1 ch2 : EntityUid → List EntityUid) (cyc1 cyc2 : List EntityUid) (adds : AddsChild change.after.items change.uid ch ch1) (enters : Enters change.lists.items cyc cyc1)
     (takes : TakesChild change.after.items change.before.items change.uid ch1 ch2) (leaves : Leaves change.entities.items anc cyc1 cyc2) where
   below_back : (a b : EntityUid) → Contains (ch2 a) b ↔ Contains (p b) a
@@ -245,5 +245,5 @@ module _ (p Q : Parents) (uid : EntityUid) (anc ch : EntityUid → List EntityUi
     ],
   )
 
-  pub taken_back : IsKeptOf p anc ch2 cyc2
+  pub taken_back : IsCacheContent p anc ch2 cyc2
   taken_back = record { above = kept.above; below = below_back; on_cycles = cycles_back }

@@ -12,7 +12,7 @@ use Rattle.ancestor_search.specs.Search.{parents_of, items_or_none}
 use Rattle.ancestor_search.specs.Decided.{is_same}
 use Rattle.ancestor_search.specs.Deciding.{Contains-none, same_uid}
 use Rattle.ancestor_closure.specs.ClosedMeaning.{closed_entries, closed_parents}
-use Rattle.ancestor_closure.specs.Lists.{IsKeptOf, ancestors_in, children_in, ancestors_or_none, children_or_none}
+use Rattle.ancestor_closure.specs.Lists.{IsCacheContent, ancestors_in, children_in, ancestors_or_none, children_or_none}
 use Rattle.ancestor_closure.specs.declared.relatives.Relatives.{Relatives}
 
 at_entries : (es : List (EntityUid × Vec EntityUid Global)) (q : EntityUid) → closed_parents (closed_entries es) q ≡ items_or_none (lookup (is_at (uid_cmp q)) es)
@@ -37,7 +37,7 @@ no_path b [] a h = Contains-none a h
 no_path b (c ∷ cs) a h = Contains-none c h.0
 
 -- nothing is kept of a hierarchy with no entity
-pub kept_of_none : (m : BTreeMap EntityUid Relatives) (cyc : List EntityUid) → m.entries ≡ [] → cyc ≡ [] → IsKeptOf no_parents (ancestors_in m) (children_in m) cyc
+pub kept_of_none : (m : BTreeMap EntityUid Relatives) (cyc : List EntityUid) → m.entries ≡ [] → cyc ≡ [] → IsCacheContent no_parents (ancestors_in m) (children_in m) cyc
 unfolding IsStrictlySortedBy
 kept_of_none m cyc e f = record {
   above = λ b. ((λ a. (λ h. Contains-none a (rw (no_list b) at h), λ up. absurd (no_path b up.0 a up.1))), rw (no_list b) tt);

@@ -14,7 +14,7 @@ use Rattle.ancestor_search.specs.Deciding.{same_uid, same_self, Contains-here, C
 use Rattle.ancestor_search.specs.Deciding.{Contains-cases, Contains-none}
 use Rattle.ancestor_search.proofs.Members.{insert_key-kept, insert_key-from, insert_key-here}
 use Rattle.ancestor_search.specs.inner.Backwards.{AreChildrenAmong}
-use Rattle.ancestor_closure.specs.Lists.{IsListOf, IsKeptOf, AddsChild}
+use Rattle.ancestor_closure.specs.Lists.{IsListOf, IsCacheContent, AddsChild}
 use Rattle.ancestor_closure.specs.inner.WholeGraph.{AreListsOf}
 
 pub err_always : {T E : Type 0} {A : Type 0} (r : Result T E) → A → OnErr r A
@@ -109,7 +109,7 @@ nothing_above p us all b not a ([], h) = absurd (not (all b a h))
 nothing_above p us all b not a ((c ∷ cs), h) = absurd (not (all b c h.0))
 
 pub all_kept : (p : Parents) (us vs : List EntityUid) → us ≡ vs → HaveAllParents p vs → (anc ch : EntityUid → List EntityUid) (cyc found : List EntityUid) → AreListsOf p us anc
-    → AreChildrenAmong us p ch → AreOnCycles p found → ((x : EntityUid) → Contains cyc x ↔ Contains found x) → IsKeptOf p anc ch cyc
+    → AreChildrenAmong us p ch → AreOnCycles p found → ((x : EntityUid) → Contains cyc x ↔ Contains found x) → IsCacheContent p anc ch cyc
 unfolding IsStrictlySortedBy
 all_kept p us vs is all anc ch cyc found lists children on same = record {
   above = λ b. elim (lists b) [

@@ -1,4 +1,4 @@
--- Defines the abstract view of a hierarchy with a cache: the list of its entities, each with its parents.
+-- Defines the abstract view of a hierarchy with a cache (`Closed`): the list of its entities, each with its parents.
 use Rattle.std.specs.Prelude.{◌≡◌, Bool, true, false, cond, List, [], ◌∷◌, map, Vec, Contains, Some, unwrap_or, refl}
 use Rattle.std.proofs.Common.{sym, subst}
 use Rattle.std.specs.declared.alloc.Global.{Global}
@@ -10,15 +10,15 @@ use Rattle.values.specs.Names.{uid_cmp}
 use Rattle.ancestor_search.specs.Decided.{Decides, reaches}
 use Rattle.ancestor_search.specs.Deciding.{decided, same_uid, Contains-here, Contains-there, Contains-none}
 
--- `closed_entries es` are the entries of a map from entities to their parents.
+-- `closed_entries es` are the entries `es` of a map, each an entity with the list of its parents.
 abbrev pub closed_entries : List (EntityUid × Vec EntityUid Global) → List (EntityUid × List EntityUid)
 closed_entries es = map (λ e. (e.0, e.1.items)) es
 
--- `closed_parents xs uid` are the parents of `uid`; `[]` if it is not stored.
+-- `closed_parents xs uid` are the parents of `uid` in the view `xs`; `[]` if `uid` is not stored.
 abbrev pub closed_parents : List (EntityUid × List EntityUid) → EntityUid → List EntityUid
 closed_parents xs uid = unwrap_or (lookup (is_at (uid_cmp uid)) xs) []
 
--- `closed_stored xs` are the stored entities.
+-- `closed_stored xs` are the stored entities of the view `xs`.
 abbrev pub closed_stored : List (EntityUid × List EntityUid) → List EntityUid
 closed_stored xs = map (λ x. x.0) xs
 
@@ -26,6 +26,7 @@ closed_stored xs = map (λ x. x.0) xs
 abbrev pub closed_above : List (EntityUid × List EntityUid) → EntityUid → EntityUid → Bool
 closed_above xs = reaches (closed_parents xs) (closed_stored xs)
 
+-- An entity with a parent is stored.
 all_stored : (xs : List (EntityUid × List EntityUid)) (b a : EntityUid) →
     Contains (closed_parents xs b) a → Contains (closed_stored xs) b
 all_stored [] b a h = Contains-none a h
@@ -39,6 +40,6 @@ all_stored (x ∷ xs) b a h =
       | false ↦ λ apart m. Contains-there x.0 (closed_stored xs) b (all_stored xs b a m)
     ] refl h
 
--- The test decides the ancestor relation.
+-- `closed_above xs` decides the ancestor relation.
 pub closed_is_decided : (xs : List (EntityUid × List EntityUid)) → Decides (closed_parents xs) (closed_above xs)
 closed_is_decided xs = decided (closed_parents xs) (closed_stored xs) (λ b a h. all_stored xs b a h)

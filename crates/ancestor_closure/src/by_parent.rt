@@ -1,4 +1,4 @@
-//! The new ancestors of an entity and its descendants when its parents change, by the lists that are cached.
+//! The new ancestors of an entity and of its descendants when its parents change, from the cached lists where possible.
 ghost use Rattle.std.specs.Prelude.{◌≡◌, ◌↔◌, ◌⊎◌, ◌∷◌, ◌++◌, [], ⊤, Contains, List, IfOk, OnOk, MatchOption};
 ghost use Rattle.std.specs.Prelude.{Vec as PlainVec};
 ghost use Rattle.std.specs.BTreeSet.{insert_key};
@@ -107,7 +107,8 @@ fn with_one(
     Ok(all)
 }
 
-// Returns the only parent of `uid`, if `uid` has no descendant and is not its own parent; else `None`.
+// Returns the parent of `uid` in `after`, if it is the only one and is not `uid`, and `uid` has no descendant: the list
+// `entities` (`uid` and its descendants) then has one item. Returns `None` otherwise.
 fn only_parent<'a>(
     uid: &Shared<EntityUid>,
     after: &'a [Shared<EntityUid>],
@@ -157,10 +158,15 @@ fn alone(
     Ok(lists)
 }
 
-/// Returns the new ancestors of an entity and its descendants, if the budget allows them.
+/// Returns `uid` and each of its descendants with its new ancestors.
 ///
-/// The list of an entity with one parent and no descendant has the parent and its cached ancestors, so nothing is
-/// searched. Other lists are found by a search for each.
+/// `after` are the new parents of `uid`, `entities` are `uid` and its descendants. If `uid` has exactly one new parent,
+/// which is another entity, and no descendant, its new ancestors are the parent and the parent's cached ancestors, and
+/// nothing is searched. Otherwise each list is found by a search.
+///
+/// # Errors
+///
+/// - `NoMemory`: an allocation failed, or the budget is exceeded.
 pub(crate) fn new_lists<G: ParentsOf>(
     alloc: Global,
     graph: &G,

@@ -1,20 +1,20 @@
 //! Incremental updates of the ancestor cache when the parents of one entity change.
 //!
-//! The lists that change are those of the entity and of its descendants; no other entity is visited. First comes
-//! everything that allocates: the new lists, the entity as a child of its new parents, the entities that become
-//! cyclic. If an allocation fails, these additions are removed again. Then, without allocating, the lists are
-//! written, the entity is removed from the children of its former parents, and the entities that are no longer cyclic
-//! are removed.
+//! The lists that change are those of the entity and of its descendants; no other list is written. Everything that
+//! allocates comes first: the new lists are computed, the entity is added to the children of its new parents, and the
+//! entities that become cyclic are added to the set of cyclic entities. If an allocation fails, these additions are
+//! removed again. Then, without allocating, the lists are written, the entity is removed from the children of its
+//! former parents, and the entities that are no longer cyclic are removed from the set.
 ghost use Rattle.std.specs.Prelude.{◌≡◌, ◌↔◌, ◌⊎◌, [], ◌∷◌, ◌++◌, Contains, IsTrue, IfOk, OnOk, OnErr};
 ghost use Rattle.values.specs.declared.entity_uid.EntityUid.{EntityUid as PlainUid};
 ghost use Rattle.ancestor_search.specs.Hierarchy.{Parents, IsAscending, names};
-ghost use Rattle.ancestor_closure.specs.Lists.{IsKeptOf, ancestors_in, children_in, IsKeptBut};
+ghost use Rattle.ancestor_closure.specs.Lists.{IsCacheContent, ancestors_in, children_in, IsStaleContent};
 ghost use Rattle.ancestor_closure.specs.Lists.{SameLists, SameChildren, IsThere, StayThere, AddsChild};
 ghost use Rattle.ancestor_closure.specs.inner.OneChange.{TakesChild, firsts, written, IsInOwn, ListsAscend, Enters};
 ghost use Rattle.ancestor_closure.specs.inner.OneChange.{AreListsBut, Leaves, IsPlanned};
 
 use crate::by_parent::new_lists;
-use crate::children::{add_to_all, entity_and_below, take_from_all};
+use crate::children::{add_to_all, entity_and_descendants, take_from_all};
 use crate::cycles::{enter_all, leave_all};
 use crate::lists::{are_among, are_in, shared_all, write_all};
 use crate::relatives::{Relatives, ancestors_at, is_child, release, release_all, reserve, shared};
@@ -28,6 +28,7 @@ use values::EntityUid;
 /// A change of the parents of an entity.
 #[derive(Drop)]
 pub(crate) struct Change {
+    /// The entity whose parents change.
     uid: Shared<EntityUid>,
     /// Its parents before the change, ascending.
     before: Vec<Shared<EntityUid>>,
@@ -35,11 +36,11 @@ pub(crate) struct Change {
     after: Vec<Shared<EntityUid>>,
     /// The entity and its descendants.
     entities: Vec<Shared<EntityUid>>,
-    /// The new lists of these.
+    /// The new list of ancestors of each of these entities.
     lists: Vec<(Shared<EntityUid>, Vec<Shared<EntityUid>>)>,
 }
 
-// Returns references to these, ascending and without duplicates.
+// Returns references to these uids, ascending and without duplicates.
 fn ascending<'a>(alloc: Global, uids: &'a [EntityUid]) -> Result<Vec<&'a EntityUid>, NoMemory>
     ensures all { IfOk result (λ found. (x : PlainUid) → Contains (names found.items) x ↔ Contains uids.now x) }
     ensures ascending { IfOk result (λ found. IsAscending (names found.items)) }
@@ -64,7 +65,7 @@ pub fn parents_by<'a, G: ParentsOf>(
     ascending(alloc, graph.parents_of(uid))
 }
 
-// Adds empty relatives of these entities where they have none.
+// Adds an empty entry for each of these entities that has none.
 fn reserve_all(
     alloc: Global,
     relatives: &mut BTreeMap<EntityUid, Relatives>,
@@ -81,7 +82,7 @@ fn reserve_all(
     Ok(())
 }
 
-/// Adds empty relatives of an entity, and of these, where they have none.
+/// Adds an empty entry for `uid` and for each of `parents`, if it has none. The only error is `NoMemory`.
 pub fn make_room(
     alloc: Global,
     relatives: &mut BTreeMap<EntityUid, Relatives>,
@@ -98,7 +99,7 @@ pub fn make_room(
     reserve_all(alloc, relatives, parents)
 }
 
-// Adds an entity to those found, if it has this child.
+// Appends `entity` to `found` if it has this child.
 fn add_if_parent(
     relatives: &BTreeMap<EntityUid, Relatives>,
     found: &mut Vec<Shared<EntityUid>>,
@@ -134,7 +135,7 @@ fn those_with_child(
     Ok(found)
 }
 
-// Returns the parents of an entity by its list and the children: those of its ancestors that have it as a child.
+// Returns the parents of an entity before the change: those of its cached ancestors that have it as a child.
 fn parents_before(
     alloc: Global,
     relatives: &BTreeMap<EntityUid, Relatives>,
@@ -148,7 +149,7 @@ fn parents_before(
     those_with_child(alloc, relatives, ancestors_at(relatives, uid.get()), uid)
 }
 
-// Returns the change to the parents that the graph has.
+// Returns the change by which an entity gets the parents that it has in the graph, within the budget.
 fn planned<G: ParentsOf>(
     alloc: Global,
     graph: &G,
@@ -167,7 +168,7 @@ fn planned<G: ParentsOf>(
     let name = shared(alloc, relatives, uid)?;
     let before = parents_before(alloc, relatives, &name)?;
     let after = shared_all(alloc, relatives, parents)?;
-    let entities = entity_and_below(alloc, relatives, uid)?;
+    let entities = entity_and_descendants(alloc, relatives, uid)?;
     let lists = new_lists(alloc, graph, relatives, &name, &after, &entities, room)?;
     Ok(Change {
         uid: name,
@@ -178,7 +179,7 @@ fn planned<G: ParentsOf>(
     })
 }
 
-// Adds the entity to the children of its new parents, and the entities that become cyclic.
+// Adds the entity to the children of its new parents, and the entities that become cyclic to `cyclic`.
 fn begin(
     relatives: &mut BTreeMap<EntityUid, Relatives>,
     cyclic: &mut BTreeSet<Shared<EntityUid>>,
@@ -199,7 +200,7 @@ fn begin(
     add_to_all(relatives, &change.after, &change.uid)
 }
 
-// Removes these additions again.
+// Removes again what `begin` added.
 fn undo(
     relatives: &mut BTreeMap<EntityUid, Relatives>,
     cyclic: &mut BTreeSet<Shared<EntityUid>>,
@@ -216,7 +217,8 @@ fn undo(
     leave_all(cyclic, relatives, &change.entities);
 }
 
-// Writes the new lists, and removes what no longer holds.
+// Writes the new lists, removes the entity from the children of its former parents, and removes the entities that are
+// no longer cyclic from `cyclic`.
 fn finish(
     relatives: &mut BTreeMap<EntityUid, Relatives>,
     cyclic: &mut BTreeSet<Shared<EntityUid>>,
@@ -243,7 +245,8 @@ fn finish(
     leave_all(cyclic, relatives, &entities);
 }
 
-// Makes the change, within the budget; returns how many lists were written.
+// Makes the change, within the budget; returns how many lists were written. After an error the cache is right for each
+// graph that it was right for.
 fn make<G: ParentsOf>(
     alloc: Global,
     graph: &G,
@@ -255,15 +258,15 @@ fn make<G: ParentsOf>(
 ) -> Result<usize, NoMemory>
     requires all { (x : PlainUid) → Contains (names parents.now) x ↔ Contains (G.parents graph.now uid.now) x }
     requires ascending { IsAscending (names parents.now) }
-    requires kept { IsKeptBut uid.now (G.parents graph.now)
+    requires kept { IsStaleContent uid.now (G.parents graph.now)
         (ancestors_in relatives.old) (children_in relatives.old) cyclic.old.keys }
     requires there { IsThere relatives.old uid.now }
     requires parents_there { (x : PlainUid) → Contains (names parents.now) x → IsThere relatives.old x }
-    ensures ok { OnOk result (IsKeptOf (G.parents graph.now)
+    ensures ok { OnOk result (IsCacheContent (G.parents graph.now)
         (ancestors_in relatives.new) (children_in relatives.new) cyclic.new.keys) }
     ensures err { OnErr result ((before : Parents) →
-        IsKeptOf before (ancestors_in relatives.old) (children_in relatives.old) cyclic.old.keys →
-        IsKeptOf before (ancestors_in relatives.new) (children_in relatives.new) cyclic.new.keys) }
+        IsCacheContent before (ancestors_in relatives.old) (children_in relatives.old) cyclic.old.keys →
+        IsCacheContent before (ancestors_in relatives.new) (children_in relatives.new) cyclic.new.keys) }
 {
     let change = planned(alloc, graph, relatives, uid, parents, room)?;
     let touched = change.entities.len();
@@ -279,7 +282,7 @@ fn make<G: ParentsOf>(
     }
 }
 
-// Adds missing relatives, and then makes the change.
+// Adds missing entries of the entity and its parents, and then makes the change as `make` does.
 fn make_with_room<G: ParentsOf>(
     alloc: Global,
     graph: &G,
@@ -291,19 +294,19 @@ fn make_with_room<G: ParentsOf>(
 ) -> Result<usize, NoMemory>
     requires all { (x : PlainUid) → Contains (names parents.now) x ↔ Contains (G.parents graph.now uid.now) x }
     requires ascending { IsAscending (names parents.now) }
-    requires kept { IsKeptBut uid.now (G.parents graph.now)
+    requires kept { IsStaleContent uid.now (G.parents graph.now)
         (ancestors_in relatives.old) (children_in relatives.old) cyclic.old.keys }
-    ensures ok { OnOk result (IsKeptOf (G.parents graph.now)
+    ensures ok { OnOk result (IsCacheContent (G.parents graph.now)
         (ancestors_in relatives.new) (children_in relatives.new) cyclic.new.keys) }
     ensures err { OnErr result ((before : Parents) →
-        IsKeptOf before (ancestors_in relatives.old) (children_in relatives.old) cyclic.old.keys →
-        IsKeptOf before (ancestors_in relatives.new) (children_in relatives.new) cyclic.new.keys) }
+        IsCacheContent before (ancestors_in relatives.old) (children_in relatives.old) cyclic.old.keys →
+        IsCacheContent before (ancestors_in relatives.new) (children_in relatives.new) cyclic.new.keys) }
 {
     make_room(alloc, relatives, uid, parents)?;
     make(alloc, graph, relatives, cyclic, uid, parents, room)
 }
 
-// Returns whether an entity has no ancestors, and gets no parents.
+// Returns whether an entity has no cached ancestors and no new parents.
 fn has_none(
     relatives: &BTreeMap<EntityUid, Relatives>,
     uid: &EntityUid,
@@ -317,7 +320,7 @@ fn has_none(
     false
 }
 
-// Returns whether an entity already has these parents.
+// Returns whether an entity already has these parents in the cache.
 fn has_already(
     alloc: Global,
     relatives: &BTreeMap<EntityUid, Relatives>,
@@ -352,13 +355,13 @@ pub fn follow<G: ParentsOf>(
     uid: &EntityUid,
     room: &mut CacheBudget,
 ) -> Result<usize, NoMemory>
-    requires { IsKeptBut uid.now (G.parents graph.now)
+    requires { IsStaleContent uid.now (G.parents graph.now)
         (ancestors_in relatives.old) (children_in relatives.old) cyclic.old.keys }
-    ensures ok { OnOk result (IsKeptOf (G.parents graph.now)
+    ensures ok { OnOk result (IsCacheContent (G.parents graph.now)
         (ancestors_in relatives.new) (children_in relatives.new) cyclic.new.keys) }
     ensures err { OnErr result ((before : Parents) →
-        IsKeptOf before (ancestors_in relatives.old) (children_in relatives.old) cyclic.old.keys →
-        IsKeptOf before (ancestors_in relatives.new) (children_in relatives.new) cyclic.new.keys) }
+        IsCacheContent before (ancestors_in relatives.old) (children_in relatives.old) cyclic.old.keys →
+        IsCacheContent before (ancestors_in relatives.new) (children_in relatives.new) cyclic.new.keys) }
 {
     let parents = parents_by(alloc, graph, uid)?;
     if has_none(relatives, uid, &parents) {

@@ -1,8 +1,8 @@
-//! Children: the reversed edges, which lead from an entity to its descendants.
+//! The children of an entity, to which its reversed edges lead, and its descendants.
 ghost use Rattle.std.specs.Prelude.{◌≡◌, ◌↔◌, ◌⊎◌, ◌^◌, ◌<◌, [], ◌∷◌, Contains, IfOk, OnOk};
 ghost use Rattle.std.specs.BTreeSet.{btree_set_len};
 ghost use Rattle.values.specs.declared.entity_uid.EntityUid.{EntityUid as PlainUid};
-ghost use Rattle.ancestor_search.specs.Hierarchy.{IsAncestor, IsAllAbove, IsAscending, names};
+ghost use Rattle.ancestor_search.specs.Hierarchy.{IsAncestor, AreAllAncestorsOf, IsAscending, names};
 ghost use Rattle.ancestor_search.specs.Search.{Adds};
 ghost use Rattle.ancestor_closure.specs.Lists.{children_in, SameLists, IsThere, StayThere, AddsChild};
 ghost use Rattle.ancestor_closure.specs.inner.OneChange.{TakesChild};
@@ -15,7 +15,7 @@ use std::alloc::Global;
 use std::collections::{BTreeMap, BTreeSet};
 use values::EntityUid;
 
-// Adds those that are not yet seen to the seen entities, and to the work list.
+// Adds each of these children that was not seen to the seen entities and to the work list.
 fn add_members<'a>(
     found: &'a BTreeSet<Shared<EntityUid>>,
     seen: &mut BTreeSet<&'a EntityUid>,
@@ -36,7 +36,7 @@ fn add_members<'a>(
     Ok(())
 }
 
-// The same for the children of an entity.
+// Adds each child of an entity that was not seen to the seen entities and to the work list.
 fn add_children<'a>(
     relatives: &'a BTreeMap<EntityUid, Relatives>,
     uid: &EntityUid,
@@ -56,13 +56,13 @@ fn add_children<'a>(
     }
 }
 
-// Returns everything that is reachable through children.
+// Returns the descendants of an entity.
 fn below<'a>(
     alloc: Global,
     relatives: &'a BTreeMap<EntityUid, Relatives>,
     uid: &EntityUid,
 ) -> Result<BTreeSet<&'a EntityUid>, NoMemory>
-    ensures { IfOk result (λ found. IsAllAbove (children_in relatives.now) uid.now (names found.keys)) }
+    ensures { IfOk result (λ found. AreAllAncestorsOf (children_in relatives.now) uid.now (names found.keys)) }
 {
     let mut seen = BTreeSet::new(alloc);
     let mut work = Vec::new(alloc);
@@ -74,7 +74,7 @@ fn below<'a>(
 }
 
 /// Returns an entity and its descendants.
-pub(crate) fn entity_and_below<'a>(
+pub(crate) fn entity_and_descendants<'a>(
     alloc: Global,
     relatives: &'a BTreeMap<EntityUid, Relatives>,
     uid: &'a EntityUid,
@@ -109,7 +109,7 @@ fn add_child(
     }
 }
 
-/// Adds a child to each of its parents.
+/// Adds a child to each of its parents. The only error is `NoMemory`; some parents may then have the child.
 pub fn add_to_all(
     relatives: &mut BTreeMap<EntityUid, Relatives>,
     parents: &[Shared<EntityUid>],
@@ -145,7 +145,7 @@ fn take_child(
     }
 }
 
-// The same, unless the parent is one of these; relatives that are then empty are dropped.
+// Removes a child from a parent that is not one of `parents`, and the parent's entry if it is then empty.
 fn take_child_unless(
     relatives: &mut BTreeMap<EntityUid, Relatives>,
     parents: &[Shared<EntityUid>],
@@ -164,7 +164,7 @@ fn take_child_unless(
     release(relatives, parent);
 }
 
-/// Removes a child from each entity of `before` that is not one of `parents`.
+/// Removes a child from each entity of `before` that is not one of `parents`. Does not allocate.
 pub(crate) fn take_from_all(
     relatives: &mut BTreeMap<EntityUid, Relatives>,
     before: &[Shared<EntityUid>],

@@ -6,10 +6,10 @@ ghost use Rattle.ancestor_search.specs.Hierarchy.{IsAncestor, AreOnCycles, IsAsc
 ghost use Rattle.ancestor_search.specs.Hierarchy.{no_parents, with_parents};
 ghost use Rattle.ancestor_search.specs.LeastCycle.{HasNoCycle, IsLeastCycle};
 ghost use Rattle.ancestor_search.specs.Search.{parents_of};
-ghost use Rattle.ancestor_closure.specs.Kept.{IsCacheOf};
+ghost use Rattle.ancestor_closure.specs.CacheOf.{IsCacheOf};
 ghost use Rattle.ancestor_closure.specs.ClosedMeaning.{closed_parents, closed_above, closed_is_decided};
 
-use crate::keeping::AncestorCache;
+use crate::ancestor_cache::AncestorCache;
 use crate::room::CacheBudget;
 use ancestor_search::{Ancestry, Changed, Hierarchy, ParentsOf};
 use plain::NoMemory;
@@ -20,9 +20,10 @@ use values::EntityUid;
 
 /// A hierarchy: the parents of each stored entity, and an ancestor cache. Contracts see the parents.
 ///
-/// It is meant for single changes: each change rewrites the lists of all descendants of its entity. Filling it with
-/// parents before their children costs one search for each entity. Filling it with children first costs one search for
-/// each descendant of each entity. [`AncestorCache::of_graph`] builds the cache of a whole graph at once.
+/// It is meant for single changes: each change rewrites the lists of the entity and of all its descendants. Filling it
+/// with parents before their children costs at most one search for each entity. Filling it with children first costs,
+/// for each entity, up to one search for it and for each of its descendants. [`AncestorCache::of_graph`] builds the
+/// cache of a whole graph at once.
 #[derive(Drop)]
 pub struct Closed {
     alloc: Global,
@@ -35,7 +36,7 @@ impl Model for Closed {
     ghost use Rattle.values.specs.declared.entity_uid.EntityUid.{EntityUid};
     ghost use Rattle.ancestor_search.specs.Search.{parents_of};
     ghost use Rattle.ancestor_closure.specs.ClosedMeaning.{closed_entries};
-    ghost use Rattle.ancestor_closure.specs.Kept.{IsCacheOf};
+    ghost use Rattle.ancestor_closure.specs.CacheOf.{IsCacheOf};
 
     ghost Value = { List (EntityUid × List EntityUid) };
 
@@ -93,7 +94,7 @@ fn write_edges(
     }
 }
 
-// Updates the cache for a change that the edges do not have yet.
+// Updates the cache for a change of an entity's parents that is not yet made in the edges.
 fn follow_change(
     edges: &BTreeMap<EntityUid, Vec<EntityUid>>,
     kept: &mut AncestorCache,
@@ -113,7 +114,7 @@ fn follow_change(
     kept.follow(&changed, uid, &mut room)
 }
 
-// Replaces the parents of an entity.
+// Replaces the parents of an entity, in the edges and in the cache. After an error the parents are unchanged.
 fn set(
     alloc: Global,
     edges: &mut BTreeMap<EntityUid, Vec<EntityUid>>,
@@ -140,7 +141,7 @@ fn set(
     }
 }
 
-// Removes an entity.
+// Removes an entity, from the edges and from the cache. After an error its parents are unchanged.
 fn unset(
     edges: &mut BTreeMap<EntityUid, Vec<EntityUid>>,
     kept: &mut AncestorCache,

@@ -12,7 +12,7 @@ use std::alloc::Global;
 use std::collections::{BTreeMap, BTreeSet};
 use values::EntityUid;
 
-// Adds an entity that is in its own list.
+// Adds an entity to `cyclic` if its list of ancestors contains it.
 fn enter(
     cyclic: &mut BTreeSet<Shared<EntityUid>>,
     entity: &(Shared<EntityUid>, Vec<Shared<EntityUid>>),
@@ -27,7 +27,7 @@ fn enter(
     Ok(())
 }
 
-/// Adds those that are in their own lists.
+/// Adds each entity whose list of ancestors contains it to `cyclic`.
 pub(crate) fn enter_all(
     cyclic: &mut BTreeSet<Shared<EntityUid>>,
     lists: &[(Shared<EntityUid>, Vec<Shared<EntityUid>>)],
@@ -42,7 +42,7 @@ pub(crate) fn enter_all(
     Ok(())
 }
 
-// Removes an entity that is not in its own list.
+// Removes an entity from `cyclic` if its list of ancestors does not contain it.
 fn leave(
     cyclic: &mut BTreeSet<Shared<EntityUid>>,
     relatives: &BTreeMap<EntityUid, Relatives>,
@@ -57,7 +57,7 @@ fn leave(
     cyclic.remove(entity);
 }
 
-/// Removes those of the entities that are not in their own lists.
+/// Removes each of the entities whose list of ancestors does not contain it from `cyclic`.
 pub(crate) fn leave_all(
     cyclic: &mut BTreeSet<Shared<EntityUid>>,
     relatives: &BTreeMap<EntityUid, Relatives>,
@@ -78,7 +78,7 @@ pub fn are_none(uids: &BTreeSet<Shared<EntityUid>>) -> bool
     uids.is_empty()
 }
 
-/// Returns references to the members of a set, ascending.
+/// Returns references to the members of a set, ascending. The only error is `NoMemory`.
 pub fn members<'a>(
     alloc: Global,
     uids: &'a BTreeSet<Shared<EntityUid>>,

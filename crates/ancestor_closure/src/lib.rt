@@ -2,24 +2,24 @@
 //! entities; updated incrementally when the parents of one entity change.
 #![tactic(auto)]
 
-mod anew;
+pub mod ancestor_cache;
 mod by_parent;
 mod changing;
 mod children;
 pub mod closed;
 mod cycles;
-pub mod keeping;
 mod lists;
 mod relatives;
 mod room;
+mod whole_graph;
 
+pub use ancestor_cache::AncestorCache;
 pub use ancestor_search::laws::paths_are_decided;
 pub use ancestor_search::{Ancestry, Graph, Hierarchy, ParentsOf, Searched, would_cycle};
 pub use changing::{follow, make_room, parents_by};
 pub use children::add_to_all;
 pub use closed::Closed;
 pub use cycles::{are_none, members};
-pub use keeping::AncestorCache;
 pub use lists::{is_in, lent, list_within, shared_all};
 pub use relatives::{Relatives, ancestors_at, shared, write_list};
 pub use room::CacheBudget;

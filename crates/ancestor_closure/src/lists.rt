@@ -16,14 +16,14 @@ use std::cmp::Ordering;
 use std::collections::BTreeMap;
 use values::EntityUid;
 
-// Compares an entity of a list with another.
+// Compares an entity of a list with another entity.
 fn compare(known: &Shared<EntityUid>, uid: &EntityUid) -> Ordering
     ensures { result ≡ uid_cmp known.now uid.now }
 {
     known.get().cmp(uid)
 }
 
-/// Returns whether an ascending list contains the entity. O(log n).
+/// Returns whether an ascending list contains the entity. O(log n). Does not allocate.
 pub fn is_in(list: &[Shared<EntityUid>], uid: &EntityUid) -> bool
     ensures { IsAscending list.now → IsTrue result ↔ Contains list.now uid.now }
 {
@@ -43,7 +43,7 @@ pub(crate) fn are_in(uids: &[&EntityUid], list: &[Shared<EntityUid>]) -> bool
     true
 }
 
-/// Returns whether all entities of a list are among these, which ascend.
+/// Returns whether the ascending list `uids` contains all entities of `list`.
 pub(crate) fn are_among(list: &[Shared<EntityUid>], uids: &[&EntityUid]) -> bool
     requires { IsAscending (names uids.now) }
     ensures { IsTrue result ↔ ((x : PlainUid) → Contains list.now x → Contains (names uids.now) x) }
@@ -56,7 +56,7 @@ pub(crate) fn are_among(list: &[Shared<EntityUid>], uids: &[&EntityUid]) -> bool
     true
 }
 
-/// Returns references to shared uids.
+/// Returns references to shared uids, in the same order. The only error is `NoMemory`.
 pub fn lent<'a>(
     alloc: Global,
     uids: &'a [Shared<EntityUid>],
@@ -70,7 +70,7 @@ pub fn lent<'a>(
     Ok(all)
 }
 
-/// Returns these uids, each shared with the cache's entry of the entity.
+/// Returns these uids, each shared with the cache's entry of the entity, or copied if there is no entry.
 pub fn shared_all(
     alloc: Global,
     relatives: &BTreeMap<EntityUid, Relatives>,
@@ -98,7 +98,11 @@ fn list_of<G: ParentsOf>(
     shared_all(alloc, relatives, &found)
 }
 
-/// Returns the ancestors of an entity, by a search, if the budget allows them in place of the entity's cached list.
+/// Returns the ancestors of an entity, by a search.
+///
+/// # Errors
+///
+/// - `NoMemory`: an allocation failed, or the budget does not allow this list in place of the entity's cached list.
 pub fn list_within<G: ParentsOf>(
     alloc: Global,
     graph: &G,
@@ -113,7 +117,7 @@ pub fn list_within<G: ParentsOf>(
     Ok(list)
 }
 
-// An entity with its ancestors.
+// Returns an entity with its ancestors, by a search, within the budget.
 fn with_list<G: ParentsOf>(
     alloc: Global,
     graph: &G,
@@ -128,7 +132,7 @@ fn with_list<G: ParentsOf>(
     Ok((name, list))
 }
 
-/// Returns the ancestors of each of these entities.
+/// Returns each of these entities with its ancestors, by a search for each, within the budget.
 pub(crate) fn lists_of<G: ParentsOf>(
     alloc: Global,
     graph: &G,
@@ -147,7 +151,7 @@ pub(crate) fn lists_of<G: ParentsOf>(
     Ok(lists)
 }
 
-/// Replaces the old lists by new ones. Does not allocate.
+/// Replaces the cached ancestors of each of these entities by the new list. Does not allocate.
 pub(crate) fn write_all(
     relatives: &mut BTreeMap<EntityUid, Relatives>,
     mut lists: Vec<(Shared<EntityUid>, Vec<Shared<EntityUid>>)>,

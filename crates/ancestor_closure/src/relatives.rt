@@ -1,7 +1,7 @@
 //! The cache's entry of each entity: the list of its ancestors, and its children.
 //!
-//! There is an entry for each entity that has a parent, and for each that is one. Its uid is stored twice: as the
-//! key, and shared among all lists and sets that contain it.
+//! There is an entry for each entity that has a parent, and for each that is a parent. The entity's uid is stored
+//! twice: as the key, and shared among all lists and sets that contain it.
 ghost use Rattle.std.specs.Prelude.{◌≡◌, ◌↔◌, [], false, Contains, IsTrue, IfOk, OnOk, cond};
 ghost use Rattle.values.specs.declared.entity_uid.EntityUid.{EntityUid as PlainUid};
 ghost use Rattle.ancestor_search.specs.Decided.{is_same};
@@ -15,13 +15,15 @@ use values::EntityUid;
 /// The cache's entry of an entity.
 #[derive(Drop)]
 pub struct Relatives {
+    /// The entity's uid, shared with the lists and sets that contain it.
     pub(crate) uid: Shared<EntityUid>,
     /// All its ancestors, ascending.
     pub(crate) ancestors: Vec<Shared<EntityUid>>,
+    /// Its children.
     pub(crate) children: BTreeSet<Shared<EntityUid>>,
 }
 
-/// Returns the cached ancestors of an entity.
+/// Returns the cached ancestors of an entity; an empty slice if it has no entry.
 pub fn ancestors_at<'a>(
     relatives: &'a BTreeMap<EntityUid, Relatives>,
     uid: &EntityUid,
@@ -34,7 +36,7 @@ pub fn ancestors_at<'a>(
     }
 }
 
-/// Returns whether `child` is a child of `parent`.
+/// Returns whether the cache has `child` as a child of `parent`.
 pub(crate) fn is_child(
     relatives: &BTreeMap<EntityUid, Relatives>,
     parent: &EntityUid,
@@ -48,7 +50,8 @@ pub(crate) fn is_child(
     }
 }
 
-/// Returns the uid, shared with the cache's entry of the entity, if there is one.
+/// Returns the uid of an entity, shared with the cache's entry, or copied if there is no entry. The only error is
+/// `NoMemory`.
 pub fn shared(
     alloc: Global,
     relatives: &BTreeMap<EntityUid, Relatives>,
@@ -64,7 +67,7 @@ pub fn shared(
     Shared::new(alloc, uid.copy()?)
 }
 
-// An entry without ancestors and children.
+// Returns an entry without ancestors and children.
 fn without_relatives(alloc: Global, uid: &EntityUid) -> Result<Relatives, NoMemory>
     ensures ancestors { IfOk result (λ r. r.ancestors.items ≡ []) }
     ensures children { IfOk result (λ r. r.children.keys ≡ []) }
@@ -77,7 +80,7 @@ fn without_relatives(alloc: Global, uid: &EntityUid) -> Result<Relatives, NoMemo
     })
 }
 
-/// Adds an empty entry of an entity, if it has none.
+/// Adds an empty entry for an entity, if it has none.
 pub(crate) fn reserve(
     alloc: Global,
     relatives: &mut BTreeMap<EntityUid, Relatives>,
@@ -117,7 +120,7 @@ pub(crate) fn release(relatives: &mut BTreeMap<EntityUid, Relatives>, uid: &Enti
     relatives.remove(uid);
 }
 
-/// Removes the entries of those of the entities that have neither ancestors nor children.
+/// Removes the entry of each of these entities that has neither ancestors nor children.
 pub(crate) fn release_all(relatives: &mut BTreeMap<EntityUid, Relatives>, uids: &[&EntityUid])
     ensures lists { SameLists relatives.old relatives.new }
     ensures children { SameChildren relatives.old relatives.new }
@@ -127,7 +130,7 @@ pub(crate) fn release_all(relatives: &mut BTreeMap<EntityUid, Relatives>, uids: 
     }
 }
 
-/// Writes the ancestors of an entity.
+/// Replaces the cached ancestors of an entity. Does not allocate.
 pub fn write_list(
     relatives: &mut BTreeMap<EntityUid, Relatives>,
     uid: &EntityUid,

@@ -2,16 +2,20 @@
 
 use plain::NoMemory;
 
-/// A budget: how many ancestors all lists together have, how many they may have, and how many were written.
+/// A budget: how many ancestors all lists of a cache together have, how many they may have, and how many were written.
 ///
-/// It is a measure: no contract speaks of it, and no answer depends on it. An exceeded budget is reported as a failed
-/// allocation. A caller whose change of lists is rejected must drop the lists, since the lists counted up to then
-/// stay counted.
+/// It is a measure: no contract mentions it, and no answer depends on it. An exceeded budget is reported as a failed
+/// allocation. The lists that were counted before a list is rejected stay counted, so the caller must then drop the
+/// cache.
 #[derive(Clone, Copy)]
 pub struct CacheBudget {
+    // The greatest number of ancestors that all lists together may have.
     most: usize,
+    // The number that they have.
     kept: usize,
+    // How many ancestors were written or visited since the last `begin`, plus one for each written list.
     written: usize,
+    // Whether a list was rejected.
     is_short: bool,
 }
 

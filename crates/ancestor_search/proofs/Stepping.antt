@@ -5,7 +5,7 @@ use Rattle.std.proofs.lemmas.List.{get_or_append_left, append_assoc, append-nil}
 use Rattle.std.proofs.Math.Seq.{get_or-append_right, take-append_seam, drop-append_seam}
 use Rattle.std.proofs.lemmas.List.Elements.{Contains-append_left, Contains-append_right, Contains-append_cases}
 use Rattle.ancestor_search.specs.declared.walk.Bound.{Bound}
-use Rattle.ancestor_search.specs.inner.Walking.{Edges, Way, LeadsTo, Group, members_of, pending_of, bounds_of, bound_at, bound_after, IsMember, IsGroup, IsPath, with_edge, mark_of, done_mark, IsDone, IsAccounted, IsFinished, IsWalk, IsWalking, IsHeld, Awaits, JoinsDownTo, IsSeen, HasOpen, FindsOpen, Ends}
+use Rattle.ancestor_search.specs.inner.Walking.{Edges, Way, LeadsTo, Group, members_of, pending_of, bounds_of, bound_at, bound_after, IsMember, IsGroup, IsPath, with_edge, mark_of, done_mark, IsDone, IsAccounted, IsFinished, IsWalk, IsWalking, HasRemovedEdge, IsWalkingWithRemovedEdge, JoinsDownTo, IsSeen, HasOpen, FindsOpen, Ends}
 use Rattle.ancestor_search.specs.Deciding.{Contains-here, Contains-cases, Contains-none}
 use Rattle.ancestor_search.proofs.Groups.{Unites, first_edge, IsPath-more, skipped, entered, merged}
 use Rattle.ancestor_search.proofs.Marks.{below, last_same, last_of, not_empty, done-up, done-down, IsAccounted-enter}
@@ -44,20 +44,20 @@ unites h g = record {
 
 module _ (e : Edges) (place : List ℕ) (y : ℕ) (ms ps : List ℕ) where
   -- one group of the last two
-  join : (g : Group) (gs : List Group) (at : ℕ) (bs' : List Bound) (b : Bound) → bounds_of gs ≡ bs' ++ b ∷ [] → 0 < at → at ≤ length (members_of gs) → slice_index_or ms (at - 1) y ≡ y → ms ≡ members_of (g ∷ gs) → ps ≡ pending_of (g ∷ gs) → IsPath e (IsDone place) (with_edge g y ∷ gs) → IsHeld e place y ms ps bs' b
+  join : (g : Group) (gs : List Group) (at : ℕ) (bs' : List Bound) (b : Bound) → bounds_of gs ≡ bs' ++ b ∷ [] → 0 < at → at ≤ length (members_of gs) → slice_index_or ms (at - 1) y ≡ y → ms ≡ members_of (g ∷ gs) → ps ≡ pending_of (g ∷ gs) → IsPath e (IsDone place) (with_edge g y ∷ gs) → HasRemovedEdge e place y ms ps bs' b
   join g [] at bs' b eb pos le here em ep path = absurd (not_empty bs' b (sym eb))
   join g (h ∷ hs) at bs' b eb pos le here em ep path =
       let two = last_same (bounds_of hs) bs' (bound_after hs) b eb in
       let back : IsMember (h ∷ hs) y = member_in (h ∷ hs) y (placed_left (members_of (h ∷ hs)) g.members (at - 1) y (omega (arith, pos, le)) (subst (λ l. slice_index_or l (at - 1) y ≡ y) em here)) in
       (both h g, hs, sym two.0, sym two.1, em ∙ (append_assoc (members_of hs) h.members g.members), ep ∙ (append_assoc (pending_of hs) h.pending g.pending), merged e (IsDone place) g y hs h (both h g) (unites h g) back path)
 
-  pub held-join : (at : ℕ) (bs bs' : List Bound) (last b : Bound) → bs ≡ bs' ++ b ∷ [] → 0 < at → at ≤ last.members → slice_index_or ms (at - 1) y ≡ y → IsHeld e place y ms ps bs last → IsHeld e place y ms ps bs' b
+  pub held-join : (at : ℕ) (bs bs' : List Bound) (last b : Bound) → bs ≡ bs' ++ b ∷ [] → 0 < at → at ≤ last.members → slice_index_or ms (at - 1) y ≡ y → HasRemovedEdge e place y ms ps bs last → HasRemovedEdge e place y ms ps bs' b
   held-join at bs bs' last b eb pos le here (g, gs, ebs, el, em, ep, path) =
       let l : last.members ≡ length (members_of gs) = ap (λ z. z.members) el in
       join g gs at bs' b (sym ebs ∙ eb) pos (omega (arith, l, le)) here em ep path
 
   -- y is in the last group, and the edge to it was looked at
-  pub held-found : (found : List Bool) (at : ℕ) (bs bs1 : List Bound) (last : Bound) → bs1 ≡ bs ++ last ∷ [] → (bs ≡ []) ⊎ (last.members < at) → 0 < at → at ≤ length ms → slice_index_or ms (at - 1) y ≡ y → ((x : ℕ) → IsAccounted place ms x) → IsFinished e place found → IsHeld e place y ms ps bs last → IsWalking e place found ms ps bs1
+  pub held-found : (found : List Bool) (at : ℕ) (bs bs1 : List Bound) (last : Bound) → bs1 ≡ bs ++ last ∷ [] → (bs ≡ []) ⊎ (last.members < at) → 0 < at → at ≤ length ms → slice_index_or ms (at - 1) y ≡ y → ((x : ℕ) → IsAccounted place ms x) → IsFinished e place found → HasRemovedEdge e place y ms ps bs last → IsWalking e place found ms ps bs1
   held-found found at bs bs1 last eb1 down pos le here stands finished (g, gs, ebs, el, em, ep, path) =
       let first : length (members_of gs) < at = elim down [
         | inl none ↦ let nil : length (members_of gs) ≡ 0 = ap length (none_left gs (sym ebs ∙ none)) in omega (arith, nil, pos)
@@ -67,7 +67,7 @@ module _ (e : Edges) (place : List ℕ) (y : ℕ) (ms ps : List ℕ) where
       (g ∷ gs, eb1 ∙ ap (λ z. z ++ last ∷ []) ebs ∙ ap (λ z. bounds_of gs ++ z ∷ []) el, ep, record { groups = skipped e (IsDone place) g y gs (inr inside) path; stands = stands; same = em; finished = finished })
 
   -- an edge to what is done
-  pub held-done : (found : List Bool) (bs bs1 : List Bound) (last : Bound) → bs1 ≡ bs ++ last ∷ [] → IsDone place y → ((x : ℕ) → IsAccounted place ms x) → IsFinished e place found → IsHeld e place y ms ps bs last → IsWalking e place found ms ps bs1
+  pub held-done : (found : List Bool) (bs bs1 : List Bound) (last : Bound) → bs1 ≡ bs ++ last ∷ [] → IsDone place y → ((x : ℕ) → IsAccounted place ms x) → IsFinished e place found → HasRemovedEdge e place y ms ps bs last → IsWalking e place found ms ps bs1
   held-done found bs bs1 last eb1 d stands finished (g, gs, ebs, el, em, ep, path) =
       (g ∷ gs, eb1 ∙ ap (λ z. z ++ last ∷ []) ebs ∙ ap (λ z. bounds_of gs ++ z ∷ []) el, ep, record { groups = skipped e (IsDone place) g y gs (inl d) path; stands = stands; same = em; finished = finished })
 
@@ -120,7 +120,7 @@ module _ (e : Edges) (place : List ℕ) (found : List Bool) (ms : List ℕ) (y :
       only : (x : ℕ) → Contains (y ∷ []) x → y ≡ x
       only x there = elim (Contains-cases y [] x there) [ inl same ↦ same | inr t ↦ Contains-none x t ]
 
-  pub enter-next : (ps : List ℕ) (bs bs1 : List Bound) (last : Bound) → bs1 ≡ bs ++ last ∷ [] → ((x : ℕ) → IsAccounted place ms x) → IsFinished e place found → IsHeld e place y ms ps bs last → IsWalking e place' found (ms ++ y ∷ []) (ps ++ e y) (bs1 ++ bound_at ms ps ∷ [])
+  pub enter-next : (ps : List ℕ) (bs bs1 : List Bound) (last : Bound) → bs1 ≡ bs ++ last ∷ [] → ((x : ℕ) → IsAccounted place ms x) → IsFinished e place found → HasRemovedEdge e place y ms ps bs last → IsWalking e place' found (ms ++ y ∷ []) (ps ++ e y) (bs1 ++ bound_at ms ps ∷ [])
   enter-next ps bs bs1 last eb1 stands f (g, gs, ebs, el, em, ep, path) =
       let eb : bs1 ≡ bounds_of (g ∷ gs) = eb1 ∙ ap (λ z. z ++ last ∷ []) ebs ∙ ap (λ z. bounds_of gs ++ z ∷ []) el in
       let more : IsPath e (IsDone place') (with_edge g y ∷ gs) = IsPath-more e (IsDone place) (IsDone place') (with_edge g y ∷ gs) (λ x d. done-up place ms y new small x d) (λ x m d. done-down place ms y new small x d) path in (
@@ -136,10 +136,10 @@ module _ (e : Edges) (place : List ℕ) (found : List Bool) (ms : List ℕ) (y :
       )
 
 -- the last edge of the last group is taken
-pub taken : (e : Edges) (place : List ℕ) (found : List Bool) (ms ps ps' : List ℕ) (bs bs' : List Bound) (last : Bound) (y : ℕ) → bs ≡ bs' ++ last ∷ [] → ps ≡ ps' ++ y ∷ [] → last.pending ≤ length ps' → IsWalking e place found ms ps bs → Awaits e place found ms ps' bs' last y
+pub taken : (e : Edges) (place : List ℕ) (found : List Bool) (ms ps ps' : List ℕ) (bs bs' : List Bound) (last : Bound) (y : ℕ) → bs ≡ bs' ++ last ∷ [] → ps ≡ ps' ++ y ∷ [] → last.pending ≤ length ps' → IsWalking e place found ms ps bs → IsWalkingWithRemovedEdge e place found ms ps' bs' last y
 taken e place found ms ps ps' bs bs' last y eb ep le w = from w.0 (sym eb ∙ w.1) (sym ep ∙ w.2) w.3
   where
-    from : (path : List Group) → bs' ++ last ∷ [] ≡ bounds_of path → ps' ++ y ∷ [] ≡ pending_of path → IsWalk e place found ms path → Awaits e place found ms ps' bs' last y
+    from : (path : List Group) → bs' ++ last ∷ [] ≡ bounds_of path → ps' ++ y ∷ [] ≡ pending_of path → IsWalk e place found ms path → IsWalkingWithRemovedEdge e place found ms ps' bs' last y
     from [] hb hp wk = absurd (not_empty bs' last hb)
     from (g ∷ gs) hb hp wk =
         let two = last_same bs' (bounds_of gs) last (bound_after gs) hb in
@@ -275,7 +275,7 @@ bound_fits e place found ms ps bs bs' last eb w = from w.0 (sym eb ∙ w.1) w.3
         omega (arith, a, b, lm)
 
 -- an edge to a member of some group
-pub held-placed : (e : Edges) (place : List ℕ) (y at : ℕ) (ms ps : List ℕ) (found : List Bool) (bs bs' bs1 : List Bound) (last last' : Bound) → bs1 ≡ bs' ++ last' ∷ [] → JoinsDownTo at bs last bs' last' → (bs' ≡ []) ⊎ (last'.members < at) → at ≡ mark_of place y → (at ≡ 0 → ⊥) → (at ≡ done_mark → ⊥) → Awaits e place found ms ps bs last y → IsWalking e place found ms ps bs1
+pub held-placed : (e : Edges) (place : List ℕ) (y at : ℕ) (ms ps : List ℕ) (found : List Bool) (bs bs' bs1 : List Bound) (last last' : Bound) → bs1 ≡ bs' ++ last' ∷ [] → JoinsDownTo at bs last bs' last' → (bs' ≡ []) ⊎ (last'.members < at) → at ≡ mark_of place y → (at ≡ 0 → ⊥) → (at ≡ done_mark → ⊥) → IsWalkingWithRemovedEdge e place found ms ps bs last y → IsWalking e place found ms ps bs1
 held-placed e place y at ms ps found bs bs' bs1 last last' eb1 joins down is off0 off1 a = elim (a.stands y) [
   | inl d ↦ absurd (off1 (is ∙ d))
   | inr t ↦ elim t [

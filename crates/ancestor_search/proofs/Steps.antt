@@ -5,7 +5,7 @@ use Rattle.std.specs.BTreeSet.{insert_key}
 use Rattle.std.proofs.lemmas.List.Elements.{Contains-append_left, Contains-push, Contains-push_cases}
 use Rattle.values.specs.declared.entity_uid.EntityUid.{EntityUid}
 use Rattle.values.specs.Names.{uid_cmp, uid_cmp-IsAntisymmetric}
-use Rattle.ancestor_search.specs.Hierarchy.{Parents, Path, IsAncestor, IsAllAbove}
+use Rattle.ancestor_search.specs.Hierarchy.{Parents, Path, IsAncestor, AreAllAncestorsOf}
 use Rattle.ancestor_search.specs.Search.{Adds}
 use Rattle.ancestor_search.proofs.Members.{insert_key-kept, insert_key-from, insert_key-here}
 use Rattle.ancestor_search.specs.Deciding.{Contains-none}
@@ -98,7 +98,7 @@ module _ (parents : Parents) (b : EntityUid) where
   reached seen closed c there [] a h = closed c there a h
   reached seen closed c there (d ∷ ds) a h = reached seen closed d (closed c there d h.0) ds a h.1
 
-  pub Searching-end : (seen : List EntityUid) → Searching parents b seen [] → IsAllAbove parents b seen
+  pub Searching-end : (seen : List EntityUid) → Searching parents b seen [] → AreAllAncestorsOf parents b seen
   Searching-end seen s a = (s.sound a, λ above. complete above.0 above.1)
     where
       closed : (x : EntityUid) → Contains seen x → (y : EntityUid) → Contains (parents x) y → Contains seen y

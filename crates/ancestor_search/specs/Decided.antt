@@ -1,4 +1,5 @@
--- Defines whether a path leads from one entity to another, as a test that computes.
+-- Defines a decision procedure for the ancestor relation: a test that computes whether a path leads from one entity to
+-- another.
 use Rattle.std.specs.Prelude.{Bool, false, ◌&&◌, ◌||◌, List, [], ◌∷◌, Contains, IsTrue, ◌↔◌}
 use Rattle.std.specs.List.{list_any}
 use Rattle.std.specs.Ordering.{is_eq}
@@ -6,11 +7,12 @@ use Rattle.values.specs.declared.entity_uid.EntityUid.{EntityUid}
 use Rattle.values.specs.Names.{uid_cmp}
 use Rattle.ancestor_search.specs.Hierarchy.{Parents, IsAncestor}
 
--- `Decides parents above` holds if the test `above` decides the ancestor relation.
+-- `Decides parents above` holds if the test `above a b` is true if and only if `a` is an ancestor of `b` under
+-- `parents`.
 abbrev pub Decides : Parents → (EntityUid → EntityUid → Bool) → Type 0
 Decides parents above = (a b : EntityUid) → IsTrue (above a b) ↔ IsAncestor parents a b
 
--- `HaveAllParents parents stored` holds if all entities with a parent are among `stored`.
+-- `HaveAllParents parents stored` holds if `stored` contains every entity with a parent.
 abbrev pub HaveAllParents : Parents → List EntityUid → Type 0
 HaveAllParents parents stored = (b a : EntityUid) → Contains (parents b) a → Contains stored b
 
@@ -18,16 +20,19 @@ HaveAllParents parents stored = (b a : EntityUid) → Contains (parents b) a →
 abbrev pub is_same : EntityUid → EntityUid → Bool
 is_same a b = is_eq (uid_cmp a b)
 
--- `reaches parents us a b` tests whether a path leads from `b` to `a` whose edges all begin at entities of `us`. With
--- one more entity `u`, either it needs no edge of `u`, or it reaches `u`, takes an edge of `u`, and goes on to `a`.
--- This is Warshall's method: S. Warshall, "A theorem on Boolean matrices", Journal of the ACM 9 (1962).
+-- `reaches parents us a b` tests whether a path leads from `b` to `a` whose edges all begin at entities of `us`. It is
+-- defined by recursion on the list. With one more entity `u`, either the path takes no edge of `u`, or it has three
+-- parts: it is at `u` (which is `b`, or reached by edges of `us`); it takes an edge of `u` to a parent; and the parent
+-- is `a`, or reaches `a` by edges of `us`. This is Warshall's method: S. Warshall, "A theorem on Boolean matrices",
+-- Journal of the ACM 9 (1962).
 unfoldable pub reaches : Parents → List EntityUid → EntityUid → EntityUid → Bool
 reaches parents [] a b = false
 reaches parents (u ∷ us) a b =
     reaches parents us a b
     || ((is_same u b || reaches parents us u b) && list_any (λ p. is_same p a || reaches parents us a p) (parents u))
 
--- `PathsAreDecided`: if finitely many entities have parents, that test decides the ancestor relation.
+-- `PathsAreDecided`: if all entities with a parent are among the list `stored`, `reaches` decides the ancestor
+-- relation.
 abbrev pub PathsAreDecided : Type 0
 PathsAreDecided = (parents : Parents) (stored : List EntityUid) →
     HaveAllParents parents stored → Decides parents (reaches parents stored)

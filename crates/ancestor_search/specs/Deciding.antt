@@ -1,4 +1,5 @@
--- Defines the proof of a theorem of Decided: the test for a path decides the ancestor relation.
+-- Defines the proof of `PathsAreDecided` (Decided): the test `reaches` decides the ancestor relation. It is in specs/
+-- because implementations of the traits `Graph` and `Ancestry` cite its lemmas.
 use Rattle.std.proofs.Common.{◌≡◌, Bool, true, false, List, [], ◌∷◌, refl, ap, sym, subst, inl, inr}
 use Rattle.std.proofs.Common.{◌||◌, Option, Some, None}
 use Rattle.std.specs.Prelude.{Contains, IsTrue, ◌&&◌, ◌⊎◌, Vec, IsSome}
@@ -18,7 +19,7 @@ use Rattle.ancestor_search.specs.Decided.{Decides, HaveAllParents, is_same, reac
 pub same_uid : (x y : EntityUid) → is_eq (uid_cmp x y) ≡ true → x ≡ y
 same_uid x y h = tells_apart uid_cmp-IsAntisymmetric x y h
 
--- An entity with a parent is stored.
+-- An entity with a parent is a key of the map.
 pub parent_is_stored : (edges : BTreeMap EntityUid (Vec EntityUid Global)) (b a : EntityUid) →
     Contains (parents_of edges b) a → Contains (keys edges) b
 parent_is_stored edges b a h =
@@ -80,7 +81,7 @@ module _ (parents : Parents) where
   pub IsAncestor-joined : (b u a : EntityUid) → IsAncestor parents u b → IsAncestor parents a u → IsAncestor parents a b
   IsAncestor-joined b u a h above = joined b h.0 u a h.1 above
 
-  -- what the test finds is a path
+  -- if the test `reaches` is true, there is a path
   found : (us : List EntityUid) (a b : EntityUid) → IsTrue (reaches parents us a b) → IsAncestor parents a b
   unfolding reaches
   found [] a b h = cc h
@@ -99,7 +100,7 @@ module _ (parents : Parents) where
         ]
   ]
 
-  -- the test finds an edge that begins at one of the entities, alone or followed by a path that the test finds
+  -- `reaches` is true for an edge that begins at one of the entities `us`, alone or followed by what `reaches` finds
   more : (us : List EntityUid) (b c : EntityUid) → Contains us b → Contains (parents b) c → (a : EntityUid) →
       (c ≡ a) ⊎ IsTrue (reaches parents us a c) → IsTrue (reaches parents us a b)
   unfolding reaches
@@ -131,6 +132,7 @@ module _ (parents : Parents) where
         | inr new ↦ (and_parts _ _ new).1
       ]
 
+  -- `reaches` is true for each path, if `us` contains every entity with a parent
   all_found : (us : List EntityUid) → HaveAllParents parents us → (a b : EntityUid) (cs : List EntityUid) →
       Path parents b cs a → IsTrue (reaches parents us a b)
   all_found us all a b [] h = more us b a (all b a h) h a (inl refl)

@@ -1,7 +1,7 @@
--- Defines a cycle as a closed walk, and the one that a denial names. A closed walk of a directed graph is here the
--- list of the entities that it visits, which may repeat. In a least one none does: a shorter closed walk from the
--- first would omit what lies between.
--- Rules of this product: which cycle is named, and that it begins with the least cyclic entity.
+-- Defines the least cycle of a hierarchy, which an answer reports. A cycle is given as a closed walk: the list of the
+-- entities that it visits. A closed walk may visit an entity twice; the least cycle does not, since leaving out what
+-- lies between the two visits gives a shorter closed walk from the same entity.
+-- Rules of this product: which cycle is reported, and that it begins with the least cyclic entity.
 use Rattle.std.specs.Prelude.{◌≡◌, ◌≤◌, false, List, [], ◌∷◌, length}
 use Rattle.std.specs.Ordering.{is_gt}
 use Rattle.std.specs.Cmp.Lexicographic.{slice_cmp}
@@ -29,7 +29,7 @@ pub record IsLeastCycleFrom (parents : Parents) (c : EntityUid) (cs : List Entit
   pub least : (ds : List EntityUid) → IsClosedWalk parents (c ∷ ds) → length ds ≡ length cs →
       is_gt (slice_cmp uid_cmp cs ds) ≡ false
 
--- `IsLeastCycle parents cs` holds if `cs` is the least cycle.
+-- `IsLeastCycle parents cs` holds if `cs` is the least cycle of the hierarchy `parents`.
 abbrev pub IsLeastCycle : Parents → List EntityUid → Type 0
 IsLeastCycle parents [] = ⊥
 IsLeastCycle parents (c ∷ cs) = IsLeastCycleFrom parents c cs

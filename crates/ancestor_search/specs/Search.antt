@@ -1,5 +1,5 @@
--- Defines the representation of the edges, and one step of a search.
--- Rules of this product: both.
+-- Defines how a map represents a hierarchy, and one step of a search.
+-- Rules of this product: the representation and the step.
 use Rattle.std.specs.Prelude.{◌≡◌, ◌+◌, List, [], length, Option, Some, None, Vec, Contains, ◌⊎◌}
 use Rattle.std.specs.declared.alloc.Global.{Global}
 use Rattle.std.specs.BTreeMap.{BTreeMap, get}
@@ -7,17 +7,18 @@ use Rattle.values.specs.declared.entity_uid.EntityUid.{EntityUid}
 use Rattle.values.specs.Names.{uid_cmp}
 use Rattle.ancestor_search.specs.Hierarchy.{Parents}
 
--- `items_or_none o` is the list `o`, or the empty list if `o` is missing.
+-- `items_or_none o` is the list in `o`, or the empty list if `o` is `None`.
 abbrev pub items_or_none : Option (Vec EntityUid Global) → List EntityUid
 items_or_none None = []
 items_or_none (Some v) = v.items
 
--- `parents_of edges` is the parent relation that the map `edges` from entities to their parents represents.
+-- `parents_of edges` is the hierarchy that `edges`, a map from each entity to its parents, represents.
 abbrev pub parents_of : BTreeMap EntityUid (Vec EntityUid Global) → Parents
 parents_of edges uid = items_or_none (get uid_cmp edges uid)
 
--- `Adds ps seen work seen' work'` holds if the parents `ps` were added to the seen entities, and those not seen
--- before to the work list.
+-- `Adds ps seen work seen' work'` holds if a step adds the parents `ps` to the seen entities `seen`, and only those not
+-- yet in `seen` to the work list `work`; `seen'` and `work'` are the results, which have grown by the same number
+-- (`count`).
 pub record Adds (ps seen work seen' work' : List EntityUid) : Type 0 where
   pub kept : (x : EntityUid) → Contains seen x → Contains seen' x
   pub all : (x : EntityUid) → Contains ps x → Contains seen' x

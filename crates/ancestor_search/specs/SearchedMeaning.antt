@@ -1,5 +1,5 @@
--- Defines the abstract view of a hierarchy that is searched: its edges, and a test that decides the ancestor
--- relation.
+-- Defines the abstract view of a hierarchy without a cache (`Searched`): the parents of each entity, and a test that
+-- decides the ancestor relation.
 use Rattle.std.specs.Prelude.{Bool}
 use Rattle.std.specs.BTreeMap.{keys}
 use Rattle.values.specs.declared.entity_uid.EntityUid.{EntityUid}
@@ -9,14 +9,14 @@ use Rattle.ancestor_search.specs.Decided.{Decides, reaches}
 use Rattle.ancestor_search.specs.Deciding.{edges_are_decided}
 use Rattle.ancestor_search.specs.declared.searched.Searched.{Searched}
 
--- `searched_parents s` are the parents of each entity.
+-- `searched_parents s` is the hierarchy that `s` represents.
 abbrev pub searched_parents : Searched → Parents
 searched_parents s = parents_of s.edges
 
--- `searched_above s` tests whether a path leads from one entity to another.
+-- `searched_above s a b` tests whether `a` is an ancestor of `b` in `s`.
 abbrev pub searched_above : Searched → EntityUid → EntityUid → Bool
 searched_above s = reaches (parents_of s.edges) (keys s.edges)
 
--- The test decides the ancestor relation.
+-- `searched_above s` decides the ancestor relation.
 pub searched_is_decided : (s : Searched) → Decides (searched_parents s) (searched_above s)
 searched_is_decided s = edges_are_decided s.edges

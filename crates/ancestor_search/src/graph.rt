@@ -1,4 +1,4 @@
-//! Graphs of entities and their parents, as a search reads them.
+//! Graphs of entities and their parents: the traits by which a search reads a graph.
 ghost use Rattle.std.specs.Prelude.{◌≡◌, List, IfOk};
 ghost use Rattle.std.specs.BTreeMap.{keys};
 ghost use Rattle.values.specs.declared.entity_uid.EntityUid.{EntityUid};
@@ -14,7 +14,7 @@ use values::EntityUid;
 
 /// The parents of each entity, which is all that a search upwards needs.
 pub trait ParentsOf {
-    /// The parents of each entity; one that is not stored has none.
+    /// The parents of each entity; an entity that is not stored has none.
     ghost parents: { Self → Parents };
 
     /// Returns the parents of an entity; an empty slice if it is not stored.
@@ -36,7 +36,7 @@ pub trait Graph: ParentsOf {
     ghost has_all: { (s : Self) → HaveAllParents (Self.parents s) (stored s) };
 }
 
-/// The parents of each stored entity.
+/// A map from each stored entity to its parents.
 pub type Edges = BTreeMap<EntityUid, Vec<EntityUid>>;
 
 impl ParentsOf for BTreeMap<EntityUid, Vec<EntityUid>> {

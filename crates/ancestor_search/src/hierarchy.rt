@@ -1,7 +1,8 @@
-//! Queries of a hierarchy of entities, and its changes.
+//! The traits of a hierarchy of entities: its queries, and its changes.
 ghost use Rattle.std.specs.Prelude.{◌≡◌, ◌↔◌, [], Bool, IsTrue, IfOk, OnOk, OnErr, MatchOption};
 ghost use Rattle.values.specs.declared.entity_uid.EntityUid.{EntityUid};
-ghost use Rattle.ancestor_search.specs.Hierarchy.{Parents, IsAncestor, IsAllAbove, IsAscending, AreOnCycles, names};
+ghost use Rattle.ancestor_search.specs.Hierarchy.{Parents, IsAncestor, AreAllAncestorsOf, IsAscending, AreOnCycles};
+ghost use Rattle.ancestor_search.specs.Hierarchy.{names};
 ghost use Rattle.ancestor_search.specs.Hierarchy.{with_parents};
 ghost use Rattle.ancestor_search.specs.Decided.{Decides};
 ghost use Rattle.ancestor_search.specs.LeastCycle.{HasNoCycle, IsLeastCycle};
@@ -10,24 +11,25 @@ use plain::NoMemory;
 use values::EntityUid;
 
 /// The ancestor relation of a hierarchy. An edge leads from an entity to each of its parents, stored or not; an
-/// entity's ancestors are the entities to which a path of one or more edges leads from it.
+/// entity's ancestors are the entities to which a path of one or more edges leads from it. The only error of a query is
+/// `NoMemory`.
 pub trait Ancestry {
-    /// The parents of each entity; one that is not stored has none.
+    /// The parents of each entity; an entity that is not stored has none.
     ghost parents: { Self → Parents };
 
-    /// Whether one entity is an ancestor of another, as a test that computes.
+    /// A test that computes whether the first entity is an ancestor of the second.
     ghost above: { Self → EntityUid → EntityUid → Bool };
 
-    /// Returns whether `a` is an ancestor of `b`. An entity is its own ancestor if and only if it is cyclic.
+    /// Returns whether `a` is an ancestor of `b`. An entity that is its own ancestor is *cyclic*.
     fn is_ancestor(&self, a: &EntityUid, b: &EntityUid) -> Result<bool, NoMemory>
         ensures { IfOk result (λ yes. IsTrue yes ↔ IsAncestor (parents self.now) a.now b.now) };
 
     /// Returns the ancestors of `uid`, stored or not, in ascending order.
     fn ancestors(&self, uid: &EntityUid) -> Result<Vec<&EntityUid>, NoMemory>
-        ensures all { IfOk result (λ found. IsAllAbove (parents self.now) uid.now (names found.items)) }
+        ensures all { IfOk result (λ found. AreAllAncestorsOf (parents self.now) uid.now (names found.items)) }
         ensures ascending { IfOk result (λ found. IsAscending (names found.items)) };
 
-    /// Returns all cyclic entities, which are their own ancestors, in ascending order.
+    /// Returns all cyclic entities, in ascending order.
     fn cyclic(&self) -> Result<Vec<&EntityUid>, NoMemory>
         ensures all { IfOk result (λ found. AreOnCycles (parents self.now) (names found.items)) }
         ensures ascending { IfOk result (λ found. IsAscending (names found.items)) };
@@ -40,11 +42,11 @@ pub trait Ancestry {
         ensures { IfOk result (λ o. MatchOption o (HasNoCycle (parents self.now))
             (λ found. IsLeastCycle (parents self.now) (names found.items))) };
 
-    /// The test decides the ancestor relation.
+    /// The test `above` decides the ancestor relation.
     ghost above_is: { (s : Self) → Decides (parents s) (above s) };
 }
 
-/// A hierarchy that can be changed.
+/// A hierarchy that can be changed. The only error of a change is `NoMemory`.
 pub trait Hierarchy: Ancestry {
     /// Replaces the parents of an entity. If an allocation fails, nothing changes.
     fn set_parents(&mut self, uid: EntityUid, parents: Vec<EntityUid>) -> Result<(), NoMemory>

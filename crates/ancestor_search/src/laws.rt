@@ -8,8 +8,8 @@ pub fn paths_are_decided()
     ensures { PathsAreDecided }
 {}
 
-/// Proves that two ascending lists of the same entities are equal: so each result of [`crate::Ancestry`] is the only
-/// one. No-op.
+/// Proves that two ascending lists of the same entities are equal, so the lists that [`crate::Ancestry`] returns are
+/// unique. No-op.
 pub fn ascending_lists_are_one()
     ensures { AscendingListsAreOne }
 {}

@@ -20,7 +20,7 @@ pub fn listed<'a>(
     found.into_iter().collect(alloc)
 }
 
-/// Returns the number of an entity, its index in the list, if it is there.
+/// Returns the number of an entity, which is its index in the list; `None` if the list does not contain it.
 pub(crate) fn number_of(uids: &[&EntityUid], uid: &EntityUid) -> Option<usize>
     requires { IsAscending (names uids.now) }
     ensures { MatchOption result (IsNoNumber (names uids.now) uid.now) (λ i. IsNumber (names uids.now) i uid.now) }
@@ -31,7 +31,7 @@ pub(crate) fn number_of(uids: &[&EntityUid], uid: &EntityUid) -> Option<usize>
     }
 }
 
-/// Returns whether an entity is in an ascending list, as [`crate::ancestors_of`] returns. O(log n). Does not
+/// Returns whether an ascending list, such as [`crate::ancestors_of`] returns, contains an entity. O(log n). Does not
 /// allocate.
 pub fn is_among(uids: &[&EntityUid], uid: &EntityUid) -> bool
     requires { IsAscending (names uids.now) }

@@ -1,8 +1,9 @@
 //! The least cycle: a shortest one through the least cyclic entity, and the least of these, compared item by item.
 //!
-//! A breadth-first search goes backwards from that entity to its children, to theirs and so on, until it comes back:
-//! then the distance to the end is known for each entity on a shortest cycle. From the beginning the walk then goes
-//! each time to the least parent that is one edge nearer. Each edge is visited at most three times.
+//! A breadth-first search goes from that entity to its children, to theirs and so on, until it comes back to the
+//! entity. It gives the distance to that entity, in edges, of each entity on a shortest cycle. The walk then starts at
+//! the entity and goes each time to the least parent that is one edge nearer, back to it. Each edge is visited at most
+//! three times.
 ghost use Rattle.std.specs.Prelude.{◌≡◌, ◌+◌, ◌<◌, ◌^◌, ◌↔◌, ◌++◌, [], ◌∷◌, IsTrue, Some, MatchOption, IfOk, OnOk};
 ghost use Rattle.std.specs.Prelude.{Contains, cond};
 ghost use Rattle.std.specs.BTreeMap.{btree_map_len};
@@ -23,13 +24,13 @@ use std::alloc::Global;
 use std::collections::BTreeMap;
 use values::EntityUid;
 
-// The children of each entity.
+// The children of each entity, by the entity.
 type Children<'a> = BTreeMap<&'a EntityUid, Vec<&'a EntityUid>>;
 
-// The distance from an entity to the end, in edges.
+// The distance of each entity, in edges, to the entity at which the search began.
 type Distances<'a> = BTreeMap<&'a EntityUid, usize>;
 
-// Removes the children of a parent from the map.
+// Removes the children of a parent from the map, and returns them.
 fn take<'a>(alloc: Global, children: &mut Children<'a>, parent: &'a EntityUid) -> Vec<&'a EntityUid>
     ensures was { names result.items ≡ children_of children.old parent.now }
     ensures out { (x : PlainUid) → children_of children.new x ≡
@@ -73,7 +74,7 @@ fn add_child<'a>(
     Ok(())
 }
 
-// Returns the edges from these entities, reversed.
+// Returns the children of each entity by the edges that begin at these entities.
 fn children_among<'a, G: ParentsOf>(
     alloc: Global,
     graph: &'a G,
@@ -88,7 +89,7 @@ fn children_among<'a, G: ParentsOf>(
     Ok(children)
 }
 
-// Returns all edges, reversed.
+// Returns the children of each entity.
 fn children_in<'a, G: Graph>(alloc: Global, graph: &'a G) -> Result<Children<'a>, NoMemory>
     ensures { IfOk result (λ children. AreChildren (G.parents graph.now) (children_of children)) }
 {
@@ -97,7 +98,7 @@ fn children_in<'a, G: Graph>(alloc: Global, graph: &'a G) -> Result<Children<'a>
     Ok(children)
 }
 
-// Sets those of these entities that were not reached at distance `far`, and adds them to the level.
+// Gives each of these entities that has no distance yet the distance `far`, and appends it to the level.
 fn reach<'a>(
     uids: &[&'a EntityUid],
     far: usize,
@@ -116,7 +117,7 @@ fn reach<'a>(
     Ok(())
 }
 
-// Does so for the children of an entity.
+// Gives each child of an entity that has no distance yet the distance `far`, and appends it to the level.
 fn reach_children<'a>(
     children: &Children<'a>,
     uid: &'a EntityUid,
@@ -134,7 +135,7 @@ fn reach_children<'a>(
     }
 }
 
-// Returns the children of a level that were not reached, which are at distance `far`.
+// Gives each child of an entity of the level that has no distance yet the distance `far`, and returns these children.
 fn next_level<'a>(
     alloc: Global,
     children: &Children<'a>,
@@ -155,7 +156,8 @@ fn next_level<'a>(
     Ok(next)
 }
 
-// Returns the distance from each entity to the end, as far as needed to come back to it.
+// Returns the distances of entities to `end`, as far as the search goes until it comes back to `end`; `None` if it does
+// not.
 fn distances<'a, G: Graph>(
     alloc: Global,
     graph: &'a G,
@@ -179,7 +181,7 @@ fn distances<'a, G: Graph>(
     Ok(Some(reached))
 }
 
-// Returns whether the entity is known to be at distance `far`.
+// Returns whether the distance of the entity is known to be `far`.
 fn is_at<'a>(distances: &Distances<'a>, uid: &'a EntityUid, far: usize) -> bool
     ensures { IsTrue result ↔ (dist_of distances.now uid.now ≡ Some far) }
 {
@@ -189,7 +191,7 @@ fn is_at<'a>(distances: &Distances<'a>, uid: &'a EntityUid, far: usize) -> bool
     }
 }
 
-// Returns whether the entity is less than the other, if there is another.
+// Returns whether the entity is less than the other; `true` if there is no other.
 fn is_below(uid: &EntityUid, other: Option<&EntityUid>) -> bool
     ensures { MatchOption other.entry (IsTrue result) (λ y. result ≡ is_lt (uid_cmp uid.now y.now)) }
 {
@@ -199,7 +201,7 @@ fn is_below(uid: &EntityUid, other: Option<&EntityUid>) -> bool
     }
 }
 
-// Returns the least of the parents at distance `far`.
+// Returns the least of the parents at distance `far`; `None` if no parent is at that distance.
 fn least_at<'a>(
     parents: &'a [EntityUid],
     distances: &Distances<'a>,
@@ -216,7 +218,8 @@ fn least_at<'a>(
     least
 }
 
-// Returns the least, compared item by item, of the shortest walks from a cyclic entity back to it.
+// Returns the least, compared item by item, of the shortest walks from a cyclic entity back to it. `long` is their
+// length.
 fn walk<'a, G: ParentsOf>(
     alloc: Global,
     graph: &'a G,
@@ -241,7 +244,8 @@ fn walk<'a, G: ParentsOf>(
     Ok(found)
 }
 
-/// Like [`least_cycle`], given all cyclic entities in ascending order. Returns `None` at once if the list is empty.
+/// Returns the least cycle, like [`least_cycle`], given all cyclic entities in ascending order. Returns `None` at once
+/// if the list is empty. The only error is `NoMemory`.
 pub fn least_cycle_among<'a, G: Graph>(
     alloc: Global,
     graph: &'a G,

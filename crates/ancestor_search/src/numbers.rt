@@ -11,7 +11,7 @@ use std::alloc::Global;
 use std::collections::BTreeSet;
 use values::EntityUid;
 
-// Returns the numbers of those parents that are in the list.
+// Returns the numbers of those parents that are in the list `uids`.
 fn numbers_of<'a>(
     alloc: Global,
     uids: &[&'a EntityUid],
@@ -29,7 +29,7 @@ fn numbers_of<'a>(
     Ok(numbers)
 }
 
-// Returns the numbers of the parents of each entity.
+// Returns for each entity of the list the numbers of its parents.
 fn numbered<'a, G: ParentsOf>(
     alloc: Global,
     graph: &'a G,

@@ -1,7 +1,7 @@
 //! The search for the ancestors of an entity, in any graph.
 ghost use Rattle.std.specs.Prelude.{◌^◌, ◌<◌, Contains, IsTrue, ◌↔◌, IfOk, OnOk};
 ghost use Rattle.std.specs.BTreeSet.{btree_set_len};
-ghost use Rattle.ancestor_search.specs.Hierarchy.{IsAncestor, IsAllAbove, IsAscending, names, with_parents};
+ghost use Rattle.ancestor_search.specs.Hierarchy.{IsAncestor, AreAllAncestorsOf, IsAscending, names, with_parents};
 ghost use Rattle.ancestor_search.specs.Search.{Adds};
 
 use crate::graph::{Changed, ParentsOf};
@@ -18,7 +18,7 @@ fn has(entities: &[EntityUid], uid: &EntityUid) -> bool
     entities.contains(uid)
 }
 
-// Adds those that are not yet seen to the seen entities, and to the work list.
+// Adds each of the parents that was not seen to the seen entities and to the work list.
 fn add_parents<'a>(
     parents: &'a [EntityUid],
     seen: &mut BTreeSet<&'a EntityUid>,
@@ -37,13 +37,13 @@ fn add_parents<'a>(
     Ok(())
 }
 
-// Returns all ancestors of an entity.
+// Returns all ancestors of an entity, by a search.
 fn above<'a, G: ParentsOf>(
     alloc: Global,
     graph: &'a G,
     uid: &EntityUid,
 ) -> Result<BTreeSet<&'a EntityUid>, NoMemory>
-    ensures { IfOk result (λ found. IsAllAbove (G.parents graph.now) uid.now (names found.keys)) }
+    ensures { IfOk result (λ found. AreAllAncestorsOf (G.parents graph.now) uid.now (names found.keys)) }
 {
     let mut seen = BTreeSet::new(alloc);
     let mut work = Vec::new(alloc);
@@ -86,13 +86,13 @@ pub fn ancestors_of<'a, G: ParentsOf>(
     graph: &'a G,
     uid: &EntityUid,
 ) -> Result<Vec<&'a EntityUid>, NoMemory>
-    ensures all { IfOk result (λ found. IsAllAbove (G.parents graph.now) uid.now (names found.items)) }
+    ensures all { IfOk result (λ found. AreAllAncestorsOf (G.parents graph.now) uid.now (names found.items)) }
     ensures ascending { IfOk result (λ found. IsAscending (names found.items)) }
 {
     listed(alloc, above(alloc, graph, uid)?)
 }
 
-/// Returns whether the entity would be its own ancestor with these parents. The only error is `NoMemory`.
+/// Returns whether `uid` would be its own ancestor if it had these parents. The only error is `NoMemory`.
 pub fn would_cycle<G: ParentsOf>(
     alloc: Global,
     graph: &G,

@@ -1,10 +1,10 @@
-//! Which numbers are cyclic, in a graph of numbers (strongly connected components, without recursion).
+//! The cyclic numbers of a graph of numbers, by a search for strongly connected components without recursion.
 //!
-//! The search follows one path of edges. Numbers that were found to reach one another are in one group; the groups of
-//! the path are consecutive in one list of members and in one list of edges not yet visited, and a list of bounds
-//! says where each group begins. An edge back to an earlier group merges it and all later ones: their bounds are
-//! dropped, and nothing is moved. A last group without edges to visit is done. (Gabow, "Path-based depth-first search
-//! for strong and biconnected components", 2000.)
+//! The search follows one path of edges. Numbers that were found to reach one another form a group. The groups of the
+//! path are consecutive in one list of members and in one list of edges not yet visited; a list of bounds has the
+//! positions at which each group begins. An edge back to an earlier group merges it with all later ones: their bounds
+//! are dropped, and nothing is moved. The last group is done when it has no edges to visit. (Gabow, "Path-based
+//! depth-first search for strong and biconnected components", 2000.)
 ghost use Rattle.std.specs.Prelude.{◌≡◌, ◌+◌, ◌<◌, ◌≤◌, [], ◌∷◌, ◌++◌, true, length, IsTrue, ◌↔◌, ◌⊎◌, IfOk, OnOk};
 ghost use Rattle.std.specs.Prelude.{MatchOption, slice_set};
 ghost use Rattle.ancestor_search.specs.inner.Walking.{bound_at, edges_of, mark_of, MarksCycles, JoinsDownTo, IsSeen};
@@ -14,25 +14,30 @@ ghost use Rattle.ancestor_search.specs.inner.UnderWay.{IsUnderWay, IsWaiting, ef
 use plain::NoMemory;
 use std::alloc::Global;
 
-// Where a group begins among the members and among the edges not yet visited.
+// The positions at which a group begins in the list of members and in the list of edges not yet visited.
 #[derive(Clone, Copy, Drop)]
 struct Bound {
     members: usize,
     pending: usize,
 }
 
-// A search in progress. The mark of a number is 0 if it was not seen, its index among the members, counted from 1, or
-// the greatest number if it is done.
+// A search in progress.
 #[derive(Drop)]
 struct Walk {
+    // The mark of each number: 0 if it was not seen, its index among the members, counted from 1, or the greatest
+    // number if it is done.
     place: Vec<usize>,
+    // Whether each number was found to be cyclic.
     found: Vec<bool>,
+    // The members of the groups of the path.
     members: Vec<usize>,
+    // The ends of the edges of the groups that are not yet visited.
     pending: Vec<usize>,
+    // The bounds at which the groups begin.
     bounds: Vec<Bound>,
 }
 
-// Returns the edges from a number; none past the end.
+// Returns the numbers to which the edges of a number lead; none past the end.
 fn edges_at(edges: &[Vec<usize>], number: usize) -> &[usize]
     ensures { result.now ≡ edges_of edges.now number }
 {
@@ -43,8 +48,8 @@ fn edges_at(edges: &[Vec<usize>], number: usize) -> &[usize]
     }
 }
 
-// Returns the mark of a number; past the end it is done.
-fn noted(place: &[usize], number: usize) -> usize
+// Returns the mark of a number; past the end, the mark of a number that is done.
+fn mark_or_done(place: &[usize], number: usize) -> usize
     ensures { result ≡ mark_of place.now number }
 {
     if number < place.len() {
@@ -54,7 +59,7 @@ fn noted(place: &[usize], number: usize) -> usize
     }
 }
 
-// Sets the mark of a number; no-op past the end.
+// Sets the mark of a number. No-op past the end.
 fn note(place: &mut Vec<usize>, number: usize, mark: usize)
     ensures { place.new.items ≡ slice_set place.old.items number mark }
 {
@@ -63,8 +68,8 @@ fn note(place: &mut Vec<usize>, number: usize, mark: usize)
     }
 }
 
-// Marks a number as found; no-op past the end.
-fn tick(found: &mut Vec<bool>, number: usize)
+// Marks a number as found to be cyclic. No-op past the end.
+fn mark_cyclic(found: &mut Vec<bool>, number: usize)
     ensures { found.new.items ≡ slice_set found.old.items number true }
 {
     if number < found.len() {
@@ -72,7 +77,7 @@ fn tick(found: &mut Vec<bool>, number: usize)
     }
 }
 
-// Takes an edge of the last group, whose edges begin there.
+// Removes an edge of the last group, whose edges begin at `start`, and returns its end; `None` if the group has none.
 fn next_edge(pending: &mut Vec<usize>, start: usize) -> Option<usize>
     ensures { MatchOption result
         ((pending.new.items ≡ pending.old.items) × (length pending.old.items ≤ start))
@@ -84,7 +89,7 @@ fn next_edge(pending: &mut Vec<usize>, start: usize) -> Option<usize>
     pending.pop()
 }
 
-// Begins a group of one number.
+// Begins a group of one number at the end of the path.
 fn enter(edges: &[Vec<usize>], walk: &mut Walk, number: usize) -> Result<(), NoMemory>
     ensures place { OnOk result
         (walk.new.place.items ≡ slice_set walk.old.place.items number (length walk.old.members.items + 1)) }
@@ -105,7 +110,7 @@ fn enter(edges: &[Vec<usize>], walk: &mut Walk, number: usize) -> Result<(), NoM
     Ok(())
 }
 
-// Merges the last group and those before it, down to the one that contains this index.
+// Merges the last group with those before it, down to the group with the member at index `place`, counted from 1.
 fn joined(bounds: &mut Vec<Bound>, last: Bound, place: usize) -> Bound
     requires { 0 < place }
     ensures joins { JoinsDownTo place bounds.old.items last bounds.new.items result }
@@ -122,7 +127,7 @@ fn joined(bounds: &mut Vec<Bound>, last: Bound, place: usize) -> Bound
     last
 }
 
-// Visits an edge of the last group, whose bound was taken.
+// Visits an edge of the last group to `number`; `last` is the bound of that group, which was removed.
 fn look_at(
     edges: &[Vec<usize>],
     walk: &mut Walk,
@@ -134,7 +139,7 @@ fn look_at(
     ensures kept { OnOk result (KeepsSeen walk.old.place.items walk.new.place.items) }
     ensures less { OnOk result (effort_of walk.new ≤ effort_of walk.old + 1) }
 {
-    let place = noted(&walk.place, number);
+    let place = mark_or_done(&walk.place, number);
     if place == 0 {
         walk.bounds.push(last)?;
         enter(edges, walk, number)?;
@@ -154,25 +159,26 @@ fn leads_in(numbers: &[usize], place: &[usize]) -> bool
     ensures { IsTrue result ↔ HasOpen numbers.now place.now }
 {
     for number in numbers {
-        if noted(place, *number) != usize::MAX {
+        if mark_or_done(place, *number) != usize::MAX {
             return true;
         }
     }
     false
 }
 
-// Marks the members of a group from which an edge leads into it.
+// Marks each member from which an edge leads to a number that is not done. The edges of a completed group lead to done
+// numbers and to its own members.
 fn find(edges: &[Vec<usize>], members: &[usize], place: &[usize], found: &mut Vec<bool>)
     ensures { FindsOpen (edges_of edges.now) place.now members.now found.old.items found.new.items }
 {
     for number in members {
         if leads_in(edges_at(edges, *number), place) {
-            tick(found, *number);
+            mark_cyclic(found, *number);
         }
     }
 }
 
-// Marks these as done.
+// Marks the members as done.
 fn end(members: &[usize], place: &mut Vec<usize>)
     ensures { Ends members.now place.old.items place.new.items }
 {
@@ -181,7 +187,7 @@ fn end(members: &[usize], place: &mut Vec<usize>)
     }
 }
 
-// Completes a last group with these members.
+// Completes the last group, which has these members.
 fn leave(edges: &[Vec<usize>], members: &[usize], place: &mut Vec<usize>, found: &mut Vec<bool>)
     ensures finds { FindsOpen (edges_of edges.now) place.old.items members.now found.old.items found.new.items }
     ensures ends { Ends members.now place.old.items place.new.items }
@@ -190,7 +196,7 @@ fn leave(edges: &[Vec<usize>], members: &[usize], place: &mut Vec<usize>, found:
     end(members, place);
 }
 
-// Searches everything that is reachable from a number.
+// Searches everything that is reachable from a number, unless the number was seen.
 fn explore(edges: &[Vec<usize>], walk: &mut Walk, root: usize) -> Result<(), NoMemory>
     requires walks { IsUnderWay (edges_of edges.now) walk.old }
     requires none { walk.old.bounds.items ≡ [] }
@@ -199,7 +205,7 @@ fn explore(edges: &[Vec<usize>], walk: &mut Walk, root: usize) -> Result<(), NoM
     ensures kept { OnOk result (KeepsSeen walk.old.place.items walk.new.place.items) }
     ensures reached { OnOk result (IsSeen walk.new.place.items root) }
 {
-    if noted(&walk.place, root) != 0 {
+    if mark_or_done(&walk.place, root) != 0 {
         return Ok(());
     }
     enter(edges, walk, root)?;

@@ -1,24 +1,24 @@
--- Defines errors by code, and their line.
--- Rules of this product: codes, places and the line.
+-- Defines errors of inputs: their codes and places, and their output line.
+-- Rules of this product: the codes, the places and the line.
 use Rattle.std.specs.Prelude.{◌==◌, ℕ, List, Option, Some, None, if◌then◌else◌, codes}
 use Rattle.serde_json.specs.Data.{Data, null, number, object, unsigned, no_members, member}
 use Rattle.serde_json.specs.Written.{compact_text}
 use Rattle.answer_lines.specs.declared.refusal.Refusal.{Refusal}
 
--- `no_memory` is the error of a failed allocation.
+-- `no_memory` is the error of a failed allocation, code 1.
 abbrev pub no_memory : Refusal
 no_memory = record { code = 1; place = None; within = None }
 
--- `bad_shape place` is the error of JSON that is not an entity or a request, at the entity's index in its array,
--- counted from 0, if any.
+-- `bad_shape place` is the error of JSON that is not an entity or a request, code 30. `place` is the entity's index in
+-- its array, counted from 0, if there is one.
 abbrev pub bad_shape : Option ℕ → Refusal
 bad_shape place = record { code = 30; place = place; within = None }
 
--- `told_at place r` is the error `r` at a place; `NoMemory` has none.
-abbrev pub told_at : ℕ → Refusal → Refusal
-told_at place r = if r.code == 1 then r else record { code = r.code; place = Some place; within = r.within }
+-- `error_placed_at place r` is the error `r` at the place `place`; out of memory (code 1) stays without a place.
+abbrev pub error_placed_at : ℕ → Refusal → Refusal
+error_placed_at place r = if r.code == 1 then r else record { code = r.code; place = Some place; within = r.within }
 
--- `number_or_null o` is the JSON of the number of `o`, or null if `o` is `None`.
+-- `number_or_null o` is the JSON of the number in `o`, or null if `o` is `None`.
 abbrev pub number_or_null : Option ℕ → Data
 number_or_null None = null
 number_or_null (Some n) = number (unsigned n)
@@ -30,6 +30,6 @@ refusal_json r = object (member (codes "error") (object
     (member (codes "place") (number_or_null r.place)
     (member (codes "within") (number_or_null r.within) no_members)))) no_members)
 
--- `error_line r` is the line {"error":{"code":30,"place":0,"within":null}}
+-- `error_line r` is the line of the error `r`, such as {"error":{"code":30,"place":0,"within":null}}.
 unfoldable pub error_line : Refusal → List ℕ
 error_line r = compact_text (refusal_json r)

@@ -13,9 +13,10 @@ use plain::{NoMemory, Text};
 use std::alloc::Global;
 use values::EntityUid;
 
-/// The capacity in bytes that is reserved at once for the line of an answer. Most lines need less, and so do not grow.
+/// The capacity in bytes that is reserved for the line of an answer. Most lines fit, so the buffer does not grow.
 const USUAL_LINE: usize = 256;
 
+/// Returns the word of a decision in the line.
 fn decision_word(decision: Decision) -> &'static str
     ensures { result.now ≡ decision_word decision }
 {
@@ -25,6 +26,7 @@ fn decision_word(decision: Decision) -> &'static str
     }
 }
 
+/// Returns the word of a policy's error in the line.
 fn error_word(error: PolicyError) -> &'static str
     ensures { result.now ≡ error_word error }
 {
@@ -37,7 +39,7 @@ fn error_word(error: PolicyError) -> &'static str
     }
 }
 
-/// Writes the error of a policy, `{"error":"typeError","policy":"policy0"}`.
+/// Writes an erroring policy with its error, `{"error":"typeError","policy":"policy0"}`.
 fn write_erring(out: &mut Writer, erring: &ErringPolicy) -> Result<(), NoMemory>
     ensures { OnOk result (Adds out.old out.new (tokens_of (erring_json erring.now))) }
 {
@@ -50,6 +52,7 @@ fn write_erring(out: &mut Writer, erring: &ErringPolicy) -> Result<(), NoMemory>
     Ok(())
 }
 
+/// Writes the entities of a cycle, as an array.
 fn write_cycle(out: &mut Writer, uids: &[EntityUid]) -> Result<(), NoMemory>
     ensures { OnOk result (Adds out.old out.new (tokens_of (each_json uid_json uids.now))) }
 {
@@ -61,6 +64,7 @@ fn write_cycle(out: &mut Writer, uids: &[EntityUid]) -> Result<(), NoMemory>
     Ok(())
 }
 
+/// Writes the erroring policies, as an array.
 fn write_errors(out: &mut Writer, errors: &[ErringPolicy]) -> Result<(), NoMemory>
     ensures { OnOk result (Adds out.old out.new (tokens_of (each_json erring_json errors.now))) }
 {
@@ -72,6 +76,7 @@ fn write_errors(out: &mut Writer, errors: &[ErringPolicy]) -> Result<(), NoMemor
     Ok(())
 }
 
+/// Writes the ids of the determining policies, as an array.
 fn write_reason(out: &mut Writer, ids: &[Text]) -> Result<(), NoMemory>
     ensures { OnOk result (Adds out.old out.new (tokens_of (each_json (λ id. string id) ids.now))) }
 {
@@ -83,6 +88,7 @@ fn write_reason(out: &mut Writer, ids: &[Text]) -> Result<(), NoMemory>
     Ok(())
 }
 
+/// Writes an answer, as an object.
 fn write_answer(out: &mut Writer, answer: &Answer) -> Result<(), NoMemory>
     ensures { OnOk result (Adds out.old out.new (tokens_of (answer_json answer.now))) }
 {

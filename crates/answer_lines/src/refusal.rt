@@ -1,8 +1,9 @@
-//! Errors with their code and place, and their output line.
+//! Errors of inputs, with their code and place, and their output line.
 ghost use Rattle.std.specs.Prelude.{◌≡◌, IfOk};
 ghost use Rattle.serde_json.specs.Data.{put as with_member};
 ghost use Rattle.serde_json.specs.View.{view, members_view};
-ghost use Rattle.answer_lines.specs.Refusals.{no_memory, bad_shape, told_at, number_or_null, refusal_json, error_line};
+ghost use Rattle.answer_lines.specs.Refusals.{no_memory, bad_shape, error_placed_at, number_or_null, refusal_json};
+ghost use Rattle.answer_lines.specs.Refusals.{error_line};
 
 use json_words::write_json;
 use plain::{NoMemory, beside};
@@ -10,16 +11,16 @@ use serde_json::{Map, Value, put};
 use std::alloc::{AllocFailed, Global};
 use thiserror::Error;
 
-/// An error of input texts.
+/// An error of the inputs of a command, or a failed allocation.
 #[derive(Clone, Copy, PartialEq, Eq, Debug, Error)]
 #[error("refused with code {code}")]
 pub struct Refusal {
     /// The code: 1 for `NoMemory`, else that of the error (docs/codes.md).
     pub code: u8,
-    /// The place: a byte offset in the policies, or an entity's index in its array; both from 0. `None` if there is
-    /// no such place.
+    /// The place, counted from 0: a byte offset in the policies, or an entity's index in its array. `None` if the error
+    /// has no such place.
     pub place: Option<usize>,
-    /// The code of the inner error, if there is one.
+    /// The code of the inner error, if the error has one (docs/codes.md).
     pub within: Option<u8>,
 }
 
@@ -70,9 +71,9 @@ impl Refusal {
         }
     }
 
-    /// Returns this error at a place. `NoMemory` has none.
-    pub fn told_at(self, place: usize) -> Refusal
-        ensures { result ≡ told_at place self }
+    /// Returns this error at a place; out of memory (1) stays without a place.
+    pub fn error_placed_at(self, place: usize) -> Refusal
+        ensures { result ≡ error_placed_at place self }
     {
         if self.code == 1 {
             return self;
@@ -85,6 +86,7 @@ impl Refusal {
     }
 }
 
+/// Returns the number as JSON, or `null` for `None`.
 fn number_or_null(number: Option<u64>) -> Value
     ensures { view result ≡ number_or_null number }
 {
@@ -94,7 +96,7 @@ fn number_or_null(number: Option<u64>) -> Value
     }
 }
 
-/// Returns the members with one more.
+/// Returns the members with one more, which has this key and value.
 fn with_value(
     alloc: Global,
     members: Map<String, Value>,
@@ -126,6 +128,7 @@ fn parts_value(
     Ok(Value::Object(members))
 }
 
+/// Returns the JSON of an error.
 fn refusal_value(alloc: Global, refusal: Refusal) -> Result<Value, NoMemory>
     ensures { IfOk result (λ v. view v ≡ refusal_json refusal) }
 {

@@ -8,7 +8,7 @@ use Rattle.scope_index.specs.policy_grammar.declared.policy.Effect.{Effect}
 use Rattle.scope_index.specs.policy_grammar.declared.policy.Effect.TheVariants.{Permit, Forbid}
 use Rattle.scope_index.specs.policy_grammar.Whole.{expression_of}
 use Rattle.evaluator.specs.Operators.{Entities}
-use Rattle.evaluator.specs.Laws.{HaveOneOutcome, NothingWantsMemory}
+use Rattle.evaluator.specs.Laws.{HaveOneOutcome, NoOutcomeIsNoMemory}
 use Rattle.authoriser.specs.declared.answer.Answer.{Answer}
 use Rattle.authoriser.specs.declared.outcome.Outcome.{Outcome}
 use Rattle.authoriser.specs.declared.outcome.Outcome.TheVariants.{Satisfied, NotSatisfied, Errs}
@@ -162,7 +162,7 @@ default_deny W q ps a (inr r) none =
     let no_permit : satisfied Permit js ≡ [] = none_of (satisfied Permit js) (λ id c. let p = satisfied_from W q ps js r.outcomes Permit id c in none p.0 p.1 p.3) in
     ap (λ b. b.decision) r.answer ∙ denied (satisfied Permit js) (satisfied Forbid js) (erring js) no_permit
 
-pub idle_changes_nothing : HaveOneOutcome → NothingWantsMemory → IdleChangesNothing
+pub idle_changes_nothing : HaveOneOutcome → NoOutcomeIsNoMemory → IdleChangesNothing
 idle_changes_nothing law memory W above D q front back p a idle = (out, into)
   where
     out : IsAnswer W q (front ++ p ∷ back) a → IsAnswer W q (front ++ back) a

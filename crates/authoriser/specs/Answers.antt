@@ -31,7 +31,7 @@ pub record NamedPolicy : Type 0 where
   pub id : List ℕ
   pub policy : Policy
 
--- `fault_of error` is the policy error `error` as an evaluation error.
+-- `fault_of error` is the evaluation error that the policy error `error` reports.
 abbrev pub fault_of : PolicyError → EvalFault
 fault_of EntityDoesNotExist = fault.EntityDoesNotExist
 fault_of AttrDoesNotExist = fault.AttrDoesNotExist
@@ -39,8 +39,8 @@ fault_of TypeError = fault.TypeError
 fault_of ArithBoundsError = fault.ArithBoundsError
 fault_of ExtensionError = fault.ExtensionError
 
--- `PolicyEvaluatesTo W q policy outcome` holds if `outcome` is the result of evaluating the policy's whole
--- expression.
+-- `PolicyEvaluatesTo W q policy outcome` holds if `outcome` is the result of evaluating the whole expression of
+-- `policy` under the request `q`, over the entities of `W`.
 abbrev pub PolicyEvaluatesTo : Entities → Request → Policy → Outcome → Type 0
 PolicyEvaluatesTo W q policy Satisfied = EvaluatesTo W q (expression_of policy) (Ok (boolean true))
 PolicyEvaluatesTo W q policy NotSatisfied = EvaluatesTo W q (expression_of policy) (Ok (boolean false))
@@ -52,7 +52,7 @@ pub record PolicyOutcome : Type 0 where
   pub effect : Effect
   pub outcome : Outcome
 
--- `IsPolicyOutcome W q p j` holds if `j` is the outcome of the policy `p`.
+-- `IsPolicyOutcome W q p j` holds if `j` has the id, the effect and the outcome of the policy `p`.
 pub record IsPolicyOutcome (W : Entities) (q : Request) (p : NamedPolicy) (j : PolicyOutcome) : Type 0 where
   pub id : j.id ≡ p.id
   pub effect : j.effect ≡ p.policy.effect
@@ -65,25 +65,28 @@ ArePolicyOutcomes W q [] (j ∷ js) = ⊥
 ArePolicyOutcomes W q (p ∷ ps) [] = ⊥
 ArePolicyOutcomes W q (p ∷ ps) (j ∷ js) = IsPolicyOutcome W q p j × ArePolicyOutcomes W q ps js
 
+-- `id_if wanted effect outcome id` is `id`, as a list, if the policy is satisfied and its effect is the wanted one,
+-- else `[]`.
 abbrev id_if : Effect → Effect → Outcome → List ℕ → List (List ℕ)
 id_if Permit Permit Satisfied id = id ∷ []
 id_if Forbid Forbid Satisfied id = id ∷ []
 id_if wanted effect outcome id = []
 
+-- `error_of outcome id` is the error in `outcome` with the id of its policy, as a list, or `[]` otherwise.
 abbrev error_of : Outcome → List ℕ → List ErringPolicy
 error_of (Errs error) id = record { policy = id; error = error } ∷ []
 error_of Satisfied id = []
 error_of NotSatisfied id = []
 
--- `if_satisfied wanted j` is the id of `j`, if it is satisfied and has the effect `wanted`.
+-- `if_satisfied wanted j` is the id of `j`, as a list, if `j` is satisfied and has the effect `wanted`; else `[]`.
 abbrev pub if_satisfied : Effect → PolicyOutcome → List (List ℕ)
 if_satisfied wanted j = id_if wanted j.effect j.outcome j.id
 
--- `satisfied wanted js` are the ids of the satisfied policies of the effect `wanted`, in order.
+-- `satisfied wanted js` are the ids of the satisfied policies whose effect is `wanted`, in order.
 abbrev pub satisfied : Effect → List PolicyOutcome → List (List ℕ)
 satisfied wanted js = flat_map (if_satisfied wanted) js
 
--- `if_erring j` is the error of `j`, if it is erroring.
+-- `if_erring j` is the id of `j` with its error, as a list, if `j` is erroring; else `[]`.
 abbrev pub if_erring : PolicyOutcome → List ErringPolicy
 if_erring j = error_of j.outcome j.id
 
@@ -91,31 +94,34 @@ if_erring j = error_of j.outcome j.id
 abbrev pub erring : List PolicyOutcome → List ErringPolicy
 erring js = flat_map if_erring js
 
--- `decided permits forbids errors` is the answer by the satisfied permits and forbids: an allow if there is a permit
--- and no forbid. Its `reason` (Cedar's determining policies) is then the permits, else the forbids.
+-- `decided permits forbids errors` is the answer with these satisfied permits, satisfied forbids and errors: an allow
+-- if there is a permit and no forbid, else a denial. The `reason` of an allow (Cedar's determining policies) is the
+-- permits, that of a denial the forbids.
 abbrev pub decided : List (List ℕ) → List (List ℕ) → List ErringPolicy → Answer
 decided permits (f ∷ forbids) errors = record { decision = Deny; reason = f ∷ forbids; errors = errors; cycle = [] }
 decided [] [] errors = record { decision = Deny; reason = []; errors = errors; cycle = [] }
 decided (p ∷ permits) [] errors = record { decision = Allow; reason = p ∷ permits; errors = errors; cycle = [] }
 
--- `answer_by js` is the answer by the outcomes of the policies.
+-- `answer_by js` is the answer that follows from the outcomes `js` of the policies.
 abbrev pub answer_by : List PolicyOutcome → Answer
 answer_by js = decided (satisfied Permit js) (satisfied Forbid js) (erring js)
 
--- `IsCycleDenial parents a` holds if some entity is cyclic, and `a` is a denial that names the least cycle, and no
--- policy.
+-- `IsCycleDenial parents a` holds if some entity is cyclic, and `a` is a denial that names the least cycle and no
+-- policies.
 pub record IsCycleDenial (parents : Parents) (a : Answer) : Type 0 where
   pub least : IsLeastCycle parents a.cycle
   pub rest : a ≡ record { decision = Deny; reason = []; errors = []; cycle = a.cycle }
 
--- `IsPolicyAnswer W q ps a` holds if no entity is cyclic, and `a` is the answer by the outcomes of `ps`.
+-- `IsPolicyAnswer W q ps a` holds if no entity is cyclic, and `a` is the answer that follows from the outcomes of the
+-- policies `ps`.
 pub record IsPolicyAnswer (W : Entities) (q : Request) (ps : List NamedPolicy) (a : Answer) : Type 0 where
   pub acyclic : (uid : EntityUid) → IsAncestor W.parents uid uid → ⊥
   pub judged : List PolicyOutcome
   pub outcomes : ArePolicyOutcomes W q ps judged
   pub answer : a ≡ answer_by judged
 
--- `IsAnswer W q ps a` holds if `a` is the answer to the request `q`: a denial that names the least cycle, if there is
--- one; else the answer by the outcomes of the policies `ps`.
+-- `IsAnswer W q ps a` holds if `a` is the answer to the request `q` over the policies `ps` and the entities of `W`: a
+-- denial that names the least cycle, if there is a cycle, else the answer that follows from the outcomes of the
+-- policies.
 abbrev pub IsAnswer : Entities → Request → List NamedPolicy → Answer → Type 0
 IsAnswer W q ps a = IsCycleDenial W.parents a ⊎ IsPolicyAnswer W q ps a

@@ -1,5 +1,5 @@
 -- Defines the theorems about answers that a reader of policies may rely on, for all entity data, requests and policies.
--- All but `DefaultDeny`, `ListsAscend` and those of finite hierarchies assume that a test decides the ancestor
+-- All but `DefaultDeny`, `ListsAscend` and the one of finite hierarchies assume that a test decides the ancestor
 -- relation.
 -- Source: Cedar reference guide 4.0, "Authorization".
 -- Rules of this product: ids ascend by their bytes.
@@ -23,12 +23,12 @@ use Rattle.authoriser.specs.Answers.{NamedPolicy, PolicyEvaluatesTo, IsAnswer}
 
 -- ---- one answer
 
--- `HasOneAnswerAtMost W` holds if any two answers to a request are equal.
+-- `HasOneAnswerAtMost W` holds if any two answers to a request over the entities of `W` are equal.
 abbrev pub HasOneAnswerAtMost : Entities → Type 0
 HasOneAnswerAtMost W = (q : Request) (ps : List NamedPolicy) (a b : Answer) → IsAnswer W q ps a → IsAnswer W q ps b
     → a ≡ b
 
--- `HasOneAnswer W` holds if each request has exactly one answer.
+-- `HasOneAnswer W` holds if each request has exactly one answer over the entities of `W`.
 abbrev pub HasOneAnswer : Entities → Type 0
 HasOneAnswer W = (q : Request) (ps : List NamedPolicy)
     → (a : Answer) × IsAnswer W q ps a × ((b : Answer) → IsAnswer W q ps b → b ≡ a)
@@ -45,7 +45,7 @@ OneAnswerInFiniteHierarchies =
 
 -- ---- decisions
 
--- `IsSatisfied W q effect p` holds if `p` has this effect and is satisfied.
+-- `IsSatisfied W q effect p` holds if the policy `p` has the effect `effect` and is satisfied.
 abbrev pub IsSatisfied : Entities → Request → Effect → NamedPolicy → Type 0
 IsSatisfied W q effect p = (p.policy.effect ≡ effect) × PolicyEvaluatesTo W q p.policy Satisfied
 
@@ -63,8 +63,7 @@ pub data AreIdsOf (P : NamedPolicy → Type 0) : List NamedPolicy → List (List
   not_its_id : {p : NamedPolicy} {ps : List NamedPolicy} {ids : List (List ℕ)} → ¬ P p → AreIdsOf P ps ids
       → AreIdsOf P (p ∷ ps) ids
 
--- `AreErrorsOf W q ps errors` holds if `errors` are those of the erroring policies of `ps`, in order, each with its
--- error.
+-- `AreErrorsOf W q ps errors` holds if `errors` are the erroring policies of `ps`, in order, each with its error.
 pub data AreErrorsOf (W : Entities) (q : Request) : List NamedPolicy → List ErringPolicy → Type 0 where
   no_error : AreErrorsOf W q [] []
   its_error : {p : NamedPolicy} {ps : List NamedPolicy} {errors : List ErringPolicy} {error : PolicyError}
@@ -74,19 +73,20 @@ pub data AreErrorsOf (W : Entities) (q : Request) : List NamedPolicy → List Er
       → ((error : PolicyError) → ¬ PolicyEvaluatesTo W q p.policy (Errs error)) → AreErrorsOf W q ps errors
       → AreErrorsOf W q (p ∷ ps) errors
 
--- `IsAcyclic W` holds if no entity is cyclic.
+-- `IsAcyclic W` holds if no entity is cyclic in the hierarchy of `W`.
 abbrev pub IsAcyclic : Entities → Type 0
 IsAcyclic W = (uid : EntityUid) → ¬ IsAncestor W.parents uid uid
 
--- `ForbidDecides`: a satisfied forbid denies; and if no entity is cyclic, the satisfied forbids determine the answer.
+-- `ForbidDecides`: if a forbid is satisfied, the request is denied, and if no entity is cyclic, the determining
+-- policies are exactly the satisfied forbids.
 abbrev pub ForbidDecides : Type 0
 ForbidDecides = (W : Entities) (above : EntityUid → EntityUid → Bool) → Decides W.parents above →
     (q : Request) (ps : List NamedPolicy) (a : Answer) (p : NamedPolicy) → IsAnswer W q ps a → Contains ps p
     → IsSatisfied W q Forbid p →
     (a.decision ≡ Deny) × (IsAcyclic W → AreIdsOf (IsSatisfied W q Forbid) ps a.reason)
 
--- `PermitsDecide`: if no forbid is satisfied and no entity is cyclic, the request is allowed if and only if some
--- permit is satisfied, and the satisfied permits determine the answer.
+-- `PermitsDecide`: if no forbid is satisfied and no entity is cyclic, the request is allowed if and only if some permit
+-- is satisfied, and the determining policies are exactly the satisfied permits.
 abbrev pub PermitsDecide : Type 0
 PermitsDecide = (W : Entities) (above : EntityUid → EntityUid → Bool) → Decides W.parents above →
     (q : Request) (ps : List NamedPolicy) (a : Answer) → IsAnswer W q ps a → IsAcyclic W
@@ -94,25 +94,26 @@ PermitsDecide = (W : Entities) (above : EntityUid → EntityUid → Bool) → De
     ((a.decision ≡ Allow) ↔ ((p : NamedPolicy) × Contains ps p × IsSatisfied W q Permit p))
     × AreIdsOf (IsSatisfied W q Permit) ps a.reason
 
--- `ErrorsAreReported`: if no entity is cyclic, the errors are those of exactly the erroring policies.
+-- `ErrorsAreReported`: if no entity is cyclic, the reported errors are those of exactly the erroring policies.
 abbrev pub ErrorsAreReported : Type 0
 ErrorsAreReported = (W : Entities) (above : EntityUid → EntityUid → Bool) → Decides W.parents above →
     (q : Request) (ps : List NamedPolicy) (a : Answer) → IsAnswer W q ps a → IsAcyclic W → AreErrorsOf W q ps a.errors
 
 -- ---- policies that may be removed
 
--- `IsIdle W q p` holds if `p` is neither satisfied nor erroring.
+-- `IsIdle W q p` holds if the policy `p` is neither satisfied nor erroring under the request `q`.
 pub record IsIdle (W : Entities) (q : Request) (p : NamedPolicy) : Type 0 where
   pub satisfied : ¬ PolicyEvaluatesTo W q p.policy Satisfied
   pub erring : (error : PolicyError) → ¬ PolicyEvaluatesTo W q p.policy (Errs error)
 
--- `IdleChangesNothing`: removing an idle policy changes no answer, whatever its position.
+-- `IdleChangesNothing`: removing one idle policy, at any position, changes no answer.
 abbrev pub IdleChangesNothing : Type 0
 IdleChangesNothing = (W : Entities) (above : EntityUid → EntityUid → Bool) → Decides W.parents above →
     (q : Request) (front back : List NamedPolicy) (p : NamedPolicy) (a : Answer) → IsIdle W q p →
     IsAnswer W q (front ++ p ∷ back) a ↔ IsAnswer W q (front ++ back) a
 
--- `LeavingOutChangesNothing`: removing all policies that a test does not keep changes no answer, if these are idle.
+-- `LeavingOutChangesNothing`: removing all policies for which the test `kept` is false changes no answer, if each of
+-- these policies is idle.
 abbrev pub LeavingOutChangesNothing : Type 0
 LeavingOutChangesNothing = (W : Entities) (above : EntityUid → EntityUid → Bool) → Decides W.parents above →
     (q : Request) (ps : List NamedPolicy) (kept : NamedPolicy → Bool) (a : Answer)
@@ -121,19 +122,19 @@ LeavingOutChangesNothing = (W : Entities) (above : EntityUid → EntityUid → B
 
 -- ---- order
 
--- `HaveSameMembers xs ys` holds if two lists have the same members.
+-- `HaveSameMembers xs ys` holds if the lists `xs` and `ys` have the same members.
 abbrev pub HaveSameMembers : {A : Type 0} → List A → List A → Type 0
 HaveSameMembers {A} xs ys = (x : A) → Contains xs x ↔ Contains ys x
 
--- `AreAlike a b` holds if two answers have the same decision and cycle, and the same determining and erroring
--- policies.
+-- `AreAlike a b` holds if the answers `a` and `b` have the same decision and cycle, and the same determining and
+-- erroring policies in any order.
 pub record AreAlike (a b : Answer) : Type 0 where
   pub decision : a.decision ≡ b.decision
   pub reason : HaveSameMembers a.reason b.reason
   pub errors : HaveSameMembers a.errors b.errors
   pub cycle : a.cycle ≡ b.cycle
 
--- `OrderDoesNotMatter`: whatever the order of the policies, and however often each occurs, the answers are alike.
+-- `OrderDoesNotMatter`: lists with the same policies, in any order and with any repetitions, have alike answers.
 abbrev pub OrderDoesNotMatter : Type 0
 OrderDoesNotMatter = (W : Entities) (above : EntityUid → EntityUid → Bool) → Decides W.parents above →
     (q : Request) (ps others : List NamedPolicy) (a b : Answer) → HaveSameMembers ps others → IsAnswer W q ps a

@@ -1,5 +1,5 @@
--- Defines the role of a policy's scope in its whole expression: its parts never error, and if all are true the
--- condition decides.
+-- Defines the role of a policy's scope in its whole expression: the parts of a scope never error, and if all are true,
+-- the condition determines the outcome.
 -- Source: Cedar reference guide 4.0, "Policy scope" and "Policy conditions"; cedar-spec, Spec/Policy
 -- (`Policy.toExpr`).
 use Rattle.std.specs.Prelude.{Bool, true, false, Ok, Err}
@@ -18,11 +18,12 @@ use Rattle.evaluator.specs.Evaluation.{EvaluatesTo, TestFails}
 use Rattle.evaluator.specs.ancestor_search.Hierarchy.{IsIn}
 use Rattle.scope_index.specs.Scopes.{IsEntityScopeTrue, IsActionScopeTrue, IsScopeTrue}
 
--- `GivesWhether W q x P` holds if `x` evaluates to the boolean that says whether `P` holds.
+-- `GivesWhether W q x P` holds if the expression `x` evaluates to true if `P` holds, and to false if `P` does not hold.
 abbrev pub GivesWhether : Entities → Request → Expr → Type 0 → Type 0
 GivesWhether W q x P = (P → EvaluatesTo W q x (Ok (boolean true))) × (¬ P → EvaluatesTo W q x (Ok (boolean false)))
 
--- `PartsDecide W q scope` holds if each part of `scope` evaluates to whether it is true.
+-- `PartsDecide W q scope` holds if each part of `scope`, as an expression, evaluates to true if it is true of the
+-- request `q`, and to false otherwise.
 pub record PartsDecide (W : Entities) (q : Request) (scope : Scope) : Type 0 where
   pub principal : GivesWhether W q (entity_part Principal scope.principal)
       (IsEntityScopeTrue (IsIn W.parents q.principal) scope.principal q.principal)
@@ -31,23 +32,23 @@ pub record PartsDecide (W : Entities) (q : Request) (scope : Scope) : Type 0 whe
   pub resource : GivesWhether W q (entity_part Resource scope.resource)
       (IsEntityScopeTrue (IsIn W.parents q.resource) scope.resource q.resource)
 
--- `ConditionDecides W q policy` holds if the policy evaluates to what its condition does as a test, its errors
--- included.
+-- `ConditionDecides W q policy` holds if the whole expression of `policy` has the outcome of its condition: its
+-- boolean, or the error with which it fails as a condition.
 pub record ConditionDecides (W : Entities) (q : Request) (policy : Policy) : Type 0 where
   pub gives : (t : Bool) → EvaluatesTo W q policy.condition (Ok (boolean t))
       → EvaluatesTo W q (expression_of policy) (Ok (boolean t))
   pub errs : (e : EvalFault) → TestFails W q policy.condition e → EvaluatesTo W q (expression_of policy) (Err e)
 
--- `ScopesDoNotErr`: each part of a scope evaluates to whether it is true.
+-- `ScopesDoNotErr`: each part of a scope, as an expression, evaluates to whether it is true of the request.
 abbrev pub ScopesDoNotErr : Type 0
 ScopesDoNotErr = (W : Entities) (q : Request) (scope : Scope) → PartsDecide W q scope
 
--- `TrueScopesLeaveToConditions`: if the scope is true, the policy evaluates to what its condition does as a test.
+-- `TrueScopesLeaveToConditions`: if the scope of a policy is true, the policy has the outcome of its condition.
 abbrev pub TrueScopesLeaveToConditions : Type 0
 TrueScopesLeaveToConditions = (W : Entities) (q : Request) (policy : Policy) → IsScopeTrue W.parents policy.scope q
     → ConditionDecides W q policy
 
--- `OtherScopesGiveFalse`: a policy whose scope is not true evaluates to false, whatever its condition, if a test
+-- `OtherScopesGiveFalse`: a policy whose scope is not true evaluates to false, whatever its condition is, if a test
 -- decides the ancestor relation.
 abbrev pub OtherScopesGiveFalse : Type 0
 OtherScopesGiveFalse = (W : Entities) (above : EntityUid → EntityUid → Bool) → Decides W.parents above

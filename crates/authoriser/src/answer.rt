@@ -15,21 +15,24 @@ pub enum Decision {
 pub struct ErringPolicy {
     /// The policy's id.
     pub policy: Text,
+    /// The error of its evaluation.
     pub error: PolicyError,
 }
 
 /// The answer to a request. It owns its parts.
 #[derive(Drop)]
 pub struct Answer {
+    /// Whether the request is allowed.
     pub decision: Decision,
-    /// The ids of the determining policies, ascending: the satisfied permits of an allow, else the satisfied forbids.
+    /// The ids of the determining policies, in the order in which the policies were passed: the satisfied permits of an
+    /// allow, else the satisfied forbids.
     pub reason: Items<Text>,
-    /// The erroring policies, ascending by id.
+    /// The erroring policies, in the same order.
     pub errors: Items<ErringPolicy>,
-    /// One cycle, if some entity is cyclic; otherwise empty.
+    /// The least cycle, if some entity is cyclic; otherwise empty.
     ///
-    /// An edge leads from each entity to the next, and from the last to the first. It begins with the least cyclic
-    /// entity, by type and then id; it is a shortest cycle of that entity, and the least of these, compared item by
-    /// item. No policy was then evaluated.
+    /// An edge leads from each entity to the next, and from the last to the first. The cycle begins with the least
+    /// cyclic entity, by type and then id; it is a shortest cycle of that entity, and the least of these, compared item
+    /// by item. If it is not empty, no policy was evaluated.
     pub cycle: Items<EntityUid>,
 }

@@ -1,13 +1,13 @@
 //! The outcome of a policy on a request.
 ghost use Rattle.std.specs.Prelude.{◌≡◌, IfOk, MatchResult};
 ghost use Rattle.evaluator.specs.declared.fault.EvalFault.TheVariants as evaluating;
-ghost use Rattle.evaluator.specs.Operators.{world_of};
+ghost use Rattle.evaluator.specs.Operators.{entities_with};
 ghost use Rattle.authoriser.specs.Answers.{fault_of, PolicyEvaluatesTo};
 ghost use Rattle.authoriser.specs.inner.Views.{ConditionEvaluatesTo};
 
-use crate::known::PreparedRequest;
 use crate::laws::scopes_do_not_err;
 use crate::outcome::{Outcome, PolicyError};
+use crate::prepared_request::PreparedRequest;
 use crate::scopes::is_scope_true;
 use evaluator::{EvalEnv, EvalFault, Lookup, evaluate_condition};
 use grammar_core::Expr;
@@ -15,7 +15,7 @@ use plain::NoMemory;
 use scope_index::Policy;
 use std::alloc::Global;
 
-/// Returns the policy error of an evaluation error, unless it is `NoMemory`.
+/// Returns the policy error that reports an evaluation error; the error `NoMemory` if the evaluation ran out of memory.
 fn error_by(fault: EvalFault) -> Result<PolicyError, NoMemory>
     ensures { MatchResult result (λ error. fault ≡ fault_of error) (λ _. fault ≡ evaluating.NoMemory) }
 {
@@ -29,13 +29,13 @@ fn error_by(fault: EvalFault) -> Result<PolicyError, NoMemory>
     }
 }
 
-/// Returns the outcome of a condition.
+/// Returns the outcome of a policy whose scope is true, given its condition.
 fn outcome_of_condition<L: EvalEnv>(
     alloc: Global,
     condition: &Expr,
     store: &L,
 ) -> Result<Outcome, NoMemory>
-    ensures { let W = world_of (L.stored store.now) (L.parents store.now) in
+    ensures { let W = entities_with (L.stored store.now) (L.parents store.now) in
         IfOk result (ConditionEvaluatesTo W (L.asked store.now) condition.now) }
 {
     match evaluate_condition(alloc, condition, store) {
@@ -53,7 +53,7 @@ pub(crate) fn outcome_of<L: Lookup>(
     known: &PreparedRequest<'_, L>,
 ) -> Result<Outcome, NoMemory>
     ensures { IfOk result
-        (PolicyEvaluatesTo (world_of (L.stored known.now.0) (L.parents known.now.0)) known.now.1 policy.now) }
+        (PolicyEvaluatesTo (entities_with (L.stored known.now.0) (L.parents known.now.0)) known.now.1 policy.now) }
 {
     scopes_do_not_err();
     if is_scope_true(policy.scope.get(), known.request_entities()) {

@@ -2,14 +2,14 @@
 ghost use Rattle.std.specs.Prelude.{◌≡◌, [], IfOk, MatchOption};
 ghost use Rattle.evaluator.specs.ancestor_search.Hierarchy.{names};
 ghost use Rattle.evaluator.specs.ancestor_search.LeastCycle.{HasNoCycle};
-ghost use Rattle.evaluator.specs.Operators.{world_of};
+ghost use Rattle.evaluator.specs.Operators.{entities_with};
 ghost use Rattle.authoriser.specs.declared.answer.Decision.TheVariants.{Deny};
 ghost use Rattle.authoriser.specs.Answers.{IsAnswer, IsCycleDenial};
 ghost use Rattle.authoriser.specs.Views.{named};
 
 use crate::answer::{Answer, Decision};
 use crate::conditions::outcome_of;
-use crate::known::PreparedRequest;
+use crate::prepared_request::PreparedRequest;
 use crate::tally::Tally;
 use evaluator::{Ancestry, Lookup};
 use plain::{Items, NoMemory};
@@ -17,9 +17,10 @@ use scope_index::Policy;
 use std::alloc::Global;
 use values::{EntityUid, Request};
 
-/// The most entities other than the request's whose ancestors [`decide`] memoizes.
+/// The most entities other than the request's whose ancestors [`decide`] memoizes. No answer depends on it.
 const OTHERS_MAX: usize = 64;
 
+/// Copies the uids.
 fn copy_uids(alloc: Global, uids: &[&EntityUid]) -> Result<Items<EntityUid>, NoMemory>
     ensures { IfOk result (λ copies. copies ≡ names uids.now) }
 {
@@ -30,14 +31,14 @@ fn copy_uids(alloc: Global, uids: &[&EntityUid]) -> Result<Items<EntityUid>, NoM
     Ok(Items::from_vec(copies))
 }
 
-/// Returns the answer if the hierarchy has no cycle: by the outcomes of the policies.
+/// Returns the answer that follows from the outcomes of the policies. The hierarchy must have no cycle.
 fn answer_by_policies<L: Lookup>(
     alloc: Global,
     policies: &[(&str, &Policy)],
     known: &mut PreparedRequest<'_, L>,
 ) -> Result<Answer, NoMemory>
     requires { HasNoCycle (L.parents known.old.0) }
-    ensures { IfOk result (λ a. IsAnswer (world_of (L.stored known.old.0) (L.parents known.old.0)) known.old.1
+    ensures { IfOk result (λ a. IsAnswer (entities_with (L.stored known.old.0) (L.parents known.old.0)) known.old.1
         (named policies.now) a) }
 {
     let mut tally = Tally::new(alloc);
@@ -49,7 +50,7 @@ fn answer_by_policies<L: Lookup>(
     tally.into_answer(alloc)
 }
 
-/// Returns a denial that names this cycle, and no policy.
+/// Returns a denial that names this cycle and no policies.
 fn denial_by_cycle(alloc: Global, cycle: &[&EntityUid]) -> Result<Answer, NoMemory>
     ensures { IfOk result (λ a. a
         ≡ record { decision = Deny; reason = []; errors = []; cycle = names cycle.now }) }
@@ -77,16 +78,16 @@ fn denial_if_cyclic<L: Lookup>(
     }
 }
 
-/// Like [`decide`], with the request's entities already looked up.
+/// Returns the answer to a request whose entities are already looked up. Otherwise like [`decide`].
 ///
-/// A caller that needs these entities for more, as an index does, looks them up once for both. The only error is
-/// `NoMemory`.
+/// A caller that also needs these entities elsewhere, for example to find candidates in an index, looks them up only
+/// once. The only error is `NoMemory`.
 pub fn decide_known<L: Lookup>(
     alloc: Global,
     policies: &[(&str, &Policy)],
     known: &mut PreparedRequest<'_, L>,
 ) -> Result<Answer, NoMemory>
-    ensures { IfOk result (λ a. IsAnswer (world_of (L.stored known.old.0) (L.parents known.old.0)) known.old.1
+    ensures { IfOk result (λ a. IsAnswer (entities_with (L.stored known.old.0) (L.parents known.old.0)) known.old.1
         (named policies.now) a) }
 {
     match denial_if_cyclic(alloc, known)? {
@@ -111,7 +112,7 @@ pub fn decide<L: Lookup>(
     request: &Request,
     store: &L,
 ) -> Result<Answer, NoMemory>
-    ensures { IfOk result (λ a. IsAnswer (world_of (L.stored store.now) (L.parents store.now)) request.now
+    ensures { IfOk result (λ a. IsAnswer (entities_with (L.stored store.now) (L.parents store.now)) request.now
         (named policies.now) a) }
 {
     let mut known = PreparedRequest::of(alloc, store, request, OTHERS_MAX)?;

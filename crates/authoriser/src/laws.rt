@@ -7,7 +7,7 @@ ghost use Rattle.authoriser.specs.Parts.{ScopesDoNotErr, TrueScopesLeaveToCondit
 use evaluator::{cycles_have_one_least, expressions_have_one_outcome, paths_are_decided};
 use values::sets_hold_their_members;
 
-// Answers differ only in `NoMemory`.
+// Proves that a request has at most one answer. No-op.
 fn answers_are_one()
     ensures { OneAnswerAtMost }
 {
@@ -15,7 +15,7 @@ fn answers_are_one()
     expressions_have_one_outcome();
 }
 
-// For one idle policy; for many it follows.
+// Proves that removing one idle policy changes no answer; the theorem on several follows from it. No-op.
 fn idle_policies_change_nothing()
     ensures { IdleChangesNothing }
 {
@@ -59,11 +59,12 @@ pub fn answers_are_lawful()
     idle_policies_change_nothing();
 }
 
-/// Proves the role of a scope in its policy. No-op.
+/// Proves the role of a scope in the expression of its policy. No-op.
 ///
 /// - `parts`: each part of a scope evaluates to whether it is true, so it never errors.
-/// - `leaves`: if all three are true, the policy evaluates to what its condition does, errors included.
-/// - `idle`: if they are not, it evaluates to false, whatever its condition, if a test decides the ancestor relation.
+/// - `leaves`: if all three are true, the policy has the outcome of its condition, errors included.
+/// - `idle`: if one is not, the policy evaluates to false, whatever its condition is, if a test decides the ancestor
+///   relation.
 pub fn scopes_do_not_err()
     ensures parts { ScopesDoNotErr }
     ensures leaves { TrueScopesLeaveToConditions }

@@ -6,13 +6,13 @@
 //! the request is denied and the answer names the least cycle, which is a rule of this product.
 #![tactic(auto)]
 
+mod ancestor_memo;
 mod answer;
 mod conditions;
 mod deciding;
-mod known;
 mod laws;
-mod others;
 mod outcome;
+mod prepared_request;
 mod request_entities;
 mod scopes;
 mod tally;
@@ -20,7 +20,7 @@ mod tally;
 pub use answer::{Answer, Decision, ErringPolicy};
 pub use deciding::{decide, decide_known};
 pub use evaluator::{Lookup, expressions_have_one_outcome, paths_are_decided};
-pub use known::PreparedRequest;
 pub use laws::{answers_are_lawful, scopes_do_not_err};
 pub use outcome::{Outcome, PolicyError};
+pub use prepared_request::PreparedRequest;
 pub use scope_index::{Policy, file_names_differ, texts_have_one_reading};

@@ -1,7 +1,7 @@
 //! A request's three entities, with their ancestors and attributes, looked up once.
 ghost use Rattle.std.specs.Prelude.{◌↔◌, ⊤, IsTrue, IfOk, MatchOption};
 ghost use Rattle.evaluator.specs.ancestor_search.Hierarchy.{Parents, IsAscending, names};
-ghost use Rattle.evaluator.specs.Operators.{Entities, world_of};
+ghost use Rattle.evaluator.specs.Operators.{Entities, entities_with};
 ghost use Rattle.authoriser.specs.inner.Views.{IsWithin, HasItsAncestors, HasRequestAncestors, AllHaveTheirAncestors};
 ghost use Rattle.authoriser.specs.inner.Views.{HasItsAttributes, HasRequestAttributes, AllHaveTheirAttributes};
 
@@ -28,8 +28,8 @@ pub(crate) struct RequestEntities<'a> {
     pub(crate) resource: KnownEntity<'a>,
 }
 
-/// Looks up an entity's ancestors and attributes. An entity that is not stored has no ancestors, so nothing is
-/// searched for it.
+/// Looks up an entity's ancestors and attributes. The ancestors of an entity that is not stored are not searched: it
+/// has none.
 fn look_up<'a, L: Lookup>(
     alloc: Global,
     store: &'a L,
@@ -37,7 +37,7 @@ fn look_up<'a, L: Lookup>(
 ) -> Result<KnownEntity<'a>, NoMemory>
     ensures ancestors { IfOk result (λ p. HasItsAncestors (L.parents store.now) uid.now p) }
     ensures attributes { IfOk result
-        (λ p. HasItsAttributes (world_of (L.stored store.now) (L.parents store.now)) uid.now p) }
+        (λ p. HasItsAttributes (entities_with (L.stored store.now) (L.parents store.now)) uid.now p) }
 {
     match store.attrs_of(uid) {
         Some(attributes) => Ok(KnownEntity {
@@ -61,7 +61,7 @@ pub(crate) fn request_entities_of<'a, L: Lookup>(
 ) -> Result<RequestEntities<'a>, NoMemory>
     ensures ancestors { IfOk result (λ s. HasRequestAncestors (L.parents store.now) request.now s) }
     ensures attributes { IfOk result
-        (λ s. HasRequestAttributes (world_of (L.stored store.now) (L.parents store.now)) request.now s) }
+        (λ s. HasRequestAttributes (entities_with (L.stored store.now) (L.parents store.now)) request.now s) }
 {
     let principal = look_up(alloc, store, &request.principal)?;
     let action = look_up(alloc, store, &request.action)?;

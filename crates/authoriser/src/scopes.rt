@@ -9,8 +9,8 @@ use crate::request_entities::{KnownEntity, RequestEntities};
 use scope_index::{ActionScope, EntityScope, Scope};
 use values::EntityUid;
 
-// At most this many ancestors are compared one by one, ids first, since ids differ early; a binary search compares
-// types first.
+// The greatest number of ancestors that are compared one by one. Such a comparison tests the ids first, which differ
+// early; a binary search compares the types first. No result depends on this number.
 const FEW: usize = 16;
 
 /// Returns whether an entity is one of these.
@@ -37,6 +37,7 @@ fn is_within(known: &KnownEntity<'_>, of: &EntityUid) -> bool
     }
 }
 
+/// Returns whether the principal or resource part of a scope is true.
 fn is_entity_scope_true(scope: &EntityScope, known: &KnownEntity<'_>) -> bool
     requires { IsAscending (names known.now.ancestors.items) }
     ensures { IsTrue result ↔ IsEntityScopeTrue (IsWithin known.now) scope.now known.now.uid.now }
@@ -52,6 +53,7 @@ fn is_entity_scope_true(scope: &EntityScope, known: &KnownEntity<'_>) -> bool
     }
 }
 
+/// Returns whether the action part of a scope is true.
 fn is_action_scope_true(scope: &ActionScope, known: &KnownEntity<'_>) -> bool
     requires { IsAscending (names known.now.ancestors.items) }
     ensures { IsTrue result ↔ IsActionScopeTrue (IsWithin known.now) scope.now known.now.uid.now }
@@ -64,6 +66,7 @@ fn is_action_scope_true(scope: &ActionScope, known: &KnownEntity<'_>) -> bool
     }
 }
 
+/// Returns whether an entity is one of `entities` or a descendant of one.
 fn is_within_any(entities: &[EntityUid], known: &KnownEntity<'_>) -> bool
     requires { IsAscending (names known.now.ancestors.items) }
     ensures { IsTrue result ↔ ((entity : EntityUid) × Contains entities.now entity × IsWithin known.now entity) }
@@ -76,8 +79,8 @@ fn is_within_any(entities: &[EntityUid], known: &KnownEntity<'_>) -> bool
     false
 }
 
-/// Returns whether all three parts of a scope are true. The action is tested first: a candidate was found by the
-/// principal or the resource that it names, so that part is mostly true, and the action decides.
+/// Returns whether all three parts of a scope are true. The action is tested first: an index finds a candidate by the
+/// principal or the resource that its scope names, so that part is mostly true, and the action decides.
 pub(crate) fn is_scope_true(scope: &Scope, entities: &RequestEntities<'_>) -> bool
     requires { AreAscending entities.now }
     ensures { IsTrue result ↔ IsTrueOf scope.now entities.now }

@@ -1,4 +1,4 @@
-//! The determining and erroring policies, gathered one after another.
+//! The satisfied and erroring policies, recorded one after another.
 ghost use Rattle.std.specs.Prelude.{◌≡◌, ◌∷◌, [], ◌++◌, List, map, IfOk, OnOk};
 ghost use Rattle.authoriser.specs.Answers.{PolicyOutcome, decided};
 ghost use Rattle.authoriser.specs.inner.Views.{Counts, ids, faults};
@@ -18,6 +18,7 @@ pub(crate) struct Tally<'a> {
 }
 
 impl<'a> Tally<'a> {
+    /// Creates an empty tally.
     pub(crate) fn new(alloc: Global) -> Tally<'a>
         ensures { Counts result [] }
     {
@@ -47,20 +48,21 @@ impl<'a> Tally<'a> {
         Ok(())
     }
 
-    /// Returns the answer by the recorded policies. Ids are copied only here, and only those in the answer.
+    /// Returns the answer that follows from the recorded policies. Only the ids in the answer are copied.
     pub(crate) fn into_answer(self, alloc: Global) -> Result<Answer, NoMemory>
         ensures { IfOk result (λ a. a ≡ decided (ids self.entry.permits.items) (ids self.entry.forbids.items)
             (faults self.entry.errors.items)) }
     {
         if !self.permits.is_empty() && self.forbids.is_empty() {
-            listed(alloc, Decision::Allow, &self.permits, &self.errors)
+            answer_of(alloc, Decision::Allow, &self.permits, &self.errors)
         } else {
-            listed(alloc, Decision::Deny, &self.forbids, &self.errors)
+            answer_of(alloc, Decision::Deny, &self.forbids, &self.errors)
         }
     }
 }
 
-fn listed(
+/// Returns the answer with this decision, these determining policies and these errors.
+fn answer_of(
     alloc: Global,
     decision: Decision,
     ids: &[&str],
@@ -79,6 +81,7 @@ fn listed(
     })
 }
 
+/// Copies the ids.
 fn copy_ids(alloc: Global, ids: &[&str]) -> Result<Items<Text>, NoMemory>
     ensures { IfOk result (λ copies. copies ≡ map (λ x. x.now) ids.now) }
 {
@@ -89,6 +92,7 @@ fn copy_ids(alloc: Global, ids: &[&str]) -> Result<Items<Text>, NoMemory>
     Ok(Items::from_vec(copies))
 }
 
+/// Copies the erroring policies, each with its error.
 fn copy_errors(
     alloc: Global,
     errors: &[(&str, PolicyError)],

@@ -2,8 +2,8 @@
 //! the policies, the entities, the request. It needs fewer crates than `cedar_site`, and prints what that prints for
 //! `decide` without `--schema`.
 //!
-//! The answer's line goes to standard output, with status 0; an error's to standard error, with 1. The status is 2 for
-//! other arguments, and 3 if a file can't be read or a stream fails.
+//! The line of the answer goes to standard output, with status 0; the line of an error goes to standard error, with
+//! status 1. The status is 2 for other arguments, and 3 if a file or the arguments can't be read, or a stream fails.
 #![tactic(auto)]
 
 use decision_texts::{Refusal, decide_texts, error_line};
@@ -11,20 +11,21 @@ use std::io::Write;
 use std::process::ExitCode;
 use std::{env, fs, io};
 
-/// A file could not be read, or a stream failed.
+/// The status if a file or the arguments could not be read, or a stream failed.
 const FAILED: u8 = 3;
 
 /// The error line of an out-of-memory error. Does not allocate.
 const NO_MEMORY_LINE: &[u8; 47] = b"{\"error\":{\"code\":1,\"place\":null,\"within\":null}}";
 
+/// Writes a label, a line and a line feed.
 fn write_line<W: Write>(out: &mut W, label: &str, line: &[u8]) -> io::Result<()> {
     out.write_all(label.as_bytes())?;
     out.write_all(line)?;
     out.write_all(b"\n")
 }
 
-/// Writes a label, a line and a line feed, and returns the status of the run.
-fn tell<W: Write + Drop>(mut out: W, label: &str, line: &[u8], status: u8) -> ExitCode {
+/// Writes a label, a line and a line feed, and returns the status of the run: `status`, or `FAILED` if writing fails.
+fn report_line<W: Write + Drop>(mut out: W, label: &str, line: &[u8], status: u8) -> ExitCode {
     match write_line(&mut out, label, line) {
         Ok(()) => ExitCode::from(status),
         Err(_) => ExitCode::from(FAILED),
@@ -32,55 +33,66 @@ fn tell<W: Write + Drop>(mut out: W, label: &str, line: &[u8], status: u8) -> Ex
 }
 
 /// Reports that a file can't be read.
-fn tell_fault(rt: &HostRuntime, name: &str) -> ExitCode {
-    tell(rt.stderr(), "fault: ", name.as_bytes(), FAILED)
+fn report_unreadable(rt: &HostRuntime, name: &str) -> ExitCode {
+    report_line(rt.stderr(), "fault: ", name.as_bytes(), FAILED)
 }
 
-fn tell_refusal(rt: &HostRuntime, refusal: Refusal) -> ExitCode {
+/// Reports an error as a line on standard error.
+fn report_rejection(rt: &HostRuntime, refusal: Refusal) -> ExitCode {
     match error_line(rt.alloc(), refusal) {
-        Ok(line) => tell(rt.stderr(), "", &line, 1),
-        Err(_) => tell(rt.stderr(), "", NO_MEMORY_LINE, 1),
+        Ok(line) => report_line(rt.stderr(), "", &line, 1),
+        Err(_) => report_line(rt.stderr(), "", NO_MEMORY_LINE, 1),
     }
 }
 
-/// Decides the request over the three texts.
+/// Decides the request over the three texts, and prints the answer or the error.
 fn decide(rt: &HostRuntime, policies: &[u8], entities: &[u8], request: &[u8]) -> ExitCode {
     match decide_texts(rt.alloc(), policies, entities, request) {
-        Ok(line) => tell(rt.stdout(), "", &line, 0),
-        Err(refusal) => tell_refusal(rt, refusal),
+        Ok(line) => report_line(rt.stdout(), "", &line, 0),
+        Err(refusal) => report_rejection(rt, refusal),
     }
 }
 
 /// Reads the request, and then decides.
-fn ask(rt: &HostRuntime, policies: &[u8], entities: &[u8], request: &str) -> ExitCode {
+fn decide_from_request(
+    rt: &HostRuntime,
+    policies: &[u8],
+    entities: &[u8],
+    request: &str,
+) -> ExitCode {
     match fs::read(rt, request) {
         Ok(text) => decide(rt, policies, entities, &text),
-        Err(_) => tell_fault(rt, request),
+        Err(_) => report_unreadable(rt, request),
     }
 }
 
 /// Reads the entities, and then goes on with the request.
-fn ask_over(rt: &HostRuntime, policies: &[u8], entities: &str, request: &str) -> ExitCode {
+fn decide_from_entities(
+    rt: &HostRuntime,
+    policies: &[u8],
+    entities: &str,
+    request: &str,
+) -> ExitCode {
     match fs::read(rt, entities) {
-        Ok(text) => ask(rt, policies, &text, request),
-        Err(_) => tell_fault(rt, entities),
+        Ok(text) => decide_from_request(rt, policies, &text, request),
+        Err(_) => report_unreadable(rt, entities),
     }
 }
 
 /// Reads the policies, and then goes on with the other files.
-fn ask_by(rt: &HostRuntime, policies: &str, entities: &str, request: &str) -> ExitCode {
+fn decide_from_files(rt: &HostRuntime, policies: &str, entities: &str, request: &str) -> ExitCode {
     match fs::read(rt, policies) {
-        Ok(text) => ask_over(rt, &text, entities, request),
-        Err(_) => tell_fault(rt, policies),
+        Ok(text) => decide_from_entities(rt, &text, entities, request),
+        Err(_) => report_unreadable(rt, policies),
     }
 }
 
 /// Decides the request in the files that the arguments name, the first of which is the program's name.
 fn run(rt: &HostRuntime, words: &[String]) -> ExitCode {
     match words {
-        [_, policies, entities, request] => ask_by(rt, policies, entities, request),
+        [_, policies, entities, request] => decide_from_files(rt, policies, entities, request),
         _ => {
-            tell(
+            report_line(
                 rt.stderr(),
                 "usage: bare_decide POLICIES ENTITIES REQUEST",
                 b"",

@@ -1,4 +1,5 @@
-//! The program: checks policies under a schema, decides requests over files, and serves, pulls from and merges sites.
+//! The program `cedar_site`. Its commands check policies, decide requests, load and serve sites, pull from one,
+//! exchange between two, merge states, execute scripts, and explain what is rejected.
 #![tactic(auto)]
 
 use program::{LineFault, SystemHost, report_words, run};

@@ -37,7 +37,7 @@ one_request laws d q other a b =
     let principal = found_same laws (get (codes "principal") d) q.principal other.principal a.principal b.principal in
     let action = found_same laws (get (codes "action") d) q.action other.action a.action b.action in
     let resource = found_same laws (get (codes "resource") d) q.resource other.resource a.resource b.resource in
-    let context : q.context ≡ other.context = a.nothing_known ∙ sym b.nothing_known in
+    let context : q.context ≡ other.context = a.context_is_empty ∙ sym b.context_is_empty in
     λ i. record { principal = principal i; action = action i; resource = resource i; context = context i }
 
 -- ---- a request, or none
@@ -73,7 +73,7 @@ stated_or_none : (d : Data) → SomeOrNone (NamesAt (codes "principal") d) → S
     (empty : Bool) → is_absent_or_empty (get (codes "context") d) ≡ empty → StatedOrNone d
 stated_or_none d (inl principal) (inl action) (inl resource) true e = inl (
   record { principal = principal.0; action = action.0; resource = resource.0; context = [] },
-  record { principal = principal.1; action = action.1; resource = resource.1; context = e; nothing_known = refl },
+  record { principal = principal.1; action = action.1; resource = resource.1; context = e; context_is_empty = refl },
 )
 stated_or_none d (inl principal) (inl action) (inl resource) false e = nothing d (no_context d e)
 stated_or_none d (inl principal) (inl action) (inr none) empty e = nothing d (no_resource d none)

@@ -14,9 +14,9 @@ use Rattle.decision_texts.specs.Settings.{Reading}
 use Rattle.decision_texts.specs.EntityArrays.{entities_of}
 use Rattle.decision_texts.specs.Requests.{IsRequestRefused}
 use Rattle.decision_texts.specs.Decisions.{ArePoliciesOf, AreAdmitted, AreNotAdmitted, rejected, IsInOrder, IsAnswerTo}
-use Rattle.decision_texts.specs.Decisions.{IsQuestionAnswered, IsQuestionRefused, by_request, IsDecisionRefused}
-use Rattle.decision_texts.specs.Decisions.{by_question}
-use Rattle.decision_texts.specs.inner.Stores.{Keeps, world_held, IsLineTo}
+use Rattle.decision_texts.specs.Decisions.{IsRequestAnswered, AreInputsRejected, by_request, IsDecisionRefused}
+use Rattle.decision_texts.specs.Decisions.{by_inputs}
+use Rattle.decision_texts.specs.inner.Stores.{Keeps, entity_data_stored, IsLineTo}
 use Rattle.decision_texts.proofs.StoreLemmas.{held_world}
 
 -- what is tried is in order
@@ -43,19 +43,19 @@ module _ {X : Type 0} (kept : X) (judged : Result ⊤ Refusal) (result : Result 
 
 module _ (r : Reading) where
   pub answered : (policies : List NamedPolicy) (entities request line : List ℕ) (store : Entries) → Keeps (entities_of r entities) store
-      → IsLineTo r policies (world_held r store) request line → IsQuestionAnswered r policies entities request line
+      → IsLineTo r policies (entity_data_stored r store) request line → IsRequestAnswered r policies entities request line
   answered policies entities request line store kept to = record {
     stored = kept.entities;
     array = kept.are;
     asked = to.asked;
-    question = to.question;
+    request_stated = to.request_stated;
     answer = to.told.answer;
     answers = subst (λ (W : Entities). IsAnswerTo policies W to.asked to.told.answer) (held_world r store kept.entities kept.held) to.told.answers;
     line_is = to.told.line_is;
   }
 
   pub unanswered : (entities request : List ℕ) (store : Entries) (refusal : Refusal) → Keeps (entities_of r entities) store
-      → OrNoMemory no_memory (IsRequestRefused r request) refusal → OrNoMemory no_memory (IsQuestionRefused r entities request) refusal
+      → OrNoMemory no_memory (IsRequestRefused r request) refusal → OrNoMemory no_memory (AreInputsRejected r entities request) refusal
   unanswered entities request store refusal kept due other = by_request kept.entities kept.are (due other)
 
   -- the file of policies, as it was read and as it was judged
@@ -69,5 +69,5 @@ module _ (r : Reading) where
         rejected _ _ file (subst (λ (ps : List (String Global × Policy)). r.rejects (map (λ p. p.1) ps) refusal) same (due other))
 
   pub no_question : (policies entities request : List ℕ) (names : List (List ℕ)) (cores : List Policy) (refusal : Refusal) → AreAdmitted r policies names cores
-      → OrNoMemory no_memory (IsQuestionRefused r entities request) refusal → OrNoMemory no_memory (IsDecisionRefused r policies entities request) refusal
-  no_question policies entities request names cores refusal admitted due other = by_question names cores admitted (due other)
+      → OrNoMemory no_memory (AreInputsRejected r entities request) refusal → OrNoMemory no_memory (IsDecisionRefused r policies entities request) refusal
+  no_question policies entities request names cores refusal admitted due other = by_inputs names cores admitted (due other)

@@ -11,9 +11,9 @@ use Rattle.entity_data.specs.declared.entity.Entity.{Entity}
 use Rattle.decision_texts.specs.Settings.{Reading}
 use Rattle.decision_texts.specs.EntityArrays.{entities_of}
 use Rattle.decision_texts.specs.Requests.{IsRequestText}
-use Rattle.decision_texts.specs.Decisions.{ArePoliciesOf, AreAdmitted, unread, rejected, named_policies, world_with}
-use Rattle.decision_texts.specs.Decisions.{IsQuestionAnswered, IsQuestionRefused, by_entities, by_request, IsDecided}
-use Rattle.decision_texts.specs.Decisions.{IsDecisionRefused, by_policies, by_question}
+use Rattle.decision_texts.specs.Decisions.{ArePoliciesOf, AreAdmitted, unread, rejected, named_policies, entity_data_with}
+use Rattle.decision_texts.specs.Decisions.{IsRequestAnswered, AreInputsRejected, by_entities, by_request, IsDecided}
+use Rattle.decision_texts.specs.Decisions.{IsDecisionRefused, by_policies, by_inputs}
 use Rattle.decision_texts.specs.Outcomes.{LineOrRefusal}
 use Rattle.decision_texts.proofs.NameLemmas.{some_order}
 use Rattle.decision_texts.proofs.OutcomeLemmas.{TextLaws, IsDefinite}
@@ -34,23 +34,23 @@ module _ (laws : TextLaws) (r : Reading) (definite : IsDefinite r) (policies ent
 
   module _ (names : List (List ℕ)) (cores : List Policy) (admitted : AreAdmitted r policies names cores) where
     answered : (stored : List Entity) → entities_of r entities ≡ Ok stored → (asked : Request) → IsRequestText r request asked → Outcome
-    answered stored array asked question =
+    answered stored array asked request_stated =
         let order = some_order (named_policies names cores) in
-        let answer = laws.answers (world_with r.actions stored) (with_parents definite.declared stored)
+        let answer = laws.answers (entity_data_with r.actions stored) (with_parents definite.declared stored)
         (all_parents r.actions definite.declared definite.lists stored) asked order.0 in
-        let told : IsQuestionAnswered r (named_policies names cores) entities request (answer_line answer.0) = record {
+        let told : IsRequestAnswered r (named_policies names cores) entities request (answer_line answer.0) = record {
           stored = stored;
           array = array;
           asked = asked;
-          question = question;
+          request_stated = request_stated;
           answer = answer.0;
           answers = record { ordered = order.0; order = order.1; is = answer.1 };
           line_is = refl;
         } in
         inl (answer_line answer.0, record { names = names; cores = cores; admitted = admitted; answered = told })
 
-    unanswered : (refusal : Refusal) → IsQuestionRefused r entities request refusal → Outcome
-    unanswered refusal none = inr (refusal, by_question names cores admitted none)
+    unanswered : (refusal : Refusal) → AreInputsRejected r entities request refusal → Outcome
+    unanswered refusal none = inr (refusal, by_inputs names cores admitted none)
 
     by_asked : (stored : List Entity) → entities_of r entities ≡ Ok stored → RequestOrNone (json_of request) → Outcome
     by_asked stored array (inl asked) = answered stored array asked.0 asked.1

@@ -18,8 +18,8 @@ use Rattle.entity_data.specs.declared.entity.Entity.{Entity}
 use Rattle.decision_texts.specs.Settings.{Reading}
 use Rattle.decision_texts.specs.EntityArrays.{entities_of}
 use Rattle.decision_texts.specs.Decisions.{ArePoliciesOf, ArePoliciesRefused, AreAdmitted, AreNotAdmitted, unread, rejected}
-use Rattle.decision_texts.specs.Decisions.{refusal_by, named_policies, world_with, IsAnswerTo, IsQuestionAnswered}
-use Rattle.decision_texts.specs.Decisions.{IsQuestionRefused, by_entities, by_request, by_policies, by_question}
+use Rattle.decision_texts.specs.Decisions.{refusal_by, named_policies, entity_data_with, IsAnswerTo, IsRequestAnswered}
+use Rattle.decision_texts.specs.Decisions.{AreInputsRejected, by_entities, by_request, by_policies, by_inputs}
 use Rattle.decision_texts.specs.Outcomes.{OneLine, NotBoth, OneRefusal, ListsOfLinesAscend}
 use Rattle.decision_texts.proofs.PolicyTexts.{file_or_fault, fault_same}
 use Rattle.decision_texts.proofs.StoreLemmas.{with_parents, all_parents}
@@ -99,29 +99,29 @@ module _ (laws : TextLaws) (r : Reading) (definite : IsDefinite r) where
   -- ---- answers
 
   answer_same : (policies : List NamedPolicy) (stored : List Entity) (asked : Request) (a b : Answer) → HaveOwnNames policies
-      → IsAnswerTo policies (world_with r.actions stored) asked a → IsAnswerTo policies (world_with r.actions stored) asked b → a ≡ b
+      → IsAnswerTo policies (entity_data_with r.actions stored) asked a → IsAnswerTo policies (entity_data_with r.actions stored) asked b → a ≡ b
   answer_same policies stored asked a b own x y =
-      let W = world_with r.actions stored in
+      let W = entity_data_with r.actions stored in
       let order : x.ordered ≡ y.ordered = one_order policies x.ordered y.ordered own x.order y.order in
       let one = laws.answers W (with_parents definite.declared stored) (all_parents r.actions definite.declared definite.lists stored) asked y.ordered in
       one.2 a (subst (λ ps. IsAnswer W asked ps a) order x.is) ∙ sym (one.2 b y.is)
 
   line_same : (policies : List NamedPolicy) (entities request line other : List ℕ) → HaveOwnNames policies
-      → IsQuestionAnswered r policies entities request line → IsQuestionAnswered r policies entities request other → line ≡ other
+      → IsRequestAnswered r policies entities request line → IsRequestAnswered r policies entities request other → line ≡ other
   line_same policies entities request line other own x y =
       let stored = ok_same (entities_of r entities) x.stored y.stored x.array y.array in
-      let asked = asked_same (json_of request) x.asked y.asked x.question y.question in
-      let moved = subst (λ (es : List Entity). IsAnswerTo policies (world_with r.actions es) y.asked x.answer) stored
-      (subst (λ (q : Request). IsAnswerTo policies (world_with r.actions x.stored) q x.answer) asked x.answers) in
+      let asked = asked_same (json_of request) x.asked y.asked x.request_stated y.request_stated in
+      let moved = subst (λ (es : List Entity). IsAnswerTo policies (entity_data_with r.actions es) y.asked x.answer) stored
+      (subst (λ (q : Request). IsAnswerTo policies (entity_data_with r.actions x.stored) q x.answer) asked x.answers) in
       x.line_is ∙ ap answer_line (answer_same policies y.stored y.asked x.answer y.answer own moved y.answers) ∙ sym y.line_is
 
   answered_or_not : (policies : List NamedPolicy) (entities request line : List ℕ) (refusal : Refusal)
-      → IsQuestionAnswered r policies entities request line → IsQuestionRefused r entities request refusal → ⊥
+      → IsRequestAnswered r policies entities request line → AreInputsRejected r entities request refusal → ⊥
   answered_or_not policies entities request line refusal x (by_entities none) = ok_or_err (entities_of r entities) x.stored refusal x.array none
-  answered_or_not policies entities request line refusal x (by_request stored array none) = stated_or_fault (json_of request) x.asked refusal x.question none
+  answered_or_not policies entities request line refusal x (by_request stored array none) = stated_or_fault (json_of request) x.asked refusal x.request_stated none
 
   one_unanswered : (entities request : List ℕ) (refusal other : Refusal)
-      → IsQuestionRefused r entities request refusal → IsQuestionRefused r entities request other → refusal ≡ other
+      → AreInputsRejected r entities request refusal → AreInputsRejected r entities request other → refusal ≡ other
   one_unanswered entities request refusal other (by_entities a) (by_entities b) = err_same (entities_of r entities) refusal other a b
   one_unanswered entities request refusal other (by_entities a) (by_request stored array b) = absurd (ok_or_err (entities_of r entities) stored refusal array a)
   one_unanswered entities request refusal other (by_request stored array a) (by_entities b) = absurd (ok_or_err (entities_of r entities) stored other array b)
@@ -132,28 +132,28 @@ module _ (laws : TextLaws) (r : Reading) (definite : IsDefinite r) where
   pub one_line : OneLine r
   one_line policies entities request line other x y =
       let file = one_file policies x.names y.names x.cores y.cores x.admitted.file y.admitted.file in
-      let moved = subst (λ (f : List (List ℕ) × List Policy). IsQuestionAnswered r (named_policies f.0 f.1) entities request line) file x.answered in
+      let moved = subst (λ (f : List (List ℕ) × List Policy). IsRequestAnswered r (named_policies f.0 f.1) entities request line) file x.answered in
       let own = own_names laws.each laws.differ policies y.names y.cores y.admitted.file.file in
       line_same (named_policies y.names y.cores) entities request line other own moved y.answered
 
   pub not_both : NotBoth r
   not_both policies entities request line refusal x (by_policies none) = admitted_or_not policies x.names x.cores refusal x.admitted none
-  not_both policies entities request line refusal x (by_question names cores admitted none) =
+  not_both policies entities request line refusal x (by_inputs names cores admitted none) =
       answered_or_not (named_policies x.names x.cores) entities request line refusal x.answered none
 
   pub one_refusal : OneRefusal r
   one_refusal policies entities request refusal other (by_policies a) (by_policies b) = one_not_admitted policies refusal other a b
-  one_refusal policies entities request refusal other (by_policies a) (by_question names cores admitted b) =
+  one_refusal policies entities request refusal other (by_policies a) (by_inputs names cores admitted b) =
       absurd (admitted_or_not policies names cores refusal admitted a)
-  one_refusal policies entities request refusal other (by_question names cores admitted a) (by_policies b) =
+  one_refusal policies entities request refusal other (by_inputs names cores admitted a) (by_policies b) =
       absurd (admitted_or_not policies names cores other admitted b)
-  one_refusal policies entities request refusal other (by_question names cores admitted a) (by_question others also its b) =
+  one_refusal policies entities request refusal other (by_inputs names cores admitted a) (by_inputs others also its b) =
       one_unanswered entities request refusal other a b
 
 pub lines_ascend : TextLaws → ListsAscend → (r : Reading) → ListsOfLinesAscend r
 lines_ascend laws law r policies entities request line x =
     let told = x.answered in
     let named = named_policies x.names x.cores in
-    law (world_with r.actions told.stored) told.asked told.answers.ordered told.answer
+    law (entity_data_with r.actions told.stored) told.asked told.answers.ordered told.answer
     (ids_ascend named told.answers.ordered (own_names laws.each laws.differ policies x.names x.cores x.admitted.file.file) told.answers.order)
     told.answers.is

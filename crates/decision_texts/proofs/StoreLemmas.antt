@@ -11,15 +11,15 @@ use Rattle.values.specs.Names.{uid_cmp, uid_cmp-IsTotalOrder, uid_cmp-IsAntisymm
 use Rattle.values.specs.Uids.{equal-is}
 use Rattle.plain.proofs.Members.{Contains-here, Contains-there, Contains-none}
 use Rattle.entity_data.specs.ancestor_search.Decided.{is_same, HaveAllParents}
-use Rattle.entity_data.specs.evaluator.Operators.{world_of}
+use Rattle.entity_data.specs.evaluator.Operators.{entities_with}
 use Rattle.entity_data.specs.declared.entity.Entity.{Entity}
 use Rattle.entity_data.specs.declared.data.EntityData.{EntityData}
-use Rattle.entity_data.specs.Entities.{EntityMap, Actions, action_or, with_actions, world_in}
+use Rattle.entity_data.specs.Entities.{EntityMap, Actions, action_or, with_actions, entity_data_in}
 use Rattle.entity_data.specs.Entities.{attributes_of, kept_parents}
 use Rattle.entity_data.specs.Keeping.{Entries, kept_in, Puts, data_of}
 use Rattle.decision_texts.specs.Settings.{Reading}
-use Rattle.decision_texts.specs.Decisions.{stated, world_with}
-use Rattle.decision_texts.specs.inner.Stores.{Holds, world_held}
+use Rattle.decision_texts.specs.Decisions.{stated, entity_data_with}
+use Rattle.decision_texts.specs.inner.Stores.{Holds, entity_data_stored}
 
 -- ---- one more entity behind others
 
@@ -77,10 +77,10 @@ some_stated (e ∷ es) q = some_if (is_same e.uid q) (list_any (λ x. is_same x.
 pub has_stated : (store : Entries) (es : List Entity) → Holds store es → (q : EntityUid) → is_some (kept_in store q) ≡ list_any (λ e. is_same e.uid q) es
 has_stated store es held q = ap is_some (held q) ∙ some_stated es q
 
-world_same : (actions : Actions) (f g : EntityMap) → ((q : EntityUid) → f q ≡ g q) → world_in (with_actions actions f) ≡ world_in (with_actions actions g)
-world_same actions f g same = λ i. world_of (λ q. attributes_of (action_or (actions q) (same q i))) (λ q. kept_parents (action_or (actions q) (same q i)))
+world_same : (actions : Actions) (f g : EntityMap) → ((q : EntityUid) → f q ≡ g q) → entity_data_in (with_actions actions f) ≡ entity_data_in (with_actions actions g)
+world_same actions f g same = λ i. entities_with (λ q. attributes_of (action_or (actions q) (same q i))) (λ q. kept_parents (action_or (actions q) (same q i)))
 
-pub held_world : (r : Reading) (store : Entries) (es : List Entity) → Holds store es → world_held r store ≡ world_with r.actions es
+pub held_world : (r : Reading) (store : Entries) (es : List Entity) → Holds store es → entity_data_stored r store ≡ entity_data_with r.actions es
 held_world r store es held = world_same r.actions (kept_in store) (stated es) held
 
 -- ---- all entities with parents are those of the array, and actions
@@ -109,7 +109,7 @@ abbrev pub with_parents : List EntityUid → List Entity → List EntityUid
 with_parents declared es = own_uids es ++ declared
 
 pub all_parents : (actions : Actions) (declared : List EntityUid) → ((b : EntityUid) (us : List EntityUid) → actions b ≡ Some us → Contains declared b)
-    → (es : List Entity) → HaveAllParents (world_with actions es).parents (with_parents declared es)
+    → (es : List Entity) → HaveAllParents (entity_data_with actions es).parents (with_parents declared es)
 all_parents actions declared lists es b a h = parent_of (actions b) (stated es b) a h
     (λ us is. Contains-append_right (own_uids es) declared b (lists b us is))
     (λ m. Contains-append_left (own_uids es) declared b (entity_listed es b a m))

@@ -1,8 +1,8 @@
 -- Defines requests as JSON without a schema.
 -- Source: Cedar reference guide 4.0, "Authorization request": principal, action, resource, context.
--- Rules of this product: each of the three is a uid as an entity's is, or its string, as "User::\"alice\""; without a
--- schema the context is absent or the empty object, and null is not absent, and the request's context is empty; other
--- keys are ignored.
+-- Rules of this product: principal, action and resource are each a uid in the form that entities use, or a string as in
+-- a policy, such as "User::\"alice\""; without a schema the context must be absent or the empty object (null does not
+-- count as absent), and the request's context is empty; other keys are ignored.
 use Rattle.std.specs.Prelude.{◌≡◌, true, ℕ, List, [], MatchOption, codes}
 use Rattle.serde_json.specs.Data.{Data}
 use Rattle.serde_json.specs.Find.{get}
@@ -11,7 +11,7 @@ use Rattle.values.specs.declared.request.Request.{Request}
 use Rattle.answer_lines.specs.entity_uids.Uids.{NamesEntity}
 use Rattle.decision_texts.specs.Bare.{is_absent_or_empty}
 
--- `NamesAt key d uid` holds if the value at `key` names `uid`.
+-- `NamesAt key d uid` holds if the value of `d` at `key` names `uid`.
 abbrev pub NamesAt : List ℕ → Data → EntityUid → Type 0
 NamesAt key d uid = MatchOption (get key d) ⊥ (λ found. NamesEntity found uid)
 
@@ -21,4 +21,4 @@ pub record StatesRequest (d : Data) (q : Request) : Type 0 where
   pub action : NamesAt (codes "action") d q.action
   pub resource : NamesAt (codes "resource") d q.resource
   pub context : is_absent_or_empty (get (codes "context") d) ≡ true
-  pub nothing_known : q.context ≡ []
+  pub context_is_empty : q.context ≡ []

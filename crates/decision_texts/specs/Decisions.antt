@@ -13,7 +13,7 @@ use Rattle.values.specs.declared.request.Request.{Request}
 use Rattle.entity_data.specs.ancestor_search.Decided.{is_same}
 use Rattle.entity_data.specs.evaluator.Operators.{Entities}
 use Rattle.entity_data.specs.declared.entity.Entity.{Entity}
-use Rattle.entity_data.specs.Entities.{EntityMap, Actions, with_actions, world_in}
+use Rattle.entity_data.specs.Entities.{EntityMap, Actions, with_actions, entity_data_in}
 use Rattle.entity_data.specs.Keeping.{data_of}
 use Rattle.answer_lines.specs.policy_grammar.declared.fault.ReadFault.{ReadFault}
 use Rattle.answer_lines.specs.policy_grammar.declared.fault.ReadFault.TheVariants.{TooLong, BadToken}
@@ -31,36 +31,39 @@ use Rattle.decision_texts.specs.Requests.{IsRequestText, IsRequestRefused}
 
 -- ---- policies
 
--- `ArePoliciesOf bytes names policies` holds if these are the names and the policies of a file, in order.
+-- `ArePoliciesOf bytes names policies` holds if `bytes` are a file of the policies `policies`, with their names
+-- `names`, in the file's order.
 pub record ArePoliciesOf (bytes : List ℕ) (names : List (List ℕ)) (policies : List Policy) : Type 0 where
   pub utf8 : IsUtf8 bytes
   pub file : IsPolicyFile bytes names policies
 
--- `IsFileFault bytes fault` holds if `fault` is the error of a file of policies.
+-- `IsFileFault bytes fault` holds if `fault` is the error of `bytes` as a file of policies: too long, not UTF-8, or the
+-- error of its text.
 abbrev pub IsFileFault : List ℕ → ReadFault → Type 0
 IsFileFault bytes fault =
     ((most_file_bytes < length bytes) × (fault ≡ TooLong))
     ⊎ ((length bytes ≤ most_file_bytes) × (IsUtf8 bytes → ⊥) × (fault ≡ BadToken 0))
     ⊎ ((length bytes ≤ most_file_bytes) × IsUtf8 bytes × IsFileRefused bytes fault)
 
--- `refusal_by fault` is the reported error for the error `fault` of a file of policies, at the same byte.
+-- `refusal_by fault` is the reported error for the error `fault` of a file of policies, at the same byte offset.
 abbrev pub refusal_by : ReadFault → Refusal
 refusal_by fault = record { code = code_of fault; place = place_of fault; within = None }
 
--- `ArePoliciesRefused bytes refusal` holds if `refusal` is the reported error of a file of policies.
+-- `ArePoliciesRefused bytes refusal` holds if `refusal` is the reported error of `bytes` as a file of policies.
 pub record ArePoliciesRefused (bytes : List ℕ) (refusal : Refusal) : Type 0 where
   pub fault : ReadFault
   pub due : IsFileFault bytes fault
   pub is : refusal ≡ refusal_by fault
 
--- `AreAdmitted r bytes names policies` holds if these are the names and the policies of a file, in order, which the
--- setting admits.
+-- `AreAdmitted r bytes names policies` holds if `bytes` are a file of `policies` with the names `names`, and the
+-- setting `r` admits these policies.
 pub record AreAdmitted (r : Reading) (bytes : List ℕ) (names : List (List ℕ)) (policies : List Policy) : Type
     0 where
   pub file : ArePoliciesOf bytes names policies
   pub admitted : r.admits policies
 
--- `AreNotAdmitted r bytes refusal` holds if the file is not parsed, or the setting does not admit its policies.
+-- `AreNotAdmitted r bytes refusal` holds if `refusal` is the error of the file `bytes`, or that with which the setting
+-- `r` rejects its policies.
 pub data AreNotAdmitted (r : Reading) (bytes : List ℕ) (refusal : Refusal) : Type 0 where
   unread : ArePoliciesRefused bytes refusal → AreNotAdmitted r bytes refusal
   rejected : (names : List (List ℕ)) (policies : List Policy) → ArePoliciesOf bytes names policies
@@ -68,7 +71,7 @@ pub data AreNotAdmitted (r : Reading) (bytes : List ℕ) (refusal : Refusal) : T
 
 -- ---- the policies by their names
 
--- `named_policies names policies` are these policies with these names.
+-- `named_policies names policies` are the policies `policies`, each with the name at its index in `names`.
 abbrev pub named_policies : List (List ℕ) → List Policy → List NamedPolicy
 named_policies [] policies = []
 named_policies (name ∷ names) [] = []
@@ -82,17 +85,17 @@ pub record IsInOrder (policies ordered : List NamedPolicy) : Type 0 where
 
 -- ---- entity data
 
--- `stated es` are the entities `es`, each under its uid.
+-- `stated es` is the data of the entities `es`, each under its uid.
 abbrev pub stated : List Entity → EntityMap
 stated [] q = None
 stated (e ∷ es) q = if is_same e.uid q then Some (data_of e) else stated es q
 
--- `world_with actions es` are these entities, and the declared actions.
-abbrev pub world_with : Actions → List Entity → Entities
-world_with actions es = world_in (with_actions actions (stated es))
+-- `entity_data_with actions es` is the entity data that evaluation uses: the entities `es`, and the declared actions.
+abbrev pub entity_data_with : Actions → List Entity → Entities
+entity_data_with actions es = entity_data_in (with_actions actions (stated es))
 
--- `IsAnswerTo policies W asked answer` holds if `answer` is the answer over these policies, in the order of their
--- names.
+-- `IsAnswerTo policies W asked answer` holds if `answer` is the answer to the request `asked` over the entity data `W`
+-- and the policies, in the order of their names.
 pub record IsAnswerTo (policies : List NamedPolicy) (W : Entities) (asked : Request) (answer : Answer) : Type 0 where
   pub ordered : List NamedPolicy
   pub order : IsInOrder policies ordered
@@ -100,38 +103,38 @@ pub record IsAnswerTo (policies : List NamedPolicy) (W : Entities) (asked : Requ
 
 -- ---- entities and a request, over admitted policies
 
--- `IsQuestionAnswered r policies entities request line` holds if both texts are parsed, and `line` is that of the
--- request's answer.
-pub record IsQuestionAnswered (r : Reading) (policies : List NamedPolicy) (entities request line : List ℕ)
+-- `IsRequestAnswered r policies entities request line` holds if the texts `entities` and `request` are parsed, and
+-- `line` is the line of the request's answer over `policies`.
+pub record IsRequestAnswered (r : Reading) (policies : List NamedPolicy) (entities request line : List ℕ)
     : Type 0 where
   pub stored : List Entity
   pub array : entities_of r entities ≡ Ok stored
   pub asked : Request
-  pub question : IsRequestText r request asked
+  pub request_stated : IsRequestText r request asked
   pub answer : Answer
-  pub answers : IsAnswerTo policies (world_with r.actions stored) asked answer
+  pub answers : IsAnswerTo policies (entity_data_with r.actions stored) asked answer
   pub line_is : line ≡ answer_line answer
 
--- `IsQuestionRefused r entities request refusal` holds if `refusal` is the error of the entities, or else of the
--- request.
-pub data IsQuestionRefused (r : Reading) (entities request : List ℕ) (refusal : Refusal) : Type 0 where
-  by_entities : entities_of r entities ≡ Err refusal → IsQuestionRefused r entities request refusal
+-- `AreInputsRejected r entities request refusal` holds if `refusal` is the error of the text `entities`, or, if that is
+-- parsed, of the text `request`.
+pub data AreInputsRejected (r : Reading) (entities request : List ℕ) (refusal : Refusal) : Type 0 where
+  by_entities : entities_of r entities ≡ Err refusal → AreInputsRejected r entities request refusal
   by_request : (stored : List Entity) → entities_of r entities ≡ Ok stored → IsRequestRefused r request refusal
-      → IsQuestionRefused r entities request refusal
+      → AreInputsRejected r entities request refusal
 
 -- ---- the three texts
 
--- `IsDecided r policies entities request line` holds if the three texts are parsed, and `line` is that of the
+-- `IsDecided r policies entities request line` holds if the three texts are parsed, and `line` is the line of the
 -- request's answer.
 pub record IsDecided (r : Reading) (policies entities request line : List ℕ) : Type 0 where
   pub names : List (List ℕ)
   pub cores : List Policy
   pub admitted : AreAdmitted r policies names cores
-  pub answered : IsQuestionAnswered r (named_policies names cores) entities request line
+  pub answered : IsRequestAnswered r (named_policies names cores) entities request line
 
 -- `IsDecisionRefused r policies entities request refusal` holds if `refusal` is the error of the first text that is
--- rejected.
+-- rejected, in this order.
 pub data IsDecisionRefused (r : Reading) (policies entities request : List ℕ) (refusal : Refusal) : Type 0 where
   by_policies : AreNotAdmitted r policies refusal → IsDecisionRefused r policies entities request refusal
-  by_question : (names : List (List ℕ)) (cores : List Policy) → AreAdmitted r policies names cores
-      → IsQuestionRefused r entities request refusal → IsDecisionRefused r policies entities request refusal
+  by_inputs : (names : List (List ℕ)) (cores : List Policy) → AreAdmitted r policies names cores
+      → AreInputsRejected r entities request refusal → IsDecisionRefused r policies entities request refusal

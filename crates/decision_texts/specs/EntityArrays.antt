@@ -1,7 +1,7 @@
--- Defines the entities of an array, as JSON.
+-- Defines the entities that a JSON array states.
 -- Source: Cedar reference guide 4.0, "Entities and context: JSON format".
--- Rules of this product: entities are parsed in turn, each one's own error first; the uids of an array are distinct;
--- a text that is not an array has no place.
+-- Rules of this product: entities are parsed in order, and the error of an entity itself comes before the error that
+-- its uid occurs twice; the uids of an array are distinct; the error of a text that is not an array has no place.
 use Rattle.std.specs.Prelude.{Bool, false, not, ℕ, List, take, Some, None, Result, Ok, Err}
 use Rattle.std.specs.List.{list_any}
 use Rattle.serde_json.specs.Data.{Data, Items}
@@ -13,7 +13,7 @@ use Rattle.values.specs.declared.entity_uid.EntityUid.{EntityUid}
 use Rattle.entity_data.specs.ancestor_search.Decided.{is_same}
 use Rattle.entity_data.specs.declared.entity.Entity.{Entity}
 use Rattle.answer_lines.specs.declared.refusal.Refusal.{Refusal}
-use Rattle.answer_lines.specs.Refusals.{bad_shape, told_at}
+use Rattle.answer_lines.specs.Refusals.{bad_shape, error_placed_at}
 use Rattle.decision_texts.specs.Settings.{Reading}
 
 -- `names uid r` tests whether `r` is an entity with the uid `uid`.
@@ -21,12 +21,13 @@ abbrev pub names : EntityUid → Result Entity Refusal → Bool
 names uid (Ok e) = is_same e.uid uid
 names uid (Err refusal) = false
 
--- `placed place r` is `r`, with its error at a place.
+-- `placed place r` is `r`, with its error reported at the index `place`.
 abbrev pub placed : ℕ → Result Entity Refusal → Result Entity Refusal
 placed place (Ok e) = Ok e
-placed place (Err refusal) = Err (told_at place refusal)
+placed place (Err refusal) = Err (error_placed_at place refusal)
 
--- `entity_at r ds place d` is the entity at an index of an array, whose uid no earlier one has.
+-- `entity_at r ds place d` is the entity that `d` states, the item of the array `ds` at the index `place`, or its
+-- error; 30 if an earlier item states an entity with the same uid.
 unfoldable pub entity_at : Reading → List Data → ℕ → Data → Result Entity Refusal
 entity_at r ds place d = do
   entity ← placed place (r.entity d)
@@ -34,11 +35,11 @@ entity_at r ds place d = do
       (not (list_any (λ earlier. names entity.uid (r.entity earlier)) (take place ds)))
   Ok entity
 
--- `entities_in r ds` are the entities of an array, or the first error with its index.
+-- `entities_in r ds` are the entities that the items `ds` of an array state, or the first error with its index.
 unfoldable pub entities_in : Reading → Items → Result (List Entity) Refusal
 entities_in r ds = each (entity_at r (list_of ds)) 0 (list_of ds)
 
--- `entities_of r text` are the entities of a text.
+-- `entities_of r text` are the entities that the JSON array `text` states, or the first error.
 unfoldable pub entities_of : Reading → List ℕ → Result (List Entity) Refusal
 entities_of r text = do
   d ← or_fault (bad_shape None) (json_of text)

@@ -1,6 +1,6 @@
 -- Defines the theorems that three texts have exactly one outcome, a line or an error.
--- Rules of this product: the outcome depends only on the texts and on the setting. Only `NoMemory` is possible at any
--- call, whatever the texts.
+-- Rules of this product: the outcome depends only on the texts and on the setting, except that a call may return
+-- `NoMemory` whatever the texts.
 use Rattle.std.specs.Prelude.{◌≡◌, ◌⊎◌, ℕ, List, map}
 use Rattle.answer_lines.specs.authoriser.Laws.{AreIdsAscending}
 use Rattle.answer_lines.specs.declared.refusal.Refusal.{Refusal}
@@ -29,7 +29,8 @@ LineOrRefusal r = (policies entities request : List ℕ)
     → ((line : List ℕ) × IsDecided r policies entities request line)
     ⊎ ((refusal : Refusal) × IsDecisionRefused r policies entities request refusal)
 
--- `ListsOfLinesAscend`: the ids in a line's answer ascend: those of the determining and of the erroring policies.
+-- `ListsOfLinesAscend`: in the answer of a line, the ids of the determining policies ascend, and so do those of the
+-- erroring policies.
 abbrev pub ListsOfLinesAscend : Reading → Type 0
 ListsOfLinesAscend r = (policies entities request line : List ℕ) (x : IsDecided r policies entities request line)
     → let answer = x.answered.answer in

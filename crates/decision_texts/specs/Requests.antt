@@ -11,6 +11,6 @@ use Rattle.decision_texts.specs.Settings.{Reading}
 abbrev pub IsRequestText : Reading → List ℕ → Request → Type 0
 IsRequestText r text q = MatchOption (json_of text) ⊥ (λ d. r.states d q)
 
--- `IsRequestRefused r text refusal` holds if it does not state one, and `refusal` is the first error.
+-- `IsRequestRefused r text refusal` holds if `text` states no request, and `refusal` is the first error.
 abbrev pub IsRequestRefused : Reading → List ℕ → Refusal → Type 0
 IsRequestRefused r text refusal = MatchOption (json_of text) (refusal ≡ bad_shape None) (λ d. r.faults d refusal)

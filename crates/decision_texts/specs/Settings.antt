@@ -8,22 +8,22 @@ use Rattle.entity_data.specs.Entities.{Actions}
 use Rattle.answer_lines.specs.policy_grammar.declared.policy.Policy.{Policy}
 use Rattle.answer_lines.specs.declared.refusal.Refusal.{Refusal}
 
--- A `Reading` is what a setting makes of each text.
+-- A `Reading` says what a setting parses each text as, and which errors it has.
 pub record Reading : Type 1 where
   -- the policies of a file are admitted
   pub admits : List Policy → Type 0
-  -- they are not, with this first error
+  -- the policies of a file are not admitted, and this is the first error
   pub rejects : List Policy → Refusal → Type 0
   -- the entity that a value states, or its error, which has no place
   pub entity : Data → Result Entity Refusal
-  -- the value states this request
+  -- a value states this request
   pub states : Data → Request → Type 0
-  -- it states none, with this first error, which has no place
+  -- a value states no request, and this is the first error, which has no place
   pub faults : Data → Refusal → Type 0
   -- the declared actions
   pub actions : Actions
 
--- `told_by refusals r` is an entity or its error, as `refusals` reports it.
-abbrev pub told_by : {F : Type 0} → (F → Refusal) → Result Entity F → Result Entity Refusal
-told_by refusals (Ok e) = Ok e
-told_by refusals (Err fault) = Err (refusals fault)
+-- `reported_by refusals r` is the entity `r`, or its error as `refusals` reports it.
+abbrev pub reported_by : {F : Type 0} → (F → Refusal) → Result Entity F → Result Entity Refusal
+reported_by refusals (Ok e) = Ok e
+reported_by refusals (Err fault) = Err (refusals fault)

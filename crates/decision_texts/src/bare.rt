@@ -1,4 +1,4 @@
-//! Entities without attributes, as JSON states them without a schema.
+//! Parsing of entities from JSON without a schema; they have no attributes.
 ghost use Rattle.std.specs.Prelude.{◌≡◌, option_map};
 ghost use Rattle.serde_json.specs.View.{view, items_view};
 ghost use Rattle.json_words.specs.ReadsAs.{ReadsAs};
@@ -35,7 +35,7 @@ impl From<NoMemory> for ShapeFault {
     }
 }
 
-/// Returns the uid of a value, also under `__entity`.
+/// Returns the uid that a value states, directly or under `__entity`.
 fn read_uid(alloc: Global, value: &Value) -> Result<EntityUid, ShapeFault>
     ensures { ReadsAs ShapeFault.NoMemory (λ u. u) result (stated_uid (view value.now)) }
 {
@@ -55,6 +55,7 @@ fn parent_uids(alloc: Global, values: &[Value]) -> Result<Items<EntityUid>, Shap
     }
 }
 
+/// Returns the parents of an entity, given the value of its key `parents`; none if it is absent.
 fn read_parents(alloc: Global, parents: Option<&Value>) -> Result<Items<EntityUid>, ShapeFault>
     ensures { ReadsAs ShapeFault.NoMemory (λ us. us) result
         (stated_parents (option_map (λ v. view v.now) parents.entry)) }

@@ -6,14 +6,14 @@ ghost use Rattle.answer_lines.specs.authoriser.Views.{named};
 ghost use Rattle.answer_lines.specs.Refusals.{no_memory};
 ghost use Rattle.decision_texts.specs.BareReading.{bare_reading};
 ghost use Rattle.decision_texts.specs.Requests.{IsRequestRefused};
-ghost use Rattle.decision_texts.specs.Decisions.{named_policies, IsInOrder, IsAnswerTo, IsQuestionAnswered};
-ghost use Rattle.decision_texts.specs.Decisions.{IsQuestionRefused, IsDecided, IsDecisionRefused};
-ghost use Rattle.decision_texts.specs.inner.Stores.{world_held, IsLineIn, IsLineTo};
+ghost use Rattle.decision_texts.specs.Decisions.{named_policies, IsInOrder, IsAnswerTo, IsRequestAnswered};
+ghost use Rattle.decision_texts.specs.Decisions.{AreInputsRejected, IsDecided, IsDecisionRefused};
+ghost use Rattle.decision_texts.specs.inner.Stores.{entity_data_stored, IsLineIn, IsLineTo};
 
 use crate::entity_array::read_entities;
 use crate::no_schema::NoSchema;
 use crate::policies::admitted_policies;
-use crate::question::request_in;
+use crate::request_reading::request_in;
 use crate::setting::Setting;
 use answer_lines::{Answer, Policy, Refusal, answer_line, decide};
 use entity_data::{Entities, EntityStore};
@@ -58,7 +58,7 @@ fn answer_over<S: Setting>(
     request: &Request,
 ) -> Result<Answer, NoMemory>
     ensures { IfOk result
-        (IsAnswer (world_held (S.reading setting.now) store.now) request.now (named policies.now)) }
+        (IsAnswer (entity_data_stored (S.reading setting.now) store.now) request.now (named policies.now)) }
 {
     let world = Entities::new(alloc, store, setting.actions());
     decide(alloc, policies, request, &world)
@@ -74,13 +74,13 @@ fn answer_to<S: Setting>(
 ) -> Result<Answer, NoMemory>
     ensures { IfOk result (IsAnswerTo
         (named_policies (map (λ p. string_bytes p.0) policies.now) (map (λ p. p.1) policies.now))
-        (world_held (S.reading setting.now) store.now) request.now) }
+        (entity_data_stored (S.reading setting.now) store.now) request.now) }
 {
     let ordered = in_order(alloc, policies)?;
     answer_over(alloc, setting, &ordered, store, request)
 }
 
-/// Returns the line of that answer.
+/// Returns the line of the answer that [`answer_to`] returns.
 fn line_of<S: Setting>(
     alloc: Global,
     setting: &S,
@@ -90,7 +90,7 @@ fn line_of<S: Setting>(
 ) -> Result<Vec<u8>, NoMemory>
     ensures { IfOk result (λ line. IsLineIn
         (named_policies (map (λ p. string_bytes p.0) policies.now) (map (λ p. p.1) policies.now))
-        (world_held (S.reading setting.now) store.now) request.now line.items) }
+        (entity_data_stored (S.reading setting.now) store.now) request.now line.items) }
 {
     let answer = answer_to(alloc, setting, policies, store, request)?;
     answer_line(alloc, &answer)
@@ -106,14 +106,14 @@ fn line_to<S: Setting>(
 ) -> Result<Vec<u8>, Refusal>
     ensures told { IfOk result (λ line. IsLineTo (S.reading setting.now)
         (named_policies (map (λ p. string_bytes p.0) policies.now) (map (λ p. p.1) policies.now))
-        (world_held (S.reading setting.now) store.now) request.now line.items) }
+        (entity_data_stored (S.reading setting.now) store.now) request.now line.items) }
     ensures refused { IfErr result (OrNoMemory no_memory (IsRequestRefused (S.reading setting.now) request.now)) }
 {
     let request = request_in(alloc, setting, request)?;
     Ok(line_of(alloc, setting, policies, store, &request)?)
 }
 
-/// Returns the line of the answer over these policies and the entities of a text.
+/// Returns the line of the answer to the request of a text, over these policies and the entities of another text.
 fn answer_texts<S: Setting>(
     alloc: Global,
     setting: &S,
@@ -121,11 +121,11 @@ fn answer_texts<S: Setting>(
     entities: &[u8],
     request: &[u8],
 ) -> Result<Vec<u8>, Refusal>
-    ensures answered { IfOk result (λ line. IsQuestionAnswered (S.reading setting.now)
+    ensures answered { IfOk result (λ line. IsRequestAnswered (S.reading setting.now)
         (named_policies (map (λ p. string_bytes p.0) policies.now) (map (λ p. p.1) policies.now))
         entities.now request.now line.items) }
     ensures refused { IfErr result
-        (OrNoMemory no_memory (IsQuestionRefused (S.reading setting.now) entities.now request.now)) }
+        (OrNoMemory no_memory (AreInputsRejected (S.reading setting.now) entities.now request.now)) }
 {
     let store = read_entities(alloc, setting, entities)?;
     line_to(alloc, setting, policies, &store, request)
@@ -138,10 +138,10 @@ fn answer_texts<S: Setting>(
 ///
 /// In this order:
 ///
-/// - 10 to 19, at a byte offset: the file of policies.
-/// - The setting's error, if requests may not be decided by these policies.
-/// - For the entities, in order, at the index in the array, from 0: the entity's error; 30 for the second of two
-///   entities with one uid. 30 without a place if there is no array.
+/// - 10 to 19, at a byte offset: the error of the file of policies (docs/codes.md, "Policies").
+/// - The setting's error, if it does not admit these policies.
+/// - The error of the first rejected entity, at its index in the array, from 0: that of the entity itself, or 30 if an
+///   earlier entity has its uid. 30 without a place if the text is not a JSON array.
 /// - The error of the request, without a place.
 /// - `NoMemory` (1): an allocation failed; possible at any point.
 pub fn decide_in<S: Setting>(
@@ -168,9 +168,10 @@ pub fn decide_in<S: Setting>(
 ///
 /// In this order:
 ///
-/// - 10 to 19, at a byte offset: the file of policies.
-/// - 30, at the index in the array, from 0: the entities; without a place if there is no array.
-/// - 30, without a place: the request.
+/// - 10 to 19, at a byte offset: the error of the file of policies (docs/codes.md, "Policies").
+/// - 30, at the index in the array, from 0: an item is not an entity, or an earlier one has its uid; without a place if
+///   the text is not a JSON array.
+/// - 30, without a place: the text of the request is not a request.
 /// - `NoMemory` (1): an allocation failed; possible at any point.
 pub fn decide_texts(
     alloc: Global,

@@ -1,4 +1,4 @@
-//! Arrays of entities.
+//! Parsing of arrays of entities.
 ghost use Rattle.std.specs.Prelude.{◌≡◌, ◌<◌, ◌^◌, List, length, None, Ok, Err, IfErr, OnOk};
 ghost use Rattle.serde_json.specs.View.{view};
 ghost use Rattle.json_words.specs.ReadsAs.{ReadsAs};
@@ -28,11 +28,11 @@ fn read_entity_at<S: Setting>(
 {
     match setting.read_entity(alloc, value) {
         Ok(entity) => Ok(entity),
-        Err(refusal) => Err(refusal.told_at(place)),
+        Err(refusal) => Err(refusal.error_placed_at(place)),
     }
 }
 
-/// Adds the entity that a value states at an index of the array to the store. Its JSON is dropped before.
+/// Adds the entity that a value states at an index of the array to the store. Drops the value before it does.
 fn keep_entity<S: Setting>(
     alloc: Global,
     setting: &S,
@@ -52,7 +52,7 @@ fn keep_entity<S: Setting>(
     Ok(())
 }
 
-/// Returns a member's error, or that of a text that is not JSON: the rest after the member is read first.
+/// Returns the error of a member, or, if the rest of the text shows that it is not JSON, the error of such a text.
 fn if_json(alloc: Global, members: &mut Members<'_>, refusal: Refusal) -> Refusal
     ensures { (result ≡ no_memory → ⊥) → result ≡ told (bad_shape None) refusal (to_come members.old) }
 {
@@ -106,7 +106,7 @@ pub(crate) fn read_entities<S: Setting>(
 
 /// Checks that a text is a JSON array of entities with distinct uids. Errors are those of
 /// [`decide_in`](crate::decide_in) for entities.
-pub fn judge_entities<S: Setting>(alloc: Global, setting: &S, text: &[u8]) -> Result<(), Refusal>
+pub fn check_entities<S: Setting>(alloc: Global, setting: &S, text: &[u8]) -> Result<(), Refusal>
     ensures read { OnOk result ((es : List Stated) × (entities_of (S.reading setting.now) text.now ≡ Ok es)) }
     ensures refused { IfErr result
         (OrNoMemory no_memory (λ r. entities_of (S.reading setting.now) text.now ≡ Err r)) }

@@ -1,4 +1,4 @@
-//! Theorems about the definitions.
+//! The theorem about decisions without a schema. The function is a no-op.
 ghost use Rattle.decision_texts.specs.BareReading.{bare_reading};
 ghost use Rattle.decision_texts.specs.Outcomes.{OneLine, NotBoth, OneRefusal, LineOrRefusal, ListsOfLinesAscend};
 
@@ -6,8 +6,9 @@ use answer_lines::{
     answers_are_lawful, file_names_differ, names_read_back, texts_have_one_reading,
 };
 
-/// Proves that three texts have exactly one outcome, a line or an error, and that the ids in an answer's line ascend.
-/// No-op.
+/// Proves that, without a schema, three texts have exactly one outcome, a line or an error. No-op.
+///
+/// In the answer of a line, the ids of the determining policies ascend, and so do those of the erroring policies.
 pub fn texts_have_one_outcome()
     ensures one_line { OneLine bare_reading }
     ensures not_both { NotBoth bare_reading }

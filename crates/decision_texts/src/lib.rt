@@ -1,5 +1,5 @@
-//! From the texts of policies, entities and a request to the line of an answer or of an error. A [`Setting`], such as
-//! a schema or none, says how the texts are parsed.
+//! Decisions on texts: from the texts of policies, entities and a request to the line of an answer or of an error. A
+//! [`Setting`], such as a schema or none, says how the texts are parsed.
 #![tactic(auto)]
 
 mod bare;
@@ -8,16 +8,16 @@ mod entity_array;
 mod laws;
 mod no_schema;
 mod policies;
-mod question;
 mod request;
+mod request_reading;
 mod setting;
 
 pub use answer_lines::{
     Answer, Policy, Refusal, answer_line, error_line, read_uid, texts_have_one_reading,
 };
 pub use deciding::{decide_in, decide_texts};
-pub use entity_array::judge_entities;
+pub use entity_array::check_entities;
 pub use json_words::{Member, Members, Scratch, members_of};
 pub use laws::texts_have_one_outcome;
-pub use policies::policies_in;
+pub use policies::policies_of_file;
 pub use setting::Setting;

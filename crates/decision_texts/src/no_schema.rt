@@ -7,7 +7,7 @@ ghost use Rattle.answer_lines.specs.Refusals.{no_memory};
 ghost use Rattle.decision_texts.specs.BareReading.{refusal_of, StatesNone, bare_reading};
 ghost use Rattle.decision_texts.specs.BareRequests.{StatesRequest};
 ghost use Rattle.decision_texts.specs.Bare.{entity_of};
-ghost use Rattle.decision_texts.specs.Settings.{told_by};
+ghost use Rattle.decision_texts.specs.Settings.{reported_by};
 
 use crate::bare::{ShapeFault, read_entity};
 use crate::request::read_request;
@@ -18,7 +18,7 @@ use serde_json::Value;
 use std::alloc::Global;
 use values::Request;
 
-/// Returns the error, which has no place.
+/// Returns the reported error for an error of parsing, without a place.
 fn refusal_of(fault: ShapeFault) -> Refusal
     ensures { result ≡ refusal_of fault }
 {
@@ -30,7 +30,7 @@ fn refusal_of(fault: ShapeFault) -> Refusal
 
 /// Returns the entity that a value states, or the error.
 fn entity_in(alloc: Global, value: &Value) -> Result<Entity, Refusal>
-    ensures { ReadsAs no_memory (λ e. e) result (told_by refusal_of (entity_of (view value.now))) }
+    ensures { ReadsAs no_memory (λ e. e) result (reported_by refusal_of (entity_of (view value.now))) }
 {
     match read_entity(alloc, value) {
         Ok(entity) => Ok(entity),
@@ -61,7 +61,11 @@ impl Setting for NoSchema {
         NoActions
     }
 
-    fn judge(&self, _alloc: Global, _policies: &[(String, Policy)]) -> Result<(), Refusal> {
+    fn check_policies(
+        &self,
+        _alloc: Global,
+        _policies: &[(String, Policy)],
+    ) -> Result<(), Refusal> {
         Ok(())
     }
 

@@ -10,7 +10,7 @@ use crate::setting::Setting;
 use answer_lines::{MOST_FILE_BYTES, Policy, ReadFault, Refusal, parse_policies};
 use std::alloc::Global;
 
-/// Returns an error of the policies' text (10 to 19, or 1), at the same byte.
+/// Returns the reported error for an error of the policies' text (10 to 19, or 1), at the same byte offset.
 fn refusal_by(fault: ReadFault) -> Refusal
     ensures { result ≡ refusal_by fault }
 {
@@ -41,9 +41,9 @@ fn read_policies(alloc: Global, bytes: &[u8]) -> Result<Vec<(String, Policy)>, R
 ///
 /// # Errors
 ///
-/// - 10 to 19, at a byte offset: the file.
+/// - 10 to 19, at a byte offset: the error of the file (docs/codes.md, "Policies").
 /// - `NoMemory` (1): an allocation failed; possible at any point.
-pub fn policies_in(alloc: Global, bytes: &[u8]) -> Result<Vec<(String, Policy)>, Refusal>
+pub fn policies_of_file(alloc: Global, bytes: &[u8]) -> Result<Vec<(String, Policy)>, Refusal>
     ensures read { IfOk result
         (λ named. ArePoliciesOf bytes.now (map (λ p. string_bytes p.0) named.items) (map (λ p. p.1) named.items)) }
     ensures refused { IfErr result (λ r. (r ≡ no_memory → ⊥) → ArePoliciesRefused bytes.now r) }
@@ -54,7 +54,7 @@ pub fn policies_in(alloc: Global, bytes: &[u8]) -> Result<Vec<(String, Policy)>,
     }
 }
 
-/// Returns the policies, or the error of their check.
+/// Returns `policies`, or the error of their check `judged`.
 fn where_admitted<P: Drop>(policies: P, judged: Result<(), Refusal>) -> Result<P, Refusal>
     ensures { MatchResult judged (λ _. result ≡ Ok policies) (λ r. result ≡ Err r) }
 {
@@ -64,7 +64,8 @@ fn where_admitted<P: Drop>(policies: P, judged: Result<(), Refusal>) -> Result<P
     }
 }
 
-/// Returns the policies of a file with their names, in the file's order, if the setting admits them.
+/// Returns the policies of a file with their names, in the file's order, if the setting admits them. The errors are
+/// those of [`policies_of_file`], and then the setting's.
 pub(crate) fn admitted_policies<S: Setting>(
     alloc: Global,
     setting: &S,
@@ -74,9 +75,9 @@ pub(crate) fn admitted_policies<S: Setting>(
         (map (λ p. string_bytes p.0) named.items) (map (λ p. p.1) named.items)) }
     ensures refused { IfErr result (OrNoMemory no_memory (AreNotAdmitted (S.reading setting.now) bytes.now)) }
 {
-    match policies_in(alloc, bytes) {
+    match policies_of_file(alloc, bytes) {
         Ok(policies) => {
-            let judged = setting.judge(alloc, &policies);
+            let judged = setting.check_policies(alloc, &policies);
             where_admitted(policies, judged)
         }
         Err(refusal) => Err(refusal),

@@ -1,4 +1,4 @@
-//! Reads requests from JSON, without a schema.
+//! Parsing of requests from JSON without a schema.
 ghost use Rattle.std.specs.Prelude.{◌≡◌, IfOk, IfErr};
 ghost use Rattle.serde_json.specs.View.{view};
 ghost use Rattle.values.specs.declared.entity_uid.EntityUid.{EntityUid as PlainUid};
@@ -17,8 +17,8 @@ use values::{EntityUid, Record, Request};
 ///
 /// # Errors
 ///
-/// - `BadShape`: there is no such key, or its value is not a uid.
-/// - `NoMemory`: an allocation failed.
+/// - `BadShape`: there is no such key, or its value does not name an entity.
+/// - `NoMemory`: an allocation failed; possible at any point.
 fn read_name_at(alloc: Global, value: &Value, key: &str) -> Result<EntityUid, ShapeFault>
     ensures read { IfOk result (NamesAt key.now (view value.now)) }
     ensures refused { IfErr result
@@ -37,7 +37,8 @@ fn read_name_at(alloc: Global, value: &Value, key: &str) -> Result<EntityUid, Sh
 ///
 /// # Errors
 ///
-/// - `BadShape`: the value is not a request without a schema.
+/// - `BadShape`: `principal`, `action` or `resource` is absent or does not name an entity, or `context` is neither
+///   absent nor `{}`.
 /// - `NoMemory`: an allocation failed; possible at any point.
 #[tactic(auto, using(crate::proofs::RequestLemmas::no_principal, crate::proofs::RequestLemmas::no_action, crate::proofs::RequestLemmas::no_resource, crate::proofs::RequestLemmas::no_context))]
 pub(crate) fn read_request(alloc: Global, value: &Value) -> Result<Request, ShapeFault>

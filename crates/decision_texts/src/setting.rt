@@ -20,7 +20,7 @@ pub trait Setting {
     /// The declared actions.
     type Actions: ActionSource + Drop;
 
-    /// What texts are parsed as.
+    /// The definition of what texts are parsed as, and of the errors.
     ghost reading: { Self → Reading };
 
     /// Returns the declared actions. Does not allocate.
@@ -28,7 +28,7 @@ pub trait Setting {
         ensures { Self.Actions.declared result ≡ (reading self.now).actions };
 
     /// Checks that the policies of a file, in the file's order, are admitted.
-    fn judge(&self, alloc: Global, policies: &[(String, Policy)]) -> Result<(), Refusal>
+    fn check_policies(&self, alloc: Global, policies: &[(String, Policy)]) -> Result<(), Refusal>
         ensures admitted { IfOk result (λ _. (reading self.now).admits (map (λ p. p.1) policies.now)) }
         ensures refused { IfErr result
             (OrNoMemory no_memory ((reading self.now).rejects (map (λ p. p.1) policies.now))) };

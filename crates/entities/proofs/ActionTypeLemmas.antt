@@ -40,5 +40,5 @@ found name h = elim (one_true (bytes_eq name (codes "Action")) (ends_with (λ a 
       (Some (take (length name - length (codes "::Action")) name), is ∙ parted (take (length name - length (codes "::Action")) name))
 ]
 
-pub action_types_are_told : ActionTypeTestIsExact
-action_types_are_told name = (found name, told name)
+pub action_type_test_is_exact : ActionTypeTestIsExact
+action_type_test_is_exact name = (found name, told name)

@@ -29,7 +29,7 @@ use Rattle.entities.specs.Entities.{is_action_type, shape_of, attributes_in, par
 use Rattle.entities.specs.Laws.{ActionTypeTestIsExact}
 use Rattle.entities.specs.StatedValues.{Reads, FaultyMember, RefusesRecord}
 use Rattle.entities.specs.StatedValues as record_says
-use Rattle.entities.specs.StatedEntities.{HasForm, HasShape, MayHaveParent, StatesEntity, RefusesParents, IsToldAs, RefusesEntity}
+use Rattle.entities.specs.StatedEntities.{HasForm, HasShape, MayHaveParent, StatesEntity, RefusesParents, IsReportedAs, RefusesEntity}
 use Rattle.entities.specs.StatedEntities as says
 use Rattle.schema.specs.Agreement.{Gives, HasOneOutcome}
 use Rattle.entities.proofs.ReadingSteps.{done, failed, true_false, untrue}
@@ -45,17 +45,17 @@ pub record Laws : Type 0 where
 
 -- ---- faults of a record, as those of an entity
 
-pub told_as : (f : ValueFault) (g : EntityFault) → IsToldAs f g → of_value f ≡ g
+pub told_as : (f : ValueFault) (g : EntityFault) → IsReportedAs f g → of_value f ≡ g
 told_as f g says.as_undeclared = refl
 told_as f g says.as_wrong_type = refl
 told_as f g says.as_missing = refl
 
-member_told : (fs : CedarFields) (ms : Members) (f : ValueFault) → FaultyMember fs ms f → (g : EntityFault) × IsToldAs f g
+member_told : (fs : CedarFields) (ms : Members) (f : ValueFault) → FaultyMember fs ms f → (g : EntityFault) × IsReportedAs f g
 member_told fs ms f (record_says.undeclared k d ns none) = (Undeclared, says.as_undeclared)
 member_told fs ms f (record_says.wrong_type k d ns t here none) = (WrongType, says.as_wrong_type)
 member_told fs ms f (record_says.later_fault k d ns g t v here h rest) = member_told fs ns g rest
 
-pub record_told : (t : Cedar) (ms : Members) (f : ValueFault) → RefusesRecord t ms f → (g : EntityFault) × IsToldAs f g
+pub record_told : (t : Cedar) (ms : Members) (f : ValueFault) → RefusesRecord t ms f → (g : EntityFault) × IsReportedAs f g
 record_told t ms f (record_says.no_record u ns none) = (WrongType, says.as_wrong_type)
 record_told t ms f (record_says.faulty fs ns g h) = member_told fs ns g h
 record_told t ms f (record_says.missing fs ns given read lack) = (Missing, says.as_missing)

@@ -35,7 +35,7 @@ use Rattle.entities.specs.Entities.{is_action_type, shape_of, attributes_in, par
 use Rattle.entities.specs.Entities.{entity_stated_in}
 use Rattle.entity_data.specs.UidSets.{uid_set}
 use Rattle.entities.specs.Canonical.{canonical_json}
-use Rattle.entities.specs.Laws.{CanonicalIsRead, CanonicalNests, CanonicalIsOne, ParentsAscend}
+use Rattle.entities.specs.Laws.{CanonicalEntityIsRead, CanonicalEntityNests, CanonicalIsOne, ParentsAscend}
 use Rattle.entity_data.proofs.UidLemmas.{sorted_set}
 use Rattle.entities.proofs.UidSetLemmas.{all_set, set_same}
 
@@ -241,7 +241,7 @@ parents_ascend s d e read =
     let c = checked s p.stated.uid p.stated.parents e.parents p.parents in
     ascend p.stated.parents e.parents c.are
 
-pub canonical_is_read : Below → CanonicalIsRead
+pub canonical_is_read : Below → CanonicalEntityIsRead
 canonical_is_read below s d e read =
     let p = parts_of s d e read in
     let form = form_of below d p.stated p.form in
@@ -275,7 +275,7 @@ names_depth (u ∷ us) = let rest = names_depth us in omega (arith, rest)
 whole_depth : (e : Entity) (fields : ℕ) → depth (object (fields_json (fields_of e.attrs))) ≡ fields → fields ≤ 65 → depth (canonical_json e) ≤ max_depth
 whole_depth e fields is le = omega (arith, is, le, names_depth e.parents)
 
-pub canonical_nests : Below → CanonicalNests
+pub canonical_nests : Below → CanonicalEntityNests
 canonical_nests below s d e small read =
     let p = parts_of s d e read in
     let at = attributed s p.stated.uid.type_name d e.attrs p.attrs in

@@ -18,7 +18,7 @@ use Rattle.schema.specs.declared.parts.Place.{Place}
 use Rattle.schema.specs.Schemas.{EnvironmentOf, place_cmp}
 use Rattle.entities.specs.declared.requests.Asked.{Asked}
 use Rattle.entities.specs.Contexts.{context_where, is_of_action, is_place}
-use Rattle.entities.specs.inner.Halves.{context_if, place_asked, order_of_action, order_of_asked, Rises, AreSought}
+use Rattle.entities.specs.inner.EnvironmentSearch.{context_if, place_asked, order_of_action, order_of_asked, IsMonotone, AreFoundBy}
 
 -- ---- orders
 
@@ -27,10 +27,10 @@ places_total =
     then_total (on_total (λ p. p.action) uid_cmp-IsTotalOrder)
     (then_total (on_total (λ p. p.principal) text_cmp-IsTotalOrder) (on_total (λ p. p.resource) text_cmp-IsTotalOrder))
 
-places_rise : (x : Place) → Rises (λ p. place_cmp p x)
+places_rise : (x : Place) → IsMonotone (λ p. place_cmp p x)
 places_rise x p q lt = rises places_total p q x lt (place_cmp q x) refl
 
-actions_rise : (action : EntityUid) → Rises (λ p. uid_cmp p.action action)
+actions_rise : (action : EntityUid) → IsMonotone (λ p. uid_cmp p.action action)
 actions_rise action p q lt = elim (less_then (uid_cmp p.action q.action) _ lt) [
   | inl below ↦ rises uid_cmp-IsTotalOrder p.action q.action action below (uid_cmp q.action action) refl
   | inr tied ↦ subst (λ (u : EntityUid). ordering_index (uid_cmp p.action action) ≤ ordering_index (uid_cmp u action)) (uid_cmp-IsAntisymmetric p.action q.action tied) (omega arith)
@@ -51,7 +51,7 @@ module _ {X : Type 0} (view : X → EnvironmentOf) where
   abbrev pub Ascends : (Place → Ordering) → List X → Type 0
   Ascends ord es = (i j : ℕ) (d : X) → i ≤ j → j < length es → ordering_index (ord (view (get_or es i d)).place) ≤ ordering_index (ord (view (get_or es j d)).place)
 
-  ascends : (ord : Place → Ordering) → Rises ord → (es : List X) → AreSorted es → Ascends ord es
+  ascends : (ord : Place → Ordering) → IsMonotone ord → (es : List X) → AreSorted es → Ascends ord es
   unfolding IsStrictlySortedBy
   ascends ord rise [] s i j d le lt = let no : ⊥ = omega (arith, lt) in absurd no
   ascends ord rise (x ∷ xs) s zero zero d le lt = omega arith
@@ -59,12 +59,12 @@ module _ {X : Type 0} (view : X → EnvironmentOf) where
   ascends ord rise (x ∷ xs) s (suc i) zero d le lt = let no : ⊥ = omega (arith, le) in absurd no
   ascends ord rise (x ∷ xs) s (suc i) (suc j) d le lt = ascends ord rise xs s.1 i j d (omega (arith, le)) (omega (arith, lt))
 
-  pub parted : (ord : Place → Ordering) → Rises ord → (es : List X) → AreSorted es → IsPartitionedBy (λ e. is_lt (ord (view e).place)) es
+  pub parted : (ord : Place → Ordering) → IsMonotone ord → (es : List X) → AreSorted es → IsPartitionedBy (λ e. is_lt (ord (view e).place)) es
   parted ord rise es s i j d le lt h =
       not_above (ord (view (get_or es i d)).place)
       (subst (λ (o : Ordering). ordering_index (ord (view (get_or es i d)).place) ≤ ordering_index o) (lt_only (ord (view (get_or es j d)).place) h) (ascends ord rise es s i j d le lt))
 
-module _ {X : Type 0} (view : X → EnvironmentOf) (ord : Place → Ordering) (passes : Place → Bool) (sought : AreSought ord passes) where
+module _ {X : Type 0} (view : X → EnvironmentOf) (ord : Place → Ordering) (passes : Place → Bool) (sought : AreFoundBy ord passes) where
   off : (e : X) (es : List X) → passes (view e).place ≡ false
       → context_where passes (map view (e ∷ es)) ≡ context_where passes (map view es)
   off e es h = ap (λ (b : Bool). if b then Some (view e).context else context_where passes (map view es)) h
@@ -118,7 +118,7 @@ ties Less p = refl
 ties Equal p = refl
 ties Greater p = refl
 
-pub action_sought : (action : EntityUid) → AreSought (order_of_action action) (is_of_action action)
+pub action_sought : (action : EntityUid) → AreFoundBy (order_of_action action) (is_of_action action)
 action_sought action = record { same = λ p. refl; rises = actions_rise action }
 
 same_place : (asked : Asked) (p : Place) → is_place asked.action asked.principal.type_name asked.resource.type_name p ≡ is_eq (place_cmp p (place_asked asked))
@@ -130,5 +130,5 @@ same_place asked p =
     (ap₂ (λ (x y : Bool). x && y) (sym (is_eq-slice_cmp p.principal asked.principal.type_name)) (sym (is_eq-slice_cmp p.resource asked.resource.type_name)) ∙ ties principals resources)
     ∙ ties a (ordering_then principals resources)
 
-pub asked_sought : (asked : Asked) → AreSought (order_of_asked asked) (is_place asked.action asked.principal.type_name asked.resource.type_name)
+pub asked_sought : (asked : Asked) → AreFoundBy (order_of_asked asked) (is_place asked.action asked.principal.type_name asked.resource.type_name)
 asked_sought asked = record { same = same_place asked; rises = places_rise (place_asked asked) }

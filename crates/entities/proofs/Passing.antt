@@ -13,7 +13,7 @@ use Rattle.entities.specs.declared.value_fault.ValueFault.{ValueFault}
 use Rattle.entities.specs.declared.value_fault.ValueFault.TheVariants.{Undeclared}
 use Rattle.entities.specs.Parts.{declared_at}
 use Rattle.entities.specs.Typing.{typed_value, typed_members}
-use Rattle.entities.specs.inner.Ahead.{StateAlikeFrom}
+use Rattle.entities.specs.inner.FieldSuffixes.{StateAlikeFrom}
 use Rattle.entities.proofs.Walk.{Entry, Ordered, with_front}
 
 -- ---- members whose names ascend are read alike

@@ -10,7 +10,7 @@ use Rattle.schema.specs.Schemas.{StatedSchema}
 use Rattle.schema.specs.WellFormed.{IsWellFormed}
 use Rattle.entity_data.specs.declared.entity.Entity.{Entity}
 use Rattle.entities.specs.Canonical.{canonical_json, canonical_text}
-use Rattle.entities.specs.Laws.{CanonicalIsRead, CanonicalNests, CanonicalIsOne}
+use Rattle.entities.specs.Laws.{CanonicalEntityIsRead, CanonicalEntityNests, CanonicalIsOne}
 use Rattle.entities.specs.CanonicalLaws.{JsonTextsAreUtf8, IsReadFrom, CanonicalTextsAreJson, CanonicalTextsReadBack}
 use Rattle.entities.specs.CanonicalLaws.{CanonicalTextsAreOne}
 use Rattle.json_words.proofs.CompactUtf8.{compact_utf8}
@@ -22,8 +22,8 @@ pub record Below : Type 0 where
   pub ascend : JsonAscends
   pub back : CompactReadsBack
   pub one_text : CompactIsOne
-  pub read : CanonicalIsRead
-  pub nests : CanonicalNests
+  pub read : CanonicalEntityIsRead
+  pub nests : CanonicalEntityNests
   pub one_json : CanonicalIsOne
 
 plain : Below → (s : StatedSchema) (bytes : List ℕ) (e : Entity) → IsReadFrom s bytes e → IsPlain (canonical_json e)

@@ -17,7 +17,7 @@ use Rattle.entities.specs.declared.value_fault.ValueFault.TheVariants.{NoMemory,
 use Rattle.schema_types.specs.Cedar.{Cedar, CedarFields}
 use Rattle.entities.specs.Parts.{declared_at}
 use Rattle.entities.specs.Typing.{inside, typed_value, typed_items, typed_members}
-use Rattle.entities.specs.inner.Inside.{inside_fault}
+use Rattle.entities.specs.inner.InnerErrors.{inside_fault}
 
 abbrev pub with_front : {A F : Type 0} → List A → Result (List A) F → Result (List A) F
 with_front front read = read >>= λ xs. Ok (front ++ xs)

@@ -1,4 +1,5 @@
--- Defines the theorems: each relation holds of the result of the parsing function, only of that, and of one result.
+-- Defines the theorems that parsing agrees with the relations on JSON: each relation holds of the result of the parsing
+-- function, only of that, and of one result.
 use Rattle.std.specs.Prelude.{◌≡◌, ◌↔◌, List, Ok, Err}
 use Rattle.serde_json.specs.Data.{Data, Members, object}
 use Rattle.values.specs.Values.{PlainValue, record_of, fields_of}
@@ -21,7 +22,7 @@ use Rattle.schema.specs.Agreement.{Gives, HasOneOutcome}
 
 -- ---- values
 
--- `ValuesAreRead`: the function gives the value `v` for `d` by the type `t` if and only if `d` states `v`.
+-- `ValuesAreRead`: `typed_value` gives the value `v` for `d` by the type `t` if and only if `d` states `v`.
 abbrev pub ValuesAreRead : Type 0
 ValuesAreRead = (t : Cedar) (d : Data) (v : PlainValue) → (typed_value t d ≡ Ok v) ↔ Reads t d v
 
@@ -29,20 +30,20 @@ ValuesAreRead = (t : Cedar) (d : Data) (v : PlainValue) → (typed_value t d ≡
 abbrev pub OneValue : Type 0
 OneValue = (t : Cedar) (d : Data) (v w : PlainValue) → Reads t d v → Reads t d w → v ≡ w
 
--- `OtherJsonIsOfWrongType`: the function gives `WrongType` if and only if `d` states no value of the type `t`.
+-- `OtherJsonIsOfWrongType`: `typed_value` gives `WrongType` if and only if `d` states no value of the type `t`.
 abbrev pub OtherJsonIsOfWrongType : Type 0
 OtherJsonIsOfWrongType = (t : Cedar) (d : Data)
     → (typed_value t d ≡ Err WrongType) ↔ ((v : PlainValue) → Reads t d v → ⊥)
 
 -- ---- records
 
--- `RecordsAreRead`: the function gives the fields `fs` for an object if and only if the object states the record of
+-- `RecordsAreRead`: `record_in` gives the fields `fs` for an object if and only if the object states the record of
 -- these fields.
 abbrev pub RecordsAreRead : Type 0
 RecordsAreRead = (t : Cedar) (ms : Members) (fs : List Field)
     → (record_in t (object ms) ≡ Ok fs) ↔ Reads t (object ms) (record_of (fields_of fs))
 
--- `RecordsAreRefused`: the function gives the error `fault` for an object if and only if `fault` is why the object
+-- `RecordsAreRefused`: `record_in` gives the error `fault` for an object if and only if `fault` is why the object
 -- states no record of the type.
 abbrev pub RecordsAreRefused : Type 0
 RecordsAreRefused = (t : Cedar) (ms : Members) (fault : ValueFault)
@@ -50,8 +51,8 @@ RecordsAreRefused = (t : Cedar) (ms : Members) (fault : ValueFault)
 
 -- ---- entities
 
--- `EntitiesAreRead`: the function gives the entity that `d` states under the schema `s`, or the error if it states
--- none.
+-- `EntitiesAreRead`: `entity_stated_in` gives the entity that `d` states under the schema `s`, or the error if it
+-- states none.
 abbrev pub EntitiesAreRead : Type 0
 EntitiesAreRead = (s : StatedSchema) (d : Data) → Gives (entity_stated_in s d) (StatesEntity s d) (RefusesEntity s d)
 
@@ -61,7 +62,7 @@ EntitiesHaveOneOutcome = (s : StatedSchema) (d : Data) → HasOneOutcome (States
 
 -- ---- contexts and requests
 
--- `ContextsAreRead`: the function gives the context of `action` that `d` states under the schema `s`, or the error if
+-- `ContextsAreRead`: `context_in` gives the context of `action` that `d` states under the schema `s`, or the error if
 -- it states none.
 abbrev pub ContextsAreRead : Type 0
 ContextsAreRead = (s : StatedSchema) (action : EntityUid) (d : Data)
@@ -73,7 +74,7 @@ abbrev pub ContextsHaveOneOutcome : Type 0
 ContextsHaveOneOutcome = (s : StatedSchema) (action : EntityUid) (d : Data)
     → HasOneOutcome (StatesContext s action d) (RefusesContext s action d)
 
--- `RequestIsRead s d` holds if the request that the parser gives for `d`, or its error, is the one that `d` states.
+-- `RequestIsRead s d` holds if parsing gives exactly the request that `d` states under the schema `s`, or its error.
 pub record RequestIsRead (s : StatedSchema) (d : Data) : Type 0 where
   pub states : (q : Request) → StatesRequest s d q ↔ DescribesRequest s d q
   pub refuses : (f : EntityFault) → RequestRefused s d f ↔ RefusesRequest s d f

@@ -1,6 +1,7 @@
 -- Defines the canonical JSON and the canonical text of an entity.
--- Rules of this product: compact, keys ascending; parents and the uid are {"id", "type"}, parents in their order,
--- which ascends where the entity was parsed; the values of attributes are each in their canonical JSON.
+-- Rules of this product: the text is compact, with ascending keys; the uid and the parents are {"id", "type"}; the
+-- parents are in their order, which ascends if the entity was parsed under a schema; each attribute has its canonical
+-- JSON.
 use Rattle.std.specs.Prelude.{ℕ, List, map, codes}
 use Rattle.serde_json.specs.Data.{Data, object, array, no_members, member}
 use Rattle.serde_json.specs.View.{items_of}
@@ -16,7 +17,7 @@ canonical_json e = object (member (codes "attrs") (object (fields_json (fields_o
     (member (codes "parents") (array (items_of (map uid_json e.parents)))
     (member (codes "uid") (uid_json e.uid) no_members)))
 
--- `canonical_text e` is its text:
+-- `canonical_text e` is the compact text of the canonical JSON of `e`, such as
 -- {"attrs":{"age":1},"parents":[{"id":"g","type":"Group"}],"uid":{"id":"alice","type":"User"}}
 unfoldable pub canonical_text : Entity → List ℕ
 canonical_text e = compact_text (canonical_json e)

@@ -1,5 +1,5 @@
 -- Defines the theorems about the canonical texts of entities.
--- Rules of this product: these theorems.
+-- Rules of this product: the canonical text.
 use Rattle.std.specs.Prelude.{◌≡◌, ℕ, List, Some, Ok}
 use Rattle.serde_json.specs.Data.{Data}
 use Rattle.json_words.specs.Json.{json_of}
@@ -20,17 +20,18 @@ pub record IsReadFrom (s : StatedSchema) (bytes : List ℕ) (e : Entity) : Type 
   pub stands : json_of bytes ≡ Some json
   pub states : entity_stated_in s json ≡ Ok e
 
--- `CanonicalTextsAreJson`: whatever bytes an entity was parsed from, its canonical text is its canonical JSON.
+-- `CanonicalTextsAreJson`: whatever bytes an entity was parsed from, the JSON of its canonical text is its canonical
+-- JSON.
 abbrev pub CanonicalTextsAreJson : Type 0
 CanonicalTextsAreJson = (s : StatedSchema) (bytes : List ℕ) (e : Entity) → IsWellFormed s → IsReadFrom s bytes e
     → json_of (canonical_text e) ≡ Some (canonical_json e)
 
--- `CanonicalTextsReadBack`: so it is parsed from its canonical text.
+-- `CanonicalTextsReadBack`: whatever bytes an entity was parsed from, its canonical text is parsed as the same entity.
 abbrev pub CanonicalTextsReadBack : Type 0
 CanonicalTextsReadBack = (s : StatedSchema) (bytes : List ℕ) (e : Entity) → IsWellFormed s → IsReadFrom s bytes e
     → IsReadFrom s (canonical_text e) e
 
--- `CanonicalTextsAreOne`: entities with equal canonical texts are equal.
+-- `CanonicalTextsAreOne`: parsed entities with equal canonical texts are equal.
 abbrev pub CanonicalTextsAreOne : Type 0
 CanonicalTextsAreOne = (s : StatedSchema) (bytes other : List ℕ) (e f : Entity) → IsWellFormed s
     → IsReadFrom s bytes e → IsReadFrom s other f → canonical_text e ≡ canonical_text f → e ≡ f

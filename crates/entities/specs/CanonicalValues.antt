@@ -11,16 +11,17 @@ use Rattle.entity_uids.specs.Uids.{entity_json}
 use Rattle.values.specs.Values.{PlainValue, boolean, long, text, entity, set, record_of, decimal, ipaddr}
 use Rattle.values.specs.Values.{PlainValues, no_values, value, PlainFields, no_fields, field}
 
--- `only k d` is an object with one key.
+-- `only k d` is an object with the single key `k`, whose value is `d`.
 abbrev pub only : List ℕ → Data → Data
 only k d = json.object (member k d no_members)
 
--- `call_json name argument` is {"__extn":{"arg":..,"fn":..}}
+-- `call_json name argument` is {"__extn":{"arg":argument,"fn":name}}.
 abbrev pub call_json : List ℕ → List ℕ → Data
 call_json name argument = only (codes "__extn")
     (json.object (member (codes "arg") (json.string argument) (member (codes "fn") (json.string name) no_members)))
 
--- `value_json v` is the canonical JSON of the value `v`.
+-- `value_json v` is the canonical JSON of the value `v`; `values_json` and `fields_json` are that of the members of a
+-- set and of the fields of a record.
 abbrev mutual
   pub value_json : PlainValue → Data
   value_json (boolean b) = json.boolean b

@@ -17,17 +17,17 @@ use Rattle.entities.specs.declared.fault.EntityFault.{EntityFault}
 use Rattle.entities.specs.declared.fault.EntityFault.TheVariants.{BadShape, NotApplicable}
 use Rattle.entities.specs.Faults.{told}
 
--- `context_where passes es` is the type of the context of the first environment that passes: all environments of an
--- action have one context.
+-- `context_where passes es` is the type of the context in the first of the environments `es` whose place `passes`
+-- accepts. All environments of an action have the same type of context.
 abbrev pub context_where : (Place → Bool) → List EnvironmentOf → Option Cedar
 context_where passes [] = None
 context_where passes (e ∷ es) = if passes e.place then Some e.context else context_where passes es
 
--- `is_of_action action place` tests for an environment of `action`.
+-- `is_of_action action place` tests whether `place` has the action `action`.
 abbrev pub is_of_action : EntityUid → Place → Bool
 is_of_action action place = is_same place.action action
 
--- `is_place action principal resource place` tests for the environment of this action and these types.
+-- `is_place action principal resource place` tests whether `place` has this action and these two types.
 abbrev pub is_place : EntityUid → List ℕ → List ℕ → Place → Bool
 is_place action principal resource place =
     is_same place.action action && (bytes_eq place.principal principal && bytes_eq place.resource resource)

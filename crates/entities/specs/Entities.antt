@@ -27,33 +27,34 @@ use Rattle.entity_data.specs.UidSets.{uid_set}
 abbrev pub is_action_type : List ℕ → Bool
 is_action_type name = bytes_eq name (codes "Action") || ends_with (λ a b. a == b) name (codes "::Action")
 
--- `shape_of s name` is the shape of an entity type: the attributes that its entities have, as a record.
+-- `shape_of s name` is the shape of the entity type `name`: the attributes that its entities have, as a record.
 unfoldable pub shape_of : StatedSchema → List ℕ → Result Cedar EntityFault
 shape_of s name = do
   other ← demand ActionEntity (not (is_action_type name))
   or_fault UnknownType (s.shape name)
 
--- `attributes_in s name d` are the attributes of an entity of this type.
+-- `attributes_in s name d` are the attributes that `d` states for an entity of the type `name`, or the first error.
 unfoldable pub attributes_in : StatedSchema → List ℕ → Data → Result (List Field) EntityFault
 attributes_in s name d = do
   shape ← shape_of s name
   untagged ← demand TagsLeftOut (is_absent_or_empty (get (codes "tags") d))
   told (record_in shape (or_empty (get (codes "attrs") d)))
 
--- `parent_fits s uid parent` checks that an entity may have this parent.
+-- `parent_fits s uid parent` checks that the entity `uid` may have the parent `parent`.
 unfoldable pub parent_fits : StatedSchema → EntityUid → EntityUid → Result ⊤ EntityFault
 parent_fits s uid parent = do
   other ← demand SelfParent (not (is_same parent uid))
   demand BadParent (s.may_have_parent uid.type_name parent.type_name)
 
--- `parents_fit s uid ps` checks that it may have each of these; the first that it may not have gives the error.
+-- `parents_fit s uid ps` checks that the entity `uid` may have each of the parents `ps`; the first that it may not have
+-- gives the error.
 unfoldable pub parents_fit : StatedSchema → EntityUid → List EntityUid → Result ⊤ EntityFault
 parents_fit s uid [] = Ok tt
 parents_fit s uid (p ∷ ps) = do
   fits ← parent_fits s uid p
   parents_fit s uid ps
 
--- `parents_in s uid ps` are the parents of an entity, ascending and without duplicates, if it may have them.
+-- `parents_in s uid ps` are the parents `ps`, ascending and without duplicates, if the entity `uid` may have them.
 unfoldable pub parents_in : StatedSchema → EntityUid → List EntityUid → Result (List EntityUid) EntityFault
 parents_in s uid ps = do
   fit ← parents_fit s uid ps

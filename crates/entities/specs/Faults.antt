@@ -1,4 +1,5 @@
--- Defines the codes of errors, which are a rule of this product, and the errors for those of values.
+-- Defines the codes of the errors of entities, contexts and requests, and which of these reports an error of a value.
+-- Rules of this product: the codes.
 use Rattle.std.specs.Prelude.{ℕ, Result, Ok, Err}
 use Rattle.entities.specs.declared.value_fault.ValueFault.{ValueFault}
 use Rattle.entities.specs.declared.value_fault.ValueFault.TheVariants as value
@@ -21,14 +22,14 @@ code_of SelfParent = 37
 code_of TagsLeftOut = 38
 code_of NotApplicable = 39
 
--- `of_value f` is the error for the error `f` of a value.
+-- `of_value f` is the error that reports the error `f` of a value.
 abbrev pub of_value : ValueFault → EntityFault
 of_value value.NoMemory = NoMemory
 of_value value.WrongType = WrongType
 of_value value.Undeclared = Undeclared
 of_value value.Missing = Missing
 
--- `told r` is the result of reading a value, with its error as one of these.
+-- `told r` is the result `r` of parsing a value, with its error as `of_value` reports it.
 abbrev pub told : {A : Type 0} → Result A ValueFault → Result A EntityFault
 told (Ok x) = Ok x
 told (Err f) = Err (of_value f)

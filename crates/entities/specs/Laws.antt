@@ -16,20 +16,21 @@ use Rattle.entity_data.specs.UidSets.{uid_set}
 
 -- ---- action types
 
--- `ActionTypeTestIsExact`: the test accepts exactly the types of actions, in a namespace or in none.
+-- `ActionTypeTestIsExact`: `is_action_type` accepts exactly the types of actions, in any namespace, also the empty one.
 abbrev pub ActionTypeTestIsExact : Type 0
 ActionTypeTestIsExact = (name : List ℕ) → IsTrue (is_action_type name) ↔ IsActionType name
 
 -- ---- entities
 
--- `CanonicalIsRead`: the canonical JSON of an entity that was parsed is parsed as that entity.
-abbrev pub CanonicalIsRead : Type 0
-CanonicalIsRead = (s : StatedSchema) (d : Data) (e : Entity) → entity_stated_in s d ≡ Ok e
+-- `CanonicalEntityIsRead`: the canonical JSON of an entity that was parsed is parsed as that entity.
+abbrev pub CanonicalEntityIsRead : Type 0
+CanonicalEntityIsRead = (s : StatedSchema) (d : Data) (e : Entity) → entity_stated_in s d ≡ Ok e
     → entity_stated_in s (canonical_json e) ≡ Ok e
 
--- `CanonicalNests`: it is within the limit of nesting, since no shape of a schema that bytes state is too large.
-abbrev pub CanonicalNests : Type 0
-CanonicalNests = (s : StatedSchema) (d : Data) (e : Entity) → IsWellFormed s → entity_stated_in s d ≡ Ok e
+-- `CanonicalEntityNests`: the canonical JSON of a parsed entity is within the limit of nesting, since no shape of a
+-- well-formed schema is too large.
+abbrev pub CanonicalEntityNests : Type 0
+CanonicalEntityNests = (s : StatedSchema) (d : Data) (e : Entity) → IsWellFormed s → entity_stated_in s d ≡ Ok e
     → depth (canonical_json e) ≤ max_depth
 
 -- `CanonicalIsOne`: two parsed entities with equal canonical JSON are equal.
@@ -38,7 +39,7 @@ CanonicalIsOne = (s : StatedSchema) (d other : Data) (e f : Entity) → entity_s
     → entity_stated_in s other ≡ Ok f
     → canonical_json e ≡ canonical_json f → e ≡ f
 
--- `ParentsAscend`: the parents of an entity ascend strictly.
+-- `ParentsAscend`: the parents of a parsed entity ascend strictly.
 abbrev pub ParentsAscend : Type 0
 ParentsAscend = (s : StatedSchema) (d : Data) (e : Entity) → entity_stated_in s d ≡ Ok e → IsAscending e.parents
 
@@ -49,21 +50,21 @@ SetsHoldTheirMembers = (us : List EntityUid) → IsAscending (uid_set us)
 
 -- ---- requests
 
--- `OneRequest`: a value states at most one request.
+-- `OneRequest`: a JSON value states at most one request.
 abbrev pub OneRequest : Type 0
 OneRequest = (s : StatedSchema) (d : Data) (q other : Request) → StatesRequest s d q → StatesRequest s d other
     → q ≡ other
 
--- `NotBoth`: a value that states a request is not rejected.
+-- `NotBoth`: a JSON value that states a request is not rejected.
 abbrev pub NotBoth : Type 0
 NotBoth = (s : StatedSchema) (d : Data) (q : Request) (f : EntityFault) → StatesRequest s d q → RequestRefused s d f
     → ⊥
 
--- `OneRefusal`: a value is rejected with at most one error.
+-- `OneRefusal`: a JSON value is rejected with at most one error.
 abbrev pub OneRefusal : Type 0
 OneRefusal = (s : StatedSchema) (d : Data) (f g : EntityFault) → RequestRefused s d f → RequestRefused s d g → f ≡ g
 
--- `RequestOrRefusal`: each value states a request, or is rejected.
+-- `RequestOrRefusal`: each JSON value states a request, or is rejected.
 abbrev pub RequestOrRefusal : Type 0
 RequestOrRefusal = (s : StatedSchema) (d : Data) → ((q : Request) × StatesRequest s d q)
     ⊎ ((f : EntityFault) × RequestRefused s d f)

@@ -1,8 +1,9 @@
 -- Defines the request that JSON states under a schema, and the first error if it states none.
 -- Source: Cedar reference guide 4.0, "Authorization request" and "Schema JSON format", `appliesTo`: principal,
 -- action, resource, context.
--- Rules of this product: each of the three is a uid as an entity's is, or its string, as "User::\"alice\""; an absent
--- context is empty, and null is not absent; other keys are ignored; the order of the errors.
+-- Rules of this product: principal, action and resource are each a uid in the form that entities use, or a string as in
+-- a policy, such as "User::\"alice\""; an absent context is empty, and null does not count as absent; other keys are
+-- ignored; the order of the errors.
 use Rattle.std.specs.Prelude.{◌≡◌, true, ℕ, List, MatchOption, codes, Result, Ok, Err}
 use Rattle.serde_json.specs.Data.{Data}
 use Rattle.serde_json.specs.Find.{get}
@@ -20,7 +21,7 @@ use Rattle.entities.specs.Faults.{told}
 use Rattle.entities.specs.Stated.{is_absent_or_object, or_empty}
 use Rattle.entities.specs.Contexts.{context_where, is_place}
 
--- `NamesAt key d uid` holds if the value at `key` names `uid`.
+-- `NamesAt key d uid` holds if the value of `d` at `key` names `uid`.
 abbrev pub NamesAt : List ℕ → Data → EntityUid → Type 0
 NamesAt key d uid = MatchOption (get key d) ⊥ (λ found. NamesEntity found uid)
 
@@ -32,7 +33,8 @@ pub record Asks (d : Data) (asked : Asked) : Type 0 where
   pub resource : NamesAt (codes "resource") d asked.resource
   pub context : is_absent_or_object (get (codes "context") d) ≡ true
 
--- `context_asked s asked d` is the context, of the type of the action's environment.
+-- `context_asked s asked d` is the context that `d` states, of the type that the environment of the request `asked`
+-- declares, or the first error.
 unfoldable pub context_asked : StatedSchema → Asked → Data → Result (List Field) EntityFault
 context_asked s asked d = do
   type ← or_fault NotApplicable
@@ -43,12 +45,12 @@ context_asked s asked d = do
 abbrev pub asked_by : Request → Asked
 asked_by q = record { principal = q.principal; action = q.action; resource = q.resource }
 
--- `StatesRequest s d q` holds if `d` states the request `q`.
+-- `StatesRequest s d q` holds if `d` states the request `q` under the schema `s`.
 pub record StatesRequest (s : StatedSchema) (d : Data) (q : Request) : Type 0 where
   pub asks : Asks d (asked_by q)
   pub context : context_asked s (asked_by q) d ≡ Ok q.context
 
--- `RequestRefused s d f` holds if `d` does not state a request, and `f` is the first error.
+-- `RequestRefused s d f` holds if `d` states no request under the schema `s`, and `f` is the first error.
 pub data RequestRefused (s : StatedSchema) (d : Data) : EntityFault → Type 0 where
   shape : ((asked : Asked) → Asks d asked → ⊥) → RequestRefused s d BadShape
   context : (asked : Asked) (f : EntityFault) → Asks d asked → context_asked s asked d ≡ Err f

@@ -1,8 +1,8 @@
 -- Defines the form of an entity's JSON, whatever its type.
 -- Source: Cedar reference guide 4.0, "Entities and context: JSON format": uid, attrs, parents, tags; a uid is
 -- {"type", "id"}, or that under `__entity`.
--- Rules of this product: absent `attrs`, `parents` and `tags` are empty, and null is not absent; other keys of an
--- entity are ignored.
+-- Rules of this product: absent `attrs`, `parents` and `tags` are empty, and null does not count as absent; other keys
+-- of an entity are ignored.
 use Rattle.std.specs.Prelude.{Bool, true, List, [], ◌&&◌, codes, is_some, Option, Some, None, Result, Ok}
 use Rattle.serde_json.specs.Data.{Data, Items, object, no_members}
 use Rattle.serde_json.specs.Find.{get, as_array, as_object}
@@ -25,16 +25,16 @@ abbrev pub is_absent_or_empty : Option Data → Bool
 is_absent_or_empty None = true
 is_absent_or_empty (Some d) = has_only [] d
 
--- `or_empty o` is the value, or an object without members if it is absent.
+-- `or_empty o` is the value `o`, or an object without members if it is absent.
 abbrev pub or_empty : Option Data → Data
 or_empty None = object no_members
 or_empty (Some d) = d
 
--- `stated_uid d` is the uid that `d` states.
+-- `stated_uid d` is the uid that `d` states, or `BadShape` if it states none.
 abbrev pub stated_uid : Data → Result EntityUid EntityFault
 stated_uid d = or_fault BadShape (uid_in d)
 
--- `uids_of ds` are the uids that an array states.
+-- `uids_of ds` are the uids that the items `ds` of an array state, or `BadShape` if one of them states none.
 unfoldable pub uids_of : Items → Result (List EntityUid) EntityFault
 uids_of ds = each (λ i d. stated_uid d) 0 (list_of ds)
 
@@ -45,11 +45,12 @@ stated_parents (Some d) = do
   ds ← or_fault BadShape (as_array d)
   uids_of ds
 
--- `has_objects d` tests that attributes and tags, if present, are objects.
+-- `has_objects d` tests whether the attributes and the tags of `d`, if present, are objects.
 abbrev pub has_objects : Data → Bool
 has_objects d = is_absent_or_object (get (codes "attrs") d) && is_absent_or_object (get (codes "tags") d)
 
--- `stated_in d` are the uid and the parents that an entity's JSON states, the parents in the order of their array.
+-- `stated_in d` are the uid and the parents that the JSON `d` of an entity states, the parents in the order of their
+-- array; `BadShape` if `d` does not have the form of an entity.
 unfoldable pub stated_in : Data → Result StatedEntity EntityFault
 stated_in d = do
   name ← or_fault BadShape (get (codes "uid") d)

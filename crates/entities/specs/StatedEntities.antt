@@ -1,7 +1,7 @@
 -- Defines which JSON states which entity, and the error of all other JSON.
 -- Source: Cedar reference guide 4.0, "Entities and context: JSON format".
--- Rules of this product: absent `attrs`, `parents` and `tags` are empty, and null is not absent; other keys are
--- ignored; no entity is an action, has tags, or is its own parent; the order of the errors.
+-- Rules of this product: absent `attrs`, `parents` and `tags` are empty, and null does not count as absent; other keys
+-- are ignored; no entity is an action, has tags, or is its own parent; the order of the errors.
 use Rattle.std.specs.Prelude.{◌≡◌, ◌↔◌, ℕ, List, [], ◌∷◌, Some, None, Contains, IsTrue, codes}
 use Rattle.std.specs.List.{AllZip}
 use Rattle.serde_json.specs.Data.{Data, Items, Members, no_members, array, object}
@@ -26,12 +26,14 @@ use Rattle.entities.specs.StatedValues.{Reads, RefusesRecord}
 
 -- ---- the form, whatever the type
 
--- `ObjectAt key d ms` holds if `d` has an object with the members `ms` at `key`, or nothing, and `ms` is empty.
+-- `ObjectAt key d ms` holds if `d` has an object with the members `ms` at `key`, or has nothing there and `ms` is
+-- empty.
 pub data ObjectAt (key : List ℕ) (d : Data) : Members → Type 0 where
   object_stands : (ms : Members) → get key d ≡ Some (object ms) → ObjectAt key d ms
   no_object : get key d ≡ None → ObjectAt key d no_members
 
--- `ParentsAt d uids` holds if `d` has an array of the names of `uids` at `parents`, or nothing, and `uids` is empty.
+-- `ParentsAt d uids` holds if `d` has an array of the names of `uids` at `parents`, or has nothing there and `uids` is
+-- empty.
 pub data ParentsAt (d : Data) : List EntityUid → Type 0 where
   parents_stand : (ds : Items) (uids : List EntityUid) → get (codes "parents") d ≡ Some (array ds)
       → AllZip IsUid (list_of ds) uids → ParentsAt d uids
@@ -57,15 +59,15 @@ pub record HasShape (s : StatedSchema) (name : List ℕ) (shape : Cedar) : Type 
   pub no_action : IsActionType name → ⊥
   pub declared : s.shape name ≡ Some shape
 
--- `MayHaveParent s uid parent` holds if `parent` is another entity, of a type that `memberOfTypes` leads to from the
--- type of `uid`.
+-- `MayHaveParent s uid parent` holds if `parent` is another entity than `uid`, and one or more steps by `memberOfTypes`
+-- lead from the type of `uid` to that of `parent`.
 pub record MayHaveParent (s : StatedSchema) (uid parent : EntityUid) : Type 0 where
   pub other : parent ≡ uid → ⊥
   pub type_fits : IsTrue (s.may_have_parent uid.type_name parent.type_name)
 
--- `StatesEntity s d e` holds if `d` states the entity `e` under the schema `s`: it has the form of one, without tags;
--- the type of `e` is declared; the attributes are the record that they state by its shape; and the parents are those
--- that it lists, each of which it may have, in ascending order, without duplicates.
+-- `StatesEntity s d e` holds if `d` states the entity `e` under the schema `s`: `d` has the form of an entity, without
+-- tags; the type of `e` is declared; the attributes of `e` are the record that `d` states by the shape of that type;
+-- and the parents of `e` are those that `d` lists, each of which `e` may have, in ascending order, without duplicates.
 pub record StatesEntity (s : StatedSchema) (d : Data) (e : Entity) : Type 0 where
   pub listed : List EntityUid
   pub attributes : Members
@@ -90,14 +92,15 @@ pub data RefusesParents (s : StatedSchema) (uid : EntityUid) : List EntityUid �
   later_parent : (parent : EntityUid) (more : List EntityUid) (fault : EntityFault) → MayHaveParent s uid parent
       → RefusesParents s uid more fault → RefusesParents s uid (parent ∷ more) fault
 
--- `IsToldAs f fault` holds if the error `f` of a record is the error `fault` of an entity, a context or a request.
-pub data IsToldAs : ValueFault → EntityFault → Type 0 where
-  as_undeclared : IsToldAs value.Undeclared Undeclared
-  as_wrong_type : IsToldAs value.WrongType WrongType
-  as_missing : IsToldAs value.Missing Missing
+-- `IsReportedAs f fault` holds if the error `f` of a record is reported as the error `fault` of an entity, a context or
+-- a request.
+pub data IsReportedAs : ValueFault → EntityFault → Type 0 where
+  as_undeclared : IsReportedAs value.Undeclared Undeclared
+  as_wrong_type : IsReportedAs value.WrongType WrongType
+  as_missing : IsReportedAs value.Missing Missing
 
--- `RefusesEntity s d fault` holds if `d` states no entity under the schema `s`, and `fault` is the first error, in
--- this order: its form, its type (an action type before an undeclared one), its tags, its attributes, and its
+-- `RefusesEntity s d fault` holds if `d` states no entity under the schema `s`, and `fault` is the first error, in this
+-- order: of the form, of the type (an action type before an undeclared one), of the tags, of the attributes, and of the
 -- parents.
 pub data RefusesEntity (s : StatedSchema) (d : Data) : EntityFault → Type 0 where
   bad_shape : ((uid : EntityUid) (listed : List EntityUid) (attributes tags : Members)
@@ -112,7 +115,7 @@ pub data RefusesEntity (s : StatedSchema) (d : Data) : EntityFault → Type 0 wh
       → RefusesEntity s d TagsLeftOut
   bad_attributes : (uid : EntityUid) (listed : List EntityUid) (attributes : Members) (shape : Cedar) (f : ValueFault)
       (fault : EntityFault) → HasForm d uid listed attributes no_members → HasShape s uid.type_name shape
-      → RefusesRecord shape attributes f → IsToldAs f fault → RefusesEntity s d fault
+      → RefusesRecord shape attributes f → IsReportedAs f fault → RefusesEntity s d fault
   bad_parents : (uid : EntityUid) (listed : List EntityUid) (attributes : Members) (shape : Cedar) (attrs : List Field)
       (fault : EntityFault) → HasForm d uid listed attributes no_members → HasShape s uid.type_name shape
       → Reads shape (object attributes) (record_of (fields_of attrs)) → RefusesParents s uid listed fault

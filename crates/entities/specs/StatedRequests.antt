@@ -1,7 +1,8 @@
 -- Defines which JSON states which context and which request, and the error of all other JSON.
 -- Source: Cedar reference guide 4.0, "Authorization request".
--- Rules of this product: principal, action and resource are each a uid as an entity's, or its string; an absent
--- context is empty, and null is not absent; other keys are ignored; the order of the errors.
+-- Rules of this product: principal, action and resource are each a uid in the form that entities use, or a string as in
+-- a policy; an absent context is empty, and null does not count as absent; other keys are ignored; the order of the
+-- errors.
 use Rattle.std.specs.Prelude.{◌≡◌, List, ◌∷◌, codes}
 use Rattle.serde_json.specs.Data.{Data, Members, object}
 use Rattle.values.specs.Fields.{Field}
@@ -17,11 +18,11 @@ use Rattle.entities.specs.declared.fault.EntityFault.TheVariants.{BadShape, NotA
 use Rattle.entities.specs.declared.requests.Asked.{Asked}
 use Rattle.entities.specs.Requests.{NamesAt, asked_by}
 use Rattle.entities.specs.StatedValues.{Reads, RefusesRecord}
-use Rattle.entities.specs.StatedEntities.{ObjectAt, IsToldAs}
+use Rattle.entities.specs.StatedEntities.{ObjectAt, IsReportedAs}
 
 -- ---- the context of an action
 
--- `IsOfAction action place` holds if `place` is one of `action`.
+-- `IsOfAction action place` holds if `place` has the action `action`.
 abbrev pub IsOfAction : EntityUid → Place → Type 0
 IsOfAction action place = place.action ≡ action
 
@@ -31,8 +32,8 @@ pub record AppliesTo (asked : Asked) (place : Place) : Type 0 where
   pub same_principal : place.principal ≡ asked.principal.type_name
   pub same_resource : place.resource ≡ asked.resource.type_name
 
--- `HasContext IsPlace environments t` holds if `t` is the context's type in the first of `environments` whose place
--- `IsPlace` holds of. (All environments of an action have one context.)
+-- `HasContext IsPlace environments t` holds if `t` is the type of the context in the first of `environments` for whose
+-- place `IsPlace` holds. (All environments of an action have the same type of context.)
 pub data HasContext (IsPlace : Place → Type 0) : List EnvironmentOf → Cedar → Type 0 where
   first_place : (e : EnvironmentOf) (more : List EnvironmentOf) → IsPlace e.place
       → HasContext IsPlace (e ∷ more) e.context
@@ -40,19 +41,19 @@ pub data HasContext (IsPlace : Place → Type 0) : List EnvironmentOf → Cedar 
       → HasContext IsPlace more t → HasContext IsPlace (e ∷ more) t
 
 -- `ReadsContext IsPlace s ms fields` holds if the object with the members `ms` states the context `fields` of an
--- environment of the schema `s` whose place `IsPlace` holds of.
+-- environment of the schema `s` for whose place `IsPlace` holds.
 pub record ReadsContext (IsPlace : Place → Type 0) (s : StatedSchema) (ms : Members) (fields : List Field)
     : Type 0 where
   pub shape : Cedar
   pub applies : HasContext IsPlace s.environments shape
   pub reads : Reads shape (object ms) (record_of (fields_of fields))
 
--- `FailsContext IsPlace s ms fault` holds if the object with the members `ms` states none, and `fault` is the first
--- error: no environment has such a place, or the object is not a record of the context's type.
+-- `FailsContext IsPlace s ms fault` holds if the object with the members `ms` states no such context, and `fault` is
+-- the first error: no environment has such a place, or the object is not a record of the context's type.
 pub data FailsContext (IsPlace : Place → Type 0) (s : StatedSchema) (ms : Members) : EntityFault → Type 0 where
   not_applicable : ((t : Cedar) → HasContext IsPlace s.environments t → ⊥) → FailsContext IsPlace s ms NotApplicable
   bad_fields : (t : Cedar) (f : ValueFault) (fault : EntityFault) → HasContext IsPlace s.environments t
-      → RefusesRecord t ms f → IsToldAs f fault → FailsContext IsPlace s ms fault
+      → RefusesRecord t ms f → IsReportedAs f fault → FailsContext IsPlace s ms fault
 
 -- `StatesContext s action d fields` holds if `d` is an object that states the context `fields` of `action` under `s`.
 pub record StatesContext (s : StatedSchema) (action : EntityUid) (d : Data) (fields : List Field) : Type 0 where
@@ -84,8 +85,8 @@ pub record DescribesRequest (s : StatedSchema) (d : Data) (q : Request) : Type 0
   pub asks : Asks d (asked_by q) members
   pub reads : ReadsContext (AppliesTo (asked_by q)) s members q.context
 
--- `RefusesRequest s d fault` holds if `d` states no request under `s`, and `fault` is the first error: its form, that
--- the action does not apply, and its context.
+-- `RefusesRequest s d fault` holds if `d` states no request under `s`, and `fault` is the first error, in this order:
+-- of the form, that the action does not apply, and of the context.
 pub data RefusesRequest (s : StatedSchema) (d : Data) : EntityFault → Type 0 where
   no_request : ((asked : Asked) (ms : Members) → Asks d asked ms → ⊥) → RefusesRequest s d BadShape
   bad_request : (asked : Asked) (ms : Members) (fault : EntityFault) → Asks d asked ms

@@ -56,8 +56,8 @@ pub record IsCall (name : List ℕ) (d : Data) (argument : List ℕ) : Type 0 wh
   pub called : text_at (codes "fn") d ≡ Some name
   pub given : text_at (codes "arg") d ≡ Some argument
 
--- `IsArgument name d argument` holds if `d` is the string `argument`, a call of `name` with it, or that under
--- `__extn`.
+-- `IsArgument name d argument` holds if `d` is the string `argument`, a call of `name` with it, or an object whose only
+-- key `__extn` has such a call.
 pub data IsArgument (name : List ℕ) : Data → List ℕ → Type 0 where
   bare_text : (argument : List ℕ) → IsArgument name (json.string argument) argument
   call : (d : Data) (argument : List ℕ) → get (codes "__extn") d ≡ None → IsCall name d argument
@@ -68,7 +68,7 @@ pub data IsArgument (name : List ℕ) : Data → List ℕ → Type 0 where
 -- ---- values
 
 mutual
-  -- `Reads t d v` holds if the JSON `d` states the value `v` of the type `t`: one case a type.
+  -- `Reads t d v` holds if the JSON `d` states the value `v` of the type `t`, by one case for each type.
   pub data Reads : Cedar → Data → PlainValue → Type 0 where
     boolean : (b : Bool) → Reads type.boolean (json.boolean b) (value.boolean b)
     long : (n : Num) (z : ℤ) → as_integer n ≡ Some z → FitsSigned w64 z

@@ -1,4 +1,4 @@
--- Defines how a value is parsed by its declared type.
+-- Defines how JSON is parsed as a value of a declared type.
 -- Source: Cedar reference guide 4.0, "Entities and context: JSON format".
 -- Rules of this product: an extension is `{"__extn":{"fn","arg"}}`, `{"fn","arg"}` or the argument alone; an entity
 -- is `{"type","id"}` or that under `__entity`; neither has other keys.
@@ -22,7 +22,7 @@ use Rattle.schema_types.specs.Cedar as cedar
 use Rattle.schema_types.specs.Cedar.{Cedar, CedarFields, no_fields, field}
 use Rattle.entities.specs.Parts.{element_of, fields_in, declared_at}
 
--- `under_key k d o` is the value at the key `k`, with no other key, or `d` itself if `o` is `None`.
+-- `under_key k d o` is the value `o` that `d` has at `k`, which must be its only key; `d` itself if `o` is `None`.
 abbrev pub under_key : List ℕ → Data → Option Data → Result Data ValueFault
 under_key k d None = Ok d
 under_key k d (Some inner) = do
@@ -38,33 +38,35 @@ plain_call name d = do
   same ← demand WrongType (bytes_eq given name)
   Ok argument
 
--- `call_in name d` is the same, also under `__extn`.
+-- `call_in name d` is the argument of such a call, which is `d` itself or the value of its only key `__extn`.
 unfoldable pub call_in : List ℕ → Data → Result (List ℕ) ValueFault
 call_in name d = do
   inner ← under_key (codes "__extn") d (get (codes "__extn") d)
   plain_call name inner
 
--- `argument_or_call name d o` is the string itself, or a call's argument.
+-- `argument_or_call name d o` is the string `o`, or the argument of the call `d` of `name` if `o` is `None`.
 abbrev pub argument_or_call : List ℕ → Data → Option (List ℕ) → Result (List ℕ) ValueFault
 argument_or_call name d (Some s) = Ok s
 argument_or_call name d None = call_in name d
 
--- `argument_in name d` is the argument of an extension's function.
+-- `argument_in name d` is the argument of the extension function `name` that `d` states: the string `d`, or that of a
+-- call.
 unfoldable pub argument_in : List ℕ → Data → Result (List ℕ) ValueFault
 argument_in name d = argument_or_call name d (as_str d)
 
--- `boolean_in`, `long_in`, `text_in`, `entity_in`, `decimal_in` and `ipaddr_in` are the values of these types.
+-- `boolean_in d`, `long_in d`, `text_in d`, `entity_in name d`, `decimal_in d` and `ipaddr_in d` are the values of
+-- these types that `d` states, or `WrongType`. The entity must have the type `name`.
 unfoldable pub boolean_in : Data → Result PlainValue ValueFault
 boolean_in d = do
   b ← or_fault WrongType (as_bool d)
   Ok (boolean b)
 
--- `is_long z` tests for a signed 64-bit integer.
+-- `is_long z` tests whether `z` is a signed 64-bit integer.
 abbrev pub is_long : ℤ → Bool
 is_long (pos n) = nat_lt n (2 ^ 63)
 is_long (negsuc n) = nat_lt n (2 ^ 63)
 
--- (For parsed bytes, `as_i64` gives no other integer.)
+-- `long_of z` is the Long `z`, or `WrongType` outside 64 bits. (For parsed bytes, `as_i64` gives no integer outside.)
 abbrev pub long_of : ℤ → Result PlainValue ValueFault
 long_of z = do
   small ← demand WrongType (is_long z)
@@ -99,7 +101,7 @@ ipaddr_in d = do
   n ← or_fault WrongType (network_of s)
   Ok (ipaddr n)
 
--- `leaf t d` is a value that is neither a set nor a record.
+-- `leaf t d` is the value of the type `t` that `d` states, if `t` is neither a set nor a record type; else `WrongType`.
 abbrev pub leaf : Cedar → Data → Result PlainValue ValueFault
 leaf cedar.boolean d = boolean_in d
 leaf cedar.long d = long_in d
@@ -110,7 +112,7 @@ leaf (cedar.record_of fs) d = Err WrongType
 leaf cedar.decimal d = decimal_in d
 leaf cedar.ipaddr d = ipaddr_in d
 
--- `all_there fs d` tests whether each required field is present.
+-- `all_there fs d` tests whether `d` has each required field of `fs`.
 abbrev pub all_there : CedarFields → Data → Bool
 all_there no_fields d = true
 all_there (field k t r fs) d = (not r || is_some (get k d)) && all_there fs d
@@ -120,11 +122,14 @@ abbrev pub with_or : {A B : Type 0} → Option A → (A → B) → B → B
 with_or (Some a) f b = f a
 with_or None f b = b
 
--- `inside r`: an error inside a value makes it not a value of its type.
+-- `inside r` is `r` with any error as `WrongType`: a value with an error inside it is a value of the wrong type.
 abbrev pub inside : {A : Type 0} → Result A ValueFault → Result A ValueFault
 inside (Ok x) = Ok x
 inside (Err f) = Err WrongType
 
+-- `typed_value t d` is the value of the type `t` that `d` states, or `WrongType`; `typed_items t ds` are those of the
+-- items `ds` of an array. `typed_members fs ms` are the fields that the members `ms` of an object state by the fields
+-- `fs` of a record type, or the first error.
 unfoldable mutual
   pub typed_value : Cedar → Data → Result PlainValue ValueFault
   typed_value t json.null = leaf t json.null
@@ -155,8 +160,8 @@ unfoldable mutual
     vs ← typed_members fs ms
     Ok ((k, v) ∷ vs)
 
--- `record_in t d` are the fields of a record: first, each present field, ascending by key, must be declared and of
--- its type; then each required one must be present.
+-- `record_in t d` are the fields of the record of the type `t` that `d` states, or the first error: first, each present
+-- field, ascending by key, must be declared and have its declared type; then each required field must be present.
 unfoldable pub record_in : Cedar → Data → Result (List (List ℕ × PlainValue)) ValueFault
 record_in t d = do
   fs ← or_fault WrongType (fields_in t)

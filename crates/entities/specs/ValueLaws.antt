@@ -11,22 +11,25 @@ use Rattle.entities.specs.Typing.{typed_value, record_in}
 use Rattle.entities.specs.CanonicalValues.{value_json, fields_json}
 use Rattle.entities.specs.ValueTexts.{text_typed}
 
--- `CanonicalIsRead`: the canonical JSON of a value that was parsed is parsed as that value.
-abbrev pub CanonicalIsRead : Type 0
-CanonicalIsRead = (t : Cedar) (d : Data) (v : PlainValue) → typed_value t d ≡ Ok v → typed_value t (value_json v) ≡ Ok v
+-- `CanonicalValueIsRead`: the canonical JSON of a value that was parsed is parsed as that value.
+abbrev pub CanonicalValueIsRead : Type 0
+CanonicalValueIsRead = (t : Cedar) (d : Data) (v : PlainValue) → typed_value t d ≡ Ok v
+    → typed_value t (value_json v) ≡ Ok v
 
 -- `JsonIsReadAgain`: whatever bytes were parsed as `v`, bytes that are the canonical JSON of `v` are parsed as `v`.
 abbrev pub JsonIsReadAgain : Type 0
 JsonIsReadAgain = (t : Cedar) (bytes text : List ℕ) (v : PlainValue) → text_typed t bytes ≡ Ok v
     → json_of text ≡ Some (value_json v) → text_typed t text ≡ Ok v
 
--- `CanonicalNests`: the canonical JSON of a value nests at most one level deeper than its type: an entity and an
--- extension are two deep.
-abbrev pub CanonicalNests : Type 0
-CanonicalNests = (t : Cedar) (d : Data) (v : PlainValue) → typed_value t d ≡ Ok v → depth (value_json v) ≤ suc (deep t)
+-- `CanonicalValueNests`: the canonical JSON of a value that was parsed nests at most one level deeper than its type.
+-- (The JSON of an entity or an extension value is two deep, its type one.)
+abbrev pub CanonicalValueNests : Type 0
+CanonicalValueNests = (t : Cedar) (d : Data) (v : PlainValue) → typed_value t d ≡ Ok v
+    → depth (value_json v) ≤ suc (deep t)
 
--- `WrittenIsReadAgain`: whatever bytes were parsed as `v` by a type that a schema may have, a text that is the
--- canonical JSON of `v`, if that nests within the limit of a reader, is parsed as `v`.
+-- `WrittenIsReadAgain`: whatever bytes were parsed as `v` by a type that is not too large for a schema, a text is
+-- parsed as `v` if it is the canonical JSON of `v`; this premise is needed only if that JSON nests within the parser's
+-- limit.
 abbrev pub WrittenIsReadAgain : Type 0
 WrittenIsReadAgain = (t : Cedar) (bytes text : List ℕ) (v : PlainValue) → (IsTooLarge t → ⊥)
     → text_typed t bytes ≡ Ok v → (depth (value_json v) ≤ max_depth → json_of text ≡ Some (value_json v))
@@ -37,11 +40,11 @@ abbrev pub RecordIsReadAgain : Type 0
 RecordIsReadAgain = (t : Cedar) (d : Data) (fields : List Field) → record_in t d ≡ Ok fields
     → record_in t (object (fields_json (fields_of fields))) ≡ Ok fields
 
--- `RecordNests`: it nests at most one level deeper than its type.
+-- `RecordNests`: the canonical JSON of a record that was parsed nests at most one level deeper than its type.
 abbrev pub RecordNests : Type 0
 RecordNests = (t : Cedar) (d : Data) (fields : List Field) → record_in t d ≡ Ok fields
     → depth (object (fields_json (fields_of fields))) ≤ suc (deep t)
 
--- `NoFloatIsWritten`: numbers are written as integers.
+-- `NoFloatIsWritten`: the canonical JSON of a value has no float: its numbers are integers.
 abbrev pub NoFloatIsWritten : Type 0
 NoFloatIsWritten = (v : PlainValue) → has_float (value_json v) ≡ false

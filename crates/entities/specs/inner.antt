@@ -1,4 +1,4 @@
-pub mod Halves
-pub mod Ahead
+pub mod EnvironmentSearch
+pub mod FieldSuffixes
 pub mod InPlace
-pub mod Inside
+pub mod InnerErrors

@@ -5,7 +5,7 @@ ghost use Rattle.entities.specs.AsStated.{EntitiesAreRead, EntitiesHaveOneOutcom
 ghost use Rattle.entities.specs.AsStated.{ContextsAreRead, ContextsHaveOneOutcome};
 ghost use Rattle.entities.specs.AsStated.{RequestsAreRead, RequestsHaveOneOutcome};
 
-use crate::laws::{action_types_are_told, requests_have_one_outcome};
+use crate::laws::{action_type_test_is_exact, requests_have_one_outcome};
 use entity_data::ascending_lists_are_one;
 use entity_uids::names_read_back;
 
@@ -31,7 +31,7 @@ pub fn entities_are_read_as_stated()
     ensures one { EntitiesHaveOneOutcome }
 {
     names_read_back();
-    action_types_are_told();
+    action_type_test_is_exact();
     ascending_lists_are_one();
 }
 

@@ -16,9 +16,11 @@ use plain::NoMemory;
 use std::alloc::Global;
 use values::EntityUid;
 
-/// The capacity that is reserved at once for a text, in bytes: most entities need less, and their texts do not grow.
-const ROOM: usize = 128;
+/// The capacity that is reserved at once for a text, in bytes. The texts of most entities need less, and so do not
+/// grow.
+const INITIAL_CAPACITY: usize = 128;
 
+/// Writes the uids of parents as an array.
 fn write_parents(out: &mut Writer, parents: &[EntityUid]) -> Result<(), NoMemory>
     ensures { OnOk result (AppendsValue out.old out.new (array (items_of (map uid_json parents.now)))) }
 {
@@ -29,6 +31,7 @@ fn write_parents(out: &mut Writer, parents: &[EntityUid]) -> Result<(), NoMemory
     out.end_array()
 }
 
+/// Writes the canonical JSON of an entity.
 fn write_members(alloc: Global, out: &mut Writer, entity: &Entity) -> Result<(), NoMemory>
     ensures { OnOk result (AppendsValue out.old out.new (canonical_json entity.now)) }
 {
@@ -49,7 +52,7 @@ pub fn canonical_text(alloc: Global, entity: &Entity) -> Result<Vec<u8>, NoMemor
     ensures reads_back { IfOk result (λ b. depth (canonical_json entity.now) ≤ max_depth
         → json_of b.items ≡ Some (canonical_json entity.now)) }
 {
-    let mut out = Writer::new(Vec::with_capacity(alloc, ROOM)?);
+    let mut out = Writer::new(Vec::with_capacity(alloc, INITIAL_CAPACITY)?);
     write_members(alloc, &mut out, entity)?;
     Ok(out.into_inner())
 }

@@ -1,4 +1,4 @@
-//! Theorems about the definitions. The functions are no-ops.
+//! Theorems about the canonical texts of entities. The functions are no-ops.
 ghost use Rattle.entities.specs.CanonicalLaws.{JsonTextsAreUtf8, CanonicalTextsAreJson};
 ghost use Rattle.entities.specs.CanonicalLaws.{CanonicalTextsReadBack, CanonicalTextsAreOne};
 
@@ -10,8 +10,8 @@ pub fn json_texts_are_utf8()
     ensures { JsonTextsAreUtf8 }
 {}
 
-/// Proves that the canonical text of an entity that was parsed from bytes is its canonical JSON, is parsed as that
-/// entity under the same schema, and is that of no other entity. No-op.
+/// Proves that the canonical text of an entity that was parsed from bytes is a text of its canonical JSON, is parsed as
+/// that entity under the same schema, and is that of no other entity. No-op.
 pub fn canonical_texts_are_read()
     ensures json { CanonicalTextsAreJson }
     ensures back { CanonicalTextsReadBack }

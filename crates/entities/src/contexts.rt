@@ -1,40 +1,30 @@
-//! Contexts, parsed by the environments of the action.
-ghost use Rattle.std.specs.Prelude.{◌≡◌, ◌≢◌, MatchResult, option_map};
+//! Parsing of contexts. The environments of the action declare their type.
+ghost use Rattle.std.specs.Prelude.{◌≢◌, MatchResult};
 ghost use Rattle.serde_json.specs.View.{view};
 ghost use Rattle.json_words.specs.ReadsAs.{ReadsAs};
-ghost use Rattle.schema_types.specs.CedarViews.{cedar_view};
 ghost use Rattle.schema.specs.Views.{schema_view};
 ghost use Rattle.entities.specs.declared.fault.EntityFault.TheVariants as EntityFault;
-ghost use Rattle.entities.specs.Contexts.{context_where, is_of_action, context_in};
+ghost use Rattle.entities.specs.Contexts.{context_in};
 ghost use Rattle.entities.specs.StatedRequests.{StatesContext, RefusesContext};
-ghost use Rattle.entities.specs.inner.Halves.{order_of_action};
+ghost use Rattle.entities.specs.inner.EnvironmentSearch.{order_of_action};
 
 use crate::as_stated::contexts_are_read_as_stated;
 use crate::environments::{Sought, context_of};
 use crate::fault::EntityFault;
 use crate::reading::read_fields;
 use schema::{Place, Schema};
-use schema_types::CedarType;
 use serde_json::Value;
 use std::alloc::Global;
 use std::cmp::Ordering;
 use values::{EntityUid, Record};
 
-/// The environments of an action.
+/// The search for the environments of an action.
 impl Sought for EntityUid {
     ghost order = { order_of_action };
 
     fn compare(&self, place: &Place) -> Ordering {
         place.action.cmp(self)
     }
-}
-
-/// Returns the type of the context of an action, if it has an environment. O(log n).
-fn context_of_action<'s>(schema: &'s Schema, action: &EntityUid) -> Option<&'s CedarType>
-    ensures { option_map (λ t. cedar_view t.now) result
-        ≡ context_where (is_of_action action.now) (schema_view schema.now).environments }
-{
-    context_of(schema, action)
 }
 
 /// Returns the context of an action that a value states.
@@ -51,7 +41,7 @@ fn context_in(
     if value.as_object().is_none() {
         return Err(EntityFault::BadShape);
     }
-    match context_of_action(schema, action) {
+    match context_of(schema, action) {
         Some(ty) => read_fields(alloc, Some(value), ty),
         None => Err(EntityFault::NotApplicable),
     }
@@ -65,8 +55,8 @@ fn context_in(
 ///
 /// - `BadShape` (30): the value is not an object.
 /// - `NotApplicable` (39): no environment has the action.
-/// - Of the members, ascending by key: `Undeclared` (33), it is not declared; `WrongType` (35), its value is of
-///   another type.
+/// - Of the first faulty member, ascending by key: `Undeclared` (33), the member is not declared; `WrongType` (35), its
+///   value is of another type.
 /// - `Missing` (34): a required member is missing.
 /// - `NoMemory` (1): an allocation failed; possible at any point.
 pub fn read_context(

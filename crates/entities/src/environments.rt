@@ -1,20 +1,20 @@
 //! A binary search for environments, which ascend by action, principal type and resource type.
-ghost use Rattle.std.specs.Prelude.{◌≡◌, Bool, Some, option_map, slice_get};
+ghost use Rattle.std.specs.Prelude.{◌≡◌, Bool, option_map, slice_get};
 ghost use Rattle.std.specs.Ordering.{is_eq, is_lt};
 ghost use Rattle.std.specs.declared.cmp.Ordering.{Ordering as PlainOrdering};
 ghost use Rattle.schema.specs.declared.parts.Place.{Place as PlainPlace};
 ghost use Rattle.schema_types.specs.CedarViews.{cedar_view};
 ghost use Rattle.schema.specs.Views.{schema_view, environment_view};
 ghost use Rattle.entities.specs.Contexts.{context_where};
-ghost use Rattle.entities.specs.inner.Halves.{context_if, AreSought};
+ghost use Rattle.entities.specs.inner.EnvironmentSearch.{context_if, AreFoundBy};
 
 use schema::{Environment, Place, Schema, stated_schemas_are_well_formed};
 use schema_types::CedarType;
 use std::cmp::Ordering;
 
-/// What environments are searched for.
+/// What a search for environments seeks.
 pub(crate) trait Sought {
-    /// How an environment's action and types compare with those sought; equal if they are sought.
+    /// How the action and the types of an environment compare with those sought; equal if the environment is sought.
     ghost order: { Self → PlainPlace → PlainOrdering };
 
     /// Compares an environment's action and types with those sought.
@@ -29,21 +29,6 @@ fn is_before<S: Sought>(environment: &Environment, sought: &S) -> bool
     sought.compare(&environment.place).is_lt()
 }
 
-/// Returns the type of the context of an environment, if it is sought.
-fn context_if_sought<'s, S: Sought>(
-    environment: &'s Environment,
-    sought: &S,
-) -> Option<&'s CedarType>
-    ensures { option_map (λ t. cedar_view t.now) result
-        ≡ context_if (λ p. is_eq (S.order sought.now p)) (Some (environment_view environment.now)) }
-{
-    if sought.compare(&environment.place).is_eq() {
-        Some(environment.context.get())
-    } else {
-        None
-    }
-}
-
 /// Returns the type of the context of the environment at an index of a list, if it is sought.
 fn context_at<'s, S: Sought>(
     environments: &'s [Environment],
@@ -53,15 +38,17 @@ fn context_at<'s, S: Sought>(
     ensures { option_map (λ t. cedar_view t.now) result
         ≡ context_if (λ p. is_eq (S.order sought.now p)) (option_map environment_view (slice_get environments.now at)) }
 {
-    match environments.get(at) {
-        Some(environment) => context_if_sought(environment, sought),
-        None => None,
+    let environment = environments.get(at)?;
+    if sought.compare(&environment.place).is_eq() {
+        Some(environment.context.get())
+    } else {
+        None
     }
 }
 
 /// Returns the type of the context of the first environment that is sought, if there is one. O(log n).
 pub(crate) fn context_of<'s, S: Sought>(schema: &'s Schema, sought: &S) -> Option<&'s CedarType>
-    ensures { (passes : PlainPlace → Bool) → AreSought (S.order sought.now) passes
+    ensures { (passes : PlainPlace → Bool) → AreFoundBy (S.order sought.now) passes
         → option_map (λ t. cedar_view t.now) result ≡ context_where passes (schema_view schema.now).environments }
 {
     schema.is_stated();

@@ -1,5 +1,5 @@
-//! Theorems about the definitions. The functions are no-ops.
-ghost use Rattle.entities.specs.Laws.{CanonicalIsRead, CanonicalNests, CanonicalIsOne, ParentsAscend};
+//! Theorems about entities and requests under a schema. The functions are no-ops.
+ghost use Rattle.entities.specs.Laws.{CanonicalEntityIsRead, CanonicalEntityNests, CanonicalIsOne, ParentsAscend};
 ghost use Rattle.entities.specs.Laws.{SetsHoldTheirMembers, ActionTypeTestIsExact};
 ghost use Rattle.entities.specs.Laws.{OneRequest, NotBoth, OneRefusal, RequestOrRefusal};
 
@@ -8,11 +8,11 @@ use entity_uids::{names_read_back, texts_have_one_reading};
 
 /// Proves that the canonical JSON of a parsed entity is parsed as that entity under the same schema. No-op.
 ///
-/// It is within the limit of nesting, and is that of no other entity. The parents of a parsed entity ascend, and a
+/// This JSON is within the limit of nesting, and no other entity has it. The parents of a parsed entity ascend, and a
 /// set of uids has exactly the uids that it was made of.
 pub fn entities_read_back()
-    ensures read { CanonicalIsRead }
-    ensures nests { CanonicalNests }
+    ensures read { CanonicalEntityIsRead }
+    ensures nests { CanonicalEntityNests }
     ensures one { CanonicalIsOne }
     ensures parents { ParentsAscend }
     ensures members { SetsHoldTheirMembers }
@@ -22,7 +22,7 @@ pub fn entities_read_back()
 }
 
 /// Proves that the test for an action's type accepts exactly the names whose last word is `Action`. No-op.
-pub fn action_types_are_told()
+pub fn action_type_test_is_exact()
     ensures { ActionTypeTestIsExact }
 {}
 

@@ -35,7 +35,7 @@ pub use entity_uids::{
     texts_have_one_reading,
 };
 pub use fault::EntityFault;
-pub use laws::{action_types_are_told, entities_read_back, requests_have_one_outcome};
+pub use laws::{action_type_test_is_exact, entities_read_back, requests_have_one_outcome};
 pub use reading::read_entity;
 pub use requests::read_request;
 pub use schema::{

@@ -1,4 +1,4 @@
-//! Entities, parsed by their types.
+//! Parsing of entities by their types.
 ghost use Rattle.std.specs.Prelude.{◌≡◌, ◌≢◌, MatchResult, option_map};
 ghost use Rattle.serde_json.specs.View.{view};
 ghost use Rattle.json_words.specs.ReadsAs.{ReadsAs, AlwaysReadsAs};
@@ -63,7 +63,7 @@ pub(crate) fn read_fields(
     }
 }
 
-/// Returns the attributes of an entity of this type.
+/// Returns the attributes that a value states for an entity of this type.
 #[tactic(auto, unfolding(crate::specs::Entities::attributes_in))]
 fn read_attributes(
     alloc: Global,
@@ -81,7 +81,7 @@ fn read_attributes(
     read_fields(alloc, value.get("attrs"), shape)
 }
 
-/// Returns the entity that a value states: its form, then its type, its tags, its attributes and its parents.
+/// Returns the entity that a value states. Checks its form, then its type, its tags, its attributes and its parents.
 #[tactic(auto, unfolding(crate::specs::Entities::entity_stated_in))]
 fn entity_in(alloc: Global, schema: &Schema, value: &Value) -> Result<Entity, EntityFault>
     ensures { ReadsAs EntityFault.NoMemory (λ e. e) result
@@ -104,13 +104,14 @@ fn entity_in(alloc: Global, schema: &Schema, value: &Value) -> Result<Entity, En
 /// In this order:
 ///
 /// - `BadShape` (30): the value does not have this form.
-/// - `ActionEntity` (32): the type is an action's; `UnknownType` (31): it is not declared.
+/// - `ActionEntity` (32): the entity's type is an action type.
+/// - `UnknownType` (31): the entity's type is not declared.
 /// - `TagsLeftOut` (38): the entity has tags.
-/// - Of the attributes, ascending by key: `Undeclared` (33), it is not declared; `WrongType` (35), its value is of
-///   another type.
+/// - Of the first faulty attribute, ascending by key: `Undeclared` (33), the attribute is not declared; `WrongType`
+///   (35), its value is of another type.
 /// - `Missing` (34): a required attribute is missing.
-/// - Of the parents, in order: `SelfParent` (37), it is the entity itself; `BadParent` (36), it is of a type that it
-///   may not have.
+/// - Of the first faulty parent, in order: `SelfParent` (37), the parent is the entity itself; `BadParent` (36), the
+///   entity may not have a parent of this type.
 /// - `NoMemory` (1): an allocation failed; possible at any point.
 pub fn read_entity(alloc: Global, schema: &Schema, value: &Value) -> Result<Entity, EntityFault>
     ensures read { ReadsAs EntityFault.NoMemory (λ e. e) result

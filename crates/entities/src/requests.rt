@@ -1,14 +1,12 @@
-//! Requests, parsed by the environments of their action and types.
-ghost use Rattle.std.specs.Prelude.{◌≡◌, ◌≢◌, IfOk, IfErr, MatchResult, option_map};
+//! Parsing of requests. The environment of the action and of the two types declares the type of the context.
+ghost use Rattle.std.specs.Prelude.{◌≡◌, ◌≢◌, IfOk, IfErr, MatchResult};
 ghost use Rattle.serde_json.specs.View.{view};
 ghost use Rattle.json_words.specs.ReadsAs.{ReadsAs};
-ghost use Rattle.schema_types.specs.CedarViews.{cedar_view};
 ghost use Rattle.schema.specs.Views.{schema_view};
 ghost use Rattle.values.specs.declared.entity_uid.EntityUid.{EntityUid as PlainUid};
 ghost use Rattle.entities.specs.declared.requests.Asked.{Asked as PlainAsked};
 ghost use Rattle.entities.specs.declared.fault.EntityFault.TheVariants as EntityFault;
-ghost use Rattle.entities.specs.Contexts.{context_where, is_place};
-ghost use Rattle.entities.specs.inner.Halves.{order_of_asked};
+ghost use Rattle.entities.specs.inner.EnvironmentSearch.{order_of_asked};
 ghost use Rattle.entities.specs.StatedRequests.{DescribesRequest, RefusesRequest};
 ghost use Rattle.entities.specs.Requests.{NamesAt, Asks, context_asked, StatesRequest, RequestRefused};
 
@@ -19,7 +17,6 @@ use crate::reading::read_fields;
 use crate::stated::is_absent_or_object;
 use entity_uids::read_name;
 use schema::{Place, Schema};
-use schema_types::CedarType;
 use serde_json::Value;
 use std::alloc::Global;
 use std::cmp::Ordering;
@@ -68,7 +65,7 @@ fn read_asked(alloc: Global, value: &Value) -> Result<Asked, EntityFault>
     })
 }
 
-/// The environment of a request.
+/// The search for the environment of a request.
 impl Sought for Asked {
     ghost order = { order_of_asked };
 
@@ -82,16 +79,7 @@ impl Sought for Asked {
     }
 }
 
-/// Returns the type of the context of a request, if there is an environment of its action and types. O(log n).
-fn context_of_asked<'s>(schema: &'s Schema, asked: &Asked) -> Option<&'s CedarType>
-    ensures { option_map (λ t. cedar_view t.now) result ≡ context_where
-        (is_place asked.now.action asked.now.principal.type_name asked.now.resource.type_name)
-        (schema_view schema.now).environments }
-{
-    context_of(schema, asked)
-}
-
-/// Returns the context of a request.
+/// Returns the context that a value states for a request.
 #[tactic(auto, unfolding(crate::specs::Requests::context_asked))]
 fn read_context_of(
     alloc: Global,
@@ -102,7 +90,7 @@ fn read_context_of(
     ensures { ReadsAs EntityFault.NoMemory (λ r. r) result
         (context_asked (schema_view schema.now) asked.now (view value.now)) }
 {
-    match context_of_asked(schema, asked) {
+    match context_of(schema, asked) {
         Some(ty) => read_fields(alloc, value.get("context"), ty),
         None => Err(EntityFault::NotApplicable),
     }
@@ -137,9 +125,9 @@ fn request_in(alloc: Global, schema: &Schema, value: &Value) -> Result<Request, 
 ///
 /// - `BadShape` (30): the value does not have this form.
 /// - `NotApplicable` (39): the action is not declared, or does not apply to the two types.
-/// - Of the context's members, ascending by key: `Undeclared` (33), it is not declared; `WrongType` (35), its value
-///   is of another type.
-/// - `Missing` (34): a required member is missing.
+/// - Of the first faulty member of the context, ascending by key: `Undeclared` (33), the member is not declared;
+///   `WrongType` (35), its value is of another type.
+/// - `Missing` (34): a required member of the context is missing.
 /// - `NoMemory` (1): an allocation failed; possible at any point.
 pub fn read_request(alloc: Global, schema: &Schema, value: &Value) -> Result<Request, EntityFault>
     ensures read { IfOk result (StatesRequest (schema_view schema.now) (view value.now)) }

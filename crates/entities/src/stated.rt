@@ -1,4 +1,4 @@
-//! The form of an entity's JSON.
+//! Parsing of the form of an entity's JSON, whatever its type.
 ghost use Rattle.std.specs.Prelude.{◌≡◌, option_map};
 ghost use Rattle.serde_json.specs.View.{view, items_view};
 ghost use Rattle.json_words.specs.ReadsAs.{ReadsAs};
@@ -21,6 +21,7 @@ pub struct StatedEntity {
     pub parents: Items<EntityUid>,
 }
 
+/// Returns the uid that a value states, directly or under `__entity`.
 fn read_uid(alloc: Global, value: &Value) -> Result<EntityUid, EntityFault>
     ensures { ReadsAs EntityFault.NoMemory (λ u. u) result (stated_uid (view value.now)) }
 {
@@ -40,6 +41,7 @@ fn parent_uids(alloc: Global, values: &[Value]) -> Result<Items<EntityUid>, Enti
     }
 }
 
+/// Returns the parents of an entity, given the value of its key `parents`; none if it is absent.
 fn read_parents(alloc: Global, parents: Option<&Value>) -> Result<Items<EntityUid>, EntityFault>
     ensures { ReadsAs EntityFault.NoMemory (λ us. us) result
         (stated_parents (option_map (λ v. view v.now) parents.entry)) }
@@ -73,6 +75,7 @@ pub(crate) fn is_absent_or_empty(found: Option<&Value>) -> bool
     }
 }
 
+/// Returns whether the attributes and the tags of an entity, if present, are objects.
 fn has_objects(value: &Value) -> bool
     ensures { result ≡ has_objects (view value.now) }
 {

@@ -11,7 +11,7 @@ pub enum ValueFault {
     /// An allocation failed.
     #[error("entity 1: out of memory")]
     NoMemory,
-    /// It is not a value of that type.
+    /// The JSON is not a value of the type.
     #[error("entity 35: value of the wrong type")]
     WrongType,
     /// A field of a record is not declared.

@@ -1,30 +1,31 @@
-//! Theorems about the definitions.
-ghost use Rattle.entities.specs.ValueLaws.{CanonicalIsRead, JsonIsReadAgain, CanonicalNests, WrittenIsReadAgain};
-ghost use Rattle.entities.specs.ValueLaws.{RecordIsReadAgain, RecordNests, NoFloatIsWritten};
+//! Theorems about the JSON of values. The functions are no-ops.
+ghost use Rattle.entities.specs.ValueLaws.{CanonicalValueIsRead, JsonIsReadAgain, CanonicalValueNests};
+ghost use Rattle.entities.specs.ValueLaws.{WrittenIsReadAgain, RecordIsReadAgain, RecordNests, NoFloatIsWritten};
 
 /// Proves that the canonical JSON of a value that was parsed is parsed as that value. No-op.
 pub fn canonical_is_read()
-    ensures { CanonicalIsRead }
+    ensures { CanonicalValueIsRead }
 {}
 
-/// Proves that, whatever bytes were parsed as a value, bytes that are its canonical JSON are parsed as it. No-op.
+/// Proves that, whatever bytes were parsed as a value, bytes that are its canonical JSON are parsed as that value.
+/// No-op.
 pub fn json_is_read_again()
     ensures { JsonIsReadAgain }
 {}
 
-/// Proves that the canonical JSON of a value that was parsed nests no deeper than its type allows. No-op.
+/// Proves that the canonical JSON of a value that was parsed nests at most one level deeper than its type. No-op.
 pub fn canonical_nests_within_its_type()
-    ensures { CanonicalNests }
+    ensures { CanonicalValueNests }
 {}
 
-/// Proves that, whatever bytes were parsed as a value of a type that a schema may have, the text written for that
-/// value is parsed as it. No-op.
+/// Proves that, whatever bytes were parsed as a value of a type that a schema may have, the text written for that value
+/// is parsed as that value. No-op.
 pub fn written_is_read_again()
     ensures { WrittenIsReadAgain }
 {}
 
-/// Proves that the canonical JSON of a record that was parsed is parsed as that record, and nests no deeper than its
-/// type allows. No-op.
+/// Proves that the canonical JSON of a record that was parsed is parsed as that record, and nests at most one level
+/// deeper than its type. No-op.
 pub fn records_are_read_again()
     ensures again { RecordIsReadAgain }
     ensures nests { RecordNests }

@@ -1,4 +1,4 @@
-//! Parsing values by a type.
+//! Parsing of values by a type.
 ghost use Rattle.std.specs.Prelude.{◌≡◌, option_map};
 ghost use Rattle.serde_json.specs.View.{view, items_view, members_view};
 ghost use Rattle.json_words.specs.ReadsAs.{ReadsAs, AlwaysReadsAs, or_fault};
@@ -11,9 +11,9 @@ ghost use Rattle.entities.specs.Typing.{plain_call, call_in, argument_in, boolea
 ghost use Rattle.entities.specs.Typing.{entity_in, decimal_in, ipaddr_in, leaf, all_there};
 ghost use Rattle.entities.specs.Typing.{typed_value as typed_of};
 ghost use Rattle.entities.specs.Typing.{record_in};
-ghost use Rattle.entities.specs.inner.Inside.{inside_fault};
+ghost use Rattle.entities.specs.inner.InnerErrors.{inside_fault};
 ghost use Rattle.entities.specs.inner.InPlace.{IsInPlace};
-ghost use Rattle.entities.specs.inner.Ahead.{StateAlikeFrom};
+ghost use Rattle.entities.specs.inner.FieldSuffixes.{StateAlikeFrom};
 ghost use Rattle.entities.specs.Typing.{typed_items as items_of_type, typed_members as members_of_type};
 
 use crate::value_fault::ValueFault;
@@ -25,13 +25,15 @@ use serde_json::{Map, Value as Json};
 use std::alloc::Global;
 use values::{Decimal, IpNet, Record, TypeName, Value};
 
+/// A field of a record type: its name, its type, and whether it is required.
 type Field = (Text, CedarType, bool);
 
+/// The fields of a record type.
 type Fields = Items<Field>;
 
 // ---- types
 
-/// Returns the type of a set's members.
+/// Returns the type of a set's members; `None` if the type is not a set type.
 fn element(ty: &CedarType) -> Option<&CedarType>
     ensures { option_map (λ t. cedar_view t.now) result ≡ element_of (cedar_view ty.now) }
 {
@@ -41,7 +43,7 @@ fn element(ty: &CedarType) -> Option<&CedarType>
     }
 }
 
-/// Returns the fields of a record.
+/// Returns the fields of a record type; `None` if the type is not a record type.
 fn fields(ty: &CedarType) -> Option<&Fields>
     ensures { option_map (λ fs. cedar_fields_view fs.now) result ≡ fields_in (cedar_view ty.now) }
 {
@@ -64,7 +66,7 @@ fn from_name<'t>(fields: &'t [Field], name: &str) -> &'t [Field]
     &[]
 }
 
-/// Returns the type of a field.
+/// Returns the type of the field of this name, if there is one.
 fn declared<'t>(fields: &'t [Field], name: &str) -> Option<&'t CedarType>
     ensures { option_map (λ t. cedar_view t.now) result ≡ declared_at name.now (cedar_fields_view fields.now) }
 {
@@ -117,7 +119,7 @@ fn read_plain_call<'v>(value: &'v Json, name: &str) -> Result<&'v str, ValueFaul
     Ok(argument)
 }
 
-/// Returns the argument of such a call, also under `__extn`.
+/// Returns the argument of a call of this name, which is the value itself or under its only key `__extn`.
 #[tactic(auto, unfolding(crate::specs::Typing::call_in))]
 fn read_call<'v>(value: &'v Json, name: &str) -> Result<&'v str, ValueFault>
     ensures { AlwaysReadsAs (λ s. s.now) result (call_in name.now (view value.now)) }
@@ -133,7 +135,7 @@ fn read_call<'v>(value: &'v Json, name: &str) -> Result<&'v str, ValueFault>
     }
 }
 
-/// Returns the argument by itself, or that of a call.
+/// Returns the argument of an extension function: the string itself, or the argument of a call of this name.
 #[tactic(auto, unfolding(crate::specs::Typing::argument_in))]
 fn read_argument<'v>(value: &'v Json, name: &str) -> Result<&'v str, ValueFault>
     ensures { AlwaysReadsAs (λ s. s.now) result (argument_in name.now (view value.now)) }
@@ -144,18 +146,21 @@ fn read_argument<'v>(value: &'v Json, name: &str) -> Result<&'v str, ValueFault>
     }
 }
 
+/// Parses a decimal.
 fn parse_decimal(text: &str) -> Option<Decimal>
     ensures { result ≡ decimal_of text.now }
 {
     Decimal::parse(text)
 }
 
+/// Parses an IP address or range.
 fn parse_network(text: &str) -> Option<IpNet>
     ensures { result ≡ network_of text.now }
 {
     IpNet::parse(text)
 }
 
+/// Parses a JSON value as a boolean.
 #[tactic(auto, unfolding(crate::specs::Typing::boolean_in))]
 fn read_boolean(value: &Json) -> Result<Value, ValueFault>
     ensures { AlwaysReadsAs (λ v. v) result (boolean_in (view value.now)) }
@@ -173,6 +178,7 @@ fn long_value(number: i64) -> Result<Value, ValueFault>
     Ok(Value::long(number))
 }
 
+/// Parses a JSON value as a Long.
 #[tactic(auto, unfolding(crate::specs::Typing::long_in))]
 fn read_long(value: &Json) -> Result<Value, ValueFault>
     ensures { AlwaysReadsAs (λ v. v) result (long_in (view value.now)) }
@@ -186,6 +192,7 @@ fn read_long(value: &Json) -> Result<Value, ValueFault>
     }
 }
 
+/// Parses a JSON value as a string.
 #[tactic(auto, unfolding(crate::specs::Typing::text_in))]
 fn read_text(alloc: Global, value: &Json) -> Result<Value, ValueFault>
     ensures { ReadsAs ValueFault.NoMemory (λ v. v) result (text_in (view value.now)) }
@@ -210,6 +217,7 @@ fn read_entity(alloc: Global, value: &Json, name: &TypeName) -> Result<Value, Va
     Ok(Value::entity(uid))
 }
 
+/// Parses a JSON value as a decimal.
 #[tactic(auto, unfolding(crate::specs::Typing::decimal_in))]
 fn read_decimal(value: &Json) -> Result<Value, ValueFault>
     ensures { AlwaysReadsAs (λ v. v) result (decimal_in (view value.now)) }
@@ -221,6 +229,7 @@ fn read_decimal(value: &Json) -> Result<Value, ValueFault>
     }
 }
 
+/// Parses a JSON value as an IP address.
 #[tactic(auto, unfolding(crate::specs::Typing::ipaddr_in))]
 fn read_network(value: &Json) -> Result<Value, ValueFault>
     ensures { AlwaysReadsAs (λ v. v) result (ipaddr_in (view value.now)) }
@@ -232,8 +241,8 @@ fn read_network(value: &Json) -> Result<Value, ValueFault>
     }
 }
 
-/// Returns a value that is neither a set nor a record. A boolean, an integer, a decimal or an IP address does not
-/// allocate.
+/// Parses a JSON value as a value that is neither a set nor a record. Does not allocate for a boolean, an integer, a
+/// decimal or an IP address.
 #[tactic(auto, using(crate::proofs::Nothing::always_reads))]
 fn read_leaf(alloc: Global, value: &Json, ty: &CedarType) -> Result<Value, ValueFault>
     ensures reads { ReadsAs ValueFault.NoMemory (λ v. v) result (leaf (cedar_view ty.now) (view value.now)) }
@@ -266,9 +275,9 @@ fn inside(fault: ValueFault) -> ValueFault
 
 /// Parses a JSON value as a value of this type.
 ///
-/// `WrongType` if it is not one: another kind of JSON, a number that is not a Long, a string that is not a decimal or
-/// an IP address, an entity of another type, a field that the type does not have, or a missing required field. A
-/// boolean, an integer, a decimal or an IP address does not allocate.
+/// Returns `WrongType` if it is not such a value: for another kind of JSON, a number that is not a Long, a string that
+/// is not a decimal or an IP address, an entity of another type, a field that the type does not have, or a missing
+/// required field. Does not allocate for a boolean, an integer, a decimal or an IP address.
 #[cycle(typed_value)]
 #[tactic(auto, unfolding(crate::specs::Typing::typed_value))]
 fn typed_value(alloc: Global, value: &Json, ty: &CedarType) -> Result<Value, ValueFault>
@@ -304,6 +313,7 @@ fn typed_value(alloc: Global, value: &Json, ty: &CedarType) -> Result<Value, Val
     }
 }
 
+/// Parses each item of an array as a value of this type.
 #[cycle(typed_value)]
 fn typed_items(alloc: Global, items: &Vec<Json>, ty: &CedarType) -> Result<Vec<Value>, ValueFault>
     ensures { ReadsAs ValueFault.NoMemory (λ vs. vs.items) result
@@ -317,6 +327,7 @@ fn typed_items(alloc: Global, items: &Vec<Json>, ty: &CedarType) -> Result<Vec<V
     Ok(values)
 }
 
+/// Parses the members of an object as fields of a record type. The fields are looked up in ascending order of the keys.
 #[cycle(typed_value)]
 fn typed_members(
     alloc: Global,
@@ -348,11 +359,11 @@ fn typed_members(
 ///
 /// The first of these:
 ///
-/// - `WrongType`: the value is not an object, or the type is not a record.
-/// - Of the object's members, ascending by key: `Undeclared`, the type has no such field; `WrongType`, its value is
-///   not of the field's type.
-/// - `Missing`: a required field is missing.
-/// - `NoMemory`: an allocation failed; possible at any point.
+/// - `WrongType` (35): the value is not an object, or the type is not a record.
+/// - Of the first faulty member, ascending by key: `Undeclared` (33), the type has no such field; `WrongType` (35), the
+///   member's value is not of the field's type.
+/// - `Missing` (34): a required field is missing.
+/// - `NoMemory` (1): an allocation failed; possible at any point.
 #[tactic(auto, unfolding(crate::specs::Typing::record_in))]
 pub fn read_record(alloc: Global, value: &Json, ty: &CedarType) -> Result<Record, ValueFault>
     ensures { ReadsAs ValueFault.NoMemory (λ r. r) result (record_in (cedar_view ty.now) (view value.now)) }

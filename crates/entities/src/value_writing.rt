@@ -13,13 +13,14 @@ use plain::NoMemory;
 use std::alloc::Global;
 use values::{Decimal, IpNet, Kind, Record, Value};
 
+/// Writes a Long as a JSON number.
 fn write_integer(out: &mut Writer, integer: i64) -> Result<(), NoMemory>
     ensures { OnOk result (AppendsValue out.old out.new (value_json (long integer))) }
 {
     out.i64(integer)
 }
 
-/// Writes a call of an extension's function.
+/// Writes a call of an extension function.
 fn write_call(out: &mut Writer, function: &str, argument: &str) -> Result<(), NoMemory>
     ensures { OnOk result (AppendsValue out.old out.new (call_json function.now argument.now)) }
 {
@@ -69,6 +70,7 @@ fn write_value(alloc: Global, out: &mut Writer, value: &Value) -> Result<(), NoM
     }
 }
 
+/// Writes the members of a set as an array.
 #[cycle(write)]
 fn write_items(alloc: Global, out: &mut Writer, members: &[Value]) -> Result<(), NoMemory>
     ensures { OnOk result (AppendsValue out.old out.new (array (values_json (values_of members.now)))) }
@@ -80,6 +82,7 @@ fn write_items(alloc: Global, out: &mut Writer, members: &[Value]) -> Result<(),
     out.end_array()
 }
 
+/// Writes the fields of a record as an object.
 #[cycle(write)]
 fn write_members(alloc: Global, out: &mut Writer, fields: &Record) -> Result<(), NoMemory>
     ensures { OnOk result (AppendsValue out.old out.new (object (fields_json (fields_of fields.now)))) }
@@ -96,7 +99,7 @@ fn write_members(alloc: Global, out: &mut Writer, fields: &Record) -> Result<(),
 ///
 /// # Errors
 ///
-/// - `NoMemory`: an allocation failed. The output must then not be used.
+/// - `NoMemory` (1): an allocation failed. The output must then not be used.
 pub fn write_record(alloc: Global, out: &mut Writer, fields: &Record) -> Result<(), NoMemory>
     ensures { OnOk result (AppendsValue out.old out.new (object (fields_json (fields_of fields.now)))) }
 {

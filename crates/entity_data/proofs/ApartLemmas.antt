@@ -7,7 +7,7 @@ use Rattle.evaluator.specs.ancestor_search.Hierarchy.{Parents, Path, IsAncestor,
 use Rattle.evaluator.specs.ancestor_search.Deciding.{Contains-none, IsAncestor-joined}
 use Rattle.evaluator.specs.ancestor_search.LeastCycle.{IsClosedWalk, HasNoCycle, IsLeastCycle}
 use Rattle.entity_data.specs.declared.data.EntityData.{EntityData}
-use Rattle.entity_data.specs.Apart.{AreApart, edges_of, stated_parents}
+use Rattle.entity_data.specs.ActionHierarchy.{IsActionHierarchy, edges_of, stated_parents}
 use Rattle.entity_data.specs.Entities.{EntityMap, Actions, no_actions, kept_parents, action_or, with_actions}
 use Rattle.entity_data.specs.inner.EntityEdges.{entity_edges, parents_unless}
 
@@ -17,7 +17,7 @@ no_path : (b : EntityUid) (cs : List EntityUid) (a : EntityUid) → Path (edges_
 no_path b [] a h = Contains-none a h
 no_path b (c ∷ cs) a h = Contains-none c h.0
 
-pub none_are_apart : AreApart no_actions
+pub none_are_apart : IsActionHierarchy no_actions
 none_are_apart = record {
   among = λ u parent h. Contains-none parent h;
   acyclic = λ u on. no_path u on.0 u on.1;
@@ -50,7 +50,7 @@ of_no_action (Some us) e c none h = some_none (Some us) refl none
 abbrev pub all_edges : Actions → EntityMap → Parents
 all_edges actions entities u = kept_parents (with_actions actions entities u)
 
-module _ (actions : Actions) (apart : AreApart actions) (entities : EntityMap) where
+module _ (actions : Actions) (apart : IsActionHierarchy actions) (entities : EntityMap) where
   -- all edges
   abbrev P : Parents
   P = all_edges actions entities

@@ -30,6 +30,6 @@ data_of e = record { attrs = e.attrs; parents = e.parents }
 abbrev pub Puts : EntityMap → EntityMap → Entity → Type 0
 Puts old new e = (q : EntityUid) → new q ≡ (if is_same e.uid q then Some (data_of e) else old q)
 
--- The uids of entries are those that have data.
+-- `entries_are_listed`: the uids of entries are exactly those that have data.
 pub entries_are_listed : (es : Entries) → AreListed (kept_in es) (uids_in es)
 entries_are_listed es = keys_are_found es

@@ -1,4 +1,4 @@
-pub mod Apart
+pub mod ActionHierarchy
 pub mod Entities
 pub mod Keeping
 pub mod Listing

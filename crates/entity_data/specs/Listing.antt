@@ -49,6 +49,7 @@ module _ {X : Type 0} where
   key_is_found (e ∷ es) u h =
       there_at es e u (is_at (uid_cmp u) e.0) refl (key_is_found es u) (Contains-cases e.0 (keys_in es) u h)
 
+  -- `keys_are_found`: a uid is a key of entries if and only if it has a value in them.
   pub keys_are_found : (es : List (EntityUid × X)) (u : EntityUid) → Contains (keys_in es) u ↔ IsSome (found_in es u)
   keys_are_found es u = (key_is_found es u, key_from es u)
 
@@ -76,6 +77,7 @@ put_kept u (v ∷ vs) x h =
       ]
     ]
 
+-- `set_has`: a set has each uid that it was made of.
 pub set_has : (us : List EntityUid) (x : EntityUid) → Contains us x → Contains (uid_set us) x
 set_has [] x h = h
 set_has (u ∷ us) x h = elim (Contains-cases u us x h) [
@@ -106,6 +108,7 @@ module _ {X : Type 0} where
 
 -- ---- each entity with parents is listed
 
+-- `kept_with_parents`: an entity with a parent is stored.
 pub kept_with_parents : (o : Option EntityData) (a : EntityUid) → Contains (kept_parents o) a → IsSome o
 kept_with_parents None a h = Contains-none a h
 kept_with_parents (Some e) a h = refl
@@ -121,9 +124,11 @@ module _ (actions : Actions) (declared : List EntityUid) (are : AreActions actio
   listed_with u (inl h) = set_has (declared ++ us) u (in_first declared us u ((are u).1 h))
   listed_with u (inr h) = set_has (declared ++ us) u (in_second declared us u ((listed u).1 h))
 
+  -- `all_listed`: each stored entity or action that has parents is among `uids_with declared us`.
   pub all_listed : HaveAllParents (λ u. kept_parents (with_actions actions entities u)) (uids_with declared us)
   all_listed b a h = listed_with b (action_or_kept (actions b) (entities b) a h)
 
+  -- `all_decided`: the test `reaches` over these uids decides the ancestor relation.
   pub all_decided : Decides (λ u. kept_parents (with_actions actions entities u))
       (reaches (λ u. kept_parents (with_actions actions entities u)) (uids_with declared us))
   all_decided = decided (λ u. kept_parents (with_actions actions entities u)) (uids_with declared us) all_listed

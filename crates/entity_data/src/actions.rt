@@ -2,13 +2,13 @@
 ghost use Rattle.std.specs.Prelude.{◌≡◌, [], List, None, option_map};
 ghost use Rattle.values.specs.declared.entity_uid.EntityUid.{EntityUid};
 ghost use Rattle.evaluator.specs.ancestor_search.Hierarchy.{IsAscending};
-ghost use Rattle.entity_data.specs.Apart.{AreApart};
+ghost use Rattle.entity_data.specs.ActionHierarchy.{IsActionHierarchy};
 ghost use Rattle.entity_data.specs.Entities.{Actions, AreActions, no_actions};
 ghost use Rattle.entity_data.specs.Listing.{none_is_an_action};
 
 use values::EntityUid;
 
-/// A source of actions, each with its ancestors.
+/// A source of actions, each with its parents.
 pub trait ActionSource {
     /// The parents of each action.
     ghost declared: { Self → Actions };
@@ -22,13 +22,13 @@ pub trait ActionSource {
         ensures ascending { IsAscending result.now };
 
     /// Returns the parents of an action, or `None` if and only if it is not declared. Does not allocate.
-    fn ancestors_of(&self, uid: &EntityUid) -> Option<&[EntityUid]>
+    fn parents_of_action(&self, uid: &EntityUid) -> Option<&[EntityUid]>
         ensures { option_map (λ us. us.now) result ≡ declared self.now uid.now };
 
     /// Proves that the parents of actions are actions and that no action is its own ancestor, so that no cycle
     /// contains an action. No-op.
-    fn are_apart(&self)
-        ensures { AreApart (declared self.now) };
+    fn are_a_hierarchy(&self)
+        ensures { IsActionHierarchy (declared self.now) };
 
     /// The listed uids are those of the actions.
     ghost listed: { (s : Self) → AreActions (declared s) (uids s) };
@@ -49,9 +49,9 @@ impl ActionSource for NoActions {
         &[]
     }
 
-    fn ancestors_of(&self, _uid: &EntityUid) -> Option<&[EntityUid]> {
+    fn parents_of_action(&self, _uid: &EntityUid) -> Option<&[EntityUid]> {
         None
     }
 
-    fn are_apart(&self) {}
+    fn are_a_hierarchy(&self) {}
 }

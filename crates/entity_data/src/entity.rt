@@ -3,7 +3,8 @@
 use plain::Items;
 use values::{EntityUid, Record};
 
-/// An entity with its attributes and its parents. Parsed under a schema, its parents ascend without duplicates.
+/// An entity with its attributes and its parents. If it was parsed under a schema, its parents ascend without
+/// duplicates.
 #[derive(Drop)]
 pub struct Entity {
     pub uid: EntityUid,

@@ -4,11 +4,11 @@
 #![tactic(auto)]
 
 mod actions;
-mod alone;
 mod data;
 mod entity;
 mod source;
 mod store;
+mod stored_edges;
 mod uids;
 mod world;
 

@@ -5,8 +5,8 @@ ghost use Rattle.entity_data.specs.Entities.{with_actions, uids_with, attributes
 ghost use Rattle.entity_data.specs.Listing.{all_listed, all_decided};
 
 use crate::actions::ActionSource;
-use crate::alone::Alone;
 use crate::source::EntitySource;
+use crate::stored_edges::StoredEdges;
 use crate::uids::with_actions;
 use evaluator::{
     Ancestry, Graph, Lookup, ParentsOf, ancestors_of, is_ancestor, least_cycle, on_cycles,
@@ -23,8 +23,8 @@ use values::{EntityUid, Record};
 pub struct Entities<'a, S: EntitySource, A: ActionSource + Drop> {
     alloc: Global,
     /// The source and the actions, as the search for cycles sees them.
-    alone: Alone<'a, S, A>,
-    /// The attributes of an action: none.
+    stored_edges: StoredEdges<'a, S, A>,
+    /// The attributes of each action: an empty record.
     nothing: Record,
 }
 
@@ -33,7 +33,7 @@ impl<'a, S: EntitySource, A: ActionSource + Drop> Model for Entities<'a, S, A> {
 
     ghost Value = { S × A };
 
-    ghost view = { λ w. (w.alone.source.now, w.alone.actions) };
+    ghost view = { λ w. (w.stored_edges.source.now, w.stored_edges.actions) };
 
     ghost invariant = { λ w. w.nothing ≡ [] };
 }
@@ -45,7 +45,7 @@ impl<'a, S: EntitySource, A: ActionSource + Drop> Entities<'a, S, A> {
     {
         Entities {
             alloc,
-            alone: Alone { source, actions },
+            stored_edges: StoredEdges { source, actions },
             nothing: Record::new(alloc),
         }
     }
@@ -54,7 +54,7 @@ impl<'a, S: EntitySource, A: ActionSource + Drop> Entities<'a, S, A> {
     fn action(&self, uid: &EntityUid) -> Option<&[EntityUid]>
         ensures { option_map (λ us. us.now) result ≡ A.declared self.now.1 uid.now }
     {
-        self.alone.actions.ancestors_of(uid)
+        self.stored_edges.actions.parents_of_action(uid)
     }
 }
 
@@ -64,7 +64,7 @@ impl<S: EntitySource, A: ActionSource + Drop> ParentsOf for Entities<'_, S, A> {
     fn parents_of(&self, uid: &EntityUid) -> &[EntityUid] {
         match self.action(uid) {
             Some(above) => above,
-            None => self.alone.source.parents_at(uid),
+            None => self.stored_edges.source.parents_at(uid),
         }
     }
 }
@@ -76,7 +76,10 @@ impl<S: EntitySource, A: ActionSource + Drop> Graph for Entities<'_, S, A> {
         all_listed (A.declared w.1) (A.uids w.1) (A.listed w.1) (S.kept w.0) (S.uids w.0) (S.listed w.0) };
 
     fn stored_uids(&self, alloc: Global) -> Result<Vec<&EntityUid>, NoMemory> {
-        with_actions(self.alone.source.kept_uids(alloc)?, &self.alone.actions)
+        with_actions(
+            self.stored_edges.source.kept_uids(alloc)?,
+            &self.stored_edges.actions,
+        )
     }
 }
 
@@ -98,13 +101,13 @@ impl<S: EntitySource, A: ActionSource + Drop> Ancestry for Entities<'_, S, A> {
     }
 
     fn cyclic(&self) -> Result<Vec<&EntityUid>, NoMemory> {
-        self.alone.actions.are_apart();
-        on_cycles(self.alloc, &self.alone)
+        self.stored_edges.actions.are_a_hierarchy();
+        on_cycles(self.alloc, &self.stored_edges)
     }
 
     fn least_cycle(&self) -> Result<Option<Vec<&EntityUid>>, NoMemory> {
-        self.alone.actions.are_apart();
-        least_cycle(self.alloc, &self.alone)
+        self.stored_edges.actions.are_a_hierarchy();
+        least_cycle(self.alloc, &self.stored_edges)
     }
 }
 
@@ -114,7 +117,7 @@ impl<S: EntitySource, A: ActionSource + Drop> Lookup for Entities<'_, S, A> {
     fn attrs_of(&self, uid: &EntityUid) -> Option<&Record> {
         match self.action(uid) {
             Some(_) => Some(&self.nothing),
-            None => self.alone.source.attrs_at(uid),
+            None => self.stored_edges.source.attrs_at(uid),
         }
     }
 }

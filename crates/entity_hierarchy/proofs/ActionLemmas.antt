@@ -11,9 +11,9 @@ use Rattle.entities.specs.schema_names.Qualifying.{ResolvedAction, ResolvedSchem
 use Rattle.entities.specs.schema.Schemas.{StatedSchema, Answers, IsAction, action_parents}
 use Rattle.entities.specs.schema.Schemas.{with_actions as with_action_parents}
 use Rattle.entities.specs.schema.WellFormed.{IsWellFormed}
-use Rattle.authoriser.specs.evaluator.Operators.{world_of}
+use Rattle.authoriser.specs.evaluator.Operators.{entities_with}
 use Rattle.entities.specs.entity_data.Entities.{EntityMap, kept_parents, attributes_of, action_or, with_actions}
-use Rattle.entities.specs.entity_data.Entities.{world_in}
+use Rattle.entities.specs.entity_data.Entities.{entity_data_in}
 use Rattle.entity_hierarchy.specs.Laws.{by_member_of, stated_world, closed_world}
 use Rattle.entity_hierarchy.specs.Alike.{LeadAlike, HaveSameCycles}
 use Rattle.entity_hierarchy.proofs.PutLemmas.{cycles_alike}
@@ -160,5 +160,5 @@ module _ (s : ResolvedSchema) (v : StatedSchema) (answers : Answers s v) (entiti
   member_is : (u : EntityUid) → v.member_of u ≡ by_member_of s v u
   member_is u = member_at u (v.member_of u) (v.ancestors u) refl refl
 
-  pub members_kept : world_in (with_actions v.member_of entities) ≡ stated_world s v entities
-  members_kept = λ i. world_of (λ u. attributes_of (action_or (member_is u i) (entities u))) (λ u. kept_parents (action_or (member_is u i) (entities u)))
+  pub members_kept : entity_data_in (with_actions v.member_of entities) ≡ stated_world s v entities
+  members_kept = λ i. entities_with (λ u. attributes_of (action_or (member_is u i) (entities u))) (λ u. kept_parents (action_or (member_is u i) (entities u)))

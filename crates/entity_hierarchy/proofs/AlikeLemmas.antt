@@ -12,7 +12,7 @@ use Rattle.authoriser.specs.grammar_core.declared.operator.Binary.{Binary}
 use Rattle.authoriser.specs.evaluator.declared.fault.EvalFault.{EvalFault}
 use Rattle.authoriser.specs.evaluator.Outcomes.{EvaluationResult, IsTruthOf, holds, fails}
 use Rattle.authoriser.specs.evaluator.Operators as op
-use Rattle.authoriser.specs.evaluator.Operators.{Entities, world_of, BinaryGives, FieldGives, HasGives}
+use Rattle.authoriser.specs.evaluator.Operators.{Entities, entities_with, BinaryGives, FieldGives, HasGives}
 use Rattle.authoriser.specs.evaluator.Evaluation as rule
 use Rattle.authoriser.specs.evaluator.Evaluation.{EvaluatesTo, TestFails, EachEvaluatesTo}
 use Rattle.authoriser.specs.policy_grammar.Whole.{expression_of}
@@ -53,10 +53,10 @@ least_stays P Q alike same (c ∷ cs) h = record {
 
 module _ (stored : EntityUid → Option (List Field)) (P Q : Parents) (alike : LeadAlike P Q) where
   abbrev W : Entities
-  W = world_of stored P
+  W = entities_with stored P
 
   abbrev V : Entities
-  V = world_of stored Q
+  V = entities_with stored Q
 
   into : (a b : EntityUid) → IsIn W.parents a b → IsIn V.parents a b
   into a b (inl e) = inl e
@@ -154,8 +154,8 @@ module _ (stored : EntityUid → Option (List Field)) (P Q : Parents) (alike : L
       answer = p.answer;
     })
 
-pub give_alike : (stored : EntityUid → Option (List Field)) (P Q : Parents) → LeadAlike P Q → GiveAlike (world_of stored P) (world_of stored Q)
+pub give_alike : (stored : EntityUid → Option (List Field)) (P Q : Parents) → LeadAlike P Q → GiveAlike (entities_with stored P) (entities_with stored Q)
 give_alike stored P Q alike q x r = (gives stored P Q alike q x r, gives stored Q P (flipped P Q alike) q x r)
 
-pub answer_alike : (stored : EntityUid → Option (List Field)) (P Q : Parents) → LeadAlike P Q → HaveSameCycles P Q → AnswerAlike (world_of stored P) (world_of stored Q)
+pub answer_alike : (stored : EntityUid → Option (List Field)) (P Q : Parents) → LeadAlike P Q → HaveSameCycles P Q → AnswerAlike (entities_with stored P) (entities_with stored Q)
 answer_alike stored P Q alike same q ps a = (answered stored P Q alike q same ps a, answered stored Q P (flipped P Q alike) q (turned P Q same) ps a)

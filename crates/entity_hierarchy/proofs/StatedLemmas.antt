@@ -6,7 +6,7 @@ use Rattle.authoriser.specs.ancestor_search.Hierarchy.{Path}
 use Rattle.authoriser.specs.ancestor_search.Deciding.{Contains-none}
 use Rattle.entities.specs.schema.Schemas.{StatedSchema, IsSchemaOf, action_parents}
 use Rattle.entities.specs.schema.WellFormed.{IsWellFormed}
-use Rattle.entities.specs.entity_data.Apart.{AreApart, edges_of, stated_parents}
+use Rattle.entities.specs.entity_data.ActionHierarchy.{IsActionHierarchy, edges_of, stated_parents}
 use Rattle.entity_hierarchy.proofs.ActionLemmas.{is_declared}
 
 module _ (bytes : List ℕ) (v : StatedSchema) (stated : IsSchemaOf bytes v) where
@@ -36,8 +36,8 @@ module _ (bytes : List ℕ) (v : StatedSchema) (stated : IsSchemaOf bytes v) whe
       let declared = stated.answers.all_ancestors b (is_declared stated.named b c stands) in
       (well.actions_stated c).0 (action_at well b c (v.ancestors b) refl declared stands)
 
-  pub are_apart : IsWellFormed v → AreApart v.member_of
-  are_apart well = record {
+  pub are_a_hierarchy : IsWellFormed v → IsActionHierarchy v.member_of
+  are_a_hierarchy well = record {
     among = among well;
     acyclic = λ u on. stated.sound.no_cycle (u, (on.0, path u on.0 u on.1));
   }

@@ -1,53 +1,54 @@
--- Defines the theorems about actions: an action's parents are those that its `memberOf` states; were all its
--- ancestors its parents, the ancestor relation, the outcome of each expression and each answer would be the same,
--- since no cycle contains an action; and the same puts would make an entity cyclic.
+-- Defines the theorems about actions: an action's parents are those that its `memberOf` states; if all its ancestors
+-- were its parents, the ancestor relation, the outcome of each expression and each answer would be the same, since no
+-- cycle contains an action; and putting an entity would make it cyclic in the same cases.
 use Rattle.std.specs.Prelude.{◌≡◌, ◌↔◌, ℕ, List, Option, None, Ok, option_map}
 use Rattle.serde_json.specs.Data.{Data}
 use Rattle.values.specs.declared.entity_uid.EntityUid.{EntityUid}
 use Rattle.values.specs.Fields.{Field}
 use Rattle.authoriser.specs.ancestor_search.Hierarchy.{Parents, IsOnCycle, with_parents}
 use Rattle.authoriser.specs.ancestor_search.LeastCycle.{HasNoCycle}
-use Rattle.authoriser.specs.evaluator.Operators.{Entities, world_of}
+use Rattle.authoriser.specs.evaluator.Operators.{Entities, entities_with}
 use Rattle.entities.specs.schema_names.Qualifying.{ResolvedSchema}
 use Rattle.entities.specs.schema.Schemas.{StatedSchema, IsSchemaOf, action_parents}
 use Rattle.entities.specs.entity_data.declared.entity.Entity.{Entity}
 use Rattle.entities.specs.Entities.{entity_stated_in}
-use Rattle.entities.specs.entity_data.Entities.{EntityMap, Actions, with_actions, world_in}
+use Rattle.entities.specs.entity_data.Entities.{EntityMap, Actions, with_actions, entity_data_in}
 use Rattle.entity_hierarchy.specs.Alike.{LeadAlike, HaveSameCycles, GiveAlike, AnswerAlike}
 
--- `ReachDecides`: whatever the edges are, each expression has the same outcome if the ancestor relation is the same;
--- and each answer is the same if the cycles are too, since a denial names one edge by edge. They are if no entity is
--- cyclic.
+-- `ReachDecides`: whatever the edges are, each expression has the same outcome if the ancestor relation is the same.
+-- Each answer is the same if the cycles are the same too, since a denial may name the edges of a cycle. If no entity is
+-- cyclic, the cycles are the same.
 abbrev pub ReachDecides : Type 0
 ReachDecides = (stored : EntityUid → Option (List Field)) (parents others : Parents) → LeadAlike parents others
-    → GiveAlike (world_of stored parents) (world_of stored others)
-    × (HaveSameCycles parents others → AnswerAlike (world_of stored parents) (world_of stored others))
+    → GiveAlike (entities_with stored parents) (entities_with stored others)
+    × (HaveSameCycles parents others → AnswerAlike (entities_with stored parents) (entities_with stored others))
     × (HasNoCycle parents → HaveSameCycles parents others)
 
--- `by_member_of s v` are the actions of a schema, each with the parents that its `memberOf` states.
+-- `by_member_of s v` are the actions of the schema `v`, each with the parents that its `memberOf` states in the
+-- declarations `s`.
 abbrev pub by_member_of : ResolvedSchema → StatedSchema → Actions
 by_member_of s v u = option_map (λ above. action_parents s u) (v.ancestors u)
 
--- `stated_world` and `closed_world` are the entity data with these actions, and with all ancestors of an action as
--- its parents.
+-- `stated_world s v entities` is the entity data of `entities` and these actions. `closed_world v entities` is the same
+-- with all ancestors of an action as its parents.
 abbrev pub stated_world : ResolvedSchema → StatedSchema → EntityMap → Entities
-stated_world s v entities = world_in (with_actions (by_member_of s v) entities)
+stated_world s v entities = entity_data_in (with_actions (by_member_of s v) entities)
 
 abbrev pub closed_world : StatedSchema → EntityMap → Entities
-closed_world v entities = world_in (with_actions v.ancestors entities)
+closed_world v entities = entity_data_in (with_actions v.ancestors entities)
 
--- `MemberOfIsKept`: the stored parents of an action under a schema are those that its `memberOf` states.
+-- `MemberOfIsKept`: the parents of an action in the entity data under a schema are those that its `memberOf` states.
 abbrev pub MemberOfIsKept : Type 0
 MemberOfIsKept = (bytes : List ℕ) (v : StatedSchema) (stated : IsSchemaOf bytes v) (entities : EntityMap)
-    → world_in (with_actions v.member_of entities) ≡ stated_world stated.named v entities
+    → entity_data_in (with_actions v.member_of entities) ≡ stated_world stated.named v entities
 
--- `MemberOfLeadsAlike`: the ancestor relation is the same.
+-- `MemberOfLeadsAlike`: `stated_world` and `closed_world` have the same ancestor relation.
 abbrev pub MemberOfLeadsAlike : Type 0
 MemberOfLeadsAlike = (bytes : List ℕ) (v : StatedSchema) (stated : IsSchemaOf bytes v) (entities : EntityMap)
     → LeadAlike (stated_world stated.named v entities).parents (closed_world v entities).parents
 
--- `MemberOfGivesAlike` and `MemberOfAnswersAlike`: each expression has the same outcome, and each request the same
--- answer.
+-- `MemberOfGivesAlike` and `MemberOfAnswersAlike`: over both, each expression has the same outcome, and each request
+-- the same answer.
 abbrev pub MemberOfGivesAlike : Type 0
 MemberOfGivesAlike = (bytes : List ℕ) (v : StatedSchema) (stated : IsSchemaOf bytes v) (entities : EntityMap)
     → GiveAlike (stated_world stated.named v entities) (closed_world v entities)
@@ -56,7 +57,7 @@ abbrev pub MemberOfAnswersAlike : Type 0
 MemberOfAnswersAlike = (bytes : List ℕ) (v : StatedSchema) (stated : IsSchemaOf bytes v) (entities : EntityMap)
     → AnswerAlike (stated_world stated.named v entities) (closed_world v entities)
 
--- `MemberOfPutsAlike`: with these parents an entity is cyclic in both or in neither.
+-- `MemberOfPutsAlike`: if the parents of an entity are replaced, the entity is cyclic over both or over neither.
 abbrev pub MemberOfPutsAlike : Type 0
 MemberOfPutsAlike = (bytes : List ℕ) (v : StatedSchema) (stated : IsSchemaOf bytes v) (entities : EntityMap)
     (u : EntityUid) (parents : List EntityUid)

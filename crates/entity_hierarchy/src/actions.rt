@@ -46,11 +46,11 @@ impl ActionSource for SchemaActions<'_> {
         self.schema.actions()
     }
 
-    fn ancestors_of(&self, uid: &EntityUid) -> Option<&[EntityUid]> {
+    fn parents_of_action(&self, uid: &EntityUid) -> Option<&[EntityUid]> {
         self.schema.action_parents(uid)
     }
 
-    fn are_apart(&self) {
+    fn are_a_hierarchy(&self) {
         self.schema.is_stated();
         stated_schemas_are_well_formed();
     }

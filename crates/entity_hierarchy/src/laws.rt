@@ -1,13 +1,13 @@
-//! Theorems about the definitions. The functions are no-ops.
+//! Theorems about the ancestor relation under a schema. The functions are no-ops.
 ghost use Rattle.entity_hierarchy.specs.Laws.{ReachDecides, MemberOfIsKept, MemberOfLeadsAlike, MemberOfGivesAlike};
 ghost use Rattle.entity_hierarchy.specs.Laws.{MemberOfAnswersAlike, MemberOfPutsAlike, NoEntityIsAnAction};
 
-use entities::{action_types_are_told, stated_schemas_are_well_formed};
+use entities::{action_type_test_is_exact, stated_schemas_are_well_formed};
 
 /// Proves that outcomes depend only on the attributes of the entities and on the ancestor relation. No-op.
 ///
-/// Whichever edges give this relation, each expression has the same outcome; and each request has the same answer if
-/// no entity is cyclic. If one is, the answer names a cycle, so the edges of the cycles must be the same too.
+/// Whichever edges give this relation, each expression has the same outcome, and each request has the same answer if no
+/// entity is cyclic. If an entity is cyclic, the answer names a cycle, so the edges of the cycles must be the same too.
 pub fn reach_decides()
     ensures { ReachDecides }
 {}
@@ -17,7 +17,7 @@ pub fn reach_decides()
 ///
 /// The ancestor relation and the cyclic entities would be the same, each expression would have the same outcome, and
 /// each request the same answer. No cycle contains an action, whatever entities are stored. An entity that is put,
-/// under whatever uid and with whatever parents, is then cyclic with the one if and only if it is with the other.
+/// under any uid and with any parents, is cyclic with the one choice of edges if and only if it is with the other.
 pub fn actions_may_be_closed()
     ensures kept { MemberOfIsKept }
     ensures alike { MemberOfLeadsAlike }
@@ -34,5 +34,5 @@ pub fn entities_are_no_actions()
     ensures { NoEntityIsAnAction }
 {
     stated_schemas_are_well_formed();
-    action_types_are_told();
+    action_type_test_is_exact();
 }

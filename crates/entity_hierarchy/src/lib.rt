@@ -19,4 +19,4 @@ pub use entities::{
     requests_have_one_outcome, stated_schemas_are_well_formed,
 };
 pub use laws::{actions_may_be_closed, entities_are_no_actions, reach_decides};
-pub use world::{Entities, world_under};
+pub use world::{Entities, entity_data_under};

@@ -11,7 +11,7 @@ use std::alloc::Global;
 pub type Entities<'a, S> = entities::Entities<'a, S, SchemaActions<'a>>;
 
 /// Creates the entity data of a source and the actions of this schema. Does not allocate.
-pub fn world_under<'a, S: EntitySource>(
+pub fn entity_data_under<'a, S: EntitySource>(
     alloc: Global,
     source: &'a S,
     schema: &'a Schema,

@@ -1,4 +1,4 @@
--- Defines JSON that is written token by token, without building a value first.
+-- Defines how JSON is written token by token, without building a value first.
 -- Source: RFC 8259, section 2: a text of JSON is a sequence of tokens.
 use Rattle.std.specs.Prelude.{◌≡◌, ◌++◌, ℕ, List, [], ◌∷◌, Some}
 use Rattle.std.specs.List.{AllByRecursion}
@@ -13,31 +13,35 @@ use Rattle.serde_json.specs.Written.{outline}
 abbrev pub tokens_of : Data → List Token
 tokens_of d = json_tokens (outline d)
 
--- `tokens_of_all ds` are those of several values, one after another.
+-- `tokens_of_all ds` are the tokens of the values `ds`, one after another.
 abbrev pub tokens_of_all : List Data → List Token
 tokens_of_all [] = []
 tokens_of_all (d ∷ ds) = tokens_of d ++ tokens_of_all ds
 
--- `Adds old new ts` holds if the tokens `ts` were appended, and the earlier text stays.
+-- `Adds old new ts` holds if the output `new` is `old` with the tokens `ts` appended; the text before them is
+-- unchanged.
 pub record Adds (old new : Written) (ts : List Token) : Type 0 where
   pub before : new.before ≡ old.before
   pub tokens : new.tokens ≡ old.tokens ++ ts
 
--- `IsReadAgain d` holds if what is written for `d` parses as `d`.
+-- `IsReadAgain d` holds if the written form of `d` is parsed as `d`.
 abbrev pub IsReadAgain : Data → Type 0
 IsReadAgain d = of_json (outline d) ≡ Some d
 
--- `AppendsValue old new d` holds if the value `d` was appended.
+-- `AppendsValue old new d` holds if the output `new` is `old` with the value `d` appended, and `d` is parsed again as
+-- `d`.
 pub record AppendsValue (old new : Written) (d : Data) : Type 0 where
   pub written : Adds old new (tokens_of d)
   pub again : IsReadAgain d
 
--- `AppendsMember old new k d` holds if a member of an object was appended: its key and its value.
+-- `AppendsMember old new k d` holds if the output `new` is `old` with the member of an object appended that has the key
+-- `k` and the value `d`, and `d` is parsed again as `d`.
 pub record AppendsMember (old new : Written) (k : List ℕ) (d : Data) : Type 0 where
   pub written : Adds old new (key k ∷ tokens_of d)
   pub again : IsReadAgain d
 
--- `AppendsAll old new ds` holds if the values `ds` were appended, one after another.
+-- `AppendsAll old new ds` holds if the output `new` is `old` with the values `ds` appended, one after another, and each
+-- is parsed again as itself.
 pub record AppendsAll (old new : Written) (ds : List Data) : Type 0 where
   pub written : Adds old new (tokens_of_all ds)
   pub again : AllByRecursion IsReadAgain ds

@@ -4,8 +4,8 @@ ghost use Rattle.entity_uids.specs.Laws.{OneUid, OneName, UidsAreFound, WrittenI
 use policy_grammar::texts_have_one_reading;
 use values::paths_are_told;
 
-/// Proves that a JSON value names at most one entity, that `uid_in` finds it, and that a written name parses as the
-/// same entity. No-op.
+/// Proves that a JSON value names at most one entity, that `uid_in` finds it, and that the JSON written for an entity
+/// names it. No-op.
 pub fn names_read_back()
     ensures one { OneUid }
     ensures name { OneName }

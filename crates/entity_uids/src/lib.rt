@@ -1,7 +1,7 @@
-//! The names of entities as JSON: parsed in both forms that Cedar has for them, and written in each.
+//! Uids as JSON: parsed in both forms that Cedar has for them, and written in each.
 //!
-//! Entities, requests, messages and the service's bodies name entities in this one way, so it is defined here, below
-//! them all, without an error of theirs: a value that is not a name is `None`.
+//! Entities, requests, messages and the service's bodies name entities in this one way, so it is defined in a crate
+//! below all of them. It has no error of its own except `NoMemory`: a value that names no entity is `None`.
 #![tactic(auto)]
 
 mod laws;

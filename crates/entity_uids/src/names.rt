@@ -1,4 +1,4 @@
-//! Uids in requests: as JSON, or as one string.
+//! Entities in requests: named by a uid as JSON, or by one string.
 ghost use Rattle.std.specs.Prelude.{◌≢◌, IfOk, OnOk};
 ghost use Rattle.serde_json.specs.View.{view};
 ghost use Rattle.policy_grammar.specs.declared.fault.ReadFault.TheVariants as ReadFault;
@@ -12,7 +12,7 @@ use serde_json::Value;
 use std::alloc::Global;
 use values::EntityUid;
 
-/// Returns `NoMemory` for a failed allocation, and success for any other error.
+/// Returns the error `NoMemory` for a failed allocation, and `Ok` for any other error.
 fn refused(fault: ReadFault) -> Result<(), NoMemory>
     ensures { OnOk result (fault ≢ ReadFault.NoMemory) }
 {
@@ -22,7 +22,7 @@ fn refused(fault: ReadFault) -> Result<(), NoMemory>
     }
 }
 
-/// Returns the uid of a string.
+/// Returns the entity that a string in policy syntax names; `None` if it names none.
 fn read_text(alloc: Global, text: &str) -> Result<Option<EntityUid>, NoMemory>
     ensures { IfOk result (IsRead (IsUidText text.now)) }
 {
@@ -36,8 +36,9 @@ fn read_text(alloc: Global, text: &str) -> Result<Option<EntityUid>, NoMemory>
     }
 }
 
-/// Returns the entity of a value where a string is allowed, as for a request's principal: `User::"alice"` in policy
-/// syntax, or a uid as [`read_uid`] parses it. `None` if it is neither. The only error is `NoMemory`.
+/// Returns the entity that a value names where a string is allowed, as for a request's principal: a string in policy
+/// syntax (`User::"alice"`), or a uid as [`read_uid`] parses it. `None` if the value is neither. The only error is
+/// `NoMemory`.
 pub fn read_name(alloc: Global, value: &Value) -> Result<Option<EntityUid>, NoMemory>
     ensures { IfOk result (IsRead (NamesEntity (view value.now))) }
 {

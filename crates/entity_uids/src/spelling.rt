@@ -1,28 +1,13 @@
-//! The one spelling that nearly all names have: an object with two keys, known in their order.
-ghost use Rattle.std.specs.Prelude.{◌≡◌, ◌∷◌, [], Some, IfSome, string_bytes};
+//! The usual form of a uid: an object with exactly two keys, whose order is known.
+ghost use Rattle.std.specs.Prelude.{◌≡◌, Some, IfSome, string_bytes};
 ghost use Rattle.serde_json.specs.Data.{string, member, no_members};
 ghost use Rattle.serde_json.specs.Find.{as_object};
 ghost use Rattle.serde_json.specs.View.{view};
 
-use serde_json::{Map, Value};
+use serde_json::Value;
 
-/// The key and the value of a member.
-type Member<'v> = (&'v String, &'v Value);
-
-/// Returns the members of an object that has two, ascending by key.
-fn two_members(object: &Map<String, Value>) -> Option<(Member<'_>, Member<'_>)>
-    ensures { IfSome result (λ p. object.now.entries ≡ (p.0.0.now, p.0.1.now) ∷ (p.1.0.now, p.1.1.now) ∷ []) }
-{
-    if object.len() != 2 {
-        return None;
-    }
-    let first = object.first_key_value()?;
-    let last = object.last_key_value()?;
-    Some((first, last))
-}
-
-/// Returns the string of a member with this key.
-fn text_under<'v>(member: Member<'v>, key: &str) -> Option<&'v str>
+/// Returns the string of a member, if the member has this key and its value is a string.
+fn text_under<'v>(member: (&'v String, &'v Value), key: &str) -> Option<&'v str>
     ensures { IfSome result
         (λ s. (string_bytes member.entry.0.now ≡ key.now) × (view member.entry.1.now ≡ string s.now)) }
 {
@@ -32,7 +17,7 @@ fn text_under<'v>(member: Member<'v>, key: &str) -> Option<&'v str>
     member.1.as_str()
 }
 
-/// Returns the strings of an object that has these two keys alone, which ascend; `None` for another value. It visits
+/// Returns the strings of an object that has exactly these two keys, which ascend; `None` for another value. It visits
 /// each key once.
 pub(crate) fn two_texts<'v>(
     value: &'v Value,
@@ -43,8 +28,10 @@ pub(crate) fn two_texts<'v>(
         ≡ Some (member lesser.now (string p.0.now) (member greater.now (string p.1.now) no_members))) }
 {
     let object = value.as_object()?;
-    let (first, last) = two_members(object)?;
-    let first = text_under(first, lesser)?;
-    let last = text_under(last, greater)?;
+    if object.len() != 2 {
+        return None;
+    }
+    let first = text_under(object.first_key_value()?, lesser)?;
+    let last = text_under(object.last_key_value()?, greater)?;
     Some((first, last))
 }

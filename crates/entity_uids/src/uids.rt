@@ -12,7 +12,7 @@ use serde_json::Value;
 use std::alloc::Global;
 use values::{EntityUid, SharedText, TypeName};
 
-/// Returns the entity of a type's name and an id.
+/// Returns the entity with this type and id; `None` if the type is not a Path.
 fn uid_of(alloc: Global, type_name: &str, id: &str) -> Result<Option<EntityUid>, NoMemory>
     ensures { IfOk result (λ o. MatchOption o (IsPath type_name.now → ⊥)
         (λ u. IsPath type_name.now × (u.type_name ≡ type_name.now) × (u.id ≡ id.now))) }
@@ -24,7 +24,7 @@ fn uid_of(alloc: Global, type_name: &str, id: &str) -> Result<Option<EntityUid>,
     Ok(Some(EntityUid { type_name, id }))
 }
 
-/// Returns the entity of an object with a type and an id.
+/// Returns the entity that an object with exactly the keys `type` and `id` names; `None` for another value.
 fn read_plain_uid(alloc: Global, value: &Value) -> Result<Option<EntityUid>, NoMemory>
     ensures { IfOk result (IsRead (IsPlainUid (view value.now))) }
 {
@@ -44,7 +44,7 @@ fn read_plain_uid(alloc: Global, value: &Value) -> Result<Option<EntityUid>, NoM
     Ok(Some(EntityUid { type_name, id }))
 }
 
-/// Returns the entity of a value in one of the two forms.
+/// Returns the entity that a value names, in one of the two forms; `None` if it names none.
 #[tactic(auto, using(crate::proofs::UidLemmas::plain, crate::proofs::UidLemmas::under_entity))]
 fn read_either(alloc: Global, value: &Value) -> Result<Option<EntityUid>, NoMemory>
     ensures { IfOk result (IsRead (IsUid (view value.now))) }
@@ -63,8 +63,8 @@ fn read_either(alloc: Global, value: &Value) -> Result<Option<EntityUid>, NoMemo
     }
 }
 
-/// Returns the entity of a value, as `{"type": .., "id": ..}` or as that under `__entity`; `None` if it has another
-/// shape, another key, or a type that is not a Path. The only error is `NoMemory`.
+/// Returns the entity that a value names, as `{"type": .., "id": ..}` or as this object under the key `__entity`.
+/// `None` if the value has another shape or key, or the type is not a Path. The only error is `NoMemory`.
 #[tactic(auto, using(crate::proofs::FoundLemmas::same))]
 pub fn read_uid(alloc: Global, value: &Value) -> Result<Option<EntityUid>, NoMemory>
     ensures names { IfOk result (IsRead (IsUid (view value.now))) }
@@ -74,7 +74,7 @@ pub fn read_uid(alloc: Global, value: &Value) -> Result<Option<EntityUid>, NoMem
     read_either(alloc, value)
 }
 
-/// Returns this uid. If the last of these uids has the same type, the result shares the string of its name.
+/// Returns this uid. If the last of `uids` has the same type, the result shares that uid's string of the type.
 fn like_last(uids: &[EntityUid], uid: EntityUid) -> Result<EntityUid, NoMemory>
     ensures { IfOk result (λ u. u ≡ uid) }
 {
@@ -89,7 +89,7 @@ fn like_last(uids: &[EntityUid], uid: EntityUid) -> Result<EntityUid, NoMemory>
     Ok(EntityUid { type_name, id })
 }
 
-/// Returns the entity of a value, like the last of these uids.
+/// Returns the entity that a value names, sharing the type with the last of `uids` as [`like_last`] does.
 fn read_next(
     alloc: Global,
     uids: &[EntityUid],
@@ -103,8 +103,8 @@ fn read_next(
     }
 }
 
-/// Returns the entities of values, each as [`read_uid`] parses it, in order and with repeats; `None` if one of them
-/// is not a name. Neighbours of one type share the string of its name. The only error is `NoMemory`.
+/// Returns the entities that the values name, each as [`read_uid`] parses it, in order and with repeats. `None` if one
+/// of the values names no entity. Neighbours of one type share the type's string. The only error is `NoMemory`.
 pub fn read_uids(alloc: Global, values: &[Value]) -> Result<Option<Items<EntityUid>>, NoMemory>
     ensures { IfOk result (λ o. o ≡ uids_in (map view values.now)) }
 {

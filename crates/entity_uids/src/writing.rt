@@ -1,4 +1,4 @@
-//! Writes uids as JSON, token by token.
+//! Writing uids as JSON, token by token.
 ghost use Rattle.std.specs.Prelude.{OnOk};
 ghost use Rattle.entity_uids.specs.Tokens.{Adds, tokens_of};
 ghost use Rattle.entity_uids.specs.Uids.{uid_json, entity_json};
@@ -24,8 +24,11 @@ pub fn write_uid(out: &mut Writer, uid: &EntityUid) -> Result<(), NoMemory>
     Ok(())
 }
 
-/// Appends the name of an entity as a value, `{"__entity":{"id":"alice","type":"User"}}`. The only error is
-/// `NoMemory`; what was written by then must not be used.
+/// Appends a uid as an attribute's value, `{"__entity":{"id":"alice","type":"User"}}`.
+///
+/// # Errors
+///
+/// - `NoMemory`: an allocation failed. The output must then not be used.
 pub fn write_entity(out: &mut Writer, uid: &EntityUid) -> Result<(), NoMemory>
     ensures { OnOk result (Adds out.old out.new (tokens_of (entity_json uid.now))) }
 {

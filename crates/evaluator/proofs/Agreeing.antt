@@ -25,7 +25,7 @@ use Rattle.evaluator.specs.Evaluation as rule
 use Rattle.evaluator.specs.Evaluation.{literal_value, variable_value, HasOperands, put_each, EvaluatesTo, TestFails, EachEvaluatesTo, IsSoundEvaluation, IsCompleteEvaluation}
 use Rattle.evaluator.specs.Laws.{HasOneOutcome}
 use Rattle.evaluator.specs.inner.Meanings.{GivesOnly, MeaningsAreGiven}
-use Rattle.evaluator.specs.inner.Computing.{DecidedWorld, decided_world, and_then, demanded, truth, as_test, apply_unary, apply_binary, field_of, has_field, apply_unary_call, apply_binary_call, each, each_field, meaning, meaning_step, named_meaning, Answers}
+use Rattle.evaluator.specs.inner.Computing.{DecidedEntities, decided_entities, and_then, demanded, truth, as_test, apply_unary, apply_binary, field_of, has_field, apply_unary_call, apply_binary_call, each, each_field, meaning, meaning_step, named_meaning, Answers}
 use Rattle.evaluator.proofs.Applied.{LawsBelow, unary_exists, unary_is, binary_exists, binary_is, field_exists, field_is, has_exists, has_is}
 use Rattle.evaluator.proofs.AppliedCalls.{unary_call_exists, unary_call_is, binary_call_exists, binary_call_is}
 
@@ -59,8 +59,8 @@ one_field x xs done (Ok v) (Err e) = refl
 one_field x xs done (Err e) n = refl
 
 module _ (L : LawsBelow) (W : Entities) (above : EntityUid → EntityUid → Bool) (D : Decides W.parents above) (q : Request) where
-  abbrev E : DecidedWorld
-  E = decided_world W.stored above
+  abbrev E : DecidedEntities
+  E = decided_entities W.stored above
 
   abbrev gives : Expr → EvaluationResult
   gives = meaning q E

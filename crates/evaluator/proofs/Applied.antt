@@ -32,7 +32,7 @@ use Rattle.ancestor_search.specs.Hierarchy.{IsIn}
 use Rattle.evaluator.specs.Operators as rule
 use Rattle.evaluator.specs.Operators.{Entities, UnaryGives, BinaryGives, FieldGives, HasGives, NumbersGive, TakesNumbers}
 use Rattle.evaluator.specs.Operators.{TakesSets}
-use Rattle.evaluator.specs.inner.Computing.{DecidedWorld, decided_world, and_then, demanded, two_demanded, truth}
+use Rattle.evaluator.specs.inner.Computing.{DecidedEntities, decided_entities, and_then, demanded, two_demanded, truth}
 use Rattle.evaluator.specs.inner.Computing.{bounded, apply_unary, is_in, in_members, in_value, numbers, sets}
 use Rattle.evaluator.specs.inner.Computing.{apply_binary, found_or, attribute, field_of, has_attribute}
 use Rattle.evaluator.specs.inner.Computing.{has_field}
@@ -137,8 +137,8 @@ attribute_is stored name _ (of_stored.no_attribute fs s e) = ap (λ o. attribute
 attribute_is stored name _ (of_stored.not_stored s) = ap (λ o. attribute o name) s
 
 module _ (W : Entities) (above : EntityUid → EntityUid → Bool) (D : Decides W.parents above) where
-  abbrev pub E : DecidedWorld
-  E = decided_world W.stored above
+  abbrev pub E : DecidedEntities
+  E = decided_entities W.stored above
 
   members_are : (a : EntityUid) (us : List EntityUid) → in_members E a (map entity us) ≡ Ok (list_any (is_in E a) us)
   members_are a [] = refl

@@ -5,18 +5,18 @@ use Rattle.std.proofs.lemmas.List.{drop_more}
 use Rattle.values.specs.declared.entity_uid.EntityUid.{EntityUid}
 use Rattle.values.specs.Values.{PlainValue}
 use Rattle.std.proofs.lemmas.Bool.Decides.{same_from_decides}
-use Rattle.ancestor_search.specs.Hierarchy.{IsAllAbove, IsIn}
+use Rattle.ancestor_search.specs.Hierarchy.{AreAllAncestorsOf, IsIn}
 use Rattle.ancestor_search.specs.Decided.{Decides}
 use Rattle.evaluator.specs.declared.fault.EvalFault.{EvalFault}
 use Rattle.evaluator.specs.Outcomes.{entity_uid_in}
 use Rattle.evaluator.specs.Operators.{Entities}
-use Rattle.evaluator.specs.inner.Computing.{DecidedWorld, decided_world, demanded, and_then, is_in, in_members}
+use Rattle.evaluator.specs.inner.Computing.{DecidedEntities, decided_entities, demanded, and_then, is_in, in_members}
 use Rattle.evaluator.proofs.Telling.{is_in_iff}
 
 pub within_is : (W : Entities) (above : EntityUid → EntityUid → Bool) → Decides W.parents above →
-    (a b : EntityUid) (ancestors : List EntityUid) → IsAllAbove W.parents a ancestors →
-    (found : Bool) → (IsTrue found ↔ ((a ≡ b) ⊎ Contains ancestors b)) → found ≡ is_in (decided_world W.stored above) a b
-within_is W above d a b ancestors all found tells = same_from_decides {P = IsIn W.parents a b} found (is_in (decided_world W.stored above) a b) (
+    (a b : EntityUid) (ancestors : List EntityUid) → AreAllAncestorsOf W.parents a ancestors →
+    (found : Bool) → (IsTrue found ↔ ((a ≡ b) ⊎ Contains ancestors b)) → found ≡ is_in (decided_entities W.stored above) a b
+within_is W above d a b ancestors all found tells = same_from_decides {P = IsIn W.parents a b} found (is_in (decided_entities W.stored above) a b) (
   (λ t. elim (tells.0 t) [ inl e ↦ inl e | inr m ↦ inr ((all b).0 m) ]),
   (λ i. tells.1 (elim i [ inl e ↦ inl e | inr path ↦ inr ((all b).1 path) ])),
 )
@@ -40,7 +40,7 @@ rest_judged before after here (Ok r) is = ap (λ b. Ok b) (or_joined before here
 rest_judged before after here (Err e) is = refl
 
 -- one member more is judged
-pub member_judged : (E : DecidedWorld) (a : EntityUid) (vs : List PlainValue) (i : ℕ) (v : PlainValue) (b : EntityUid) (before after : Bool) →
+pub member_judged : (E : DecidedEntities) (a : EntityUid) (vs : List PlainValue) (i : ℕ) (v : PlainValue) (b : EntityUid) (before after : Bool) →
     i < length vs → v ≡ get_or vs i v → demanded (entity_uid_in v) ≡ Ok b → after ≡ (before || is_in E a b) →
     in_members E a vs ≡ and_then (in_members E a (drop i vs)) (λ r. Ok (before || r)) →
     in_members E a vs ≡ and_then (in_members E a (drop (i + 1) vs)) (λ r. Ok (after || r))

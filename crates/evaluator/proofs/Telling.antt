@@ -21,7 +21,7 @@ use Rattle.evaluator.specs.declared.fault.EvalFault.TheVariants.{ArithBoundsErro
 use Rattle.evaluator.specs.Outcomes.{EvaluationResult, IsTruthOf, holds, fails, IsChecked, fits, overflows}
 use Rattle.ancestor_search.specs.Hierarchy.{IsIn}
 use Rattle.evaluator.specs.Operators.{Entities}
-use Rattle.evaluator.specs.inner.Computing.{decided_world, truth, is_bounded, bounded, is_in, is_v4}
+use Rattle.evaluator.specs.inner.Computing.{decided_entities, truth, is_bounded, bounded, is_in, is_v4}
 
 pub told_iff : {P : Type 0} (d : Decided P) → IsTrue (told d) ↔ P
 told_iff (inl p) = ((λ t. p), (λ p. refl))
@@ -118,7 +118,7 @@ module _ {X : Type 0} (p : X → Bool) (P : X → Type 0) (i : (x : X) → IsTru
   )
 
 -- being in, where a test decides who is above whom
-pub is_in_iff : (W : Entities) (above : EntityUid → EntityUid → Bool) → Decides W.parents above → (a b : EntityUid) → IsTrue (is_in (decided_world W.stored above) a b) ↔ IsIn W.parents a b
+pub is_in_iff : (W : Entities) (above : EntityUid → EntityUid → Bool) → Decides W.parents above → (a b : EntityUid) → IsTrue (is_in (decided_entities W.stored above) a b) ↔ IsIn W.parents a b
 is_in_iff W above d a b = either_iff (is_eq (uid_cmp a b)) (above b a) (equal-is uid_cmp-IsTotalOrder uid_cmp-IsAntisymmetric a b) (d b a)
 
 pub bounded_is : (z : ℤ) (r : EvaluationResult) → IsChecked z r → bounded z ≡ r

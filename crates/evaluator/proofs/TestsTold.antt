@@ -12,11 +12,11 @@ use Rattle.evaluator.specs.Outcomes.{EvaluationResult, boolean_in}
 use Rattle.evaluator.proofs.ByKind.{boolean_cases}
 use Rattle.evaluator.specs.Operators.{Entities}
 use Rattle.evaluator.specs.Evaluation.{EvaluatesTo, TestFails, test_errs, no_boolean, AnswersTest}
-use Rattle.evaluator.specs.inner.Computing.{DecidedWorld, Answers, and_then, as_test, demanded, truth, apply_binary, TellNumbers}
+use Rattle.evaluator.specs.inner.Computing.{DecidedEntities, Answers, and_then, as_test, demanded, truth, apply_binary, AnswersNumbers}
 
 -- where two numbers are not told, nothing is compared
-pub compare_fails : (E : DecidedWorld) (op : Binary) (found : Result Numbers EvalFault) (e : EvalFault) → found ≡ Err e → (a b : EvaluationResult) → TellNumbers found a b → e ≢ NoMemory → as_test (and_then a (λ v. and_then b (apply_binary E op v))) ≡ Err e
-compare_fails E op found e is a b h n = ap as_test (subst (λ (r : Result Numbers EvalFault). TellNumbers r a b) is h n (apply_binary E op))
+pub compare_fails : (E : DecidedEntities) (op : Binary) (found : Result Numbers EvalFault) (e : EvalFault) → found ≡ Err e → (a b : EvaluationResult) → AnswersNumbers found a b → e ≢ NoMemory → as_test (and_then a (λ v. and_then b (apply_binary E op v))) ≡ Err e
+compare_fails E op found e is a b h n = ap as_test (subst (λ (r : Result Numbers EvalFault). AnswersNumbers r a b) is h n (apply_binary E op))
 
 -- a test is told by what the expression gives
 module _ (W : Entities) (q : Request) (x : Expr) where

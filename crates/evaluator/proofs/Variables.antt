@@ -7,17 +7,17 @@ use Rattle.values.specs.Values.{PlainValue, pairs_of-fields_of}
 use Rattle.grammar_core.specs.declared.leaf.Variable.{Variable}
 use Rattle.grammar_core.specs.declared.leaf.Variable.TheVariants.{Principal, Action, Resource, Context}
 use Rattle.evaluator.specs.declared.fault.EvalFault.TheVariants.{AttrDoesNotExist}
-use Rattle.evaluator.specs.Asked.{fields_under}
+use Rattle.evaluator.specs.VariableFields.{fields_under}
 use Rattle.evaluator.specs.Evaluation.{variable_value}
-use Rattle.evaluator.specs.inner.Computing.{DecidedWorld, found_or, attribute, field_of, truth, has_attribute, has_field}
+use Rattle.evaluator.specs.inner.Computing.{DecidedEntities, found_or, attribute, field_of, truth, has_attribute, has_field}
 
-pub field_under : (E : DecidedWorld) (q : Request) (x : Variable) (name : List ℕ) → field_of E name (variable_value x q) ≡ attribute (fields_under E.stored q x) name
+pub field_under : (E : DecidedEntities) (q : Request) (x : Variable) (name : List ℕ) → field_of E name (variable_value x q) ≡ attribute (fields_under E.stored q x) name
 field_under E q Principal name = refl
 field_under E q Action name = refl
 field_under E q Resource name = refl
 field_under E q Context name = ap (λ (fs : List Field). found_or AttrDoesNotExist (find_field name fs)) (pairs_of-fields_of q.context)
 
-pub has_under : (E : DecidedWorld) (q : Request) (x : Variable) (name : List ℕ) → has_field E name (variable_value x q) ≡ truth (has_attribute (fields_under E.stored q x) name)
+pub has_under : (E : DecidedEntities) (q : Request) (x : Variable) (name : List ℕ) → has_field E name (variable_value x q) ≡ truth (has_attribute (fields_under E.stored q x) name)
 has_under E q Principal name = refl
 has_under E q Action name = refl
 has_under E q Resource name = refl

@@ -16,7 +16,7 @@ use Rattle.evaluator.specs.Operators as op
 use Rattle.evaluator.specs.Operators.{Entities, UnaryGives, NumbersGive, BinaryGives, FieldGives, HasGives, UnaryCallGives, BinaryCallGives}
 use Rattle.evaluator.specs.Evaluation as rule
 use Rattle.evaluator.specs.Evaluation.{EvaluatesTo, TestFails, EachEvaluatesTo}
-use Rattle.evaluator.specs.Laws.{NothingWantsMemory}
+use Rattle.evaluator.specs.Laws.{NoOutcomeIsNoMemory}
 
 -- an error of the language
 abbrev IsError : EvalFault → Type 0
@@ -140,5 +140,5 @@ module _ (W : Entities) (q : Request) where
     proper_each _ _ (rule.each_fails {x} {xs} {e} g) = proper x (Err e) g
     proper_each _ _ (rule.each_fails_later {x} {xs} {v} {e} g h) = proper_each xs (Err e) h
 
-pub nothing_wants_memory : NothingWantsMemory
-nothing_wants_memory W q x g = proper W q x (Err NoMemory) g
+pub no_outcome_is_no_memory : NoOutcomeIsNoMemory
+no_outcome_is_no_memory W q x g = proper W q x (Err NoMemory) g

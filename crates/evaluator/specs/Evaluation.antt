@@ -40,8 +40,8 @@ variable_value Action q = entity q.action
 variable_value Resource q = entity q.resource
 variable_value Context q = record_of (fields_of q.context)
 
--- `HasOperands x xs` holds if `x` needs the values of all of its operands `xs`, evaluated in this order. `if`, `&&`
--- and `||` only evaluate what they need; a literal and a variable have none.
+-- `HasOperands x xs` holds if `x` needs the values of all of its operands `xs`, evaluated in this order. Not so `if`,
+-- `&&` and `||`, which evaluate only what they need, and literals and variables, which have no operands.
 pub data HasOperands : Expr → List Expr → Type 0 where
   of_unary : (op : Unary) (a : Expr) → HasOperands (form.Unary op a) (a ∷ [])
   of_binary : (op : Binary) (a b : Expr) → HasOperands (form.Binary op a b) (a ∷ b ∷ [])
@@ -52,7 +52,8 @@ pub data HasOperands : Expr → List Expr → Type 0 where
   of_unary_call : (called : UnaryCall) (a : Expr) → HasOperands (form.UnaryCall called a) (a ∷ [])
   of_binary_call : (called : BinaryCall) (a b : Expr) → HasOperands (form.BinaryCall called a b) (a ∷ b ∷ [])
 
--- `put_each xs vs done` are the fields `done`, with each name of `xs` set to its value of `vs`, in order.
+-- `put_each xs vs done` are the fields `done`, with each name of `xs` set to the value in `vs` at the same index, in
+-- order.
 abbrev pub put_each : List (Named Expr) → List PlainValue → List Field → List Field
 put_each (x ∷ xs) (v ∷ vs) done = put_each xs vs (put x.name v done)
 put_each xs vs done = done
@@ -80,7 +81,7 @@ mutual
     or_left_fails : (a b : Expr) {e : EvalFault} → TestFails W q a e → EvaluatesTo W q (form.Or a b) (Err e)
     or_right_fails : (a b : Expr) {e : EvalFault} → EvaluatesTo W q a (Ok (boolean false)) → TestFails W q b e
         → EvaluatesTo W q (form.Or a b) (Err e)
-    -- the first operand with an error decides, whatever follows it
+    -- the first operand with an error determines the outcome; those after it do not matter
     operand_fails : {x : Expr} {xs : List Expr} {e : EvalFault} → HasOperands x xs → EachEvaluatesTo W q xs (Err e)
         → EvaluatesTo W q x (Err e)
     gives_unary : (op : Unary) (a : Expr) {v : PlainValue} {r : EvaluationResult} → EvaluatesTo W q a (Ok v)
@@ -101,13 +102,14 @@ mutual
         → EvaluatesTo W q a (Ok v)
         → EvaluatesTo W q b (Ok w) → BinaryCallGives called v w r → EvaluatesTo W q (form.BinaryCall called a b) r
 
-  -- `TestFails W q x e` holds if `x` fails as a condition with `e`: that is its outcome, or it is not a boolean.
+  -- `TestFails W q x e` holds if `x` fails as a condition with the error `e`: the outcome of `x` is `e`, or it is a
+  -- value that is not a boolean, and `e` is `TypeError`.
   pub data TestFails (W : Entities) (q : Request) : Expr → EvalFault → Type 0 where
     test_errs : {a : Expr} {e : EvalFault} → EvaluatesTo W q a (Err e) → TestFails W q a e
     no_boolean : {a : Expr} {v : PlainValue} → EvaluatesTo W q a (Ok v) → boolean_in v ≡ None
         → TestFails W q a TypeError
 
-  -- `EachEvaluatesTo W q xs r` holds if `r` are the values of `xs` in order, or the first error.
+  -- `EachEvaluatesTo W q xs r` holds if `r` are the values of `xs` in order, or the first error of one of them.
   pub data EachEvaluatesTo (W : Entities) (q : Request)
       : List Expr → Result (List PlainValue) EvalFault → Type 0 where
     each_none : EachEvaluatesTo W q [] (Ok [])
@@ -120,17 +122,19 @@ mutual
 
 -- ---- contracts of an evaluator
 
--- Soundness: a result other than `NoMemory` is one that `EvaluatesTo` relates to the expression.
+-- Soundness: `IsSoundEvaluation W q x answer` holds if the result `answer`, unless it is `NoMemory`, is one that
+-- `EvaluatesTo` relates to `x`.
 abbrev pub IsSoundEvaluation : Entities → Request → Expr → EvaluationResult → Type 0
 IsSoundEvaluation W q x answer = MatchResult answer (λ v. EvaluatesTo W q x (Ok v))
     (λ e. e ≢ NoMemory → EvaluatesTo W q x (Err e))
 
--- Completeness: a result that `EvaluatesTo` relates to the expression is returned, unless `NoMemory` is.
+-- Completeness: `IsCompleteEvaluation W q x answer` holds if each result that `EvaluatesTo` relates to `x` is `answer`,
+-- unless `answer` is `NoMemory`.
 abbrev pub IsCompleteEvaluation : Entities → Request → Expr → EvaluationResult → Type 0
 IsCompleteEvaluation W q x answer = (r : EvaluationResult) → EvaluatesTo W q x r → answer ≢ Err NoMemory → answer ≡ r
 
--- `AnswersTest W q x answer` holds if `answer` is the boolean of `x`, the error by which `x` fails as a condition, or
--- `NoMemory`.
+-- `AnswersTest W q x answer` holds if `answer` is the boolean that is the value of `x`, the error with which `x` fails
+-- as a condition, or `NoMemory`.
 abbrev pub AnswersTest : Entities → Request → Expr → Result Bool EvalFault → Type 0
 AnswersTest W q x answer = MatchResult answer (λ t. EvaluatesTo W q x (Ok (boolean t)))
     (λ e. e ≢ NoMemory → TestFails W q x e)

@@ -9,7 +9,7 @@ use Rattle.evaluator.specs.Outcomes.{EvaluationResult}
 use Rattle.evaluator.specs.Operators.{Entities}
 use Rattle.evaluator.specs.Evaluation.{EvaluatesTo}
 
--- `HasOneOutcome W q x` holds if `x` has exactly one outcome.
+-- `HasOneOutcome W q x` holds if `x` has exactly one outcome under the request `q`, over the entities of `W`.
 abbrev pub HasOneOutcome : Entities → Request → Expr → Type 0
 HasOneOutcome W q x = (r : EvaluationResult) × EvaluatesTo W q x r
     × ((s : EvaluationResult) → EvaluatesTo W q x s → s ≡ r)
@@ -24,6 +24,6 @@ abbrev pub HaveOneOutcomeInFiniteHierarchies : Type 0
 HaveOneOutcomeInFiniteHierarchies = (W : Entities) (stored : List EntityUid) → HaveAllParents W.parents stored
     → (q : Request) (x : Expr) → HasOneOutcome W q x
 
--- `NothingWantsMemory`: `NoMemory` is not an outcome of any expression.
-abbrev pub NothingWantsMemory : Type 0
-NothingWantsMemory = (W : Entities) (q : Request) (x : Expr) → ¬ EvaluatesTo W q x (Err NoMemory)
+-- `NoOutcomeIsNoMemory`: `NoMemory` is not an outcome of any expression.
+abbrev pub NoOutcomeIsNoMemory : Type 0
+NoOutcomeIsNoMemory = (W : Entities) (q : Request) (x : Expr) → ¬ EvaluatesTo W q x (Err NoMemory)

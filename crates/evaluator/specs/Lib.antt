@@ -1,4 +1,4 @@
-pub mod Asked
+pub mod VariableFields
 pub mod Borrowed
 pub mod Evaluation
 pub mod Laws

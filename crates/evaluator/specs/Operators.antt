@@ -31,14 +31,14 @@ use Rattle.evaluator.specs.declared.fault.EvalFault.TheVariants.{ExtensionError}
 use Rattle.evaluator.specs.Outcomes.{EvaluationResult, IsTruthOf, IsChecked, boolean_in, long_in, text_in}
 use Rattle.evaluator.specs.Outcomes.{entity_uid_in, members_in, record_fields_in, decimal_in, network_in}
 
--- `Entities` are the attributes of each stored entity, and the parents of each entity.
+-- `Entities` is the entity data of an evaluation: the attributes of each stored entity, and the parents of each entity.
 pub record Entities : Type 0 where
   pub stored : EntityUid → Option (List Field)
   pub parents : Parents
 
--- `world_of stored parents` is the entity data with these attributes and parents.
-abbrev pub world_of : (EntityUid → Option (List Field)) → Parents → Entities
-world_of stored parents = record { stored = stored; parents = parents }
+-- `entities_with stored parents` is the entity data with these attributes and parents.
+abbrev pub entities_with : (EntityUid → Option (List Field)) → Parents → Entities
+entities_with stored parents = record { stored = stored; parents = parents }
 
 -- `UnaryGives op v r` holds if `r` is the result of the operator `op` on `v`.
 pub data UnaryGives : Unary → PlainValue → EvaluationResult → Type 0 where
@@ -54,7 +54,7 @@ pub data UnaryGives : Unary → PlainValue → EvaluationResult → Type 0 where
       → UnaryGives (Is name) (entity u) r
   is_of_other : {name : List ℕ} {v : PlainValue} → entity_uid_in v ≡ None → UnaryGives (Is name) v (Err TypeError)
 
--- `NumbersGive op x y r` holds if `r` is the result of the operator `op` on two integers.
+-- `NumbersGive op x y r` holds if `r` is the result of the operator `op` on the integers `x` and `y`.
 abbrev pub NumbersGive : Binary → ℤ → ℤ → EvaluationResult → Type 0
 NumbersGive Less x y r = IsTruthOf (x <ℤ y) r
 NumbersGive LessOrEqual x y r = IsTruthOf (x ≤ℤ y) r
@@ -63,7 +63,7 @@ NumbersGive Subtract x y r = IsChecked (x -ℤ y) r
 NumbersGive Multiply x y r = IsChecked (x *ℤ y) r
 NumbersGive op x y r = ⊥
 
--- `TakesNumbers op` and `TakesSets op` hold if both operands of `op` must be integers, or sets.
+-- `TakesNumbers op` holds if both operands of `op` must be integers, and `TakesSets op` if both must be sets.
 abbrev pub TakesNumbers : Binary → Type 0
 TakesNumbers Less = ⊤
 TakesNumbers LessOrEqual = ⊤
@@ -77,9 +77,9 @@ TakesSets ContainsAll = ⊤
 TakesSets ContainsAny = ⊤
 TakesSets op = ⊥
 
--- `BinaryGives W op v w r` holds if `r` is the result of `op` on `v` and `w`. `a in b` tests, for two entities,
--- whether `a` is `b` or a descendant of it; for a set, all of whose members must be entities, whether it is so for
--- some member.
+-- `BinaryGives W op v w r` holds if `r` is the result of the operator `op` on `v` and `w`, over the entities of `W`.
+-- For two entities, `a in b` tests whether `a` is `b` or a descendant of it. For a set, all of whose members must be
+-- entities, it tests whether `a` is some member or a descendant of it.
 pub data BinaryGives (W : Entities) : Binary → PlainValue → PlainValue → EvaluationResult → Type 0 where
   equal : {v w : PlainValue} {r : EvaluationResult} → IsTruthOf (v ≡ w) r → BinaryGives W Equal v w r
   of_numbers : {op : Binary} {x y : ℤ} {r : EvaluationResult} → NumbersGive op x y r
@@ -108,7 +108,7 @@ pub data BinaryGives (W : Entities) : Binary → PlainValue → PlainValue → E
   no_sets : {op : Binary} {v w : PlainValue} → TakesSets op → (members_in v ≡ None) ⊎ (members_in w ≡ None)
       → BinaryGives W op v w (Err TypeError)
 
--- `FieldGives W name v r` holds if `r` is the result of `v.name`.
+-- `FieldGives W name v r` holds if `r` is the result of `v.name`, over the entities of `W`.
 pub data FieldGives (W : Entities) (name : List ℕ) : PlainValue → EvaluationResult → Type 0 where
   field : {fs : PlainFields} {v : PlainValue} → find_field name (pairs_of fs) ≡ Some v
       → FieldGives W name (record_of fs) (Ok v)
@@ -119,7 +119,7 @@ pub data FieldGives (W : Entities) (name : List ℕ) : PlainValue → Evaluation
   field_of_other : {v : PlainValue} → record_fields_in v ≡ None → entity_uid_in v ≡ None
       → FieldGives W name v (Err TypeError)
 
--- `HasGives W name v r` holds if `r` is the result of `v has name`.
+-- `HasGives W name v r` holds if `r` is the result of `v has name`, over the entities of `W`.
 pub data HasGives (W : Entities) (name : List ℕ) : PlainValue → EvaluationResult → Type 0 where
   has_field : {fs : PlainFields} {r : EvaluationResult} → IsTruthOf (IsSome (find_field name (pairs_of fs))) r
       → HasGives W name (record_of fs) r
@@ -129,7 +129,7 @@ pub data HasGives (W : Entities) (name : List ℕ) : PlainValue → EvaluationRe
   has_of_other : {v : PlainValue} → record_fields_in v ≡ None → entity_uid_in v ≡ None
       → HasGives W name v (Err TypeError)
 
--- `IsTested called n` holds if the address `n` passes the test `called`.
+-- `IsTested called n` holds if the test `called` is true of the address `n`.
 abbrev pub IsTested : UnaryCall → Network → Type 0
 IsTested IsIpv4 n = n.version ≡ V4
 IsTested IsIpv6 n = n.version ≡ V6
@@ -143,7 +143,7 @@ TakesAddress Ip = ⊥
 TakesAddress Decimal = ⊥
 TakesAddress called = ⊤
 
--- `UnaryCallGives called v r` holds if `r` is the result of a call on `v`.
+-- `UnaryCallGives called v r` holds if `r` is the result of the call `called` on `v`.
 pub data UnaryCallGives : UnaryCall → PlainValue → EvaluationResult → Type 0 where
   reads_decimal : {t : List ℕ} {z : ℤ} → IsDecimalText t z → UnaryCallGives Decimal (text t) (Ok (decimal z))
   no_decimal : {t : List ℕ} → ((z : ℤ) → ¬ IsDecimalText t z) → UnaryCallGives Decimal (text t) (Err ExtensionError)
@@ -156,7 +156,7 @@ pub data UnaryCallGives : UnaryCall → PlainValue → EvaluationResult → Type
   of_no_address : {called : UnaryCall} {v : PlainValue} → TakesAddress called → network_in v ≡ None
       → UnaryCallGives called v (Err TypeError)
 
--- `AreCompared called x y` holds if the comparison `called` is true of two decimals.
+-- `AreCompared called x y` holds if the comparison `called` is true of the decimals `x` and `y`.
 abbrev pub AreCompared : BinaryCall → ℤ → ℤ → Type 0
 AreCompared LessThan x y = x <ℤ y
 AreCompared LessThanOrEqual x y = x ≤ℤ y
@@ -169,7 +169,7 @@ abbrev pub TakesDecimals : BinaryCall → Type 0
 TakesDecimals IsInRange = ⊥
 TakesDecimals called = ⊤
 
--- `BinaryCallGives called v w r` holds if `r` is the result of a call on `v` and `w`.
+-- `BinaryCallGives called v w r` holds if `r` is the result of the call `called` on `v` and `w`.
 pub data BinaryCallGives : BinaryCall → PlainValue → PlainValue → EvaluationResult → Type 0 where
   of_decimals : {called : BinaryCall} {x y : ℤ} {r : EvaluationResult} → TakesDecimals called
       → IsTruthOf (AreCompared called x y) r → BinaryCallGives called (decimal x) (decimal y) r

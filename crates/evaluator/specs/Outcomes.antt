@@ -14,8 +14,8 @@ use Rattle.evaluator.specs.declared.fault.EvalFault.TheVariants.{ArithBoundsErro
 abbrev pub EvaluationResult : Type 0
 EvaluationResult = Result PlainValue EvalFault
 
--- The content of a value, if it is of that kind: a boolean, an integer, a string, an entity, the members of a set,
--- the fields of a record, a decimal, an IP address.
+-- Each of these eight functions is the content of a value of one kind, `None` for a value of another kind: a boolean,
+-- an integer, a string, an entity, the members of a set, the fields of a record, a decimal, an IP address.
 
 abbrev pub boolean_in : PlainValue → Option Bool
 boolean_in (boolean b) = Some b
@@ -49,12 +49,13 @@ abbrev pub network_in : PlainValue → Option Network
 network_in (ipaddr n) = Some n
 network_in v = None
 
--- `IsTruthOf P r` holds if `r` is the boolean that says whether `P` holds.
+-- `IsTruthOf P r` holds if `r` is `true` and `P` holds, or `r` is `false` and `P` does not hold.
 pub data IsTruthOf (P : Type 0) : EvaluationResult → Type 0 where
   holds : P → IsTruthOf P (Ok (boolean true))
   fails : ¬ P → IsTruthOf P (Ok (boolean false))
 
--- `IsChecked z r` holds if `r` is the integer `z` if it fits in signed 64 bits, else `ArithBoundsError`.
+-- `IsChecked z r` holds if `r` is the integer `z`, which fits in signed 64 bits, or `ArithBoundsError` if it does not
+-- fit.
 pub data IsChecked : ℤ → EvaluationResult → Type 0 where
   fits : {z : ℤ} → FitsSigned w64 z → IsChecked z (Ok (long z))
   overflows : {z : ℤ} → ¬ FitsSigned w64 z → IsChecked z (Err ArithBoundsError)

@@ -1,7 +1,7 @@
-//! Results of evaluation.
+//! The value of an expression as the evaluator returns it, borrowed or owned.
 ghost use Rattle.std.specs.Prelude.{◌≡◌, IfOk};
 ghost use Rattle.values.specs.ValueOrder.{value_cmp};
-ghost use Rattle.evaluator.specs.Outcomes.{boolean_in, long_in};
+ghost use Rattle.evaluator.specs.Outcomes.{boolean_in};
 ghost use Rattle.values.specs.BorrowedView.{of_borrowed};
 
 use plain::NoMemory;
@@ -10,17 +10,19 @@ use std::cmp::Ordering;
 use std::marker::Model;
 use values::{BorrowedKind, Value, ValueRef};
 
-/// The value of an expression, borrowed if it is in the expression, the request or the stored entities. Contracts see
-/// the value.
+/// The value of an expression. It is borrowed if it is in the expression, the request or the stored entities. Contracts
+/// see the value.
 #[derive(Drop)]
 pub struct BorrowedOrOwned<'a> {
     pub(crate) ownership: Ownership<'a>,
 }
 
-/// The ownership of a value.
+/// A value, borrowed or owned.
 #[derive(Drop)]
 pub(crate) enum Ownership<'a> {
+    /// Borrowed from the expression, the request or the stored entities.
     Borrowed(ValueRef<'a>),
+    /// Computed by the evaluation, or copied.
     Owned(Value),
 }
 
@@ -38,7 +40,7 @@ impl<'a> Model for BorrowedOrOwned<'a> {
 }
 
 impl<'a> BorrowedOrOwned<'a> {
-    /// Returns a borrowed value.
+    /// Creates a borrowed value.
     pub(crate) fn borrowed(value: &'a Value) -> BorrowedOrOwned<'a>
         ensures { result ≡ value.now }
     {
@@ -47,7 +49,7 @@ impl<'a> BorrowedOrOwned<'a> {
         }
     }
 
-    /// Returns a computed value.
+    /// Creates an owned value, which evaluation computed.
     pub(crate) fn computed(value: Value) -> BorrowedOrOwned<'a>
         ensures { result ≡ value }
     {
@@ -56,7 +58,7 @@ impl<'a> BorrowedOrOwned<'a> {
         }
     }
 
-    /// Returns the value by its kind.
+    /// Returns the content of the value, by its kind.
     #[inline(always)]
     pub(crate) fn kind(&self) -> BorrowedKind<'_>
         ensures { of_borrowed result ≡ self.now }
@@ -67,7 +69,7 @@ impl<'a> BorrowedOrOwned<'a> {
         }
     }
 
-    /// Compares the value with a borrowed one.
+    /// Compares the value with a borrowed one, in the order of values.
     fn compare_with(&self, other: &ValueRef<'_>) -> Ordering
         ensures { result ≡ value_cmp self.now other.now }
     {
@@ -87,7 +89,7 @@ impl<'a> BorrowedOrOwned<'a> {
         }
     }
 
-    /// Returns how another value, such as a member of a set, compares with this one.
+    /// Compares another value, such as a member of a set, with this one: the reverse of [`BorrowedOrOwned::compare`].
     pub(crate) fn compared_by(&self, other: &Value) -> Ordering
         ensures { result ≡ value_cmp other.now self.now }
     {
@@ -103,16 +105,6 @@ impl<'a> BorrowedOrOwned<'a> {
     {
         match self.kind() {
             BorrowedKind::Boolean(truth) => Some(truth),
-            _ => None,
-        }
-    }
-
-    /// Returns the integer, or `None` if the value is of another kind.
-    pub(crate) fn as_long(&self) -> Option<i64>
-        ensures { result ≡ long_in self.now }
-    {
-        match self.kind() {
-            BorrowedKind::Long(number) => Some(number),
             _ => None,
         }
     }

@@ -13,7 +13,7 @@ use crate::operands::{decimals_of, network_of, text_of};
 use grammar_core::{BinaryCall, UnaryCall};
 use values::{Decimal, IpNet, Value, one_decimal_a_text, one_network_a_text};
 
-/// Returns the decimal of a string.
+/// Returns the decimal that a string denotes. Its error is `ExtensionError`.
 fn read_decimal(text: &str) -> Result<Value, EvalFault>
     ensures { result ≡ decimal_read (decimal_text_decided text.now) }
 {
@@ -24,7 +24,7 @@ fn read_decimal(text: &str) -> Result<Value, EvalFault>
     }
 }
 
-/// Returns the IP address of a string.
+/// Returns the IP address that a string denotes. Its error is `ExtensionError`.
 fn read_network(text: &str) -> Result<Value, EvalFault>
     ensures { result ≡ network_read (network_text_decided text.now) }
 {
@@ -35,30 +35,35 @@ fn read_network(text: &str) -> Result<Value, EvalFault>
     }
 }
 
+/// Returns whether the address is an IPv4 address.
 fn is_ipv4(network: IpNet) -> bool
     ensures { result ≡ is_v4 network.version }
 {
     network.is_ipv4()
 }
 
+/// Returns whether the address is an IPv6 address.
 fn is_ipv6(network: IpNet) -> bool
     ensures { result ≡ not (is_v4 network.version) }
 {
     network.is_ipv6()
 }
 
+/// Returns whether the whole range of the address is in a loopback range.
 fn is_loopback(network: IpNet) -> bool
     ensures { result ≡ told (in_either_decided network loopback_v4 loopback_v6) }
 {
     network.is_loopback()
 }
 
+/// Returns whether the whole range of the address is in a multicast range.
 fn is_multicast(network: IpNet) -> bool
     ensures { result ≡ told (in_either_decided network multicast_v4 multicast_v6) }
 {
     network.is_multicast()
 }
 
+/// Returns whether the range of `a` lies in that of `b`.
 fn is_within(a: IpNet, b: IpNet) -> bool
     ensures { result ≡ told (within_decided a b) }
 {
@@ -73,6 +78,7 @@ fn less(numbers: Result<(Decimal, Decimal), EvalFault>) -> Result<Value, EvalFau
     Ok(Value::boolean(a.less_than(&b)))
 }
 
+/// Returns whether the first of two decimals is at most the second, or the error of `numbers`.
 fn less_or_equal(numbers: Result<(Decimal, Decimal), EvalFault>) -> Result<Value, EvalFault>
     ensures { result ≡ and_then numbers (λ p. truth (int_le p.0 p.1)) }
 {
@@ -80,6 +86,7 @@ fn less_or_equal(numbers: Result<(Decimal, Decimal), EvalFault>) -> Result<Value
     Ok(Value::boolean(a.less_or_equal(&b)))
 }
 
+/// Returns whether the first of two decimals is greater than the second, or the error of `numbers`.
 fn greater(numbers: Result<(Decimal, Decimal), EvalFault>) -> Result<Value, EvalFault>
     ensures { result ≡ and_then numbers (λ p. truth (int_lt p.1 p.0)) }
 {
@@ -87,6 +94,7 @@ fn greater(numbers: Result<(Decimal, Decimal), EvalFault>) -> Result<Value, Eval
     Ok(Value::boolean(b.less_than(&a)))
 }
 
+/// Returns whether the first of two decimals is at least the second, or the error of `numbers`.
 fn greater_or_equal(numbers: Result<(Decimal, Decimal), EvalFault>) -> Result<Value, EvalFault>
     ensures { result ≡ and_then numbers (λ p. truth (int_le p.1 p.0)) }
 {

@@ -1,16 +1,15 @@
 //! The expressions whose first operand decides what is evaluated: `if`, `&&` and `||`. Each has a variant that
 //! returns a `bool`, so that no value is made for a truth value that is only tested.
-ghost use Rattle.evaluator.specs.inner.Computing.{decided_world, Answers, meaning, as_test, choice, both, either};
+ghost use Rattle.evaluator.specs.inner.Computing.{decided_entities, Answers, meaning, as_test, choice, both, either};
 
 use crate::borrowed_or_owned::BorrowedOrOwned;
+use crate::eval_env::EvalEnv;
 use crate::evaluating::outcome_of;
 use crate::fault::EvalFault;
-use crate::question::EvalEnv;
 use crate::steps::truth_of;
 use crate::testing::test_of;
 use evaluator_steps::decided_by_first;
 use grammar_core::Expr;
-use plain::Shared;
 use std::alloc::Global;
 
 /// Evaluates `if`: its test, and then the branch that the test selects.
@@ -18,18 +17,18 @@ use std::alloc::Global;
 #[inline(never)]
 pub(crate) fn choice_of<'a, L: EvalEnv>(
     alloc: Global,
-    test: &'a Shared<Expr>,
-    consequent: &'a Shared<Expr>,
-    alternative: &'a Shared<Expr>,
+    test: &'a Expr,
+    consequent: &'a Expr,
+    alternative: &'a Expr,
     store: &'a L,
 ) -> Result<BorrowedOrOwned<'a>, EvalFault>
-    ensures { let gives = meaning (L.asked store.now) (decided_world (L.stored store.now) (L.above store.now)) in
+    ensures { let gives = meaning (L.asked store.now) (decided_entities (L.stored store.now) (L.above store.now)) in
         Answers result (choice (gives test.now) (gives consequent.now) (gives alternative.now)) }
 {
-    if test_of(alloc, test.get(), store)? {
-        outcome_of(alloc, consequent.get(), store)
+    if test_of(alloc, test, store)? {
+        outcome_of(alloc, consequent, store)
     } else {
-        outcome_of(alloc, alternative.get(), store)
+        outcome_of(alloc, alternative, store)
     }
 }
 
@@ -38,18 +37,18 @@ pub(crate) fn choice_of<'a, L: EvalEnv>(
 #[inline(never)]
 pub(crate) fn choice_test<'a, L: EvalEnv>(
     alloc: Global,
-    test: &'a Shared<Expr>,
-    consequent: &'a Shared<Expr>,
-    alternative: &'a Shared<Expr>,
+    test: &'a Expr,
+    consequent: &'a Expr,
+    alternative: &'a Expr,
     store: &'a L,
 ) -> Result<bool, EvalFault>
-    ensures { let gives = meaning (L.asked store.now) (decided_world (L.stored store.now) (L.above store.now)) in
+    ensures { let gives = meaning (L.asked store.now) (decided_entities (L.stored store.now) (L.above store.now)) in
         Answers result (as_test (choice (gives test.now) (gives consequent.now) (gives alternative.now))) }
 {
-    if test_of(alloc, test.get(), store)? {
-        test_of(alloc, consequent.get(), store)
+    if test_of(alloc, test, store)? {
+        test_of(alloc, consequent, store)
     } else {
-        test_of(alloc, alternative.get(), store)
+        test_of(alloc, alternative, store)
     }
 }
 
@@ -58,17 +57,17 @@ pub(crate) fn choice_test<'a, L: EvalEnv>(
 #[inline(never)]
 pub(crate) fn both_test<'a, L: EvalEnv>(
     alloc: Global,
-    left: &'a Shared<Expr>,
-    right: &'a Shared<Expr>,
+    left: &'a Expr,
+    right: &'a Expr,
     store: &'a L,
 ) -> Result<bool, EvalFault>
-    ensures { let gives = meaning (L.asked store.now) (decided_world (L.stored store.now) (L.above store.now)) in
+    ensures { let gives = meaning (L.asked store.now) (decided_entities (L.stored store.now) (L.above store.now)) in
         Answers result (as_test (both (gives left.now) (gives right.now))) }
 {
-    let first = test_of(alloc, left.get(), store);
+    let first = test_of(alloc, left, store);
     match decided_by_first(first) {
         Some(outcome) => outcome,
-        None => test_of(alloc, right.get(), store),
+        None => test_of(alloc, right, store),
     }
 }
 
@@ -77,18 +76,18 @@ pub(crate) fn both_test<'a, L: EvalEnv>(
 #[inline(never)]
 pub(crate) fn either_test<'a, L: EvalEnv>(
     alloc: Global,
-    left: &'a Shared<Expr>,
-    right: &'a Shared<Expr>,
+    left: &'a Expr,
+    right: &'a Expr,
     store: &'a L,
 ) -> Result<bool, EvalFault>
-    ensures { let gives = meaning (L.asked store.now) (decided_world (L.stored store.now) (L.above store.now)) in
+    ensures { let gives = meaning (L.asked store.now) (decided_entities (L.stored store.now) (L.above store.now)) in
         Answers result (as_test (either (gives left.now) (gives right.now))) }
 {
-    let first = test_of(alloc, left.get(), store)?;
+    let first = test_of(alloc, left, store)?;
     if first {
         Ok(first)
     } else {
-        test_of(alloc, right.get(), store)
+        test_of(alloc, right, store)
     }
 }
 
@@ -97,11 +96,11 @@ pub(crate) fn either_test<'a, L: EvalEnv>(
 #[inline(never)]
 pub(crate) fn both_of<'a, L: EvalEnv>(
     alloc: Global,
-    left: &'a Shared<Expr>,
-    right: &'a Shared<Expr>,
+    left: &'a Expr,
+    right: &'a Expr,
     store: &'a L,
 ) -> Result<BorrowedOrOwned<'a>, EvalFault>
-    ensures { let gives = meaning (L.asked store.now) (decided_world (L.stored store.now) (L.above store.now)) in
+    ensures { let gives = meaning (L.asked store.now) (decided_entities (L.stored store.now) (L.above store.now)) in
         Answers result (both (gives left.now) (gives right.now)) }
 {
     truth_of(both_test(alloc, left, right, store))
@@ -112,11 +111,11 @@ pub(crate) fn both_of<'a, L: EvalEnv>(
 #[inline(never)]
 pub(crate) fn either_of<'a, L: EvalEnv>(
     alloc: Global,
-    left: &'a Shared<Expr>,
-    right: &'a Shared<Expr>,
+    left: &'a Expr,
+    right: &'a Expr,
     store: &'a L,
 ) -> Result<BorrowedOrOwned<'a>, EvalFault>
-    ensures { let gives = meaning (L.asked store.now) (decided_world (L.stored store.now) (L.above store.now)) in
+    ensures { let gives = meaning (L.asked store.now) (decided_entities (L.stored store.now) (L.above store.now)) in
         Answers result (either (gives left.now) (gives right.now)) }
 {
     truth_of(either_test(alloc, left, right, store))

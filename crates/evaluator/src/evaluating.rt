@@ -1,32 +1,32 @@
-//! The evaluator.
-ghost use Rattle.std.specs.Prelude.{◌≡◌, ◌≢◌, [], map, MatchResult, Ok, Err};
+//! The evaluator: a recursion over expressions.
+ghost use Rattle.std.specs.Prelude.{[], map, Ok};
 ghost use Rattle.values.specs.Values.{set, record_of, values_of, fields_of};
 ghost use Rattle.values.specs.Sets.{set_list};
-ghost use Rattle.evaluator.specs.Operators.{world_of};
+ghost use Rattle.evaluator.specs.Operators.{entities_with};
 ghost use Rattle.evaluator.specs.Evaluation.{IsSoundEvaluation, IsCompleteEvaluation, AnswersTest};
-ghost use Rattle.evaluator.specs.inner.Computing.{decided_world, Answers, AnswersNext, meaning, named_meaning, each};
+ghost use Rattle.evaluator.specs.inner.Computing.{decided_entities, Answers, meaning, named_meaning, each};
 ghost use Rattle.evaluator.specs.inner.Computing.{each_field, and_then, apply_unary, apply_binary};
 ghost use Rattle.evaluator.specs.inner.Computing.{apply_unary_call, apply_binary_call, field_of, has_field};
 
 use crate::borrowed_or_owned::BorrowedOrOwned;
 use crate::choosing::{both_of, choice_of, either_of};
+use crate::eval_env::{EvalEnv, RequestEnv};
 use crate::fault::EvalFault;
-use crate::fields::{lent, variable_field};
+use crate::fields::variable_field;
 use crate::laws::meanings_are_given;
 use crate::leaves::{literal_of, variable_of};
 use crate::lookup::Lookup;
-use crate::question::{EvalEnv, RequestEnv};
 use crate::steps::{
     add_field, add_value, called_on, called_on_two, field_in, has_in, on_operand, on_operands,
-    owned, record_with, set_with,
+    owned,
 };
 use crate::testing::test_of;
 use grammar_core::{Binary, BinaryCall, Expr, Named, Unary, UnaryCall};
-use plain::{Items, Shared, Text};
+use plain::Items;
 use std::alloc::Global;
 use values::{Record, Request, Value};
 
-/// Evaluates an expression under a request, over the stored entities. Like [`evaluate_in`], but copies the borrowed
+/// Evaluates an expression under a request, over the stored entities. Like [`evaluate_in`], but copies a borrowed
 /// value.
 pub fn evaluate<'a, L: Lookup>(
     alloc: Global,
@@ -34,9 +34,9 @@ pub fn evaluate<'a, L: Lookup>(
     request: &'a Request,
     store: &'a L,
 ) -> Result<BorrowedOrOwned<'a>, EvalFault>
-    ensures given { IsSoundEvaluation (world_of (L.stored store.now) (L.parents store.now)) request.now expr.now
+    ensures given { IsSoundEvaluation (entities_with (L.stored store.now) (L.parents store.now)) request.now expr.now
         result }
-    ensures all { IsCompleteEvaluation (world_of (L.stored store.now) (L.parents store.now)) request.now expr.now
+    ensures all { IsCompleteEvaluation (entities_with (L.stored store.now) (L.parents store.now)) request.now expr.now
         result }
 {
     meanings_are_given();
@@ -44,25 +44,25 @@ pub fn evaluate<'a, L: Lookup>(
     owned(alloc, outcome_of(alloc, expr, &asking))
 }
 
-/// Returns whether an expression evaluates to true, as a condition, under a request, over the stored entities.
-/// Otherwise like [`evaluate_condition`].
+/// Returns whether an expression evaluates to true, as a condition, under a request, over the stored entities. Its
+/// errors are those of [`evaluate_condition`].
 pub fn evaluate_test<L: Lookup>(
     alloc: Global,
     expr: &Expr,
     request: &Request,
     store: &L,
 ) -> Result<bool, EvalFault>
-    ensures { AnswersTest (world_of (L.stored store.now) (L.parents store.now)) request.now expr.now result }
+    ensures { AnswersTest (entities_with (L.stored store.now) (L.parents store.now)) request.now expr.now result }
 {
     evaluate_condition(alloc, expr, &RequestEnv { request, store })
 }
 
 /// Evaluates an expression under the environment's request, over its stored entities, to a value or the first error.
 ///
-/// A value in the expression, the request or the stored entities is borrowed. Set and record expressions allocate,
-/// and a field of such a record; so does `in`, which searches the hierarchy. Operands are evaluated from left to
-/// right, the fields of a record in the order in which they are written; `&&`, `||` and `if` evaluate only what they
-/// need.
+/// A value in the expression, the request or the stored entities is borrowed. Set and record expressions allocate; so
+/// does the access to a field of such a record, which copies the value; `in` may, since it queries the hierarchy.
+/// Operands are evaluated from left to right, the fields of a record in the order in which they are written; `&&`, `||`
+/// and `if` evaluate only what they need.
 ///
 /// # Errors
 ///
@@ -78,9 +78,9 @@ pub fn evaluate_in<'a, L: EvalEnv>(
     expr: &'a Expr,
     store: &'a L,
 ) -> Result<BorrowedOrOwned<'a>, EvalFault>
-    ensures given { IsSoundEvaluation (world_of (L.stored store.now) (L.parents store.now)) (L.asked store.now)
+    ensures given { IsSoundEvaluation (entities_with (L.stored store.now) (L.parents store.now)) (L.asked store.now)
         expr.now result }
-    ensures all { IsCompleteEvaluation (world_of (L.stored store.now) (L.parents store.now)) (L.asked store.now)
+    ensures all { IsCompleteEvaluation (entities_with (L.stored store.now) (L.parents store.now)) (L.asked store.now)
         expr.now result }
 {
     meanings_are_given();
@@ -91,21 +91,23 @@ pub fn evaluate_in<'a, L: EvalEnv>(
 ///
 /// # Errors
 ///
-/// As [`evaluate_in`]; `TypeError` if the value is not a boolean.
+/// - The errors of [`evaluate_in`].
+/// - `TypeError`: the value is not a boolean.
 pub fn evaluate_condition<L: EvalEnv>(
     alloc: Global,
     expr: &Expr,
     store: &L,
 ) -> Result<bool, EvalFault>
-    ensures { AnswersTest (world_of (L.stored store.now) (L.parents store.now)) (L.asked store.now) expr.now result }
+    ensures { AnswersTest (entities_with (L.stored store.now) (L.parents store.now)) (L.asked store.now) expr.now
+        result }
 {
     meanings_are_given();
     test_of(alloc, expr, store)
 }
 
-// Each arm is one call, so that a level of the recursion takes little stack and does not reserve it for the results
-// of other arms: a function clears its whole frame at entry. The code that handles an operand's result is in a
-// function outside the recursion (steps.rt), which borrows that result.
+// Evaluates an expression. Each arm is one call, so that a level of the recursion takes little stack: a function
+// reserves its whole frame at entry, with space for the results of all its arms. The code that handles an operand's
+// result is in a function outside the recursion (steps.rt), which borrows that result.
 #[cycle(evaluate)]
 pub(crate) fn outcome_of<'a, L: EvalEnv>(
     alloc: Global,
@@ -113,26 +115,34 @@ pub(crate) fn outcome_of<'a, L: EvalEnv>(
     store: &'a L,
 ) -> Result<BorrowedOrOwned<'a>, EvalFault>
     ensures { Answers result
-        (meaning (L.asked store.now) (decided_world (L.stored store.now) (L.above store.now)) expr.now) }
+        (meaning (L.asked store.now) (decided_entities (L.stored store.now) (L.above store.now)) expr.now) }
 {
     match expr {
         Expr::Literal(literal) => literal_of(literal),
         Expr::Variable(variable) => variable_of(*variable, store),
         Expr::If(test, consequent, alternative) => {
-            choice_of(alloc, test, consequent, alternative, store)
+            choice_of(
+                alloc,
+                test.get(),
+                consequent.get(),
+                alternative.get(),
+                store,
+            )
         }
-        Expr::And(left, right) => both_of(alloc, left, right, store),
-        Expr::Or(left, right) => either_of(alloc, left, right, store),
-        Expr::Unary(operator, operand) => one_operand(alloc, operator, operand, store),
+        Expr::And(left, right) => both_of(alloc, left.get(), right.get(), store),
+        Expr::Or(left, right) => either_of(alloc, left.get(), right.get(), store),
+        Expr::Unary(operator, operand) => one_operand(alloc, operator, operand.get(), store),
         Expr::Binary(operator, left, right) => {
-            two_operands(alloc, *operator, left, right, store)
+            two_operands(alloc, *operator, left.get(), right.get(), store)
         }
-        Expr::Field(owner, name) => field_of(alloc, owner, name, store),
-        Expr::Has(owner, name) => has_of(alloc, owner, name, store),
-        Expr::Set(members) => set_of(alloc, members, store),
+        Expr::Field(owner, name) => field_of(alloc, owner.get(), name.as_str(), store),
+        Expr::Has(owner, name) => has_of(alloc, owner.get(), name.as_str(), store),
+        Expr::Set(members) => set_of(alloc, members.as_slice(), store),
         Expr::Record(fields) => record_of(alloc, fields, store),
-        Expr::UnaryCall(called, operand) => one_called(alloc, *called, operand, store),
-        Expr::BinaryCall(called, left, right) => { two_called(alloc, *called, left, right, store) }
+        Expr::UnaryCall(called, operand) => one_called(alloc, *called, operand.get(), store),
+        Expr::BinaryCall(called, left, right) => {
+            two_called(alloc, *called, left.get(), right.get(), store)
+        }
     }
 }
 
@@ -142,16 +152,22 @@ pub(crate) fn outcome_of<'a, L: EvalEnv>(
 pub(crate) fn two_operands<'a, L: EvalEnv>(
     alloc: Global,
     operator: Binary,
-    left: &'a Shared<Expr>,
-    right: &'a Shared<Expr>,
+    left: &'a Expr,
+    right: &'a Expr,
     store: &'a L,
 ) -> Result<BorrowedOrOwned<'a>, EvalFault>
-    ensures { let world = decided_world (L.stored store.now) (L.above store.now) in
+    ensures { let world = decided_entities (L.stored store.now) (L.above store.now) in
         Answers result (and_then (meaning (L.asked store.now) world left.now)
         (λ v. and_then (meaning (L.asked store.now) world right.now) (apply_binary world operator v))) }
 {
-    let left = outcome_of(alloc, left.get(), store);
-    second_operand(alloc, right, operator, &left, store)
+    let left = outcome_of(alloc, left, store);
+    match &left {
+        Ok(value) => {
+            let right = outcome_of(alloc, right, store);
+            on_operands(store, operator, value, &right)
+        }
+        Err(fault) => Err(*fault),
+    }
 }
 
 /// Returns the result of a call on the values of two expressions.
@@ -160,16 +176,22 @@ pub(crate) fn two_operands<'a, L: EvalEnv>(
 fn two_called<'a, L: EvalEnv>(
     alloc: Global,
     called: BinaryCall,
-    left: &'a Shared<Expr>,
-    right: &'a Shared<Expr>,
+    left: &'a Expr,
+    right: &'a Expr,
     store: &'a L,
 ) -> Result<BorrowedOrOwned<'a>, EvalFault>
-    ensures { let world = decided_world (L.stored store.now) (L.above store.now) in
+    ensures { let world = decided_entities (L.stored store.now) (L.above store.now) in
         Answers result (and_then (meaning (L.asked store.now) world left.now)
         (λ v. and_then (meaning (L.asked store.now) world right.now) (apply_binary_call called v))) }
 {
-    let left = outcome_of(alloc, left.get(), store);
-    second_called(alloc, right, called, &left, store)
+    let left = outcome_of(alloc, left, store);
+    match &left {
+        Ok(value) => {
+            let right = outcome_of(alloc, right, store);
+            called_on_two(called, value, &right)
+        }
+        Err(fault) => Err(*fault),
+    }
 }
 
 /// Returns the result of an operator on the value of an expression.
@@ -178,39 +200,15 @@ fn two_called<'a, L: EvalEnv>(
 fn one_operand<'a, L: EvalEnv>(
     alloc: Global,
     operator: &Unary,
-    operand: &'a Shared<Expr>,
+    operand: &'a Expr,
     store: &'a L,
 ) -> Result<BorrowedOrOwned<'a>, EvalFault>
     ensures { Answers result (and_then
-        (meaning (L.asked store.now) (decided_world (L.stored store.now) (L.above store.now)) operand.now)
+        (meaning (L.asked store.now) (decided_entities (L.stored store.now) (L.above store.now)) operand.now)
         (apply_unary operator.now)) }
 {
-    let given = outcome_of(alloc, operand.get(), store);
+    let given = outcome_of(alloc, operand, store);
     on_operand(operator, &given)
-}
-
-/// Returns the result of an operator on the left value and the value of an expression; if the left result is an
-/// error, that error.
-#[cycle(evaluate)]
-#[inline(never)]
-fn second_operand<'a, L: EvalEnv>(
-    alloc: Global,
-    right: &'a Shared<Expr>,
-    operator: Binary,
-    left: &Result<BorrowedOrOwned<'a>, EvalFault>,
-    store: &'a L,
-) -> Result<BorrowedOrOwned<'a>, EvalFault>
-    ensures { let world = decided_world (L.stored store.now) (L.above store.now) in
-        AnswersNext left.now
-        (λ v. and_then (meaning (L.asked store.now) world right.now) (apply_binary world operator v)) result }
-{
-    match left {
-        Ok(value) => {
-            let right = outcome_of(alloc, right.get(), store);
-            on_operands(store, operator, value, &right)
-        }
-        Err(fault) => Err(*fault),
-    }
 }
 
 /// Returns the result of a call on the value of an expression.
@@ -219,39 +217,15 @@ fn second_operand<'a, L: EvalEnv>(
 fn one_called<'a, L: EvalEnv>(
     alloc: Global,
     called: UnaryCall,
-    operand: &'a Shared<Expr>,
+    operand: &'a Expr,
     store: &'a L,
 ) -> Result<BorrowedOrOwned<'a>, EvalFault>
     ensures { Answers result (and_then
-        (meaning (L.asked store.now) (decided_world (L.stored store.now) (L.above store.now)) operand.now)
+        (meaning (L.asked store.now) (decided_entities (L.stored store.now) (L.above store.now)) operand.now)
         (apply_unary_call called)) }
 {
-    let given = outcome_of(alloc, operand.get(), store);
+    let given = outcome_of(alloc, operand, store);
     called_on(called, &given)
-}
-
-/// Returns the result of a call on the left value and the value of an expression; if the left result is an error,
-/// that error.
-#[cycle(evaluate)]
-#[inline(never)]
-fn second_called<'a, L: EvalEnv>(
-    alloc: Global,
-    right: &'a Shared<Expr>,
-    called: BinaryCall,
-    left: &Result<BorrowedOrOwned<'a>, EvalFault>,
-    store: &'a L,
-) -> Result<BorrowedOrOwned<'a>, EvalFault>
-    ensures { let world = decided_world (L.stored store.now) (L.above store.now) in
-        AnswersNext left.now
-        (λ v. and_then (meaning (L.asked store.now) world right.now) (apply_binary_call called v)) result }
-{
-    match left {
-        Ok(value) => {
-            let right = outcome_of(alloc, right.get(), store);
-            called_on_two(called, value, &right)
-        }
-        Err(fault) => Err(*fault),
-    }
 }
 
 /// Returns a field or an attribute of the value of an expression.
@@ -259,16 +233,19 @@ fn second_called<'a, L: EvalEnv>(
 #[inline(never)]
 pub(crate) fn field_of<'a, L: EvalEnv>(
     alloc: Global,
-    owner: &'a Shared<Expr>,
-    name: &Text,
+    owner: &'a Expr,
+    name: &str,
     store: &'a L,
 ) -> Result<BorrowedOrOwned<'a>, EvalFault>
     ensures { Answers result (and_then
-        (meaning (L.asked store.now) (decided_world (L.stored store.now) (L.above store.now)) owner.now)
-        (field_of (decided_world (L.stored store.now) (L.above store.now)) name.now)) }
+        (meaning (L.asked store.now) (decided_entities (L.stored store.now) (L.above store.now)) owner.now)
+        (field_of (decided_entities (L.stored store.now) (L.above store.now)) name.now)) }
 {
-    match owner.get() {
-        Expr::Variable(variable) => { lent(variable_field(store, *variable, name.as_str())) }
+    match owner {
+        Expr::Variable(variable) => {
+            let value = variable_field(store, *variable, name)?;
+            Ok(BorrowedOrOwned::borrowed(value))
+        }
         other => {
             let given = outcome_of(alloc, other, store);
             field_in(alloc, store, &given, name)
@@ -281,15 +258,15 @@ pub(crate) fn field_of<'a, L: EvalEnv>(
 #[inline(never)]
 fn has_of<'a, L: EvalEnv>(
     alloc: Global,
-    owner: &'a Shared<Expr>,
-    name: &Text,
+    owner: &'a Expr,
+    name: &str,
     store: &'a L,
 ) -> Result<BorrowedOrOwned<'a>, EvalFault>
     ensures { Answers result (and_then
-        (meaning (L.asked store.now) (decided_world (L.stored store.now) (L.above store.now)) owner.now)
-        (has_field (decided_world (L.stored store.now) (L.above store.now)) name.now)) }
+        (meaning (L.asked store.now) (decided_entities (L.stored store.now) (L.above store.now)) owner.now)
+        (has_field (decided_entities (L.stored store.now) (L.above store.now)) name.now)) }
 {
-    let given = outcome_of(alloc, owner.get(), store);
+    let given = outcome_of(alloc, owner, store);
     has_in(store, &given, name)
 }
 
@@ -298,14 +275,20 @@ fn has_of<'a, L: EvalEnv>(
 #[inline(never)]
 fn set_of<'a, L: EvalEnv>(
     alloc: Global,
-    members: &'a Items<Expr>,
+    members: &'a [Expr],
     store: &'a L,
 ) -> Result<BorrowedOrOwned<'a>, EvalFault>
     ensures { Answers result (and_then
-        (each (map (meaning (L.asked store.now) (decided_world (L.stored store.now) (L.above store.now))) members.now))
+        (each (map (meaning (L.asked store.now) (decided_entities (L.stored store.now) (L.above store.now)))
+        members.now))
         (λ vs. Ok (set (values_of (set_list vs))))) }
 {
-    set_with(evaluate_each(alloc, members, store))
+    let mut values = Vec::with_capacity(alloc, members.len())?;
+    for member in members {
+        let given = outcome_of(alloc, member, store);
+        add_value(alloc, &mut values, given)?;
+    }
+    Ok(BorrowedOrOwned::computed(Value::set(values)?))
 }
 
 /// Returns the record of the values of named expressions.
@@ -318,47 +301,13 @@ fn record_of<'a, L: EvalEnv>(
 ) -> Result<BorrowedOrOwned<'a>, EvalFault>
     ensures { Answers result (and_then
         (each_field
-        (map (named_meaning (L.asked store.now) (decided_world (L.stored store.now) (L.above store.now))) fields.now)
+        (map (named_meaning (L.asked store.now) (decided_entities (L.stored store.now) (L.above store.now))) fields.now)
         []) (λ done. Ok (record_of (fields_of done)))) }
-{
-    record_with(evaluate_fields(alloc, fields, store))
-}
-
-/// Returns the values of expressions, in order.
-#[cycle(evaluate)]
-#[inline(never)]
-fn evaluate_each<'a, L: EvalEnv>(
-    alloc: Global,
-    exprs: &'a Items<Expr>,
-    store: &'a L,
-) -> Result<Vec<Value>, EvalFault>
-    ensures { let world = decided_world (L.stored store.now) (L.above store.now) in
-        let m = each (map (meaning (L.asked store.now) world) exprs.now) in
-        MatchResult result (λ vs. m ≡ Ok vs.items) (λ e. e ≢ EvalFault.NoMemory → m ≡ Err e) }
-{
-    let mut values = Vec::with_capacity(alloc, exprs.len())?;
-    for expr in exprs.as_slice() {
-        let given = outcome_of(alloc, expr, store);
-        add_value(alloc, &mut values, given)?;
-    }
-    Ok(values)
-}
-
-/// Returns the fields of named expressions, in the order in which they are written.
-#[cycle(evaluate)]
-#[inline(never)]
-fn evaluate_fields<'a, L: EvalEnv>(
-    alloc: Global,
-    fields: &'a Items<Named<Expr>>,
-    store: &'a L,
-) -> Result<Record, EvalFault>
-    ensures { let world = decided_world (L.stored store.now) (L.above store.now) in
-        Answers result (each_field (map (named_meaning (L.asked store.now) world) fields.now) []) }
 {
     let mut record = Record::new(alloc);
     for field in fields.as_slice() {
         let given = outcome_of(alloc, &field.value, store);
         add_field(alloc, &mut record, &field.name, given)?;
     }
-    Ok(record)
+    Ok(BorrowedOrOwned::computed(Value::from_record(record)))
 }

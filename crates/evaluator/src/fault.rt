@@ -20,7 +20,7 @@ pub enum EvalFault {
     /// The result of arithmetic is outside signed 64 bits.
     #[error("integer overflow")]
     ArithBoundsError,
-    /// A string is not a decimal, or not an IP address.
+    /// A string denotes no decimal or no IP address.
     #[error("invalid decimal or IP address")]
     ExtensionError,
     /// An allocation failed.

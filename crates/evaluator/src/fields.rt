@@ -1,41 +1,21 @@
 //! The fields of records and the attributes of entities.
 ghost use Rattle.std.specs.Prelude.{◌≡◌, MatchResult, Ok, Err, option_map};
 ghost use Rattle.values.specs.BorrowedView.{of_borrowed};
-ghost use Rattle.evaluator.specs.inner.Computing.{decided_world, Answers, found_or, attribute, field_of};
-ghost use Rattle.evaluator.specs.inner.Computing.{and_then, has_attribute, has_field, truth, TellsNumber};
+ghost use Rattle.evaluator.specs.inner.Computing.{decided_entities, Answers, attribute, field_of};
+ghost use Rattle.evaluator.specs.inner.Computing.{and_then, has_attribute, has_field, truth, AnswersNumber};
 ghost use Rattle.evaluator.specs.Evaluation.{variable_value};
 
 use crate::borrowed_or_owned::{BorrowedOrOwned, Ownership};
+use crate::eval_env::EvalEnv;
 use crate::fault::EvalFault;
 use crate::lookup::Lookup;
 use crate::numbers::number_or_none;
-use crate::question::EvalEnv;
 use evaluator_steps::attribute_in;
 use grammar_core::Variable;
 use std::alloc::Global;
 use values::{BorrowedKind, EntityUid, Kind, Record, Value};
 
-/// Returns the value, or `AttrDoesNotExist`.
-fn found<'a>(found: Option<&'a Value>) -> Result<BorrowedOrOwned<'a>, EvalFault>
-    ensures { result ≡ found_or EvalFault.AttrDoesNotExist (option_map (λ v. v.now) found.entry) }
-{
-    match found {
-        Some(value) => Ok(BorrowedOrOwned::borrowed(value)),
-        None => Err(EvalFault::AttrDoesNotExist),
-    }
-}
-
-/// Returns a copy of the value, or `AttrDoesNotExist`.
-fn copy_found<'a>(alloc: Global, found: Option<&Value>) -> Result<BorrowedOrOwned<'a>, EvalFault>
-    ensures { Answers result (found_or EvalFault.AttrDoesNotExist (option_map (λ v. v.now) found.entry)) }
-{
-    match found {
-        Some(value) => Ok(BorrowedOrOwned::computed(value.copy(alloc)?)),
-        None => Err(EvalFault::AttrDoesNotExist),
-    }
-}
-
-/// Returns the value of an attribute, borrowed. `fields` is `None` for an entity that is not stored.
+/// Returns the value of an attribute, borrowed. `fields` are the attributes of the entity, `None` if it is not stored.
 fn attribute_at<'a>(fields: Option<&'a Record>, name: &str) -> Result<&'a Value, EvalFault>
     ensures { let due = attribute (option_map (λ r. r.now) fields.entry) name.now in
         MatchResult result (λ v. due ≡ Ok v.now) (λ e. due ≡ Err e) }
@@ -47,19 +27,7 @@ fn attribute_at<'a>(fields: Option<&'a Record>, name: &str) -> Result<&'a Value,
     }
 }
 
-/// Returns a borrowed value, or the error.
-pub(crate) fn lent<'a>(
-    found: Result<&'a Value, EvalFault>,
-) -> Result<BorrowedOrOwned<'a>, EvalFault>
-    ensures { MatchResult found.entry (λ v. result ≡ Ok v.now) (λ e. result ≡ Err e) }
-{
-    match found {
-        Ok(value) => Ok(BorrowedOrOwned::borrowed(value)),
-        Err(fault) => Err(fault),
-    }
-}
-
-/// Returns the value of an entity's attribute.
+/// Returns the value of an attribute of an entity.
 fn attribute<'a, L: Lookup>(
     store: &'a L,
     uid: &EntityUid,
@@ -67,18 +35,19 @@ fn attribute<'a, L: Lookup>(
 ) -> Result<BorrowedOrOwned<'a>, EvalFault>
     ensures { result ≡ attribute (L.stored store.now uid.now) name.now }
 {
-    lent(attribute_at(store.attrs_of(uid), name))
+    let value = attribute_at(store.attrs_of(uid), name)?;
+    Ok(BorrowedOrOwned::borrowed(value))
 }
 
-/// Returns the value of a field or an attribute of a variable. Most conditions have such an access, so it builds no
-/// value for the variable.
+/// Returns the value of a field or an attribute of a variable. It builds no value for the variable, since most
+/// conditions have such an access.
 #[tactic(auto, using(crate::proofs::Variables::field_under))]
 pub(crate) fn variable_field<'a, L: EvalEnv>(
     store: &'a L,
     variable: Variable,
     name: &str,
 ) -> Result<&'a Value, EvalFault>
-    ensures { let due = field_of (decided_world (L.stored store.now) (L.above store.now)) name.now
+    ensures { let due = field_of (decided_entities (L.stored store.now) (L.above store.now)) name.now
         (variable_value variable (L.asked store.now)) in
         MatchResult result (λ v. due ≡ Ok v.now) (λ e. due ≡ Err e) }
 {
@@ -91,7 +60,7 @@ pub(crate) fn variable_number<L: EvalEnv>(
     variable: Variable,
     name: &str,
 ) -> Result<Option<i64>, EvalFault>
-    ensures { TellsNumber result (field_of (decided_world (L.stored store.now) (L.above store.now)) name.now
+    ensures { AnswersNumber result (field_of (decided_entities (L.stored store.now) (L.above store.now)) name.now
         (variable_value variable (L.asked store.now))) }
 {
     match variable_field(store, variable, name) {
@@ -100,7 +69,8 @@ pub(crate) fn variable_number<L: EvalEnv>(
     }
 }
 
-/// Returns whether there is this attribute; an entity that is not stored has none.
+/// Returns whether an entity has an attribute. `fields` are its attributes; an entity that is not stored (`None`) has
+/// none.
 fn has_attribute(fields: Option<&Record>, name: &str) -> bool
     ensures { result ≡ has_attribute (option_map (λ r. r.now) fields.entry) name.now }
 {
@@ -113,7 +83,7 @@ fn has_attribute(fields: Option<&Record>, name: &str) -> bool
 /// Returns whether a variable has a field or an attribute.
 #[tactic(auto, using(crate::proofs::Variables::has_under))]
 pub(crate) fn variable_has<L: EvalEnv>(store: &L, variable: Variable, name: &str) -> bool
-    ensures { has_field (decided_world (L.stored store.now) (L.above store.now)) name.now
+    ensures { has_field (decided_entities (L.stored store.now) (L.above store.now)) name.now
         (variable_value variable (L.asked store.now)) ≡ truth result }
 {
     has_attribute(store.fields_of(variable), name)
@@ -126,11 +96,14 @@ fn field_of_borrowed<'a, L: Lookup>(
     owner: BorrowedKind<'a>,
     name: &str,
 ) -> Result<BorrowedOrOwned<'a>, EvalFault>
-    ensures { result ≡ field_of (decided_world (L.stored store.now) (L.above store.now)) name.now
+    ensures { result ≡ field_of (decided_entities (L.stored store.now) (L.above store.now)) name.now
         (of_borrowed owner.entry) }
 {
     match owner {
-        BorrowedKind::Record(fields) => found(fields.field(name)),
+        BorrowedKind::Record(fields) => match fields.field(name) {
+            Some(value) => Ok(BorrowedOrOwned::borrowed(value)),
+            None => Err(EvalFault::AttrDoesNotExist),
+        },
         BorrowedKind::Entity(uid) => attribute(store, uid, name),
         _ => Err(EvalFault::TypeError),
     }
@@ -144,10 +117,13 @@ fn field_of_computed<'a, L: Lookup>(
     owner: &Value,
     name: &str,
 ) -> Result<BorrowedOrOwned<'a>, EvalFault>
-    ensures { Answers result (field_of (decided_world (L.stored store.now) (L.above store.now)) name.now owner.now) }
+    ensures { Answers result (field_of (decided_entities (L.stored store.now) (L.above store.now)) name.now owner.now) }
 {
     match owner.kind() {
-        Kind::Record(fields) => copy_found(alloc, fields.field(name)),
+        Kind::Record(fields) => match fields.field(name) {
+            Some(value) => Ok(BorrowedOrOwned::computed(value.copy(alloc)?)),
+            None => Err(EvalFault::AttrDoesNotExist),
+        },
         Kind::Entity(uid) => attribute(store, uid, name),
         _ => Err(EvalFault::TypeError),
     }
@@ -160,7 +136,7 @@ pub(crate) fn field<'a, L: Lookup>(
     owner: &BorrowedOrOwned<'a>,
     name: &str,
 ) -> Result<BorrowedOrOwned<'a>, EvalFault>
-    ensures { Answers result (field_of (decided_world (L.stored store.now) (L.above store.now)) name.now owner.now) }
+    ensures { Answers result (field_of (decided_entities (L.stored store.now) (L.above store.now)) name.now owner.now) }
 {
     match &owner.ownership {
         Ownership::Borrowed(value) => field_of_borrowed(store, value.kind(), name),
@@ -175,7 +151,7 @@ pub(crate) fn has<L: Lookup>(
     owner: &BorrowedOrOwned<'_>,
     name: &str,
 ) -> Result<bool, EvalFault>
-    ensures { has_field (decided_world (L.stored store.now) (L.above store.now)) name.now owner.now
+    ensures { has_field (decided_entities (L.stored store.now) (L.above store.now)) name.now owner.now
         ≡ and_then result truth }
 {
     match owner.kind() {

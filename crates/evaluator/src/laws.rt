@@ -1,11 +1,11 @@
 //! Theorems about the definitions. The functions are no-ops.
-ghost use Rattle.evaluator.specs.Laws.{HaveOneOutcome, HaveOneOutcomeInFiniteHierarchies, NothingWantsMemory};
+ghost use Rattle.evaluator.specs.Laws.{HaveOneOutcome, HaveOneOutcomeInFiniteHierarchies, NoOutcomeIsNoMemory};
 ghost use Rattle.evaluator.specs.inner.Meanings.{MeaningsAreGiven};
 
 use ancestor_search::laws::paths_are_decided;
 use values::{one_decimal_a_text, one_network_a_text, sets_hold_their_members};
 
-/// Proves that the computed meaning of an expression is its only outcome, if a test decides the ancestor relation.
+/// Proves that the computed outcome of an expression is its only outcome, if a test decides the ancestor relation.
 /// No-op.
 pub(crate) fn meanings_are_given()
     ensures { MeaningsAreGiven }
@@ -20,7 +20,7 @@ pub(crate) fn meanings_are_given()
 pub fn expressions_have_one_outcome()
     ensures decided { HaveOneOutcome }
     ensures finite { HaveOneOutcomeInFiniteHierarchies }
-    ensures memory { NothingWantsMemory }
+    ensures memory { NoOutcomeIsNoMemory }
 {
     meanings_are_given();
     paths_are_decided();

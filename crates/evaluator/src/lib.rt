@@ -4,6 +4,7 @@
 mod borrowed_or_owned;
 mod calls;
 mod choosing;
+mod eval_env;
 mod evaluating;
 mod fault;
 mod fields;
@@ -13,7 +14,6 @@ mod lookup;
 mod numbers;
 mod operands;
 mod operators;
-mod question;
 mod steps;
 mod testing;
 
@@ -24,8 +24,8 @@ pub use ancestor_search::{
     Ancestry, Graph, ParentsOf, ancestors_of, is_among, is_ancestor, least_cycle, on_cycles,
 };
 pub use borrowed_or_owned::BorrowedOrOwned;
+pub use eval_env::{EvalEnv, RequestEnv};
 pub use evaluating::{evaluate, evaluate_condition, evaluate_in, evaluate_test};
 pub use fault::EvalFault;
 pub use laws::expressions_have_one_outcome;
 pub use lookup::Lookup;
-pub use question::{EvalEnv, RequestEnv};

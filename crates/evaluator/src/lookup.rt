@@ -8,7 +8,7 @@ use values::{EntityUid, Record};
 
 /// The stored entities: their ancestors and their attributes.
 pub trait Lookup: Ancestry {
-    /// The attributes of each stored entity, as keys with values; `None` for one that is not stored.
+    /// The attributes of each stored entity; `None` for an entity that is not stored.
     ghost stored: { Self → EntityUid → Option (List Field) };
 
     /// Returns the attributes of an entity, or `None` if and only if it is not stored. An entity that is not stored

@@ -1,4 +1,4 @@
-//! Operands of one kind: the content of a value, or `TypeError`.
+//! The content of an operand of a certain kind. The error is `TypeError` if the value is of another kind.
 ghost use Rattle.std.specs.Prelude.{◌≡◌, MatchResult, Ok, Err};
 ghost use Rattle.evaluator.specs.Outcomes.{boolean_in, long_in, text_in, entity_uid_in, members_in};
 ghost use Rattle.evaluator.specs.Outcomes.{decimal_in, network_in};
@@ -83,7 +83,7 @@ pub(crate) fn network_of(given: &BorrowedOrOwned<'_>) -> Result<IpNet, EvalFault
     }
 }
 
-/// Returns both values as integers; one step for the caller, where two may fail.
+/// Returns both values as integers: one result for the caller to pass on in place of two.
 pub(crate) fn longs_of(
     a: &BorrowedOrOwned<'_>,
     b: &BorrowedOrOwned<'_>,
@@ -94,7 +94,7 @@ pub(crate) fn longs_of(
     Ok((first, long_of(b)?))
 }
 
-/// Returns both values as decimals.
+/// Returns both values as decimals: one result for the caller to pass on in place of two.
 pub(crate) fn decimals_of(
     a: &BorrowedOrOwned<'_>,
     b: &BorrowedOrOwned<'_>,

@@ -1,12 +1,12 @@
-//! Operators, on values.
-ghost use Rattle.std.specs.Prelude.{◌≡◌, ◌⊎◌, ◌↔◌, ◌+ℤ◌, ◌-ℤ◌, ◌*ℤ◌, int_lt, int_le, IsTrue, Contains, IfOk};
-ghost use Rattle.std.specs.Prelude.{MatchResult, Ok, Err};
+//! The operators, on values.
+ghost use Rattle.std.specs.Prelude.{◌≡◌, ◌⊎◌, ◌↔◌, IsTrue, Contains, IfOk, MatchResult, Ok, Err};
 ghost use Rattle.std.specs.List.{list_all, list_any};
 ghost use Rattle.values.specs.Sets.{has_member};
 ghost use Rattle.ancestor_search.specs.Hierarchy.{IsAscending, names};
 ghost use Rattle.evaluator.specs.Outcomes.{entity_uid_in};
-ghost use Rattle.evaluator.specs.inner.Computing.{decided_world, demanded, Answers, number_or_fault, apply_unary, sets};
-ghost use Rattle.evaluator.specs.inner.Computing.{apply_binary, is_in, in_members, in_value, and_then, truth, bounded};
+ghost use Rattle.evaluator.specs.inner.Computing.{decided_entities, demanded, Answers, number_or_fault, apply_unary};
+ghost use Rattle.evaluator.specs.inner.Computing.{sets};
+ghost use Rattle.evaluator.specs.inner.Computing.{apply_binary, is_in, in_members, in_value};
 
 use crate::borrowed_or_owned::BorrowedOrOwned;
 use crate::fault::EvalFault;
@@ -31,7 +31,7 @@ pub(crate) fn unary(operator: &Unary, given: &BorrowedOrOwned<'_>) -> Result<Val
     }
 }
 
-/// Returns the result of checked arithmetic.
+/// Returns the result of checked arithmetic as a value; `ArithBoundsError` for `None`.
 fn number(found: Option<i64>) -> Result<Value, EvalFault>
     ensures { result ≡ number_or_fault found }
 {
@@ -41,45 +41,9 @@ fn number(found: Option<i64>) -> Result<Value, EvalFault>
     }
 }
 
-/// Returns whether the first of two integers is less, or the error.
-fn less(numbers: Result<(i64, i64), EvalFault>) -> Result<Value, EvalFault>
-    ensures { result ≡ and_then numbers (λ p. truth (int_lt p.0 p.1)) }
-{
-    let (a, b) = numbers?;
-    Ok(Value::boolean(a < b))
-}
-
-fn less_or_equal(numbers: Result<(i64, i64), EvalFault>) -> Result<Value, EvalFault>
-    ensures { result ≡ and_then numbers (λ p. truth (int_le p.0 p.1)) }
-{
-    let (a, b) = numbers?;
-    Ok(Value::boolean(a <= b))
-}
-
-fn sum(numbers: Result<(i64, i64), EvalFault>) -> Result<Value, EvalFault>
-    ensures { result ≡ and_then numbers (λ p. bounded (p.0 +ℤ p.1)) }
-{
-    let (a, b) = numbers?;
-    number(a.checked_add(b))
-}
-
-fn difference(numbers: Result<(i64, i64), EvalFault>) -> Result<Value, EvalFault>
-    ensures { result ≡ and_then numbers (λ p. bounded (p.0 -ℤ p.1)) }
-{
-    let (a, b) = numbers?;
-    number(a.checked_sub(b))
-}
-
-fn product(numbers: Result<(i64, i64), EvalFault>) -> Result<Value, EvalFault>
-    ensures { result ≡ and_then numbers (λ p. bounded (p.0 *ℤ p.1)) }
-{
-    let (a, b) = numbers?;
-    number(a.checked_mul(b))
-}
-
 /// Returns whether `a` is `b` or a descendant of it.
 fn is_in<L: Lookup>(store: &L, a: &EntityUid, b: &EntityUid) -> Result<bool, NoMemory>
-    ensures { IfOk result (λ r. r ≡ is_in (decided_world (L.stored store.now) (L.above store.now)) a.now b.now) }
+    ensures { IfOk result (λ r. r ≡ is_in (decided_entities (L.stored store.now) (L.above store.now)) a.now b.now) }
 {
     if a.cmp(b).is_eq() {
         return Ok(true);
@@ -87,7 +51,7 @@ fn is_in<L: Lookup>(store: &L, a: &EntityUid, b: &EntityUid) -> Result<bool, NoM
     store.is_ancestor(b, a)
 }
 
-/// Returns a member of a set as an entity.
+/// Returns a member of a set as an entity; `TypeError` if it is of another kind.
 fn member_entity(member: &Value) -> Result<&EntityUid, EvalFault>
     ensures { MatchResult result (λ u. demanded (entity_uid_in member.now) ≡ Ok u.now)
         (λ e. demanded (entity_uid_in member.now) ≡ Err e) }
@@ -106,9 +70,11 @@ fn is_within(a: &EntityUid, ancestors: &[&EntityUid], b: &EntityUid) -> bool
     a.cmp(b).is_eq() || is_among(ancestors, b)
 }
 
-/// Returns whether `a` is in some member; all members must be entities. The ancestors of `a` are looked up once.
+/// Returns whether `a` is a member or a descendant of one; `TypeError` if some member is not an entity. The ancestors
+/// of `a` are looked up once.
 fn in_members<L: Lookup>(store: &L, a: &EntityUid, members: &[Value]) -> Result<bool, EvalFault>
-    ensures { Answers result (in_members (decided_world (L.stored store.now) (L.above store.now)) a.now members.now) }
+    ensures { Answers result (in_members (decided_entities (L.stored store.now) (L.above store.now)) a.now
+        members.now) }
 {
     let ancestors = store.ancestors(a)?;
     let mut found = false;
@@ -121,14 +87,14 @@ fn in_members<L: Lookup>(store: &L, a: &EntityUid, members: &[Value]) -> Result<
     Ok(found)
 }
 
-/// Returns whether `a` is in an entity, or in some member of a set.
+/// Returns the result of `a in b`, where `b` must be an entity or a set of entities.
 #[tactic(auto, using(crate::proofs::Conversions::conversions))]
 fn in_value<L: Lookup>(
     store: &L,
     a: &EntityUid,
     b: &BorrowedOrOwned<'_>,
 ) -> Result<Value, EvalFault>
-    ensures { Answers result (in_value (decided_world (L.stored store.now) (L.above store.now)) a.now b.now) }
+    ensures { Answers result (in_value (decided_entities (L.stored store.now) (L.above store.now)) a.now b.now) }
 {
     match b.kind() {
         BorrowedKind::Entity(uid) => Ok(Value::boolean(is_in(store, a, uid)?)),
@@ -137,7 +103,7 @@ fn in_value<L: Lookup>(
     }
 }
 
-/// Returns whether a value is a member. Logarithmic time. Does not allocate.
+/// Returns whether a value is a member of a set. O(log n). Does not allocate.
 fn is_member(members: &Set, given: &BorrowedOrOwned<'_>) -> bool
     ensures { result ≡ has_member members.now given.now }
 {
@@ -170,16 +136,31 @@ pub(crate) fn binary<L: Lookup>(
     b: &BorrowedOrOwned<'_>,
 ) -> Result<Value, EvalFault>
     ensures { Answers result
-        (apply_binary (decided_world (L.stored store.now) (L.above store.now)) operator a.now b.now) }
+        (apply_binary (decided_entities (L.stored store.now) (L.above store.now)) operator a.now b.now) }
 {
     match operator {
         Binary::Equal => Ok(Value::boolean(a.compare(b).is_eq())),
         Binary::In => in_value(store, entity_of(a)?, b),
-        Binary::Less => less(longs_of(a, b)),
-        Binary::LessOrEqual => less_or_equal(longs_of(a, b)),
-        Binary::Add => sum(longs_of(a, b)),
-        Binary::Subtract => difference(longs_of(a, b)),
-        Binary::Multiply => product(longs_of(a, b)),
+        Binary::Less => {
+            let (first, second) = longs_of(a, b)?;
+            Ok(Value::boolean(first < second))
+        }
+        Binary::LessOrEqual => {
+            let (first, second) = longs_of(a, b)?;
+            Ok(Value::boolean(first <= second))
+        }
+        Binary::Add => {
+            let (first, second) = longs_of(a, b)?;
+            number(first.checked_add(second))
+        }
+        Binary::Subtract => {
+            let (first, second) = longs_of(a, b)?;
+            number(first.checked_sub(second))
+        }
+        Binary::Multiply => {
+            let (first, second) = longs_of(a, b)?;
+            number(first.checked_mul(second))
+        }
         Binary::Contains => Ok(Value::boolean(is_member(set_of(a)?, b))),
         Binary::ContainsAll => contains_all(a, b),
         Binary::ContainsAny => contains_any(a, b),

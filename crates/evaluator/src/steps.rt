@@ -1,12 +1,10 @@
-//! The steps after the operands of an expression, outside the recursion: an error is passed on. A result is borrowed,
-//! since each function that takes one by value copies it.
-ghost use Rattle.std.specs.Prelude.{◌≡◌, ◌≢◌, ◌++◌, ◌∷◌, [], List, MatchResult, Result, Ok, Err};
-ghost use Rattle.grammar_core.specs.declared.operator.Unary.TheVariants.{Not};
+//! The steps after the evaluation of an operand. Each takes the operand's result; if it is an error, the step returns
+//! it. Most borrow the result, since a result that is passed by value is copied. They are functions of their own, often
+//! not inlined, so that a level of the recursion takes little stack.
+ghost use Rattle.std.specs.Prelude.{◌≡◌, ◌++◌, ◌∷◌, []};
 ghost use Rattle.values.specs.Fields.{put};
-ghost use Rattle.values.specs.Sets.{set_list};
-ghost use Rattle.values.specs.Values.{PlainValue, set, record_of, values_of, fields_of};
 ghost use Rattle.evaluator.specs.Outcomes.{boolean_in, EvaluationResult};
-ghost use Rattle.evaluator.specs.inner.Computing.{decided_world, Answers, AnswersNext, AnswersInto, demanded};
+ghost use Rattle.evaluator.specs.inner.Computing.{decided_entities, Answers, AnswersNext, AnswersInto, demanded};
 ghost use Rattle.evaluator.specs.inner.Computing.{and_then, as_test, truth, apply_unary, apply_binary};
 ghost use Rattle.evaluator.specs.inner.Computing.{apply_unary_call, apply_binary_call, field_of, has_field};
 
@@ -22,17 +20,7 @@ use plain::{Text, beside};
 use std::alloc::Global;
 use values::{Record, Value};
 
-/// Returns the computed value, or the error.
-fn computed<'a>(found: Result<Value, EvalFault>) -> Result<BorrowedOrOwned<'a>, EvalFault>
-    ensures { result ≡ found }
-{
-    match found {
-        Ok(value) => Ok(BorrowedOrOwned::computed(value)),
-        Err(fault) => Err(fault),
-    }
-}
-
-/// Returns the operand as a `bool`.
+/// Returns the value of the operand as a `bool`; `TypeError` if it is not a boolean.
 pub(crate) fn tested(given: &Result<BorrowedOrOwned<'_>, EvalFault>) -> Result<bool, EvalFault>
     ensures { AnswersNext given.now (λ v. demanded (boolean_in v)) result }
 {
@@ -42,38 +30,30 @@ pub(crate) fn tested(given: &Result<BorrowedOrOwned<'_>, EvalFault>) -> Result<b
     }
 }
 
-/// Returns the negation, or the error.
-pub(crate) fn opposite(found: Result<bool, EvalFault>) -> Result<bool, EvalFault>
-    ensures { (m : EvaluationResult) → Answers found (as_test m)
-        → Answers result (as_test (and_then m (apply_unary Not))) }
-{
-    Ok(!found?)
-}
-
-/// Returns whether the operand has a field or an attribute, as a `bool`.
+/// Returns whether the value of the operand has a field or an attribute, as a `bool`.
 #[inline(never)]
-pub(crate) fn has_told<L: Lookup>(
+pub(crate) fn has_as_bool<L: Lookup>(
     store: &L,
     given: &Result<BorrowedOrOwned<'_>, EvalFault>,
-    name: &Text,
+    name: &str,
 ) -> Result<bool, EvalFault>
     ensures { (m : EvaluationResult) → Answers given.now m → Answers result (as_test
-        (and_then m (has_field (decided_world (L.stored store.now) (L.above store.now)) name.now))) }
+        (and_then m (has_field (decided_entities (L.stored store.now) (L.above store.now)) name.now))) }
 {
     match given {
-        Ok(owner) => has(store, owner, name.as_str()),
+        Ok(owner) => has(store, owner, name),
         Err(fault) => Err(*fault),
     }
 }
 
-/// Returns a truth value as a value, or the error.
+/// Returns a `bool` as a value, or the error that is there instead.
 pub(crate) fn truth_of<'a>(found: Result<bool, EvalFault>) -> Result<BorrowedOrOwned<'a>, EvalFault>
     ensures { result ≡ and_then found truth }
 {
     Ok(BorrowedOrOwned::computed(Value::boolean(found?)))
 }
 
-/// Returns the result of an operator on its operand.
+/// Returns the result of an operator on the value of its operand.
 #[inline(never)]
 pub(crate) fn on_operand<'a>(
     operator: &Unary,
@@ -82,12 +62,12 @@ pub(crate) fn on_operand<'a>(
     ensures { AnswersNext given.now (apply_unary operator.now) result }
 {
     match given {
-        Ok(value) => computed(unary(operator, value)),
+        Ok(value) => Ok(BorrowedOrOwned::computed(unary(operator, value)?)),
         Err(fault) => Err(*fault),
     }
 }
 
-/// Returns the result of an operator on a value and its second operand.
+/// Returns the result of an operator on a value and the value of its second operand.
 #[inline(never)]
 pub(crate) fn on_operands<'a, L: Lookup>(
     store: &L,
@@ -96,15 +76,15 @@ pub(crate) fn on_operands<'a, L: Lookup>(
     right: &Result<BorrowedOrOwned<'_>, EvalFault>,
 ) -> Result<BorrowedOrOwned<'a>, EvalFault>
     ensures { AnswersNext right.now
-        (apply_binary (decided_world (L.stored store.now) (L.above store.now)) operator left.now) result }
+        (apply_binary (decided_entities (L.stored store.now) (L.above store.now)) operator left.now) result }
 {
     match right {
-        Ok(value) => computed(binary(store, operator, left, value)),
+        Ok(value) => Ok(BorrowedOrOwned::computed(binary(store, operator, left, value)?)),
         Err(fault) => Err(*fault),
     }
 }
 
-/// Returns the result of a call on its operand.
+/// Returns the result of a call on the value of its operand.
 #[inline(never)]
 pub(crate) fn called_on<'a>(
     called: UnaryCall,
@@ -113,12 +93,12 @@ pub(crate) fn called_on<'a>(
     ensures { AnswersNext given.now (apply_unary_call called) result }
 {
     match given {
-        Ok(value) => computed(unary_call(called, value)),
+        Ok(value) => Ok(BorrowedOrOwned::computed(unary_call(called, value)?)),
         Err(fault) => Err(*fault),
     }
 }
 
-/// Returns the result of a call on a value and its second operand.
+/// Returns the result of a call on a value and the value of its second operand.
 #[inline(never)]
 pub(crate) fn called_on_two<'a>(
     called: BinaryCall,
@@ -128,71 +108,45 @@ pub(crate) fn called_on_two<'a>(
     ensures { AnswersNext right.now (apply_binary_call called left.now) result }
 {
     match right {
-        Ok(value) => computed(binary_call(called, left, value)),
+        Ok(value) => Ok(BorrowedOrOwned::computed(binary_call(called, left, value)?)),
         Err(fault) => Err(*fault),
     }
 }
 
-/// Returns a field or an attribute of the operand.
+/// Returns a field or an attribute of the value of the operand.
 #[inline(never)]
 pub(crate) fn field_in<'a, L: Lookup>(
     alloc: Global,
     store: &'a L,
     given: &Result<BorrowedOrOwned<'a>, EvalFault>,
-    name: &Text,
+    name: &str,
 ) -> Result<BorrowedOrOwned<'a>, EvalFault>
     ensures { AnswersNext given.now
-        (field_of (decided_world (L.stored store.now) (L.above store.now)) name.now) result }
+        (field_of (decided_entities (L.stored store.now) (L.above store.now)) name.now) result }
 {
     match given {
-        Ok(owner) => field(alloc, store, owner, name.as_str()),
+        Ok(owner) => field(alloc, store, owner, name),
         Err(fault) => Err(*fault),
     }
 }
 
-/// Returns whether the operand has a field or an attribute.
+/// Returns whether the value of the operand has a field or an attribute.
 #[inline(never)]
 pub(crate) fn has_in<'a, L: Lookup>(
     store: &L,
     given: &Result<BorrowedOrOwned<'_>, EvalFault>,
-    name: &Text,
+    name: &str,
 ) -> Result<BorrowedOrOwned<'a>, EvalFault>
     ensures { AnswersNext given.now
-        (has_field (decided_world (L.stored store.now) (L.above store.now)) name.now) result }
+        (has_field (decided_entities (L.stored store.now) (L.above store.now)) name.now) result }
 {
     match given {
-        Ok(owner) => truth_of(has(store, owner, name.as_str())),
+        Ok(owner) => truth_of(has(store, owner, name)),
         Err(fault) => Err(*fault),
     }
 }
 
-/// Returns the set of these members, or the error.
-#[inline(never)]
-pub(crate) fn set_with<'a>(
-    given: Result<Vec<Value>, EvalFault>,
-) -> Result<BorrowedOrOwned<'a>, EvalFault>
-    ensures { (m : Result (List PlainValue) EvalFault)
-        → MatchResult given (λ vs. m ≡ Ok vs.items) (λ e. e ≢ EvalFault.NoMemory → m ≡ Err e)
-        → Answers result (and_then m (λ vs. Ok (set (values_of (set_list vs))))) }
-{
-    let members = given?;
-    Ok(BorrowedOrOwned::computed(Value::set(members)?))
-}
-
-/// Returns the record of these fields, or the error.
-#[inline(never)]
-pub(crate) fn record_with<'a>(
-    given: Result<Record, EvalFault>,
-) -> Result<BorrowedOrOwned<'a>, EvalFault>
-    ensures { AnswersNext given (λ done. Ok (record_of (fields_of done))) result }
-{
-    match given {
-        Ok(fields) => Ok(BorrowedOrOwned::computed(Value::from_record(fields))),
-        Err(fault) => Err(fault),
-    }
-}
-
-/// Returns the value, copied if it was borrowed.
+/// Returns the value of the operand, copied if it is borrowed.
 fn value_of(
     alloc: Global,
     given: Result<BorrowedOrOwned<'_>, EvalFault>,
@@ -202,24 +156,17 @@ fn value_of(
     Ok(given?.into_value(alloc)?)
 }
 
-/// Returns the value as an owned one, copied if it was borrowed.
+/// Returns the value of the operand as an owned one, copied if it is borrowed.
 pub(crate) fn owned<'a>(
     alloc: Global,
     given: Result<BorrowedOrOwned<'_>, EvalFault>,
 ) -> Result<BorrowedOrOwned<'a>, EvalFault>
     ensures { (m : EvaluationResult) → Answers given.entry m → Answers result m }
 {
-    computed(value_of(alloc, given))
+    Ok(BorrowedOrOwned::computed(value_of(alloc, given)?))
 }
 
-/// Returns a copy of a field's name.
-fn copied(name: &Text) -> Result<Text, EvalFault>
-    ensures { MatchResult result (λ n. n ≡ name.now) (λ e. e ≡ EvalFault.NoMemory) }
-{
-    Ok(name.copy()?)
-}
-
-/// Appends the value to the values.
+/// Appends the value of the operand to the values.
 pub(crate) fn add_value(
     alloc: Global,
     values: &mut Vec<Value>,
@@ -232,7 +179,7 @@ pub(crate) fn add_value(
     Ok(())
 }
 
-/// Puts the value into the fields, under this name.
+/// Sets the field of this name to the value of the operand.
 pub(crate) fn add_field(
     alloc: Global,
     fields: &mut Record,
@@ -242,7 +189,7 @@ pub(crate) fn add_field(
     ensures { AnswersInto given.entry (λ v. fields.new ≡ put name.now v fields.old) result }
 {
     let value = value_of(alloc, given)?;
-    let (value, name) = beside(value, copied(name))?;
+    let (value, name) = beside(value, name.copy())?;
     fields.insert(name, value)?;
     Ok(())
 }

@@ -1,20 +1,19 @@
-//! Evaluates tests to a `bool`, and what they compare to an `i64`, without building values: most conditions consist of
-//! such expressions, and only the boolean or the integer of their values is used.
-ghost use Rattle.evaluator.specs.inner.Computing.{decided_world, Answers, meaning, and_then, as_test, field_of};
-ghost use Rattle.evaluator.specs.inner.Computing.{has_field, apply_binary, TellsNumber, TellNumbers};
+//! Evaluation of conditions to a `bool`, and of the operands of `<` and `<=` to an `i64`, without building values. Most
+//! conditions consist of such expressions, and only the boolean or the integer in their values is used.
+ghost use Rattle.evaluator.specs.inner.Computing.{decided_entities, Answers, meaning, and_then, as_test, field_of};
+ghost use Rattle.evaluator.specs.inner.Computing.{has_field, apply_binary, AnswersNumber, AnswersNumbers};
 
 use crate::choosing::{both_test, choice_test, either_test};
+use crate::eval_env::EvalEnv;
 use crate::evaluating::{field_of, outcome_of, two_operands};
 use crate::fault::EvalFault;
 use crate::fields::{variable_has, variable_number};
 use crate::numbers::{Numbers, is_less, is_less_or_equal, literal_number, number_in};
-use crate::question::EvalEnv;
-use crate::steps::{has_told, opposite, tested};
+use crate::steps::{has_as_bool, tested};
 use grammar_core::{Binary, Expr, Unary};
-use plain::{Shared, Text};
 use std::alloc::Global;
 
-/// Evaluates an expression as a `bool`.
+/// Evaluates an expression as a condition, to a `bool`; `TypeError` if its value is not a boolean.
 #[cycle(evaluate)]
 #[inline(never)]
 pub(crate) fn test_of<'a, L: EvalEnv>(
@@ -23,17 +22,25 @@ pub(crate) fn test_of<'a, L: EvalEnv>(
     store: &'a L,
 ) -> Result<bool, EvalFault>
     ensures { Answers result (as_test
-        (meaning (L.asked store.now) (decided_world (L.stored store.now) (L.above store.now)) test.now)) }
+        (meaning (L.asked store.now) (decided_entities (L.stored store.now) (L.above store.now)) test.now)) }
 {
     match test {
-        Expr::Has(owner, name) => has_test(alloc, owner, name, store),
+        Expr::Has(owner, name) => has_test(alloc, owner.get(), name.as_str(), store),
         Expr::If(test, consequent, alternative) => {
-            choice_test(alloc, test, consequent, alternative, store)
+            choice_test(
+                alloc,
+                test.get(),
+                consequent.get(),
+                alternative.get(),
+                store,
+            )
         }
-        Expr::And(left, right) => both_test(alloc, left, right, store),
-        Expr::Or(left, right) => either_test(alloc, left, right, store),
-        Expr::Unary(Unary::Not, operand) => opposite(test_of(alloc, operand.get(), store)),
-        Expr::Binary(operator, left, right) => { binary_test(alloc, *operator, left, right, store) }
+        Expr::And(left, right) => both_test(alloc, left.get(), right.get(), store),
+        Expr::Or(left, right) => either_test(alloc, left.get(), right.get(), store),
+        Expr::Unary(Unary::Not, operand) => Ok(!test_of(alloc, operand.get(), store)?),
+        Expr::Binary(operator, left, right) => {
+            binary_test(alloc, *operator, left.get(), right.get(), store)
+        }
         other => {
             let given = outcome_of(alloc, other, store);
             tested(&given)
@@ -41,17 +48,17 @@ pub(crate) fn test_of<'a, L: EvalEnv>(
     }
 }
 
-/// Evaluates an operator on two expressions, as a `bool`.
+/// Evaluates an operator on two expressions as a condition, to a `bool`.
 #[cycle(evaluate)]
 #[inline(never)]
 fn binary_test<'a, L: EvalEnv>(
     alloc: Global,
     operator: Binary,
-    left: &'a Shared<Expr>,
-    right: &'a Shared<Expr>,
+    left: &'a Expr,
+    right: &'a Expr,
     store: &'a L,
 ) -> Result<bool, EvalFault>
-    ensures { let world = decided_world (L.stored store.now) (L.above store.now) in
+    ensures { let world = decided_entities (L.stored store.now) (L.above store.now) in
         Answers result (as_test (and_then (meaning (L.asked store.now) world left.now)
         (λ v. and_then (meaning (L.asked store.now) world right.now) (apply_binary world operator v)))) }
 {
@@ -70,34 +77,34 @@ fn binary_test<'a, L: EvalEnv>(
 #[inline(never)]
 fn has_test<'a, L: EvalEnv>(
     alloc: Global,
-    owner: &'a Shared<Expr>,
-    name: &Text,
+    owner: &'a Expr,
+    name: &str,
     store: &'a L,
 ) -> Result<bool, EvalFault>
     ensures { Answers result (as_test (and_then
-        (meaning (L.asked store.now) (decided_world (L.stored store.now) (L.above store.now)) owner.now)
-        (has_field (decided_world (L.stored store.now) (L.above store.now)) name.now))) }
+        (meaning (L.asked store.now) (decided_entities (L.stored store.now) (L.above store.now)) owner.now)
+        (has_field (decided_entities (L.stored store.now) (L.above store.now)) name.now))) }
 {
-    match owner.get() {
-        Expr::Variable(variable) => { Ok(variable_has(store, *variable, name.as_str())) }
+    match owner {
+        Expr::Variable(variable) => { Ok(variable_has(store, *variable, name)) }
         other => {
             let given = outcome_of(alloc, other, store);
-            has_told(store, &given, name)
+            has_as_bool(store, &given, name)
         }
     }
 }
 
-/// Returns the integers in the values of two expressions.
+/// Returns the integers in the values of two expressions; `None` for a value of another kind.
 #[cycle(evaluate)]
 #[inline(never)]
 fn two_numbers<'a, L: EvalEnv>(
     alloc: Global,
-    left: &'a Shared<Expr>,
-    right: &'a Shared<Expr>,
+    left: &'a Expr,
+    right: &'a Expr,
     store: &'a L,
 ) -> Result<Numbers, EvalFault>
-    ensures { let gives = meaning (L.asked store.now) (decided_world (L.stored store.now) (L.above store.now)) in
-        TellNumbers result (gives left.now) (gives right.now) }
+    ensures { let gives = meaning (L.asked store.now) (decided_entities (L.stored store.now) (L.above store.now)) in
+        AnswersNumbers result (gives left.now) (gives right.now) }
 {
     let first = number_of(alloc, left, store)?;
     let second = number_of(alloc, right, store)?;
@@ -109,15 +116,15 @@ fn two_numbers<'a, L: EvalEnv>(
 #[inline(never)]
 fn number_of<'a, L: EvalEnv>(
     alloc: Global,
-    expr: &'a Shared<Expr>,
+    expr: &'a Expr,
     store: &'a L,
 ) -> Result<Option<i64>, EvalFault>
-    ensures { TellsNumber result
-        (meaning (L.asked store.now) (decided_world (L.stored store.now) (L.above store.now)) expr.now) }
+    ensures { AnswersNumber result
+        (meaning (L.asked store.now) (decided_entities (L.stored store.now) (L.above store.now)) expr.now) }
 {
-    match expr.get() {
+    match expr {
         Expr::Literal(literal) => Ok(literal_number(literal)),
-        Expr::Field(owner, name) => field_number(alloc, owner, name, store),
+        Expr::Field(owner, name) => field_number(alloc, owner.get(), name.as_str(), store),
         other => {
             let given = outcome_of(alloc, other, store);
             number_in(&given)
@@ -130,16 +137,16 @@ fn number_of<'a, L: EvalEnv>(
 #[inline(never)]
 fn field_number<'a, L: EvalEnv>(
     alloc: Global,
-    owner: &'a Shared<Expr>,
-    name: &Text,
+    owner: &'a Expr,
+    name: &str,
     store: &'a L,
 ) -> Result<Option<i64>, EvalFault>
-    ensures { TellsNumber result (and_then
-        (meaning (L.asked store.now) (decided_world (L.stored store.now) (L.above store.now)) owner.now)
-        (field_of (decided_world (L.stored store.now) (L.above store.now)) name.now)) }
+    ensures { AnswersNumber result (and_then
+        (meaning (L.asked store.now) (decided_entities (L.stored store.now) (L.above store.now)) owner.now)
+        (field_of (decided_entities (L.stored store.now) (L.above store.now)) name.now)) }
 {
-    match owner.get() {
-        Expr::Variable(variable) => variable_number(store, *variable, name.as_str()),
+    match owner {
+        Expr::Variable(variable) => variable_number(store, *variable, name),
         _ => {
             let given = field_of(alloc, owner, name, store);
             number_in(&given)

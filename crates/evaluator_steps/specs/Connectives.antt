@@ -3,9 +3,9 @@
 -- (`evaluate`).
 use Rattle.std.specs.Prelude.{Bool, true, false, Result, Ok, Err}
 
--- `AndGives first second r` holds if `r` is the result of `&&` on operands with these results, each a boolean or an
--- error (also the type error of an operand that is not a boolean). A false or erroring first operand determines `r`
--- alone.
+-- `AndGives first second r` holds if `r` is the result of `&&` on operands with the results `first` and `second`, each
+-- a boolean or an error. An operand that is not a boolean has a type error as its result. A false or erroring first
+-- operand alone determines `r`.
 pub data AndGives {E : Type 0} : Result Bool E → Result Bool E → Result Bool E → Type 0 where
   and_false : {second : Result Bool E} → AndGives (Ok false) second (Ok false)
   and_true : {t : Bool} → AndGives (Ok true) (Ok t) (Ok t)

@@ -2,10 +2,10 @@
 ghost use Rattle.std.specs.Prelude.{Bool, Result, unwrap_or};
 ghost use Rattle.evaluator_steps.specs.Connectives.{AndGives};
 
-/// Returns the result of `&&` if its first operand determines it: false, or the error. Returns None if the result is
-/// that of the second operand.
+/// Returns the result of `&&` if its first operand determines it: false, or the first operand's error. Returns `None`
+/// if the result is that of the second operand.
 ///
-/// The second operand is then evaluated only on None, and its error cannot replace a false first operand. Does not
+/// A caller evaluates the second operand only on `None`, so its error cannot replace a false first operand. Does not
 /// allocate. Source: Cedar reference guide, "Operators and functions".
 pub fn decided_by_first<E: Copy>(first: Result<bool, E>) -> Option<Result<bool, E>>
     ensures { (second : Result Bool E) → AndGives first second (unwrap_or result second) }

@@ -8,8 +8,8 @@ use Rattle.explanation_texts.specs.declared.table.CodeWords.{CodeWords}
 use Rattle.explanation_texts.specs.declared.table.TheConstants.{ANY_CALL, POLICIES, SCHEMAS, ENTITIES}
 use Rattle.explanation_texts.specs.declared.table.TheConstants.{TYPES, MESSAGES, COMMANDS, HTTP}
 
--- The texts on an error code: its number and name, what it means, an example, what an explanation says of it, and what
--- to do.
+-- `Texts` has the texts on an error code: its number and name, its meaning, an example, what the first line of an
+-- explanation says of it, and what to do.
 pub record Texts : Type 0 where
   pub code : ℕ
   pub name : List ℕ
@@ -18,7 +18,8 @@ pub record Texts : Type 0 where
   pub says : List ℕ
   pub advice : List ℕ
 
--- `read_by text row` are the texts of `row`, where `text` gives the bytes of each; `texts_of words` those of `words`.
+-- `read_by text row` are the texts of `row`, where `text` gives the bytes of each part; `texts_of words` are those of
+-- `words`, whose parts are strings.
 abbrev pub read_by : {T : Type 0} → (T → List ℕ) → CodeWords T → Texts
 read_by text row = record {
   code = row.code;
@@ -32,7 +33,8 @@ read_by text row = record {
 abbrev pub texts_of : CodeWords (Bor (List ℕ)) → Texts
 texts_of words = read_by (λ text. text.now) words
 
--- `rows_of_kind c` are the rows of the group that would contain `c`: the code's own table, which has no other source.
+-- `rows_of_kind c` are the rows of the group that would contain the code `c`. They are the constants of src/table.rt
+-- itself: no definition repeats them.
 unfoldable pub rows_of_kind : ℕ → List Texts
 rows_of_kind c =
     if nat_lt c 10 then map (λ row. read_by (λ text. text.now) row) ANY_CALL
@@ -44,11 +46,11 @@ rows_of_kind c =
     else if nat_lt c 100 then map (λ row. read_by (λ text. text.now) row) COMMANDS
     else map (λ row. read_by (λ text. text.now) row) HTTP
 
--- `words_on code` are the texts on a code: those of its row, if it has one.
+-- `words_on code` are the texts of the row of `code`, if it has one.
 abbrev pub words_on : ℕ → Option Texts
 words_on code = find (λ row. row.code == code) (rows_of_kind code)
 
--- `code_text texts` is the explanation of a code with these texts, without its last line feed.
+-- `code_text texts` is the explanation of a code with these texts, without a line feed at the end.
 abbrev pub code_text : Texts → List ℕ
 code_text texts = decimal texts.code ++ codes ", " ++ texts.name ++ codes "\nmeans: " ++ texts.meaning
     ++ codes "\nexample: " ++ texts.example ++ codes "\nwhat to do: " ++ texts.advice

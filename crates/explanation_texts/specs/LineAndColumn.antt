@@ -4,11 +4,12 @@
 use Rattle.std.specs.Prelude.{ℕ, ◌+◌, ◌<◌, ◌≤◌, ◌==◌, Bool, not, List, IsCharBoundary}
 use Rattle.std.specs.List.{suffix_len}
 
--- `is_line_feed c` tests for the byte or character that ends a line.
+-- `is_line_feed c` tests for a line feed (10), the byte or character that ends a line.
 abbrev pub is_line_feed : ℕ → Bool
 is_line_feed c = c == 10
 
--- `column_behind before` is the column after the characters `before`: 1 + the number of those after the last line feed.
+-- `column_behind before` is the column after the characters `before`: 1 + the number of characters after their last
+-- line feed.
 abbrev pub column_behind : List ℕ → ℕ
 column_behind before = 1 + suffix_len (λ c. not (is_line_feed c)) before
 

@@ -8,15 +8,15 @@ use Rattle.explanation_texts.specs.declared.finding.SourceFinding.{SourceFinding
 use Rattle.explanation_texts.specs.declared.finding.WholeFinding.{WholeFinding}
 use Rattle.explanation_texts.specs.Explained.{IsSourceText, IsWholeText}
 
--- `is_shown c` tests for a character that is shown, or a line feed.
+-- `is_shown c` tests for a character that is not hidden, or a line feed.
 abbrev pub is_shown : ℕ → Bool
 is_shown c = not (is_hidden c) || (c == 10)
 
--- `IsReadable bytes` holds if `bytes` are the UTF-8 of such characters.
+-- `IsReadable bytes` holds if `bytes` are the UTF-8 of characters `cs` that pass `is_shown`.
 abbrev pub IsReadable : List ℕ → Type 0
 IsReadable bytes = (cs : List ℕ) × (list_all is_shown cs ≡ true) × (bytes ≡ encode_utf8_all cs)
 
--- Each explanation is such a text, whatever the file, its name and its content.
+-- `ExplanationsAreReadable` states that each explanation is readable, whatever the file, its name and its content.
 abbrev pub ExplanationsAreReadable : Type 0
 ExplanationsAreReadable =
     ((file text : List ℕ) (finding : SourceFinding) (bytes : List ℕ) → IsSourceText file text finding bytes

@@ -1,4 +1,4 @@
-//! The lines that show a place in a text.
+//! The excerpt that shows a place in a text.
 ghost use Rattle.std.specs.Prelude.{◌≡◌, ◌-◌, ◌++◌, [], length, chars, decimal, OnOk, OnErr, string_bytes};
 ghost use Rattle.std.specs.Prelude.{slice_index_or};
 ghost use Rattle.std.specs.Str.Lines.{lines};
@@ -11,7 +11,8 @@ use plain::NoMemory;
 use std::alloc::Global;
 use std::iter::repeat_n;
 
-// The most characters of a line that are shown, and how many of them may be before the place.
+// At most WIDTH characters of a line are shown, beginning LEAD characters before the place; earlier if the line ends
+// within WIDTH - LEAD characters after it.
 const WIDTH: usize = 160;
 
 const LEAD: usize = 80;
@@ -71,7 +72,7 @@ fn push_repeated(out: &mut String, c: char, count: usize) -> Result<(), NoMemory
     out.extend(repeat_n(c, count))
 }
 
-/// Appends a mark if something is cut.
+/// Appends `mark` if something is cut.
 pub(crate) fn push_mark(out: &mut String, is_cut: bool, mark: &str) -> Result<(), NoMemory>
     ensures { OnOk result (string_bytes out.new ≡ string_bytes out.old ++ mark_if is_cut mark.now) }
 {
@@ -90,8 +91,7 @@ fn push_heading(out: &mut String, file: &str, place: TextPosition) -> Result<(),
     push_number(out, place.line)?;
     out.push_str(":")?;
     push_number(out, place.column)?;
-    out.push_str("\n")?;
-    Ok(())
+    out.push_str("\n")
 }
 
 fn push_line_row(out: &mut String, number: usize, line: &str, cut: &Cut) -> Result<(), NoMemory>
@@ -104,8 +104,7 @@ fn push_line_row(out: &mut String, number: usize, line: &str, cut: &Cut) -> Resu
     push_mark(out, 0 < cut.before, "..")?;
     push_shown(out, line, cut.before, cut.end.saturating_sub(cut.before))?;
     push_mark(out, cut.end < cut.len, "..")?;
-    out.push_str("\n")?;
-    Ok(())
+    out.push_str("\n")
 }
 
 fn push_caret_row(
@@ -123,11 +122,10 @@ fn push_caret_row(
     push_mark(out, 0 < cut.before, "  ")?;
     push_blanks(out, line, cut.before, cut.place.saturating_sub(cut.before))?;
     push_repeated(out, '^', carets)?;
-    out.push_str("\n")?;
-    Ok(())
+    out.push_str("\n")
 }
 
-// Appends the three rows.
+// Appends the three rows of an excerpt, where `digits` is the number of digits of the line's number.
 fn push_rows(
     out: &mut String,
     file: &str,
@@ -144,16 +142,16 @@ fn push_rows(
 {
     push_heading(out, file, place)?;
     push_line_row(out, place.line, line, cut)?;
-    push_caret_row(out, digits, line, cut, carets)?;
-    Ok(())
+    push_caret_row(out, digits, line, cut, carets)
 }
 
-/// Appends the lines that show a place of a text: its position in `file`, its line, and carets under it.
+/// Appends the excerpt that shows a place of a text: its position in `file`, its line, and carets under it.
 ///
-/// Carets are under `span` characters from the place on, at least one, but not past the shown part of the
-/// line. `place` is one that [`place_of`] returned for `text`; for another line or column it shows what the text has
-/// there. Tabs, also before carets, are tabs. Control characters and those that change the direction of writing are
-/// shown as U+FFFD. Of a line longer than 160 characters, 160 are shown, around the place, with `..` where it is cut.
+/// Carets are under the `span` characters from the place on, except those past the shown part of the line; there is at
+/// least one caret. `place` should be one that [`place_of`] returned for `text`; for another line or column the excerpt
+/// shows what the text has there. Tabs, also before carets, stay tabs. Other control characters, and those that change
+/// the direction of writing, are shown as U+FFFD. Of a line longer than 160 characters, 160 around the place are shown,
+/// with `..` where the line is cut.
 ///
 /// O(length of `text` and of `file`).
 ///

@@ -1,8 +1,8 @@
-//! The text that explains an error to the author of what is rejected: what is wrong, where, and what to do.
+//! The text that explains an error to the author of a rejected text: what is wrong, where, and what to do.
 //!
-//! Errors report a byte of a text: `places` and `excerpts` show it as a line and a column. `table` has the meaning of
-//! each code, an example, and what to do; `cedar_site explain` prints from it, and tools/check_docs.py compares
-//! docs/codes.md with it.
+//! An error reports a byte of a text: `places` and `excerpts` show that byte as a line and a column. `table` has the
+//! meaning of each error code, an example, and what to do; `cedar_site explain` prints from it, and tools/check_docs.py
+//! compares docs/codes.md with it.
 #![tactic(auto)]
 
 mod excerpts;

@@ -15,8 +15,10 @@ pub struct TextPosition {
 }
 
 impl TextPosition {
-    /// Returns the number of characters from this place up to `end`, a place of the same text and not before it; the
-    /// greatest number if `end` is on another line, since then the whole rest of this line is meant.
+    /// Returns the number of characters from this place up to `end`, or `usize::MAX` if `end` is on another line: an
+    /// excerpt then marks the rest of this line.
+    ///
+    /// `end` should be a place of the same text and not before this one.
     pub fn span_to(&self, end: &TextPosition) -> usize
         ensures { result ≡ (if self.now.line == end.now.line then end.now.column - self.now.column else usize.MAX) }
     {
@@ -28,12 +30,7 @@ impl TextPosition {
     }
 }
 
-fn count_line_feeds(before: &str) -> usize
-    ensures { result ≡ count_by is_line_feed before.now }
-{
-    before.bytes().filter(|byte| *byte == b'\n').count()
-}
-
+// Returns the column of the place that follows `before`, the text from its beginning.
 fn column_of(before: &str) -> usize
     ensures { result ≡ column_behind (chars before.now) }
 {
@@ -48,7 +45,8 @@ fn column_of(before: &str) -> usize
     column
 }
 
-/// Returns the place of the byte `at`: of the character that contains it, or of the text's end if none does.
+/// Returns the place of the byte `at` of a text: that of the character that contains the byte, or of the text's end if
+/// none does.
 ///
 /// The line feed at a line's end, and a carriage return before it, are characters of that line.
 ///
@@ -61,14 +59,16 @@ pub fn place_of(text: &str, at: usize) -> TextPosition
     let start = text.floor_char_boundary(at);
     let (before, _) = text.split_at(start);
     TextPosition {
-        line: 1 + count_line_feeds(before),
+        line: 1 + before.bytes().filter(|byte| *byte == b'\n').count(),
         column: column_of(before),
         start,
     }
 }
 
-/// Returns a line of a text, counted from 1, without its end: a line feed, or a carriage return and a line feed. It
-/// is empty if the text has no such line.
+/// Returns the line of a text with this number, counted from 1, without its line end: a line feed, or a carriage return
+/// and a line feed.
+///
+/// The result is empty if the text has no such line, and the first line for the number 0.
 ///
 /// O(length of `text`). Does not allocate.
 pub fn line_at(text: &str, line: usize) -> &str

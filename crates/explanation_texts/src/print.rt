@@ -2,13 +2,14 @@
 ghost use Rattle.std.specs.Prelude.{◌≡◌, IfOk, string_bytes};
 ghost use Rattle.explanation_texts.specs.CodeText.{code_text, texts_of};
 
-use crate::shown::push_number;
+use crate::shown::{push_between, push_number};
 use crate::table::CodeWords;
 use plain::NoMemory;
 use std::alloc::Global;
 
-/// Returns the text on a code: the code with its name, its meaning, an example and what to do, on four lines, the last
-/// without a line feed.
+/// Returns the text on an error code: four lines with the code and its name, its meaning, an example, and what to do.
+///
+/// The last line has no line feed.
 ///
 /// # Errors
 ///
@@ -18,13 +19,8 @@ pub fn code_text(alloc: Global, words: &CodeWords<&str>) -> Result<String, NoMem
 {
     let mut text = String::new(alloc);
     push_number(&mut text, usize::from(words.code))?;
-    text.push_str(", ")?;
-    text.push_str(words.name)?;
-    text.push_str("\nmeans: ")?;
-    text.push_str(words.meaning)?;
-    text.push_str("\nexample: ")?;
-    text.push_str(words.example)?;
-    text.push_str("\nwhat to do: ")?;
-    text.push_str(words.advice)?;
+    push_between(&mut text, ", ", words.name, "\nmeans: ")?;
+    push_between(&mut text, words.meaning, "\nexample: ", words.example)?;
+    push_between(&mut text, "\nwhat to do: ", words.advice, "")?;
     Ok(text)
 }

@@ -1,4 +1,4 @@
-//! Text of a file, as a terminal may show it.
+//! Text of a file without the characters that a terminal would obey.
 ghost use Rattle.std.specs.Prelude.{◌≡◌, ◌++◌, OnOk, string_bytes, decimal};
 ghost use Rattle.explanation_texts.specs.Excerpt.{is_hidden, shown_char, shown};
 
@@ -17,8 +17,8 @@ fn shown_for(c: char) -> char
     if is_hidden_char(c) { '\u{fffd}' } else { c }
 }
 
-/// Appends `count` characters of a text, after the first `skipped`: U+FFFD for control characters except tabs, and for
-/// those that change the direction of writing.
+/// Appends `count` characters of a text, after the first `skipped`, with U+FFFD for control characters except tabs and
+/// for those that change the direction of writing.
 pub(crate) fn push_shown(
     out: &mut String,
     text: &str,
@@ -30,10 +30,24 @@ pub(crate) fn push_shown(
     out.extend(text.chars().skip(skipped).take(count).map(|c| shown_for(c)))
 }
 
-/// Appends a number.
+/// Appends a number in decimal.
 pub(crate) fn push_number(out: &mut String, number: usize) -> Result<(), NoMemory>
     ensures { OnOk result (string_bytes out.new ≡ string_bytes out.old ++ decimal number) }
 {
     write!(out, "{number}")?;
     Ok(())
+}
+
+/// Appends a text between two others.
+pub(crate) fn push_between(
+    out: &mut String,
+    before: &str,
+    text: &str,
+    after: &str,
+) -> Result<(), NoMemory>
+    ensures { OnOk result (string_bytes out.new ≡ string_bytes out.old ++ before.now ++ text.now ++ after.now) }
+{
+    out.push_str(before)?;
+    out.push_str(text)?;
+    out.push_str(after)
 }

@@ -1,25 +1,24 @@
-//! An error in a part of a text.
+//! Explanations of an error in a part of a text.
 ghost use Rattle.std.specs.Prelude.{◌≡◌, ◌++◌, OnOk, string_bytes, ℕ, List};
 ghost use Rattle.explanation_texts.specs.Explained.{cut_text, cause_part, detail_line, says_line, hint_line};
-ghost use Rattle.explanation_texts.specs.Explained.{place_text};
-ghost use Rattle.explanation_texts.specs.Explained.{rest_text, source_text, AreClean, AreWordsOf, IsSourceText};
+ghost use Rattle.explanation_texts.specs.Explained.{source_text, AreClean, AreWordsOf, IsSourceText};
 ghost use Rattle.explanation_texts.specs.CodeText.{words_on};
 
 use crate::excerpts::{count_chars, push_excerpt, push_mark};
 use crate::finding::SourceFinding;
 use crate::places::{TextPosition, place_of};
-use crate::shown::{push_number, push_shown};
+use crate::shown::{push_between, push_number, push_shown};
 use crate::table::words_of;
 use plain::NoMemory;
 use std::alloc::Global;
 
-// The most characters of a cause that are shown.
+// At most this many characters of a cause are shown.
 const MOST_CAUSE: usize = 60;
 
-// The most characters of a detail that are shown.
+// At most this many characters of a detail are shown.
 const MOST_DETAIL: usize = 400;
 
-/// Returns what is wrong, in words, and what to do. The table has words for each code.
+/// Returns the table's words on what is wrong and what to do for a code, or two fixed texts if no error has this code.
 pub(crate) fn says_and_advice(code: u16) -> (&'static str, &'static str)
     ensures clean { AreClean result.0.now result.1.now }
     ensures words { AreWordsOf (words_on code) result.0.now result.1.now }
@@ -35,8 +34,7 @@ fn push_cut(out: &mut String, text: &str, most: usize) -> Result<(), NoMemory>
     ensures { OnOk result (string_bytes out.new ≡ string_bytes out.old ++ cut_text text.now most) }
 {
     push_shown(out, text, 0, most)?;
-    push_mark(out, most < count_chars(text), "..")?;
-    Ok(())
+    push_mark(out, most < count_chars(text), "..")
 }
 
 fn push_cause(out: &mut String, cause: &str) -> Result<(), NoMemory>
@@ -47,11 +45,10 @@ fn push_cause(out: &mut String, cause: &str) -> Result<(), NoMemory>
     }
     out.push_str(" `")?;
     push_cut(out, cause, MOST_CAUSE)?;
-    out.push_str("`")?;
-    Ok(())
+    out.push_str("`")
 }
 
-/// Appends `error CODE: ` and what is wrong.
+/// Appends the line `error CODE: SAYS`, with the cause at its end.
 pub(crate) fn push_says(
     out: &mut String,
     code: u16,
@@ -65,18 +62,14 @@ pub(crate) fn push_says(
     out.push_str(": ")?;
     out.push_str(says)?;
     push_cause(out, cause)?;
-    out.push_str("\n")?;
-    Ok(())
+    out.push_str("\n")
 }
 
-/// Appends what to do.
+/// Appends the line that says what to do.
 pub(crate) fn push_hint(out: &mut String, advice: &str) -> Result<(), NoMemory>
     ensures { OnOk result (string_bytes out.new ≡ string_bytes out.old ++ hint_line advice.now) }
 {
-    out.push_str("  hint: ")?;
-    out.push_str(advice)?;
-    out.push_str("\n")?;
-    Ok(())
+    push_between(out, "  hint: ", advice, "\n")
 }
 
 /// Appends the line of a detail, cut after 400 characters; nothing if the detail is empty.
@@ -88,11 +81,10 @@ pub(crate) fn push_detail(out: &mut String, detail: &str) -> Result<(), NoMemory
     }
     out.push_str("  ")?;
     push_cut(out, detail, MOST_DETAIL)?;
-    out.push_str("\n")?;
-    Ok(())
+    out.push_str("\n")
 }
 
-// The place that is shown with its span, and the words on the code.
+// The place to show, the number of characters to mark there, and the words on the code.
 #[derive(Clone, Copy)]
 struct Shown<'t> {
     place: TextPosition,
@@ -101,29 +93,7 @@ struct Shown<'t> {
     advice: &'t str,
 }
 
-fn push_place(
-    alloc: Global,
-    out: &mut String,
-    file: &str,
-    text: &str,
-    shown: &Shown<'_>,
-) -> Result<(), NoMemory>
-    ensures { OnOk result (string_bytes out.new ≡ string_bytes out.old
-        ++ place_text file.now text.now shown.now.place shown.now.span) }
-{
-    push_excerpt(alloc, out, file, text, shown.place, shown.span)?;
-    Ok(())
-}
-
-fn push_rest(out: &mut String, finding: &SourceFinding<'_>, advice: &str) -> Result<(), NoMemory>
-    ensures { OnOk result (string_bytes out.new ≡ string_bytes out.old ++ rest_text finding.now advice.now) }
-{
-    push_detail(out, finding.detail)?;
-    push_detail(out, finding.note)?;
-    push_hint(out, advice)?;
-    Ok(())
-}
-
+// Appends the explanation of `finding` with the place and the words of `shown`.
 fn push_at(
     alloc: Global,
     out: &mut String,
@@ -137,13 +107,15 @@ fn push_at(
         shown.now.span) }
 {
     push_says(out, finding.code, shown.says, finding.cause)?;
-    push_place(alloc, out, file, text, shown)?;
-    push_rest(out, finding, shown.advice)?;
+    push_excerpt(alloc, out, file, text, shown.place, shown.span)?;
+    push_detail(out, finding.detail)?;
+    push_detail(out, finding.note)?;
+    push_hint(out, shown.advice)?;
     Ok(())
 }
 
-/// Appends the explanation of an error in `text`, the text of the file `file`: what is wrong, the line of the error's
-/// place with carets under it, any detail and note, and a hint.
+/// Appends the explanation of an error in `text`, the text of the file `file`: what is wrong, the excerpt at its place,
+/// the detail and the note if there are any, and a hint.
 ///
 /// O(length of `text`, of `file` and of the texts of `finding`).
 ///

@@ -5,7 +5,7 @@ ghost use Rattle.explanation_texts.specs.Codes.{is_code};
 ghost use Rattle.explanation_texts.specs.CodeText.{texts_of, rows_of_kind, words_on};
 ghost use Rattle.explanation_texts.specs.Printable.{is_clean};
 
-/// The texts on an error code, each a `T`. It is generic so that contracts can name the rows of the table.
+/// The texts on an error code, each a `T`. The type is generic so that contracts can name the rows of the table.
 pub struct CodeWords<T> {
     /// The code.
     pub code: u16,
@@ -13,9 +13,9 @@ pub struct CodeWords<T> {
     pub name: T,
     /// What is rejected with it.
     pub meaning: T,
-    /// An example of that.
+    /// An example of what is rejected with it.
     pub example: T,
-    /// What an explanation says of the place that it shows. The token at that place follows, if it is named.
+    /// What the first line of an explanation says is wrong. The cause follows it, if there is one.
     pub says: T,
     /// What to do.
     pub advice: T,
@@ -477,8 +477,7 @@ static HTTP: [CodeWords<&str>; 6] = [
     },
 ];
 
-/// Returns the rows among which a code would be.
-#[tactic(auto, unfolding(crate::specs::CodeText::rows_of_kind))]
+/// Returns the rows of the group that would contain this code.
 fn rows_of(code: u16) -> &'static [CodeWords<&'static str>]
     ensures { map texts_of result.now ≡ rows_of_kind code }
 {

@@ -1,4 +1,4 @@
-//! An error in a whole text, or in an item of an array.
+//! Explanations of an error in a whole text, or in an item of an array.
 ghost use Rattle.std.specs.Prelude.{◌≡◌, ◌++◌, OnOk, string_bytes, ℕ, List};
 ghost use Rattle.explanation_texts.specs.Explained.{index_part, file_line, whole_text, IsWholeText};
 
@@ -14,8 +14,7 @@ fn push_index(out: &mut String, index: Option<usize>) -> Result<(), NoMemory>
         Some(index) => {
             out.push_str(", entity ")?;
             push_number(out, index)?;
-            out.push_str(" (from 0)")?;
-            Ok(())
+            out.push_str(" (from 0)")
         }
         None => Ok(()),
     }
@@ -27,10 +26,10 @@ fn push_file(out: &mut String, file: &str, index: Option<usize>) -> Result<(), N
     out.push_str(" --> ")?;
     push_shown(out, file, 0, file.len())?;
     push_index(out, index)?;
-    out.push_str("\n")?;
-    Ok(())
+    out.push_str("\n")
 }
 
+// Appends the explanation of `finding` with the words of its code.
 fn push_parts(
     out: &mut String,
     file: &str,
@@ -44,12 +43,11 @@ fn push_parts(
     push_says(out, finding.code, says, "")?;
     push_file(out, file, finding.index)?;
     push_detail(out, finding.detail)?;
-    push_hint(out, advice)?;
-    Ok(())
+    push_hint(out, advice)
 }
 
-/// Appends the text that explains an error in the file `file`: what is wrong, the file, with the index in its array,
-/// what is known of the item, and a hint.
+/// Appends the explanation of an error in the file `file`: what is wrong, the file with the index in its array, the
+/// detail, and a hint.
 ///
 /// # Errors
 ///

@@ -25,7 +25,7 @@ use Rattle.explanations.specs.Files.{File, Files}
 use Rattle.explanations.specs.Parts.{IsPartOf, IsNothing, IsSourceAt, IsWholeAt, IsMessageExplained, AppendsSome}
 use Rattle.explanations.specs.Pieces.{ArePiecesOf}
 use Rattle.explanations.specs.Policies.{is_searched, large_note, IsFoundAs, IsFaultText, IsCheckExplained, passes_so, rejected_so, too_large, ArePoliciesExplained}
-use Rattle.explanations.specs.Unread.{byte_in, is_that, IsPieceExplained, is_read, is_unread, ArePiecesExplained, AppendsTold}
+use Rattle.explanations.specs.Unread.{byte_in, is_that, IsPieceExplained, is_read, is_unread, ArePiecesExplained, AppendsExplained}
 use Rattle.explanations.specs.Others.{IsJudgedText, IsJudged, AreEntitiesExplained, IsRequestExplained}
 use Rattle.explanations.specs.Explained as whole
 use Rattle.explanations.specs.Explained.{IsTextOf, AreTokensOf, IsUnreadExplained, IsFileExplained, AreOthersExplained, IsExplainedUnder, IsExplainedAs, IsExplained}
@@ -74,13 +74,13 @@ module _ (s : StatedSchema) (file text : List ℕ) (place : Piece) (policy : Pol
 module _ (o : Option StatedSchema) (file text : List ℕ) (old : List ℕ) where
   pub piece_parses : (of_file : Refusal) (piece : Piece) (part : List ℕ) (names : List (List ℕ)) (cores : List Policy) (new : List ℕ) → IsPartOf text piece.start piece.end part
       → IsPolicyFile part names cores → AppendsSome (ArePoliciesExplained o file text (piece ∷ []) cores) old new
-      → AppendsTold (IsPieceExplained o file text of_file piece) old new false
+      → AppendsExplained (IsPieceExplained o file text of_file piece) old new false
   piece_parses of_file piece part names cores new h g a = (a.0, is_read part names cores a.0 h g a.1, a.2)
 
   pub piece_does_not : (of_file : Refusal) (piece : Piece) (part : List ℕ) (f g : ReadFault) (code again at : ℕ) (told : Bool) (new : List ℕ) → told ≡ is_that of_file again at
       → again ≡ reading.code_of g → IsPartOf text piece.start piece.end part
       → IsFileRefused part f → g ≡ f → code ≡ reading.code_of g → at ≡ byte_in piece g → AppendsSome (IsSourceAt file text [] code at) old new
-      → AppendsTold (IsPieceExplained o file text of_file piece) old new told
+      → AppendsExplained (IsPieceExplained o file text of_file piece) old new told
   piece_does_not of_file piece part f g code again at told new t d h refused e c i a =
       let b = source_is file text [] [] old new code (reading.code_of g) at (byte_in piece g) refl c i a in
       let same : told ≡ is_that of_file (reading.code_of g) (byte_in piece g) =
@@ -88,12 +88,12 @@ module _ (o : Option StatedSchema) (file text : List ℕ) (old : List ℕ) where
       let so = is_unread part g b.0 h (subst (IsFileRefused part) (sym e) refused) b.1 in
       (b.0, subst (λ (k : Bool). IsPieceExplained o file text of_file piece k b.0) (sym same) so, b.2)
 
-  pub pieces_tell : (pieces : List Piece) (r : Refusal) (new : List ℕ) (told : Bool) → told ≡ true → AppendsTold (ArePiecesExplained o file text r pieces) old new told
+  pub pieces_tell : (pieces : List Piece) (r : Refusal) (new : List ℕ) (told : Bool) → told ≡ true → AppendsExplained (ArePiecesExplained o file text r pieces) old new told
       → AppendsSome (IsUnreadExplained o file text pieces r) old new
   pieces_tell pieces r new told e a = (a.0, inl (subst (λ (b : Bool). ArePiecesExplained o file text r pieces b a.0) e a.1), a.2)
 
   pub file_tells : (pieces : List Piece) (r : Refusal) (mid new : List ℕ) (told : Bool) (at : ℕ) → told ≡ false → at ≡ unwrap_or r.place 0
-      → AppendsTold (ArePiecesExplained o file text r pieces) old mid told → AppendsSome (IsSourceAt file text [] r.code at) mid new
+      → AppendsExplained (ArePiecesExplained o file text r pieces) old mid told → AppendsSome (IsSourceAt file text [] r.code at) mid new
       → AppendsSome (IsUnreadExplained o file text pieces r) old new
   file_tells pieces r mid new told at e f a b =
       let first = subst (λ (t : Bool). ArePiecesExplained o file text r pieces t a.0) e a.1 in

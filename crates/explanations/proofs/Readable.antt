@@ -14,7 +14,7 @@ use Rattle.explanations.specs.Policies.{IsFaultText, IsCheckExplained, passes_so
 use Rattle.explanations.specs.Unread as of_pieces
 use Rattle.explanations.specs.Unread.{IsPieceExplained, is_read, is_unread, ArePiecesExplained}
 use Rattle.explanations.specs.Others.{IsJudged, AreEntitiesRead, AreEntitiesRefused, IsRequestRead, IsRequestRefused, AreEntitiesExplained, IsRequestExplained}
-use Rattle.explanations.specs.Others.{IsEntityPartTold, IsRequestPartTold}
+use Rattle.explanations.specs.Others.{IsEntityPartNamed, IsRequestPartNamed}
 use Rattle.explanations.specs.Explained as whole
 use Rattle.explanations.specs.Explained.{IsUnreadExplained, IsOutcomeExplained, AreOthersExplained, IsExplainedUnder, IsExplainedAs, IsExplained}
 
@@ -76,12 +76,12 @@ judged_reads name Read Refused Told bytes (inr h) = at_whole name _ _ (Told h.0.
 
 entities_read : (o : Option StatedSchema) (file : Option File) (bytes : List ℕ) → AreEntitiesExplained o file bytes → IsReadable bytes
 entities_read o None bytes h = empty bytes h
-entities_read o (Some file) bytes h = judged_reads file.name (AreEntitiesRead o file.text) (AreEntitiesRefused o file.text) (IsEntityPartTold o file.text) bytes h
+entities_read o (Some file) bytes h = judged_reads file.name (AreEntitiesRead o file.text) (AreEntitiesRefused o file.text) (IsEntityPartNamed o file.text) bytes h
 
 request_reads : (o : Option StatedSchema) (schema : Option (List ℕ)) (file : Option File) (bytes : List ℕ) → IsRequestExplained o schema file bytes → IsReadable bytes
 request_reads o schema None bytes h = empty bytes h
 request_reads o schema (Some file) bytes h =
-    judged_reads file.name (IsRequestRead schema file.text) (IsRequestRefused schema file.text) (λ place. IsRequestPartTold o file.text) bytes h
+    judged_reads file.name (IsRequestRead schema file.text) (IsRequestRefused schema file.text) (λ place. IsRequestPartNamed o file.text) bytes h
 
 others_read : (o : Option StatedSchema) (given : Files) (bytes : List ℕ) → AreOthersExplained o given bytes → IsReadable bytes
 others_read o given bytes h =

@@ -13,7 +13,7 @@ use Rattle.explanations.specs.Parts.{AppendsSome}
 use Rattle.explanations.specs.Policies as explained
 use Rattle.explanations.specs.Policies.{IsPolicyExplained, ArePoliciesExplained}
 use Rattle.explanations.specs.Unread as unread
-use Rattle.explanations.specs.Unread.{IsPieceExplained, ArePiecesExplained, AppendsTold}
+use Rattle.explanations.specs.Unread.{IsPieceExplained, ArePiecesExplained, AppendsExplained}
 use Rattle.explanations.proofs.Appending.{in_turn, nothing_more}
 
 -- one more at the end, which is the one at this place
@@ -79,13 +79,13 @@ module _ (s : Option StatedSchema) (file text : List ℕ) (pieces : List Piece) 
 -- ---- pieces
 
 module _ (s : Option StatedSchema) (file text : List ℕ) (r : Refusal) where
-  pub no_piece : (old : List ℕ) → AppendsTold (ArePiecesExplained s file text r []) old old false
+  pub no_piece : (old : List ℕ) → AppendsExplained (ArePiecesExplained s file text r []) old old false
   no_piece old = ([], unread.none, nothing_more old)
 
   pub piece_more : (ps : List Piece) (i : ℕ) (d : Piece) (old mid new : List ℕ) (some told : Bool) → i < length ps
-      → AppendsTold (ArePiecesExplained s file text r (take i ps)) old mid some
-      → AppendsTold (IsPieceExplained s file text r (get_or ps i d)) mid new told
-      → AppendsTold (ArePiecesExplained s file text r (take (i + 1) ps)) old new (some || told)
+      → AppendsExplained (ArePiecesExplained s file text r (take i ps)) old mid some
+      → AppendsExplained (IsPieceExplained s file text r (get_or ps i d)) mid new told
+      → AppendsExplained (ArePiecesExplained s file text r (take (i + 1) ps)) old new (some || told)
   piece_more ps i d old mid new some told below was comes = (
     was.0 ++ comes.0,
     subst (λ (l : List Piece). ArePiecesExplained s file text r l (some || told) (was.0 ++ comes.0)) (sym (take_more ps i d below))
@@ -94,6 +94,6 @@ module _ (s : Option StatedSchema) (file text : List ℕ) (r : Refusal) where
   )
 
   pub all_pieces : (ps : List Piece) (i : ℕ) (old new : List ℕ) (some : Bool) → length ps ≤ i
-      → AppendsTold (ArePiecesExplained s file text r (take i ps)) old new some → AppendsTold (ArePiecesExplained s file text r ps) old new some
+      → AppendsExplained (ArePiecesExplained s file text r (take i ps)) old new some → AppendsExplained (ArePiecesExplained s file text r ps) old new some
   all_pieces ps i old new some past was =
-      subst (λ (l : List Piece). AppendsTold (ArePiecesExplained s file text r l) old new some) (all_taken ps i past) was
+      subst (λ (l : List Piece). AppendsExplained (ArePiecesExplained s file text r l) old new some) (all_taken ps i past) was

@@ -19,7 +19,7 @@ use Rattle.explanations.specs.Policies.{ArePoliciesExplained}
 use Rattle.explanations.specs.Unread.{ArePiecesExplained}
 use Rattle.explanations.specs.Others.{AreEntitiesExplained, IsRequestExplained}
 
--- `IsTextOf bytes text` holds if `text` are the bytes, or empty if they are not UTF-8.
+-- `IsTextOf bytes text` holds if `text` is `bytes`, or empty if `bytes` are not UTF-8.
 abbrev pub IsTextOf : List ℕ → List ℕ → Type 0
 IsTextOf bytes text = (IsUtf8 bytes × (text ≡ bytes)) ⊎ ((IsUtf8 bytes → ⊥) × (text ≡ []))
 
@@ -29,8 +29,8 @@ AreTokensOf text ts = IsLexed text ts ⊎ (((at : ℕ) × IsBadAt text at) × (t
 
 -- ---- a file of policies
 
--- `IsUnreadExplained s file text pieces r bytes` holds if `bytes` explain a file that is rejected with `r`: its pieces
--- and then `r`, unless it is the error of one of them.
+-- `IsUnreadExplained s file text pieces r bytes` holds if `bytes` explain a file that is rejected with `r`: first its
+-- pieces, and then `r`, unless one of them has this error.
 abbrev pub IsUnreadExplained : Option StatedSchema → List ℕ → List ℕ → List Piece → Refusal → List ℕ → Type 0
 IsUnreadExplained s file text pieces r bytes =
     ArePiecesExplained s file text r pieces true bytes
@@ -59,7 +59,8 @@ pub record IsFileExplained (s : Option StatedSchema) (file held bytes : List ℕ
 
 -- ---- all texts
 
--- `AreOthersExplained s given bytes` holds if `bytes` explain the policies, then the entities, then the request.
+-- `AreOthersExplained s given bytes` holds if `bytes` explain what is rejected in the policies, then in the entities,
+-- then in the request, under the schema `s` if there is one.
 pub record AreOthersExplained (s : Option StatedSchema) (given : Files) (bytes : List ℕ) : Type 0 where
   pub first : List ℕ
   pub second : List ℕ
@@ -69,17 +70,19 @@ pub record AreOthersExplained (s : Option StatedSchema) (given : Files) (bytes :
   pub request : IsRequestExplained s (option_map (λ file. file.text) given.schema) given.request third
   pub is : bytes ≡ first ++ second ++ third
 
--- `IsExplainedUnder schema given bytes` is the same under the schema of a file, or why that is rejected.
+-- `IsExplainedUnder schema given bytes` holds if `bytes` explain what is rejected under the schema of the file
+-- `schema`, or why that schema is rejected.
 abbrev pub IsExplainedUnder : File → Files → List ℕ → Type 0
 IsExplainedUnder schema given bytes =
     ((s : StatedSchema) × IsSchemaOf schema.text s × AreOthersExplained (Some s) given bytes)
     ⊎ ((r : Refusal) × IsSchemaRefused schema.text r × IsWholeAt schema.name r.code r.place IsNothing bytes)
 
--- `IsExplainedAs schema given bytes` is the same, with a schema if there is one.
+-- `IsExplainedAs schema given bytes` holds if `bytes` explain what is rejected, under the schema of a file if there is
+-- one.
 abbrev pub IsExplainedAs : Option File → Files → List ℕ → Type 0
 IsExplainedAs None given bytes = AreOthersExplained None given bytes
 IsExplainedAs (Some schema) given bytes = IsExplainedUnder schema given bytes
 
--- `IsExplained given bytes` holds if `bytes` explain what is rejected in the files.
+-- `IsExplained given bytes` holds if `bytes` explain what is rejected in the files `given`.
 abbrev pub IsExplained : Files → List ℕ → Type 0
 IsExplained given bytes = IsExplainedAs given.schema given bytes

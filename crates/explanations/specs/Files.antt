@@ -1,5 +1,5 @@
 -- Defines the files that are explained: their names and contents.
--- Rules of this product: policies are always given, each of the others may be.
+-- Rules of this product: policies are always given; a schema, entities and a request may be.
 use Rattle.std.specs.Prelude.{ℕ, List, Option, option_map}
 use Rattle.explanations.specs.declared.given.NamedText.{NamedText}
 use Rattle.explanations.specs.declared.given.Given.{Given}
@@ -16,10 +16,11 @@ pub record Files : Type 0 where
   pub entities : Option File
   pub request : Option File
 
--- `file_of source` and `files_of given` are the files of the code.
+-- `file_of source` is the file that the value `source` of the code holds.
 abbrev pub file_of : NamedText → File
 file_of source = record { name = source.name.now; text = source.text.now }
 
+-- `files_of given` are the files that the value `given` of the code holds.
 abbrev pub files_of : Given → Files
 files_of given = record {
   schema = option_map file_of given.schema;

@@ -7,7 +7,8 @@ use Rattle.explanations.specs.Files.{Files}
 use Rattle.explanations.specs.Parts.{IsMessageExplained}
 use Rattle.explanations.specs.Explained.{IsExplained}
 
--- Each explanation is such a text, whatever the files contain, and whatever their names are.
+-- `ExplainedTextsAreReadable`: each explanation of files, and of a rejected message, is readable (`IsReadable`),
+-- whatever the files contain, and whatever their names are.
 abbrev pub ExplainedTextsAreReadable : Type 0
 ExplainedTextsAreReadable = ((given : Files) (bytes : List ℕ) → IsExplained given bytes → IsReadable bytes)
     × ((file : List ℕ) (code : ℕ) (bytes : List ℕ) → IsMessageExplained file code bytes → IsReadable bytes)

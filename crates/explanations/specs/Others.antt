@@ -1,5 +1,5 @@
 -- Defines the explanation of rejected entities and of a rejected request.
--- Rules of this product: entities are checked as `decide` checks them, whatever else is given, and so is a request: the
+-- Rules of this product: entities, and a request, are checked as `decide` checks them, whatever else is given. The
 -- first error is explained, with its index in the array and, under a schema, the JSON pointer of the part at fault.
 use Rattle.std.specs.Prelude.{◌≡◌, ◌⊎◌, ℕ, List, [], ◌++◌, Option, None, Some, Result, Ok, Err, ⊤, codes}
 use Rattle.schema_decisions.specs.schema.Schemas.{StatedSchema}
@@ -21,10 +21,11 @@ any_request = codes "{\"principal\":{\"type\":\"A\",\"id\":\"\"},\"action\":{\"t
     ++ codes "\"resource\":{\"type\":\"A\",\"id\":\"\"}}"
 
 -- `AreBareTextsRead entities request` holds if the request can be decided over the entities without a schema and
--- without policies, and `AreBareTextsRefused ..` if not, with this error.
+-- without policies.
 abbrev pub AreBareTextsRead : List ℕ → List ℕ → Type 0
 AreBareTextsRead entities request = (line : List ℕ) × bare.IsDecided bare_reading [] entities request line
 
+-- `AreBareTextsRefused entities request r` holds if it cannot, with the error `r`.
 abbrev pub AreBareTextsRefused : List ℕ → List ℕ → Refusal → Type 0
 AreBareTextsRefused entities request r = bare.IsDecisionRefused bare_reading [] entities request r
 
@@ -50,16 +51,16 @@ abbrev pub IsRequestRefused : Option (List ℕ) → List ℕ → Refusal → Typ
 IsRequestRefused None text r = AreBareTextsRefused (codes "[]") text r
 IsRequestRefused (Some schema) text r = typed.IsSchemaDecisionRefused schema [] (codes "[]") text r
 
--- `IsEntityPartTold s text index words` holds if `words` name the part at fault of the entity at this index of `text`,
--- under the schema `s`, and `IsRequestPartTold s text words` if they name that of the request `text`; without a schema
--- they are empty.
-abbrev pub IsEntityPartTold : Option StatedSchema → List ℕ → Option ℕ → List ℕ → Type 0
-IsEntityPartTold None text index words = IsNothing words
-IsEntityPartTold (Some s) text index words = IsItemTold s text index words
+-- `IsEntityPartNamed s text index words` holds if `words` name the part at fault of the entity at this index of `text`,
+-- under the schema `s`; without a schema they are empty.
+abbrev pub IsEntityPartNamed : Option StatedSchema → List ℕ → Option ℕ → List ℕ → Type 0
+IsEntityPartNamed None text index words = IsNothing words
+IsEntityPartNamed (Some s) text index words = IsItemTold s text index words
 
-abbrev pub IsRequestPartTold : Option StatedSchema → List ℕ → List ℕ → Type 0
-IsRequestPartTold None text words = IsNothing words
-IsRequestPartTold (Some s) text words = IsAskedTold s text words
+-- `IsRequestPartNamed s text words` holds likewise if `words` name the part at fault of the request `text`.
+abbrev pub IsRequestPartNamed : Option StatedSchema → List ℕ → List ℕ → Type 0
+IsRequestPartNamed None text words = IsNothing words
+IsRequestPartNamed (Some s) text words = IsAskedTold s text words
 
 -- `IsJudgedText name Told judged bytes` holds if `bytes` explain the error of the file `name`, with words for which
 -- `Told` holds at its index; `bytes` are empty if there is no error.
@@ -72,17 +73,18 @@ abbrev pub IsJudged : List ℕ → Type 0 → (Refusal → Type 0) → (Option �
 IsJudged name Read Refused Told bytes =
     (Read × (bytes ≡ [])) ⊎ ((r : Refusal) × Refused r × IsWholeAt name r.code r.place (Told r.place) bytes)
 
--- `AreEntitiesExplained s file bytes` holds if `bytes` explain why the entities of a file are rejected, and
--- `IsRequestExplained s schema file bytes` if they explain why the request of a file is, where `s` is the schema of the
--- text `schema`.
+-- `AreEntitiesExplained s file bytes` holds if `bytes` explain why the entities of `file` are rejected; they are empty
+-- if none are, or without a file.
 abbrev pub AreEntitiesExplained : Option StatedSchema → Option File → List ℕ → Type 0
 AreEntitiesExplained s None bytes = bytes ≡ []
 AreEntitiesExplained s (Some file) bytes =
-    IsJudged file.name (AreEntitiesRead s file.text) (AreEntitiesRefused s file.text) (IsEntityPartTold s file.text)
+    IsJudged file.name (AreEntitiesRead s file.text) (AreEntitiesRefused s file.text) (IsEntityPartNamed s file.text)
     bytes
 
+-- `IsRequestExplained s schema file bytes` is the same relation for the request of `file`, where `s` is the schema of
+-- the text `schema`.
 abbrev pub IsRequestExplained : Option StatedSchema → Option (List ℕ) → Option File → List ℕ → Type 0
 IsRequestExplained s schema None bytes = bytes ≡ []
 IsRequestExplained s schema (Some file) bytes =
     IsJudged file.name (IsRequestRead schema file.text) (IsRequestRefused schema file.text)
-    (λ place. IsRequestPartTold s file.text) bytes
+    (λ place. IsRequestPartNamed s file.text) bytes

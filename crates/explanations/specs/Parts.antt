@@ -7,14 +7,14 @@ use Rattle.explanation_texts.specs.declared.finding.SourceFinding.{SourceFinding
 use Rattle.explanation_texts.specs.declared.finding.WholeFinding.{WholeFinding}
 use Rattle.explanation_texts.specs.Explained.{IsSourceText, IsWholeText}
 
--- `IsPartOf text from to part` holds if `part` is the text between the two bytes, or empty if one of them is within a
--- character.
+-- `IsPartOf text from to part` holds if `part` is the text between the bytes `from` and `to`, or empty if one of them
+-- is within a character.
 abbrev pub IsPartOf : List ℕ → ℕ → ℕ → List ℕ → Type 0
 IsPartOf text from to part = (part ≡ drop from (take to text))
     ⊎ ((part ≡ []) × ((IsCharBoundary text to → ⊥) ⊎ (IsCharBoundary (take to text) from → ⊥)))
 
--- `IsSourceAt file text note code start bytes` holds if `bytes` explain an error of this code at this byte of `text`,
--- with `note` on what the place is, and nothing else.
+-- `IsSourceAt file text note code start bytes` holds if `bytes` explain an error of this code at the byte `start` of
+-- `text`, with the note `note` and without a detail.
 pub record IsSourceAt (file text note : List ℕ) (code start : ℕ) (bytes : List ℕ) : Type 0 where
   pub finding : SourceFinding
   pub code_is : finding.code ≡ code
@@ -27,8 +27,8 @@ pub record IsSourceAt (file text note : List ℕ) (code start : ℕ) (bytes : Li
 abbrev pub IsNothing : List ℕ → Type 0
 IsNothing words = words ≡ []
 
--- `IsWholeAt file code index Told bytes` holds if `bytes` explain an error of this code, at this index in the array of
--- a file, and `Told` holds for the words on that item.
+-- `IsWholeAt file code index Told bytes` holds if `bytes` explain an error of this code, at the item with this index in
+-- the array of `file`, or of the whole file if there is no index, with words on it for which `Told` holds.
 pub record IsWholeAt (file : List ℕ) (code : ℕ) (index : Option ℕ) (Told : List ℕ → Type 0) (bytes : List ℕ) : Type 0
   where
     pub finding : WholeFinding

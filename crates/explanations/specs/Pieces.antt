@@ -1,4 +1,4 @@
--- Defines the positions of policies in their file.
+-- Defines the positions of policies in their file; a `Piece` is such a position.
 -- Source: Cedar reference guide 4.0, "Grammar specification for Cedar policy syntax": a policy ends with `;`, its only
 -- one. Rules of this product: a policy begins with its first token, so comments before it do not belong to it; one that
 -- no `;` ends, ends with the text.
@@ -14,26 +14,27 @@ abbrev pub is_end : TokenKind → Bool
 is_end k.Semicolon = true
 is_end _ = false
 
--- `piece from to` is the piece between the two bytes.
+-- `piece from to` is the piece that starts at the byte `from` and ends before the byte `to`.
 abbrev pub piece : ℕ → ℕ → Piece
 piece from to = record { start = from; end = to }
 
--- `open_after open t` is the byte at which a piece is open after the token `t`, and `pieces_after ps open t` are the
--- pieces up to there, where one was open at `open`, if it is a byte, after the pieces `ps`.
+-- `open_after open_at t` is the byte at which the piece that is open after the token `t` starts, or `None` if none is
+-- open; `open_at` is likewise that before `t`.
 abbrev pub open_after : Option ℕ → Token → Option ℕ
 open_after open_at t = if is_end t.kind then None else Some (unwrap_or open_at t.start)
 
+-- `pieces_after ps open_at t` are the complete pieces after `t`, where `ps` and `open_at` are those before `t`.
 abbrev pub pieces_after : List Piece → Option ℕ → Token → List Piece
 pieces_after ps open_at t = if is_end t.kind then ps ++ piece (unwrap_or open_at t.start) t.end ∷ [] else ps
 
--- `ArePieces ts ps open_at` holds if the tokens `ts` are the pieces `ps` and, if `open_at` is a byte, the beginning
--- of one more, which starts there.
+-- `ArePieces ts ps open_at` holds if the tokens `ts` are the pieces `ps` and, unless `open_at` is `None`, the beginning
+-- of one more, which starts at that byte.
 pub data ArePieces : List Token → List Piece → Option ℕ → Type 0 where
   none : ArePieces [] [] None
   more : (ts : List Token) (ps : List Piece) (open_at : Option ℕ) (t : Token) → ArePieces ts ps open_at
       → ArePieces (ts ++ t ∷ []) (pieces_after ps open_at t) (open_after open_at t)
 
--- `with_open size ps open_at` are the pieces `ps` and, if one more is open, that up to the byte `size`.
+-- `with_open size ps open_at` are the pieces `ps` and, if one is open from `open_at`, that one, up to the byte `size`.
 abbrev pub with_open : ℕ → List Piece → Option ℕ → List Piece
 with_open size ps None = ps
 with_open size ps (Some from) = ps ++ piece from size ∷ []

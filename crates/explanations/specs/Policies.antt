@@ -43,22 +43,23 @@ abbrev pub IsSpanFound : List ℕ → Piece → PolicyFault → Option Span → 
 IsSpanFound text place f found =
     (part : List ℕ) × IsPartOf text place.start place.end part × IsFoundAs (is_name f.fault) part f.path.items found
 
--- `start_at place found` and `end_at place found` are the bytes of the whole text at which it begins and ends; those of
--- the policy if nothing was found. (The least of them and 2^64 - 1; no text is so long.)
+-- `start_at place found` is the byte of the whole text at which the span `found` in the policy begins; that of the
+-- policy if nothing was found. (At most 2^64 - 1, which is no restriction: no text is so long.)
 abbrev pub start_at : Piece → Option Span → ℕ
 start_at place None = place.start
 start_at place (Some s) = min (place.start + s.start) 18446744073709551615
 
+-- `end_at place found` is likewise the byte at which it ends.
 abbrev pub end_at : Piece → Option Span → ℕ
 end_at place None = place.end
 end_at place (Some s) = min (place.start + s.end) 18446744073709551615
 
--- `note_of found` says that the whole policy is shown, if nothing was found, and `large_note` that it is, since it is
--- not searched.
+-- `note_of found` is the note that the whole policy is shown, if nothing was found.
 abbrev pub note_of : Option Span → List ℕ
 note_of None = codes "the whole policy is shown, not the expression at fault"
 note_of (Some s) = []
 
+-- `large_note` is the note for a policy that is not searched.
 abbrev pub large_note : List ℕ
 large_note = codes "the policy is too large to show the expression at fault"
 
@@ -87,7 +88,7 @@ pub data IsCheckExplained (s : StatedSchema) (file text : List ℕ) (place : Pie
         → IsSourceAt file text large_note (code_of fault) place.start bytes
         → IsCheckExplained s file text place policy bytes
 
--- `IsPolicyExplained s file text place policy bytes` is the same, if there is a schema; else `bytes` are empty.
+-- `IsPolicyExplained s file text place policy bytes` is the same relation if there is a schema; else `bytes` are empty.
 abbrev pub IsPolicyExplained : Option StatedSchema → List ℕ → List ℕ → Piece → Policy → List ℕ → Type 0
 IsPolicyExplained None file text place policy bytes = bytes ≡ []
 IsPolicyExplained (Some s) file text place policy bytes = IsCheckExplained s file text place policy bytes

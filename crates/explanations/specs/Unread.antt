@@ -15,12 +15,12 @@ use Rattle.explanations.specs.declared.pieces.Piece.{Piece}
 use Rattle.explanations.specs.Parts.{IsPartOf, IsSourceAt}
 use Rattle.explanations.specs.Policies.{ArePoliciesExplained}
 
--- `byte_in piece fault` is the offset in the whole text of an error of a piece. (The least of it and 2^64 - 1; no text
--- is that long.)
+-- `byte_in piece fault` is the offset in the whole text of an error of a piece. (At most 2^64 - 1, which is no
+-- restriction: no text is so long.)
 abbrev pub byte_in : Piece → ReadFault → ℕ
 byte_in piece fault = min (piece.start + unwrap_or (place_of fault) 0) 18446744073709551615
 
--- `is_placeless code` tests for the errors that have no byte of their own.
+-- `is_placeless code` tests for the errors that have no byte of their own: too long (18) and bad id (19).
 abbrev pub is_placeless : ℕ → Bool
 is_placeless code = nat_le 18 code && nat_le code 19
 
@@ -48,6 +48,6 @@ pub data ArePiecesExplained (s : Option StatedSchema) (file text : List ℕ) (r 
       → ArePiecesExplained s file text r ps some before → IsPieceExplained s file text r p told bytes
       → ArePiecesExplained s file text r (ps ++ p ∷ []) (some || told) (before ++ bytes)
 
--- `AppendsTold Is old new told` holds if `new` is `old` followed by bytes for which `Is` holds, with `told`.
-abbrev pub AppendsTold : (Bool → List ℕ → Type 0) → List ℕ → List ℕ → Bool → Type 0
-AppendsTold Is old new told = (bytes : List ℕ) × Is told bytes × (new ≡ old ++ bytes)
+-- `AppendsExplained Is old new told` holds if `new` is `old` followed by bytes for which `Is` holds, with `told`.
+abbrev pub AppendsExplained : (Bool → List ℕ → Type 0) → List ℕ → List ℕ → Bool → Type 0
+AppendsExplained Is old new told = (bytes : List ℕ) × Is told bytes × (new ≡ old ++ bytes)

@@ -1,4 +1,4 @@
-//! Explanations of texts.
+//! Explains what is rejected in the texts of a schema, policies, entities and a request.
 ghost use Rattle.std.specs.Prelude.{◌≡◌, OnOk, IfOk, option_map, string_bytes};
 ghost use Rattle.schema_decisions.specs.schema.Views.{schema_view};
 ghost use Rattle.explanations.specs.Files.{file_of, files_of};
@@ -8,13 +8,13 @@ ghost use Rattle.explanations.specs.Explained.{IsUnreadExplained, IsExplainedUnd
 
 use crate::given::{Given, NamedText};
 use crate::others::{explain_entities, explain_request};
-use crate::parts::{no_want_of_memory, push_refusal};
+use crate::parts::{push_refusal, unless_no_memory};
 use crate::pieces::{Piece, pieces_of};
 use crate::policies::explain_policies;
 use crate::unread::{Lexed, explain_pieces, push_read_fault};
 use grammar_desugaring::{LexFault, Token, tokens};
 use plain::NoMemory;
-use schema_decisions::{Schema, policies_in, schema_in};
+use schema_decisions::{Schema, policies_of_file, schema_in};
 use std::alloc::Global;
 
 /// Returns bytes as text; an empty one if they are not UTF-8.
@@ -40,8 +40,8 @@ fn tokens_of(alloc: Global, text: &str) -> Result<Vec<Token>, NoMemory>
     }
 }
 
-/// Appends why a file of policies does not parse: the error of each of its pieces and then that of the file, unless it
-/// is among them.
+/// Appends why a file of policies does not parse: the error of each of its pieces, and then that of the file, unless a
+/// piece has it.
 fn explain_unread(
     alloc: Global,
     out: &mut String,
@@ -77,14 +77,14 @@ fn explain_file(
     let all = tokens.as_slice();
     let pieces = pieces_of(alloc, all, text.len())?;
     let spots = pieces.as_slice();
-    match policies_in(alloc, source.text) {
+    match policies_of_file(alloc, source.text) {
         Ok(policies) => {
             let named = policies.as_slice();
             explain_policies(alloc, out, schema, source.name, text, spots, named)?;
             Ok(())
         }
         Err(refusal) => {
-            let refusal = no_want_of_memory(refusal)?;
+            let refusal = unless_no_memory(refusal)?;
             let lexed = Lexed {
                 file: source.name,
                 text,
@@ -97,7 +97,7 @@ fn explain_file(
     }
 }
 
-/// Returns the text of a schema.
+/// Returns the text of a file, if there is one.
 fn text_of_source<'t>(source: Option<NamedText<'_, 't>>) -> Option<&'t [u8]>
     ensures { option_map (λ s. s.now) result ≡ option_map (λ s. s.text) (option_map file_of source.entry) }
 {
@@ -145,13 +145,14 @@ fn explain_under(
             Ok(())
         }
         Err(refusal) => {
-            let refusal = no_want_of_memory(refusal)?;
+            let refusal = unless_no_memory(refusal)?;
             push_refusal(out, schema.name, refusal, "")?;
             Ok(())
         }
     }
 }
 
+/// Appends the explanation of what is rejected in the given texts.
 fn explain_given(alloc: Global, out: &mut String, given: &Given<'_, '_>) -> Result<(), NoMemory>
     ensures { OnOk result (AppendsSome (IsExplained (files_of given.now))
         (string_bytes out.old) (string_bytes out.new)) }
@@ -173,9 +174,9 @@ fn explain_given(alloc: Global, out: &mut String, given: &Given<'_, '_>) -> Resu
 /// empty if and only if nothing is rejected.
 ///
 /// A policy that does not pass validation has the code that `check` reports. If the file does not parse, each part of
-/// it that ends with a `;`, or with the file, is parsed by itself, and has its own first error, or is checked as a
-/// policy of a file; the error of the file comes last, unless it is among these. A text without tokens has no such
-/// parts.
+/// it that ends with a `;`, or with the file, is parsed as a file of its own: it is explained by its own first error
+/// or, if it parses, checked as a policy of a file. The error of the file comes last, unless a part has it. A text that
+/// is not UTF-8, or in which no token begins at some byte, has no parts.
 ///
 /// # Errors
 ///

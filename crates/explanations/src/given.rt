@@ -14,10 +14,10 @@ pub struct NamedText<'n, 't> {
 pub struct Given<'n, 't> {
     /// A schema, if there is one.
     pub schema: Option<NamedText<'n, 't>>,
-    /// Policies.
+    /// The policies.
     pub policies: NamedText<'n, 't>,
-    /// Entities, if there are any.
+    /// The entities, if there are any.
     pub entities: Option<NamedText<'n, 't>>,
-    /// A request, if there is one.
+    /// The request, if there is one.
     pub request: Option<NamedText<'n, 't>>,
 }

@@ -1,9 +1,10 @@
 //! Theorems about explanations; the functions are no-ops.
 ghost use Rattle.explanations.specs.Laws.{ExplainedTextsAreReadable};
 
-/// Proves that a terminal shows explanations and does not obey them: whatever the files contain, and whatever their
-/// names are, they have no control characters except tabs and line feeds, and none that changes the direction of
-/// writing. No-op.
+/// Proves that a terminal shows explanations and does not obey them. No-op.
+///
+/// Whatever the files contain, and whatever their names are, an explanation has no control characters except tabs and
+/// line feeds, and none that changes the direction of writing.
 pub fn explained_texts_are_readable()
     ensures { ExplainedTextsAreReadable }
 {}

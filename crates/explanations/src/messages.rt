@@ -1,4 +1,4 @@
-//! Rejected messages.
+//! Explains that a message is rejected.
 ghost use Rattle.std.specs.Prelude.{IfOk, string_bytes};
 ghost use Rattle.explanations.specs.Parts.{IsMessageExplained};
 

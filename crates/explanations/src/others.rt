@@ -1,4 +1,4 @@
-//! Rejected entities and requests.
+//! Explains rejected entities and requests.
 ghost use Rattle.std.specs.Prelude.{◌≡◌, OnOk, IfOk, IfErr, option_map, string_bytes};
 ghost use Rattle.plain.specs.Refused.{OrNoMemory};
 ghost use Rattle.schema_decisions.specs.schema.Views.{schema_view};
@@ -8,12 +8,12 @@ ghost use Rattle.explanations.specs.Parts.{AppendsSome, IsWholeAt};
 ghost use Rattle.explanations.specs.Others.{any_request, AreBareTextsRead, AreBareTextsRefused};
 ghost use Rattle.explanations.specs.Others.{AreEntitiesRead, AreEntitiesRefused, IsRequestRead};
 ghost use Rattle.explanations.specs.Others.{IsRequestRefused, IsJudgedText, AreEntitiesExplained, IsRequestExplained};
-ghost use Rattle.explanations.specs.Others.{IsEntityPartTold, IsRequestPartTold};
+ghost use Rattle.explanations.specs.Others.{IsEntityPartNamed, IsRequestPartNamed};
 
 use crate::given::NamedText;
-use crate::parts::{no_want_of_memory, push_refusal};
+use crate::parts::{push_refusal, unless_no_memory};
 use plain::{NoMemory, Text};
-use schema_decisions::{Refusal, Schema, UnderSchema, decide_texts, decide_under, judge_entities};
+use schema_decisions::{Refusal, Schema, UnderSchema, check_entities, decide_texts, decide_under};
 use std::alloc::Global;
 use value_paths::{entity_part, request_part};
 
@@ -55,7 +55,7 @@ fn judge_array(alloc: Global, schema: Option<&Schema>, text: &[u8]) -> Result<()
         (AreEntitiesRefused (option_map (λ s. schema_view s.now) schema.entry) text.now)) }
 {
     match schema {
-        Some(schema) => judge_entities(alloc, &UnderSchema { schema }, text),
+        Some(schema) => check_entities(alloc, &UnderSchema { schema }, text),
         None => judge_bare(alloc, text, any_request()),
     }
 }
@@ -72,7 +72,7 @@ fn judge_request(alloc: Global, schema: Option<&[u8]>, text: &[u8]) -> Result<()
     }
 }
 
-/// Returns the words on the part at fault of the entity at an index.
+/// Returns the words on the part at fault of the entity at an index; no words without a schema.
 fn entity_words(
     alloc: Global,
     schema: Option<&Schema>,
@@ -80,7 +80,7 @@ fn entity_words(
     index: Option<usize>,
 ) -> Result<Text, NoMemory>
     ensures { IfOk result
-        (IsEntityPartTold (option_map (λ s. schema_view s.now) schema.entry) text.now index) }
+        (IsEntityPartNamed (option_map (λ s. schema_view s.now) schema.entry) text.now index) }
 {
     match schema {
         Some(schema) => entity_part(alloc, schema, text, index),
@@ -88,10 +88,10 @@ fn entity_words(
     }
 }
 
-/// Returns the words on the part at fault of a request.
+/// Returns the words on the part at fault of a request; no words without a schema.
 fn request_words(alloc: Global, schema: Option<&Schema>, text: &[u8]) -> Result<Text, NoMemory>
     ensures { IfOk result
-        (IsRequestPartTold (option_map (λ s. schema_view s.now) schema.entry) text.now) }
+        (IsRequestPartNamed (option_map (λ s. schema_view s.now) schema.entry) text.now) }
 {
     match schema {
         Some(schema) => request_part(alloc, schema, text),
@@ -108,7 +108,7 @@ fn push_entity(
     refusal: Refusal,
 ) -> Result<(), NoMemory>
     ensures { OnOk result (AppendsSome (IsWholeAt source.entry.name.now refusal.code refusal.place
-        (IsEntityPartTold (option_map (λ s. schema_view s.now) schema.entry) source.entry.text.now refusal.place))
+        (IsEntityPartNamed (option_map (λ s. schema_view s.now) schema.entry) source.entry.text.now refusal.place))
         (string_bytes out.old) (string_bytes out.new)) }
 {
     let words = entity_words(alloc, schema, source.text, refusal.place)?;
@@ -125,7 +125,7 @@ fn push_request(
     refusal: Refusal,
 ) -> Result<(), NoMemory>
     ensures { OnOk result (AppendsSome (IsWholeAt source.entry.name.now refusal.code refusal.place
-        (IsRequestPartTold (option_map (λ s. schema_view s.now) schema.entry) source.entry.text.now))
+        (IsRequestPartNamed (option_map (λ s. schema_view s.now) schema.entry) source.entry.text.now))
         (string_bytes out.old) (string_bytes out.new)) }
 {
     let words = request_words(alloc, schema, source.text)?;
@@ -133,7 +133,7 @@ fn push_request(
     Ok(())
 }
 
-/// Appends why entities are rejected, if they are.
+/// Appends why entities are rejected, if `judged`, the result of checking them, is an error.
 fn explain_array(
     alloc: Global,
     out: &mut String,
@@ -142,20 +142,20 @@ fn explain_array(
     judged: Result<(), Refusal>,
 ) -> Result<(), NoMemory>
     ensures { OnOk result (AppendsSome (IsJudgedText source.entry.name.now
-        (IsEntityPartTold (option_map (λ s. schema_view s.now) schema.entry) source.entry.text.now) judged)
+        (IsEntityPartNamed (option_map (λ s. schema_view s.now) schema.entry) source.entry.text.now) judged)
         (string_bytes out.old) (string_bytes out.new)) }
 {
     match judged {
         Ok(()) => Ok(()),
         Err(refusal) => {
-            let refusal = no_want_of_memory(refusal)?;
+            let refusal = unless_no_memory(refusal)?;
             push_entity(alloc, out, schema, source, refusal)?;
             Ok(())
         }
     }
 }
 
-/// Appends why a request is rejected, if it is.
+/// Appends why a request is rejected, if `judged`, the result of checking it, is an error.
 fn explain_asked(
     alloc: Global,
     out: &mut String,
@@ -164,20 +164,20 @@ fn explain_asked(
     judged: Result<(), Refusal>,
 ) -> Result<(), NoMemory>
     ensures { OnOk result (AppendsSome (IsJudgedText source.entry.name.now
-        (λ place. IsRequestPartTold (option_map (λ s. schema_view s.now) schema.entry) source.entry.text.now) judged)
+        (λ place. IsRequestPartNamed (option_map (λ s. schema_view s.now) schema.entry) source.entry.text.now) judged)
         (string_bytes out.old) (string_bytes out.new)) }
 {
     match judged {
         Ok(()) => Ok(()),
         Err(refusal) => {
-            let refusal = no_want_of_memory(refusal)?;
+            let refusal = unless_no_memory(refusal)?;
             push_request(alloc, out, schema, source, refusal)?;
             Ok(())
         }
     }
 }
 
-/// Appends why entities are rejected, if there are any and they are.
+/// Appends why the entities are rejected, if there is a file of entities and it is rejected.
 pub(crate) fn explain_entities(
     alloc: Global,
     out: &mut String,
@@ -198,7 +198,8 @@ pub(crate) fn explain_entities(
     }
 }
 
-/// Appends why a request is rejected, if there is one and it is, where `schema` is the schema of the text `stated`.
+/// Appends why the request is rejected, if there is one and it is rejected. `schema` is the schema of the text
+/// `stated`.
 pub(crate) fn explain_request(
     alloc: Global,
     out: &mut String,

@@ -1,4 +1,4 @@
-//! Parts of a text, and the texts of findings.
+//! Parts of a text, and the texts that explain errors.
 ghost use Rattle.std.specs.Prelude.{◌≡◌, OnOk, IfOk, string_bytes};
 ghost use Rattle.schema_decisions.specs.answer_lines.Refusals.{no_memory};
 ghost use Rattle.explanations.specs.Parts.{IsPartOf, IsSourceAt, IsWholeAt, AppendsSome};
@@ -32,7 +32,7 @@ pub(crate) struct PlainFinding<'t> {
     pub end: usize,
     /// What is named as the cause; empty if nothing is.
     pub cause: &'t str,
-    /// What the place is, if it is not that of the error itself; empty if it is.
+    /// What the shown place is, if it is not the place of the error itself; else empty.
     pub note: &'static str,
 }
 
@@ -60,8 +60,8 @@ pub(crate) fn push_at(
     Ok(())
 }
 
-/// Appends the text of an error in the file `file`, at the index in its array, if it has one, with these words on what
-/// is there.
+/// Appends the text of an error in the file `file`: at the index of an item in its array, if the error has one, with
+/// the words `detail` on that item.
 pub(crate) fn push_refusal(
     out: &mut String,
     file: &str,
@@ -80,12 +80,12 @@ pub(crate) fn push_refusal(
     Ok(())
 }
 
-/// Returns the error.
+/// Returns the error, unless it is out of memory.
 ///
 /// # Errors
 ///
 /// - `NoMemory`: the error is `NoMemory`.
-pub(crate) fn no_want_of_memory(refusal: Refusal) -> Result<Refusal, NoMemory>
+pub(crate) fn unless_no_memory(refusal: Refusal) -> Result<Refusal, NoMemory>
     ensures same { IfOk result (λ r. r ≡ refusal) }
     ensures other { IfOk result (λ r. refusal ≡ no_memory → ⊥) }
 {

@@ -23,7 +23,8 @@ fn is_end(kind: TokenKind) -> bool
     matches!(kind, TokenKind::Semicolon)
 }
 
-/// Appends the piece that a token ends, if it ends one. Returns the byte at which a piece is open after it.
+/// Appends the piece that a token ends, if it ends one. Returns the byte at which the piece that is open after the
+/// token begins, if one is.
 fn take_token(
     pieces: &mut Vec<Piece>,
     begun: Option<usize>,
@@ -54,8 +55,8 @@ fn push_open(pieces: &mut Vec<Piece>, begun: Option<usize>, size: usize) -> Resu
     }
 }
 
-/// Returns the position of each policy of a file of this size with these tokens, in order. Of a text that is not a file
-/// of policies these are the parts that end as a policy does, and the rest.
+/// Returns the position of each policy of a file of this size with these tokens, in order. In a text that does not
+/// parse, these are the parts that end with a `;`, and the rest.
 pub(crate) fn pieces_of(
     alloc: Global,
     tokens: &[Token],

@@ -1,4 +1,4 @@
-//! Policies that do not pass validation.
+//! Explains policies that do not pass validation.
 ghost use Rattle.std.specs.Prelude.{◌≡◌, true, false, OnOk, IfOk, MatchOption, map, string_bytes, option_map};
 ghost use Rattle.schema_decisions.specs.validator.Passing.{Passes, IsCheckRefused};
 ghost use Rattle.schema_decisions.specs.schema.Views.{schema_view};
@@ -18,8 +18,8 @@ use std::alloc::Global;
 use token_spans::{Span, name_span, span_of};
 
 // The greatest length in bytes of a policy that is searched for the expression at fault. The search types the part at
-// fault again on each of at most 1,000 levels: at most 10,000,000 nodes in an environment, ten times those of the
-// largest policy.
+// fault again on each of at most 1,000 levels: at most 10,000,000 nodes in an environment, ten times the 1,000,000
+// nodes of the largest policy.
 const MOST_SEARCHED: usize = 10000;
 
 /// Returns whether a policy is searched for the expression at fault.
@@ -29,7 +29,7 @@ fn is_searched(piece: Piece) -> bool
     piece.end.saturating_sub(piece.start) <= MOST_SEARCHED
 }
 
-/// Returns whether an error is that of an undeclared name.
+/// Returns whether an error is that of an undeclared name (40, 41).
 fn is_name(fault: TypeFault) -> bool
     ensures { result ≡ is_name fault }
 {
@@ -93,7 +93,7 @@ fn spot_of(piece: Piece, found: Option<Span>) -> Spot
     }
 }
 
-/// Appends why a policy does not pass, by the error that was found.
+/// Appends why a policy does not pass validation, by the error that was found.
 fn push_fault(
     alloc: Global,
     out: &mut String,

@@ -1,10 +1,10 @@
-//! Files of policies that do not parse.
+//! Explains files of policies that do not parse.
 ghost use Rattle.std.specs.Prelude.{◌==◌, unwrap_or};
 ghost use Rattle.std.specs.Prelude.{◌≡◌, ◌∷◌, ◌||◌, [], OnOk, IfOk, map, option_map, string_bytes};
 ghost use Rattle.schema_decisions.specs.schema.Views.{schema_view};
 ghost use Rattle.explanations.specs.Parts.{AppendsSome, IsSourceAt};
 ghost use Rattle.explanations.specs.Policies.{ArePoliciesExplained};
-ghost use Rattle.explanations.specs.Unread.{IsPieceExplained, ArePiecesExplained, AppendsTold};
+ghost use Rattle.explanations.specs.Unread.{IsPieceExplained, ArePiecesExplained, AppendsExplained};
 ghost use Rattle.explanations.specs.Unread.{is_placeless, is_that};
 
 use crate::parts::{PlainFinding, part_of, push_at};
@@ -37,7 +37,7 @@ fn end_of_token(tokens: &[Token], at: usize) -> usize {
     }
 }
 
-/// Returns whether an error of this code names the token at its place.
+/// Returns whether an error of this code names the token at its place: 11 (unexpected) to 16 (slot), of the grammar.
 fn names_token(code: u8) -> bool {
     matches!(code, 11..=16)
 }
@@ -122,21 +122,21 @@ fn no_failed_growth(fault: ReadFault) -> Result<ReadFault, NoMemory>
     }
 }
 
-/// Returns whether errors of this code have no byte of their own.
+/// Returns whether errors of this code have no byte of their own: too long (18) and bad id (19).
 fn is_placeless(code: u8) -> bool
     ensures { result ≡ is_placeless code }
 {
     matches!(code, 18..=19)
 }
 
-/// Returns whether an error is at the place of that of the file, or has none.
+/// Returns whether an error of this code at this byte is at the place of `refusal`, or has no byte of its own.
 fn is_there(refusal: Refusal, code: u8, at: usize) -> bool
     ensures { result ≡ ((at == unwrap_or refusal.place 0) || is_placeless code) }
 {
     at == refusal.place.unwrap_or(0) || is_placeless(code)
 }
 
-/// Returns whether an error of this code at this byte is that of the file.
+/// Returns whether an error of this code at this byte is `refusal`, the error of the file.
 fn is_that(refusal: Refusal, code: u8, at: usize) -> bool
     ensures { result ≡ is_that refusal code at }
 {
@@ -152,7 +152,7 @@ fn explain_piece(
     lexed: Lexed<'_>,
     piece: &Piece,
 ) -> Result<bool, NoMemory>
-    ensures { IfOk result (AppendsTold (IsPieceExplained (option_map (λ s. schema_view s.now) schema.entry)
+    ensures { IfOk result (AppendsExplained (IsPieceExplained (option_map (λ s. schema_view s.now) schema.entry)
         lexed.entry.file.now lexed.entry.text.now lexed.entry.refusal piece.now) (string_bytes out.old)
         (string_bytes out.new)) }
 {
@@ -170,13 +170,15 @@ fn explain_piece(
     }
 }
 
+/// Returns whether one of two conditions holds.
 fn either(first: bool, second: bool) -> bool
     ensures { result ≡ (first || second) }
 {
     first || second
 }
 
-/// Appends what [`explain_piece`] does for each piece, in order. Returns whether one of them has the error of the file.
+/// Appends the explanation of each piece ([`explain_piece`]), in order. Returns whether one of them has the error of
+/// the file.
 pub(crate) fn explain_pieces(
     alloc: Global,
     out: &mut String,
@@ -184,7 +186,7 @@ pub(crate) fn explain_pieces(
     lexed: Lexed<'_>,
     pieces: &[Piece],
 ) -> Result<bool, NoMemory>
-    ensures { IfOk result (AppendsTold (ArePiecesExplained (option_map (λ s. schema_view s.now) schema.entry)
+    ensures { IfOk result (AppendsExplained (ArePiecesExplained (option_map (λ s. schema_view s.now) schema.entry)
         lexed.entry.file.now lexed.entry.text.now lexed.entry.refusal pieces.now) (string_bytes out.old)
         (string_bytes out.new)) }
 {

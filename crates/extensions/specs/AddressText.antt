@@ -1,4 +1,4 @@
--- Defines the strings of IP addresses, each with the address as a number.
+-- Defines which strings are IP addresses, and the number that each denotes.
 -- Source: Cedar reference guide 4.0, "Supported data types" (ipaddr) and the function `ip`; RFC 4291, section 2.2,
 -- forms 1 and 2, for IPv6.
 -- Rules of this product: form 3, an IPv4 address in an IPv6 text, is rejected.
@@ -23,20 +23,21 @@ pub record IsGroup (text : List ℕ) (n : ℕ) : Type 0 where
   pub short : length text ≤ 4
   pub value : digits_value 16 text ≡ n
 
--- `AreGroups text ns` holds if `text` is groups with a colon between each two, or empty if `ns` is.
+-- `AreGroups text ns` holds if `text` is groups that denote `ns`, with a colon between each two; it is empty if `ns`
+-- is.
 abbrev pub AreGroups : List ℕ → List ℕ → Type 0
 AreGroups text [] = text ≡ []
 AreGroups text (n ∷ []) = IsGroup text n
 AreGroups text (n ∷ next ∷ more) =
     (group rest : List ℕ) × (text ≡ group ++ codes ":" ++ rest) × IsGroup group n × AreGroups rest (next ∷ more)
 
--- `IsFull text groups` holds if `text` has all eight groups.
+-- `IsFull text groups` holds if `text` is written with all eight groups, which denote `groups`.
 pub record IsFull (text groups : List ℕ) : Type 0 where
   pub written : AreGroups text groups
   pub eight : length groups ≡ 8
 
--- `IsElided text groups` holds if `text` has groups on each side of `::`, which represents at least one group of
--- zero, so that there are eight.
+-- `IsElided text groups` holds if `text` is some groups, `::` and some groups, where `::` stands for one or more zeros,
+-- so that the eight numbers are `groups`. Either side may be empty.
 pub record IsElided (text groups : List ℕ) : Type 0 where
   pub head_text : List ℕ
   pub tail_text : List ℕ
@@ -48,11 +49,12 @@ pub record IsElided (text groups : List ℕ) : Type 0 where
   pub room : length head + length tail < 8
   pub value : groups ≡ head ++ replicate (8 - length head - length tail) 0 ++ tail
 
--- `groups_after n groups` is the number of sixteen-bit groups that follow those of `n`.
+-- `groups_after n groups` is the number whose bits are those of `n`, followed by sixteen for each of `groups`.
 abbrev pub groups_after : ℕ → List ℕ → ℕ
 groups_after n [] = n
 groups_after n (group ∷ more) = groups_after (n * 2 ^ 16 + group) more
 
--- `IsIpv6Text text n` holds if `text` is eight groups, the most significant first, of the number `n`.
+-- `IsIpv6Text text n` holds if `text` is eight groups, written in full or with a `::`, of the number `n`, the most
+-- significant first.
 abbrev pub IsIpv6Text : List ℕ → ℕ → Type 0
 IsIpv6Text text n = (groups : List ℕ) × (IsFull text groups ⊎ IsElided text groups) × (n ≡ groups_after 0 groups)

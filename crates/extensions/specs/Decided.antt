@@ -1,4 +1,4 @@
--- Defines decisions of a statement: a proof, or a refutation.
+-- Defines decisions of a statement: a proof of it, or a refutation.
 use Rattle.std.specs.Prelude.{◌⊎◌, Bool, true, false, Option, Some, None}
 use Rattle.std.proofs.Common.{inl, inr}
 
@@ -6,12 +6,12 @@ use Rattle.std.proofs.Common.{inl, inr}
 abbrev pub Decided : Type 0 → Type 0
 Decided P = P ⊎ (P → ⊥)
 
--- `told d` is the boolean of the decision `d`.
+-- `told d` is true if the decision `d` is a proof, and false if it is a refutation.
 abbrev pub told : {P : Type 0} → Decided P → Bool
 told (inl p) = true
 told (inr n) = false
 
--- `found d` is the value that was found, if there is one.
+-- `found d` is the value in the proof `d` that some value satisfies a property; `None` if `d` is a refutation.
 abbrev pub found : {A : Type 0} {P : A → Type 0} → Decided ((a : A) × P a) → Option A
 found (inl h) = Some h.0
 found (inr n) = None

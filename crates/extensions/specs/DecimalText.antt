@@ -1,4 +1,4 @@
--- Defines the strings of decimals, each with its number of ten-thousandths, and the canonical strings.
+-- Defines which strings are decimals, the number of ten-thousandths that each denotes, and the canonical strings.
 -- Source: Cedar reference guide 4.0, the data type decimal and the function `decimal`.
 -- Rules of this product: the canonical string.
 use Rattle.std.specs.Prelude.{◌≡◌, ℕ, suc, ℤ, pos, negsuc, ◌*◌, ◌/◌, ◌%◌, ◌^◌, ◌≤◌, List, ◌++◌, length, codes}
@@ -18,8 +18,7 @@ pub record IsUnsignedText (text : List ℕ) (n : ℕ) : Type 0 where
   pub short : length fraction ≤ 4
   pub value : n * 10 ^ length fraction ≡ digits_value 10 (whole ++ fraction) * 10000
 
--- `IsSignedText text z` holds if `text` is such a string, with an optional `-` before it, and denotes `z`
--- ten-thousandths.
+-- `IsSignedText text z` holds if `text` is such a string, alone or after a `-`, and denotes `z` ten-thousandths.
 pub data IsSignedText : List ℕ → ℤ → Type 0 where
   plain : {text : List ℕ} {n : ℕ} → IsUnsignedText text n → IsSignedText text (pos n)
   minus : {text : List ℕ} {n : ℕ} → IsUnsignedText text n → IsSignedText (codes "-" ++ text) (neg_ℤ (pos n))
@@ -28,13 +27,13 @@ pub data IsSignedText : List ℕ → ℤ → Type 0 where
 abbrev pub IsDecimalText : List ℕ → ℤ → Type 0
 IsDecimalText text z = IsSignedText text z × FitsSigned w64 z
 
--- `size_text n` is the string of `n` ten-thousandths: the whole number, a point, and four digits.
+-- `size_text n` is the canonical string of `n` ten-thousandths: the whole number, a point, and four digits.
 abbrev pub size_text : ℕ → List ℕ
 size_text n = decimal (n / 10000) ++ codes "." ++ decimal (n / 1000 % 10) ++ decimal (n / 100 % 10)
     ++ decimal (n / 10 % 10) ++ decimal (n % 10)
 
--- `decimal_text z` is the canonical string: exactly four digits after the point, no unnecessary leading zeros, and no
--- `-` on zero.
+-- `decimal_text z` is the canonical string of `z` ten-thousandths: exactly four digits after the point, no unnecessary
+-- leading zeros, and no `-` on zero.
 abbrev pub decimal_text : ℤ → List ℕ
 decimal_text (pos n) = size_text n
 decimal_text (negsuc n) = codes "-" ++ size_text (suc n)

@@ -1,4 +1,4 @@
--- Defines IP addresses with a prefix, and their ranges, by numbers.
+-- Defines networks (IP addresses with a prefix) and their ranges, as numbers.
 -- Source: RFC 4632, section 3.1, and RFC 4291, section 2.3, for the prefix; Cedar reference guide 4.0, the functions
 -- `isInRange`, `isLoopback` and `isMulticast`; RFC 1122, section 3.2.1.3, RFC 5771 and RFC 4291, sections 2.5.3 and
 -- 2.7, for the four ranges.
@@ -7,7 +7,7 @@ use Rattle.std.specs.Prelude.{◌≡◌, ℕ, ◌+◌, ◌-◌, ◌*◌, ◌/◌
 use Rattle.extensions.specs.declared.ip_net.Version.{Version}
 use Rattle.extensions.specs.declared.ip_net.Version.TheVariants.{V4, V6}
 
--- A `Network` is an address as it was written, as a number, and the length of its prefix in bits.
+-- A `Network` is an IP version, an address, unmasked and as a number, and the length of its prefix in bits.
 pub record Network : Type 0 where
   pub version : Version
   pub address : ℕ
@@ -18,12 +18,12 @@ abbrev pub width : Version → ℕ
 width V4 = 32
 width V6 = 128
 
--- `IsNetwork n` holds if address and prefix are within the bounds of their version.
+-- `IsNetwork n` holds if the address and the prefix of `n` are within the bounds of its version.
 pub record IsNetwork (n : Network) : Type 0 where
   pub address_fits : n.address < 2 ^ width n.version
   pub prefix_fits : n.prefix ≤ width n.version
 
--- `size n` is the number of addresses in the range of `n`: those that agree with it in the bits of the prefix.
+-- `size n` is the number of addresses in the range of `n`: those that agree with its address in the bits of its prefix.
 abbrev pub size : Network → ℕ
 size n = 2 ^ (width n.version - n.prefix)
 
@@ -35,7 +35,7 @@ least n = n.address / size n * size n
 abbrev pub greatest : Network → ℕ
 greatest n = least n + size n - 1
 
--- `IsWithin a b` holds if the range of `a` is within that of `b`, which needs the same version.
+-- `IsWithin a b` holds if `a` and `b` have the same version and the range of `a` is within that of `b`.
 pub record IsWithin (a b : Network) : Type 0 where
   pub same_version : a.version ≡ b.version
   pub from : least b ≤ least a

@@ -1,4 +1,5 @@
--- Defines the strings of IP addresses with a prefix, each with its network, and the canonical strings.
+-- Defines which strings are IP addresses with an optional prefix, the network that each denotes, and the canonical
+-- strings.
 -- Source: Cedar reference guide 4.0, the function `ip`; RFC 4632, section 3.1, and RFC 4291, section 2.3, for the
 -- prefix.
 -- Rules of this product: a canonical string always has the prefix, and an IPv6 one has all eight groups.
@@ -20,7 +21,8 @@ abbrev pub IsPrefixText : ℕ → List ℕ → ℕ → Type 0
 IsPrefixText bits text prefix = ((text ≡ []) × (prefix ≡ bits))
     ⊎ ((text ≡ codes "/" ++ decimal prefix) × (prefix ≤ bits))
 
--- `IsNetworkText text n` holds if `text` is the address of the network `n`, followed by its prefix.
+-- `IsNetworkText text n` holds if `text` is the address of the network `n`, followed by the text of its prefix, which
+-- may be empty.
 pub record IsNetworkText (text : List ℕ) (n : Network) : Type 0 where
   pub address_text : List ℕ
   pub prefix_text : List ℕ
@@ -28,20 +30,21 @@ pub record IsNetworkText (text : List ℕ) (n : Network) : Type 0 where
   pub address : IsAddressText n.version address_text n.address
   pub prefix : IsPrefixText (width n.version) prefix_text n.prefix
 
--- `ipv4_text n` are four decimal numbers with `.` between them, the most significant first.
+-- `ipv4_text n` is the address `n` as four decimal numbers with `.` between them, the most significant first.
 abbrev pub ipv4_text : ℕ → List ℕ
 ipv4_text n =
     decimal (n / 2 ^ 24 % 256) ++ codes "." ++ decimal (n / 2 ^ 16 % 256) ++ codes "." ++ decimal (n / 2 ^ 8 % 256)
     ++ codes "."
     ++ decimal (n % 256)
 
--- `groups_text n` are four groups of lower case hexadecimal digits with `:` between them, the most significant first.
+-- `groups_text n` is the 64-bit number `n` as four groups of lower case hexadecimal digits with `:` between them, the
+-- most significant first.
 abbrev pub groups_text : ℕ → List ℕ
 groups_text n =
     digits 16 false (n / 2 ^ 48) ++ codes ":" ++ digits 16 false (n / 2 ^ 32 % 65536) ++ codes ":"
     ++ digits 16 false (n / 2 ^ 16 % 65536) ++ codes ":" ++ digits 16 false (n % 65536)
 
--- `ipv6_text n` are eight such groups with `:` between them.
+-- `ipv6_text n` is the address `n` as eight such groups with `:` between them.
 abbrev pub ipv6_text : ℕ → List ℕ
 ipv6_text n = groups_text (n / 2 ^ 64) ++ codes ":" ++ groups_text (n % 2 ^ 64)
 

@@ -1,6 +1,5 @@
--- Defines the order of IP addresses with a prefix: by version, IPv4 first, then by the address as it was written,
--- then by the prefix.
--- Rules of this product: the address is compared unmasked.
+-- Defines the order of networks (IP addresses with a prefix): by version, IPv4 first, then by address, then by prefix.
+-- Rules of this product: the address is compared with all its bits, not only those of the prefix.
 use Rattle.std.specs.Prelude.{◌≡◌, ℕ, ◌==◌, if◌then◌else◌, refl}
 use Rattle.std.specs.declared.cmp.Ordering.{Ordering}
 use Rattle.std.specs.declared.cmp.Ordering.TheVariants.{Less, Equal, Greater}
@@ -14,7 +13,7 @@ use Rattle.extensions.specs.declared.ip_net.Version.{Version}
 use Rattle.extensions.specs.declared.ip_net.Version.TheVariants.{V4, V6}
 use Rattle.extensions.specs.Network.{Network}
 
--- `version_number v` is the number of the version `v`.
+-- `version_number v` is the number of the version `v`, 4 or 6.
 abbrev pub version_number : Version → ℕ
 version_number V4 = 4
 version_number V6 = 6
@@ -24,7 +23,7 @@ abbrev pub network_cmp : Network → Network → Ordering
 network_cmp = then_cmp (on (λ n. version_number n.version) nat_cmp)
     (then_cmp (on (λ n. n.address) nat_cmp) (on (λ n. n.prefix) nat_cmp))
 
--- The order is total.
+-- `network_cmp_total`: the order is total.
 pub network_cmp_total : IsTotalOrder network_cmp
 network_cmp_total =
     then_total (on_total (λ n. version_number n.version) nat_cmp_total)
@@ -34,6 +33,7 @@ network_cmp_total =
 abbrev pub version_of : ℕ → Version
 version_of k = if k == 4 then V4 else V6
 
+-- `version_back` and `same_version`: the number of a version determines it.
 version_back : (v : Version) → version_of (version_number v) ≡ v
 version_back V4 = refl
 version_back V6 = refl
@@ -41,6 +41,8 @@ version_back V6 = refl
 same_version : (v w : Version) → version_number v ≡ version_number w → v ≡ w
 same_version v w e = sym (version_back v) ∙ ap version_of e ∙ version_back w
 
+-- `IsTie o` holds if `o` is `Equal`. `both_equal`: if `ordering_then o p`, which is `p` where `o` is `Equal` and else
+-- `o`, is `Equal`, then so are `o` and `p`.
 IsTie : Ordering → Type 0
 IsTie Less = ⊥
 IsTie Equal = Unit {0}
@@ -52,7 +54,7 @@ both_equal Less p e = absurd (subst IsTie (sym e) tt)
 both_equal Equal p e = (refl, e)
 both_equal Greater p e = absurd (subst IsTie (sym e) tt)
 
--- Only equal networks compare as equal.
+-- `network_cmp-IsAntisymmetric`: only equal networks compare as equal.
 pub network_cmp-IsAntisymmetric : IsAntisymmetric network_cmp
 network_cmp-IsAntisymmetric m n e =
     let first = both_equal (nat_cmp (version_number m.version) (version_number n.version)) _ e in
@@ -62,8 +64,8 @@ network_cmp-IsAntisymmetric m n e =
     let prefix = nat_cmp-IsAntisymmetric m.prefix n.prefix second.1 in
     λ i. record { version = version i; address = address i; prefix = prefix i }
 
--- `network_numbers n` is the network `n` as three numbers, which determine it; a crate above encodes its own data by
--- them.
+-- `network_numbers n` is the network `n` as three numbers, which determine it; higher crates encode data with networks
+-- by them.
 abbrev pub network_numbers : Network → ℕ × (ℕ × ℕ)
 network_numbers n = (version_number n.version, (n.address, n.prefix))
 
@@ -71,6 +73,7 @@ network_numbers n = (version_number n.version, (n.address, n.prefix))
 abbrev pub network_of : ℕ × (ℕ × ℕ) → Network
 network_of k = record { version = version_of k.0; address = k.1.0; prefix = k.1.1 }
 
+-- The three numbers of a network represent that network.
 pub network_of-network_numbers : (n : Network) → network_of (network_numbers n) ≡ n
 network_of-network_numbers n =
     λ i. record { version = version_back n.version i; address = n.address; prefix = n.prefix }

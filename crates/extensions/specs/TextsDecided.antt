@@ -1,5 +1,5 @@
--- Defines decision procedures for decimals and IP addresses: whether a string is one, which value it denotes, and
--- whether a range is within another. The type of each says what it decides; how it does so is not trusted.
+-- Defines decision procedures for decimals and IP addresses: whether a string is one, and of which value, and whether a
+-- range is within another. The type of each states what it decides, so how it decides need not be trusted.
 use Rattle.std.specs.Prelude.{◌⊎◌, ℕ, ℤ, List, Option}
 use Rattle.extensions.specs.Decided.{Decided, found}
 use Rattle.extensions.specs.DecimalText.{IsDecimalText}
@@ -7,23 +7,26 @@ use Rattle.extensions.specs.Network.{Network, IsWithin}
 use Rattle.extensions.specs.NetworkText.{IsNetworkText}
 use Rattle.extensions.specs.inner.DecidingTexts as deciding
 
+-- `decimal_text_decided text` decides whether `text` is a decimal, and gives its ten-thousandths.
 pub decimal_text_decided : (text : List ℕ) → Decided ((z : ℤ) × IsDecimalText text z)
 decimal_text_decided text = deciding.decimal_text_decided text
 
+-- `network_text_decided text` decides whether `text` is an IP address, and gives its network.
 pub network_text_decided : (text : List ℕ) → Decided ((n : Network) × IsNetworkText text n)
 network_text_decided text = deciding.network_text_decided text
 
+-- `within_decided a b` decides whether the range of `a` is within that of `b`.
 pub within_decided : (a b : Network) → Decided (IsWithin a b)
 within_decided a b = deciding.within_decided a b
 
--- `in_either_decided n a b` decides whether `n` is within one of `a` and `b`.
+-- `in_either_decided n a b` decides whether the range of `n` is within that of `a` or of `b`.
 pub in_either_decided : (n a b : Network) → Decided (IsWithin n a ⊎ IsWithin n b)
 in_either_decided n a b = deciding.in_either_decided n a b
 
--- `decimal_of text` is the number of ten-thousandths of a decimal's string.
+-- `decimal_of text` is the number of ten-thousandths that `text` denotes, if it is a decimal.
 abbrev pub decimal_of : List ℕ → Option ℤ
 decimal_of text = found (decimal_text_decided text)
 
--- `network_of text` is the network of an address's string.
+-- `network_of text` is the network that `text` denotes, if it is an IP address.
 abbrev pub network_of : List ℕ → Option Network
 network_of text = found (network_text_decided text)

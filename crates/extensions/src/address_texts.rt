@@ -1,4 +1,4 @@
-//! Parses and appends the strings of addresses, and parses those of prefixes.
+//! Parsing and writing of addresses without a prefix, and parsing of prefixes.
 ghost use Rattle.std.specs.Prelude.{◌≡◌, ℕ, ◌+◌, ◌^◌, ◌<◌, ◌≤◌, ◌↔◌, ◌++◌, length};
 ghost use Rattle.std.specs.Prelude.{slice_index, IsTrue, IsNone, IfSome, string_bytes, string_len};
 ghost use Rattle.std.specs.Prelude.{string_capacity};
@@ -26,7 +26,7 @@ pub(crate) fn address_of_text(text: &str) -> Option<(Version, u128)>
     Some((Version::V6, address))
 }
 
-/// Parses an IPv4 address.
+/// Parses an IPv4 address, or returns `None`.
 fn ipv4_of_text(text: &str) -> Option<u32>
     ensures some { IfSome result (IsAddressText V4 text.now) }
     ensures none { IsNone result → (n : ℕ) → ¬ (IsAddressText V4 text.now n) }
@@ -37,7 +37,7 @@ fn ipv4_of_text(text: &str) -> Option<u32>
     }
 }
 
-/// Parses an IPv6 address, without an embedded IPv4 address.
+/// Parses an IPv6 address without an embedded IPv4 address, or returns `None`.
 fn ipv6_of_text(text: &str) -> Option<u128>
     ensures some { IfSome result (IsAddressText V6 text.now) }
     ensures none { IsNone result → (n : ℕ) → ¬ (IsAddressText V6 text.now n) }
@@ -51,7 +51,8 @@ fn ipv6_of_text(text: &str) -> Option<u128>
     }
 }
 
-/// Parses the prefix after the `/`: a decimal number without leading zeros, at most `bits`.
+/// Parses the length of a prefix, the text after a `/`: a decimal number without leading zeros, at most `bits`. Returns
+/// `None` for any other string.
 pub(crate) fn prefix_of_text(text: &str, bits: u8) -> Option<u8>
     ensures some { IfSome result (λ p. (text.now ≡ decimal p) × (p ≤ bits)) }
     ensures none { IsNone result → (p : ℕ) → p ≤ bits → ¬ (text.now ≡ decimal p) }
@@ -60,7 +61,7 @@ pub(crate) fn prefix_of_text(text: &str, bits: u8) -> Option<u8>
     if prefix <= bits { Some(prefix) } else { None }
 }
 
-/// Parses a number up to 255 without leading zeros.
+/// Parses a decimal number up to 255 without leading zeros, or returns `None`.
 fn decimal_of_text(text: &str) -> Option<u8>
     ensures some { IfSome result (λ n. text.now ≡ decimal n) }
     ensures none { IsNone result → (n : ℕ) → n < 256 → ¬ (text.now ≡ decimal n) }
@@ -84,7 +85,7 @@ fn is_padded(text: &str) -> bool
     text.starts_with('0') && text.len() > 1
 }
 
-/// Appends an IPv4 address.
+/// Appends an IPv4 address as four decimal numbers, in at most 15 bytes.
 pub(crate) fn append_ipv4(address: u128, out: &mut String)
     requires { string_len out.old + 15 ≤ string_capacity out.old }
     ensures bytes { string_bytes out.new ≡ string_bytes out.old ++ ipv4_text address }
@@ -100,7 +101,7 @@ pub(crate) fn append_ipv4(address: u128, out: &mut String)
     append_byte(out, (address % 256) as u8)
 }
 
-/// Appends an IPv6 address as eight groups.
+/// Appends an IPv6 address as eight groups, in at most 39 bytes.
 pub(crate) fn append_ipv6(address: u128, out: &mut String)
     requires { string_len out.old + 39 ≤ string_capacity out.old }
     ensures bytes { string_bytes out.new ≡ string_bytes out.old ++ ipv6_text address }
@@ -112,7 +113,7 @@ pub(crate) fn append_ipv6(address: u128, out: &mut String)
     append_groups((address % 0x1_0000_0000_0000_0000) as u64, out)
 }
 
-/// Appends the four groups of a number of 64 bits.
+/// Appends the four groups of a number of 64 bits, in at most 19 bytes.
 fn append_groups(groups: u64, out: &mut String)
     requires { string_len out.old + 19 ≤ string_capacity out.old }
     ensures bytes { string_bytes out.new ≡ string_bytes out.old ++ groups_text groups }

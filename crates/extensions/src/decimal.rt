@@ -15,11 +15,11 @@ use crate::pieces::{append, append_digit, append_whole};
 use std::cmp::Ordering;
 use std::marker::Model;
 
-/// The bytes of the longest canonical string: `-922337203685477.5808`.
+/// The number of bytes of the longest canonical string, `-922337203685477.5808`.
 const MOST: usize = 21;
 
-/// A decimal with four places: a signed 64-bit number of ten-thousandths. Contracts see that number, by which
-/// decimals are compared and ordered.
+/// A decimal with four places: a signed 64-bit number of ten-thousandths. Contracts see this number; decimals are
+/// compared and ordered by it.
 #[derive(Clone, Copy)]
 pub struct Decimal {
     ten_thousandths: i64,
@@ -39,8 +39,8 @@ impl Model for Decimal {
 }
 
 impl Decimal {
-    /// Parses a decimal: an optional `-`, digits, `.` and one to four digits, with nothing around it. Returns `None`
-    /// for any other string, and for a number outside signed 64 bits of ten-thousandths.
+    /// Parses a decimal: an optional `-`, one or more digits, `.` and one to four digits. Returns `None` for any other
+    /// string, and if the ten-thousandths do not fit in signed 64 bits.
     pub fn parse(text: &str) -> Option<Decimal>
         ensures some { IfSome result (IsDecimalText text.now) }
         ensures none { IsNone result → (n : ℤ) → ¬ (IsDecimalText text.now n) }
@@ -126,7 +126,7 @@ impl Ord for Decimal {
     }
 }
 
-/// Appends a number of ten-thousandths, with four digits after the point.
+/// Appends a number of ten-thousandths with four digits after the point, in at most 20 bytes.
 fn append_size(size: u64, out: &mut String)
     requires small { size ≤ 2 ^ 63 }
     requires room { string_len out.old + 20 ≤ string_capacity out.old }
@@ -140,7 +140,8 @@ fn append_size(size: u64, out: &mut String)
     append_digit(out, (size % 10) as u32)
 }
 
-/// Returns the ten-thousandths of a string without a sign.
+/// Returns the ten-thousandths of a decimal without a sign; `None` for any other string, and for `2^64` or more of
+/// them.
 fn size_of_text(text: &str) -> Option<u64>
     ensures some { IfSome result (IsUnsignedText text.now) }
     ensures none { IsNone result → (n : ℕ) → IsUnsignedText text.now n → 2 ^ 64 ≤ n }
@@ -172,7 +173,7 @@ fn positive(size: u64) -> Option<i64>
     i64::try_from(size).ok()
 }
 
-/// Returns the ten-thousandths of one to four digits after the point.
+/// Returns the ten-thousandths that one to four digits after the point denote; `None` for any other string.
 fn ten_thousandths(fraction: &str) -> Option<u64>
     ensures { SomeIff result (IsNumeral 10 fraction.now × (length fraction.now ≤ 4))
         (digits_value 10 fraction.now * 10 ^ (4 - length fraction.now)) }
@@ -184,7 +185,7 @@ fn ten_thousandths(fraction: &str) -> Option<u64>
     Some(number(fraction)? * scale(places))
 }
 
-/// Returns how many ten-thousandths one unit of the decimal place `places` has.
+/// Returns the number of ten-thousandths in a unit of the last of `places` decimal places.
 fn scale(places: usize) -> u64
     requires { places ≤ 4 }
     ensures { result ≡ 10 ^ (4 - places) }
@@ -198,7 +199,7 @@ fn scale(places: usize) -> u64
     }
 }
 
-/// Returns the number of these digits, or `None` if the string is not digits, or the number is at least `2^64`.
+/// Returns the number that a string of digits denotes; `None` for any other string, and for a number of `2^64` or more.
 fn number(text: &str) -> Option<u64>
     ensures { SomeIff result (IsNumeral 10 text.now × (digits_value 10 text.now < 2 ^ 64)) (digits_value 10 text.now) }
 {
@@ -213,7 +214,7 @@ pub fn one_decimal_a_text()
     ensures { (text : List ℕ) (y z : ℤ) → IsDecimalText text y → IsDecimalText text z → y ≡ z }
 {}
 
-/// Proves that a function computes the number that a string denotes, if and only if the string is a decimal. No-op.
+/// Proves that `decimal_of` gives the ten-thousandths of a string if and only if the string is a decimal. No-op.
 pub fn decimal_texts_are_decided()
     ensures { (text : List ℕ) (z : ℤ) → (decimal_of text ≡ Some z) ↔ IsDecimalText text z }
 {}

@@ -1,4 +1,4 @@
-//! IP addresses with a prefix.
+//! Networks: IP addresses with a prefix.
 ghost use Rattle.std.specs.Prelude.{◌≡◌, ℕ, ◌+◌, ◌/◌, ◌^◌, ◌<◌, ◌≤◌, ◌↔◌, ◌++◌, ◌⊎◌, List};
 ghost use Rattle.std.specs.Prelude.{IsTrue, IsNone, IfSome, OnOk, OnErr, string_bytes, string_len};
 ghost use Rattle.std.specs.Prelude.{string_capacity, Some, refl};
@@ -18,7 +18,8 @@ use crate::pieces::{append, append_byte};
 use std::cmp::Ordering;
 use std::marker::Model;
 
-/// The bytes of the longest canonical string: eight groups of four digits, seven colons, `/` and three digits.
+/// The number of bytes of the longest canonical string: eight groups of four digits, seven colons, `/` and three
+/// digits.
 const MOST: usize = 43;
 
 /// The versions of the Internet Protocol.
@@ -30,8 +31,9 @@ pub enum Version {
     V6,
 }
 
-/// An address as it was written, and the length of its prefix in bits. Contracts see a `Network`. Ordered by version
-/// (IPv4 before IPv6), then by address, then by prefix.
+/// A network: an address with all its bits, and the length of its prefix in bits. Contracts see a `Network`.
+///
+/// Networks are ordered by version (IPv4 before IPv6), then by address, then by prefix.
 #[derive(Clone, Copy)]
 pub struct IpNet {
     version: Version,
@@ -54,24 +56,28 @@ impl Model for IpNet {
     ghost inverse = { λ n. record { version = n.version; address = n.address; prefix = n.prefix } };
 }
 
+// 127.0.0.0/8.
 const LOOPBACK_V4: IpNet = IpNet {
     version: Version::V4,
     address: 0x7f00_0000,
     prefix: 8,
 };
 
+// ::1/128.
 const LOOPBACK_V6: IpNet = IpNet {
     version: Version::V6,
     address: 1,
     prefix: 128,
 };
 
+// 224.0.0.0/4.
 const MULTICAST_V4: IpNet = IpNet {
     version: Version::V4,
     address: 0xe000_0000,
     prefix: 4,
 };
 
+// ff00::/8.
 const MULTICAST_V6: IpNet = IpNet {
     version: Version::V6,
     address: 0xff00_0000_0000_0000_0000_0000_0000_0000,
@@ -82,7 +88,7 @@ impl Version {
     ghost use Rattle.extensions.specs.Network.{width};
     ghost use Rattle.extensions.specs.Order.{version_number};
 
-    /// Returns the version's number.
+    /// Returns the number of the version, 4 or 6.
     fn number(self) -> u8
         ensures { result ≡ version_number self }
     {
@@ -92,7 +98,7 @@ impl Version {
         }
     }
 
-    /// Returns the number of bits of an address.
+    /// Returns the number of bits of an address of this version.
     fn width(self) -> u8
         ensures { result ≡ width self }
     {
@@ -166,8 +172,8 @@ impl IpNet {
     ghost use Rattle.extensions.specs.NetworkText.{IsNetworkText, network_text};
     ghost use Rattle.extensions.specs.declared.ip_net.Version.TheVariants.{V4, V6};
 
-    /// Parses a network: an address, alone or followed by `/` and a prefix; alone it has the prefix of all bits.
-    /// Returns `None` for any other string.
+    /// Parses a network: an address, alone or followed by `/` and a prefix. An address alone has the prefix of all its
+    /// bits. Returns `None` for any other string.
     pub fn parse(text: &str) -> Option<IpNet>
         ensures some { IfSome result (IsNetworkText text.now) }
         ensures none { IsNone result → (n : Network) → ¬ (IsNetworkText text.now n) }
@@ -216,7 +222,7 @@ impl IpNet {
             && self.greatest() <= other.greatest()
     }
 
-    /// Returns whether the whole range is in 127.0.0.0/8, or is ::1.
+    /// Returns whether the whole range is in 127.0.0.0/8 or in ::1/128.
     pub fn is_loopback(&self) -> bool
         ensures { IsTrue result ↔ (IsWithin self.now loopback_v4 ⊎ IsWithin self.now loopback_v6) }
     {
@@ -281,7 +287,8 @@ impl IpNet {
     }
 }
 
-/// Proves that a network's range is the addresses that agree with its address in the bits of its prefix. No-op.
+/// Proves that the range of a network has exactly the addresses that agree with its address in the bits of its prefix.
+/// No-op.
 pub fn range_is_agreement()
     ensures { (n : Network) (x : ℕ) → ((least n ≤ x) × (x ≤ greatest n)) ↔ (x / size n ≡ n.address / size n) }
 {}
@@ -296,14 +303,14 @@ pub fn one_network_a_text()
     ensures { (text : List ℕ) (m n : Network) → IsNetworkText text m → IsNetworkText text n → m ≡ n }
 {}
 
-/// Proves that a function computes the network that a string denotes, if and only if it denotes one; and that a test
-/// decides whether a range is within another. No-op.
+/// Proves that `network_of` gives the network of a string if and only if the string denotes it; and that the test by
+/// `within_decided` accepts a range if and only if it is within the other. No-op.
 pub fn network_texts_are_decided()
     ensures texts { (text : List ℕ) (n : Network) → (network_of text ≡ Some n) ↔ IsNetworkText text n }
     ensures ranges { (a b : Network) → IsTrue (told (within_decided a b)) ↔ IsWithin a b }
 {}
 
-/// Proves that the order of networks is total, and only equal networks compare as equal. No-op.
+/// Proves that the order of networks is total, and that only equal networks compare as equal. No-op.
 pub fn network_order_is_exact()
     ensures total { IsTotalOrder network_cmp }
     ensures exact { (m n : Network) → network_cmp m n ≡ Equal → m ≡ n }

@@ -1,4 +1,5 @@
-//! Pieces of a string, appended within its capacity: they do not allocate, so nothing is half written.
+//! Functions that append a piece of text within the capacity of a string. They do not allocate, so no text is written
+//! in part.
 ghost use Rattle.std.specs.Prelude.{◌≡◌, ◌+◌, ◌/◌, ◌%◌, ◌^◌, ◌<◌, ◌≤◌, ◌++◌, ◌∷◌, [], false, length, string_bytes};
 ghost use Rattle.std.specs.Prelude.{string_len, string_capacity};
 ghost use Rattle.std.specs.Fmt.{decimal, digits, digit_glyph};
@@ -6,7 +7,7 @@ ghost use Rattle.extensions.specs.inner.Places.{place_text};
 
 use itoa::Buffer;
 
-/// Appends a piece.
+/// Appends a piece of text.
 pub(crate) fn append(out: &mut String, piece: &str)
     requires { string_len out.old + length piece.now ≤ string_capacity out.old }
     ensures bytes { string_bytes out.new ≡ string_bytes out.old ++ piece.now }
@@ -16,7 +17,7 @@ pub(crate) fn append(out: &mut String, piece: &str)
     out.push_str(piece).unwrap()
 }
 
-/// Appends a number below 256.
+/// Appends a number below 256 in decimal.
 pub(crate) fn append_byte(out: &mut String, n: u8)
     requires { string_len out.old + 3 ≤ string_capacity out.old }
     ensures bytes { string_bytes out.new ≡ string_bytes out.old ++ decimal n }
@@ -27,7 +28,7 @@ pub(crate) fn append_byte(out: &mut String, n: u8)
     append(out, buffer.format(n))
 }
 
-/// Appends a number of at most fifteen digits.
+/// Appends a number of at most fifteen digits in decimal.
 pub(crate) fn append_whole(out: &mut String, n: u64)
     requires small { n < 10 ^ 15 }
     requires room { string_len out.old + 15 ≤ string_capacity out.old }
@@ -51,7 +52,8 @@ pub(crate) fn append_digit(out: &mut String, digit: u32)
     out.push(digit).unwrap()
 }
 
-/// Appends the hexadecimal digit of a sixteen-bit group at a place value, unless the group is less than that.
+/// Appends the hexadecimal digit that a sixteen-bit group has at the place value `place`, unless the group is less than
+/// `place`.
 fn append_place(out: &mut String, group: u32, place: u32)
     requires room { string_len out.old < string_capacity out.old }
     requires some { 0 < place }
@@ -64,7 +66,7 @@ fn append_place(out: &mut String, group: u32, place: u32)
     }
 }
 
-/// Appends a group of sixteen bits, without leading zeros.
+/// Appends a group of sixteen bits in hexadecimal, without leading zeros.
 pub(crate) fn append_group(out: &mut String, group: u32)
     requires small { group < 2 ^ 16 }
     requires room { string_len out.old + 4 ≤ string_capacity out.old }

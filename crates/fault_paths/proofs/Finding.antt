@@ -6,7 +6,7 @@ use Rattle.grammar_core.specs.declared.expr.Expr.{Expr}
 use Rattle.validator.specs.declared.fault.TypeFault.{TypeFault}
 use Rattle.validator.specs.typing.Types as types
 use Rattle.validator.specs.typing.Environment.{Environment, ExpressionFault}
-use Rattle.validator.specs.typing.Learned.{Pairs}
+use Rattle.validator.specs.typing.Gained.{Pairs}
 use Rattle.validator.specs.typing.Typing.{Types}
 use Rattle.validator.specs.typing.Faults.{Faults}
 use Rattle.validator.specs.Faults.{of_typing, of_types}

@@ -3,7 +3,7 @@ use Rattle.std.specs.Prelude.{◌≡◌, ℕ, List, [], ◌∷◌, ◌++◌, map
 use Rattle.std.proofs.Common.{sym, ap, ◌∙◌, subst, append_assoc}
 use Rattle.grammar_core.specs.declared.expr.Expr.{Expr}
 use Rattle.validator.specs.typing.Environment.{Environment, ExpressionFault}
-use Rattle.validator.specs.typing.Learned.{Pairs}
+use Rattle.validator.specs.typing.Gained.{Pairs}
 use Rattle.validator.specs.typing.Faults.{Faults}
 use Rattle.type_checker.specs.Views.{static_view}
 use Rattle.type_checker.specs.declared.static_type.StaticType.{StaticType}

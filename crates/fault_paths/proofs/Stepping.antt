@@ -12,7 +12,7 @@ use Rattle.grammar_core.specs.declared.expr.Expr.TheViews.{out-Expr}
 use Rattle.validator.specs.typing.Types as types
 use Rattle.validator.specs.typing.Types.{IsBoolean, false_type}
 use Rattle.validator.specs.typing.Environment.{Environment, ExpressionFault}
-use Rattle.validator.specs.typing.Learned.{Pairs}
+use Rattle.validator.specs.typing.Gained.{Pairs}
 use Rattle.validator.specs.typing.Typing
 use Rattle.validator.specs.typing.Typing.{Types, TypesEach}
 use Rattle.validator.specs.typing.Faults.{Faults}

@@ -11,12 +11,13 @@ use Rattle.validator.specs.Passing.{FirstFaulty}
 use Rattle.fault_paths.specs.FirstBlamed.{environment_blamed, blamed_there}
 use Rattle.fault_paths.specs.NamesAt.{FirstUnknownAt}
 
--- any two derivations of the first error blame the same place in the same environment
+-- `OneFirstBlame`: any two derivations of the first error of an expression blame the same place in the same
+-- environment.
 abbrev pub OneFirstBlame : Type 0
 OneFirstBlame = (x : Expr) (envs : List Environment) (m n : ExpressionFault) (g : FirstFaulty x envs m)
     (h : FirstFaulty x envs n) → (environment_blamed g ≡ environment_blamed h) × (blamed_there g ≡ blamed_there h)
 
--- the first name that a schema does not declare is one name at one place
+-- `OneUnknownName`: the first name of an expression that a schema does not declare is one name at one place.
 abbrev pub OneUnknownName : Type 0
 OneUnknownName = (s : StatedSchema) (x : Expr) (p q : List ℕ) (m n : Name) (f g : TypeFault) → FirstUnknownAt s x p m f
     → FirstUnknownAt s x q n g → (p ≡ q) × (m ≡ n)

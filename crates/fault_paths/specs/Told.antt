@@ -11,8 +11,8 @@ use Rattle.fault_paths.specs.FirstBlamed.{environment_blamed, blamed_there}
 use Rattle.fault_paths.specs.Views.{place_view}
 use Rattle.fault_paths.specs.declared.blaming.TypeBlame.{TypeBlame}
 
--- The expression has an error in some of these environments, and the report is what each derivation of the first error
--- gives: one exists, and no two differ.
+-- `IsFirstBlame envs x b` holds if `x` has an error in one of the environments `envs`, and `b` has the code, the
+-- environment and the place that each derivation of the first error gives.
 pub record IsFirstBlame (envs : List Environment) (x : Expr) (b : TypeBlame) : Type 0 where
   pub fault : ExpressionFault
   pub first : FirstFaulty x envs fault
@@ -20,5 +20,6 @@ pub record IsFirstBlame (envs : List Environment) (x : Expr) (b : TypeBlame) : T
   pub environment : (n : ExpressionFault) (h : FirstFaulty x envs n) → environment_blamed h ≡ b.environment
   pub place : (n : ExpressionFault) (h : FirstFaulty x envs n) → blamed_there h ≡ place_view b.place
 
+-- `IsTypeBlame s x b` holds if `b` reports the first typing error of `x` in the environments of the schema `s`.
 abbrev pub IsTypeBlame : StatedSchema → Expr → TypeBlame → Type 0
 IsTypeBlame s x b = IsFirstBlame (environments_of s) x b

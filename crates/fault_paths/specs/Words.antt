@@ -1,7 +1,8 @@
--- Defines the words for types, names and environments in an explanation of a policy that does not pass validation.
+-- Defines the words of an explanation: those for types, names, environments and typing errors of a policy that does not
+-- pass validation.
 -- Source: docs/language.md for names of entities; docs/formats.md for names of types.
--- Rules of this product: a type has the name that a schema has for it, a set and a record without their parts; an
--- environment is named by the type of its principal, its action and the type of its resource.
+-- Rules of this product: a type is named as schemas name it, a set and a record without their parts; an environment is
+-- named by the type of its principal, its action and the type of its resource.
 use Rattle.std.specs.Prelude.{ℕ, Bool, true, false, if◌then◌else◌, List, [], ◌∷◌, ◌++◌, map, codes}
 use Rattle.std.specs.Prelude.{Option, None, Some, is_ok, slice_get}
 use Rattle.grammar_core.specs.declared.expr.Expr.{Expr}
@@ -33,17 +34,17 @@ type_word (types.record_type fields) = codes "Record"
 type_word types.decimal_type = codes "decimal"
 type_word types.ipaddr_type = codes "ipaddr"
 
--- `more_words ts` are the words for `ts`, each after a comma.
+-- `more_words ts` are the words for the types `ts`, each after a comma and a blank.
 abbrev pub more_words : List StaticType → List ℕ
 more_words [] = []
 more_words (t ∷ ts) = codes ", " ++ type_word t ++ more_words ts
 
--- `types_words ts` are the words for `ts`; empty if `ts` is.
+-- `types_words ts` are the words for the types `ts` after a colon, separated by commas; empty if `ts` is.
 abbrev pub types_words : List StaticType → List ℕ
 types_words [] = []
 types_words (t ∷ ts) = codes ": " ++ type_word t ++ more_words ts
 
--- `uid_words u` is the entity uid `u` as a policy has it.
+-- `uid_words u` is the entity uid `u` in the form `T::"id"` of policies, but without escapes in the id.
 abbrev pub uid_words : EntityUid → List ℕ
 uid_words u = u.type_name ++ codes "::\"" ++ u.id ++ codes "\""
 
@@ -52,53 +53,56 @@ abbrev pub name_words : names.Name → List ℕ
 name_words (names.tested_type n) = n
 name_words (names.entity u) = uid_words u
 
--- `environment_words e` names the environment `e`.
+-- `environment_words e` names the environment `e` by the three parts that tell it apart: `in U, Action::"a", R`.
 abbrev pub environment_words : EnvironmentOf → List ℕ
 environment_words e = codes "in " ++ e.place.principal ++ codes ", " ++ uid_words e.place.action ++ codes ", "
     ++ e.place.resource
 
 -- ---- attributes
 
--- `is_missing f` tests for the error of an attribute that may be missing (44).
+-- `is_missing f` tests whether `f` is the error of an attribute that is undeclared or may be missing (44).
 abbrev pub is_missing : TypeFault → Bool
 is_missing fault.AttributeMayBeMissing = true
 is_missing f = false
 
--- `attribute_in y` is the name of the attribute that the form `y` reads; nothing for other forms. `attribute_of x` is
--- that of the expression `x`.
+-- `attribute_in y` is the name of the attribute that the form `y` accesses; empty for a form that accesses none.
 abbrev pub attribute_in : Expr-F Expr → List ℕ
 attribute_in (Expr-F.Field a k) = k
 attribute_in y = []
 
+-- `attribute_of x` is the name of the attribute that the expression `x` itself accesses.
 abbrev pub attribute_of : Expr → List ℕ
 attribute_of x = attribute_in (out-Expr x)
 
--- `declaration_words declared t` says whether the type `t` declares the attribute.
+-- `declaration_words declared t` says, by `declared`, whether the attribute is optional in the type `t` or not declared
+-- in it.
 abbrev pub declaration_words : Bool → StaticType → List ℕ
 declaration_words true t = codes ": optional in " ++ type_word t
 declaration_words false t = codes ": not declared in " ++ type_word t
 
--- `declared_words env k ts` says whether the first of the types declares the attribute `k`.
+-- `declared_words env k ts` says whether the first of the types `ts` declares the attribute `k` in `env`.
 abbrev pub declared_words : Environment → List ℕ → List StaticType → List ℕ
 declared_words env k [] = []
 declared_words env k (t ∷ ts) = declaration_words (is_ok (field_type_of env true k t)) t
 
 -- ---- errors of typing
 
--- `typing_cause f x` is the named cause of the error `f` of the form `x`.
+-- `typing_cause f x` is the cause of the error `f` of the form `x`: the attribute for error 44, else empty.
 abbrev pub typing_cause : TypeFault → Expr → List ℕ
 typing_cause f x = if is_missing f then attribute_of x else []
 
--- `what_words env f x ts` are the details of this error, if the operands have the types `ts`.
+-- `what_words env f x ts` are the details of the error `f` of the form `x` in `env`, where `ts` are the types that the
+-- error is about: for error 44 whether the attribute is declared, else these types.
 abbrev pub what_words : Environment → TypeFault → Expr → List StaticType → List ℕ
 what_words env f x ts = if is_missing f then declared_words env (attribute_of x) ts else types_words ts
 
--- `detail_in s o f x ts` is the environment `o`, with the details there.
+-- `detail_in s o f x ts` are the words for the environment `o` of the schema `s`, followed by the details of the error
+-- `f` there; empty without an environment.
 abbrev pub detail_in : StatedSchema → Option EnvironmentOf → TypeFault → Expr → List StaticType → List ℕ
 detail_in s None f x ts = []
 detail_in s (Some e) f x ts = environment_words e ++ what_words (typing_environment_of s e) f x ts
 
--- `typing_detail s b` are the details of the blame `b` of a typing error, without its cause.
+-- `typing_detail s b` are the details of the typing error that `b` reports under `s`: its environment and the types.
 abbrev pub typing_detail : StatedSchema → TypeBlame → List ℕ
 typing_detail s b =
     detail_in s (slice_get s.environments b.environment) b.fault b.place.form.now (map static_view b.place.types.items)

@@ -1,4 +1,4 @@
-//! Why an attribute cannot be read: whether it is declared.
+//! A test of whether an attribute that cannot be accessed is declared.
 ghost use Rattle.std.specs.Prelude.{◌≡◌, ◌↔◌, IsTrue, IfOk, true, Ok};
 ghost use Rattle.type_checker.specs.schema.Views.{schema_view, environment_view};
 ghost use Rattle.type_checker.specs.FromSchemas.{typing_environment_of};
@@ -11,12 +11,14 @@ use type_checker::{
     Environment, ExpressionFault, Schema, StaticType, TypingEnvironment, field_type,
 };
 
-/// Returns whether an attribute of a type is declared, required or optional, and so may be read if it is known to be
-/// present. If it is not declared, no test by `has` helps.
+/// Returns whether the type `owner` declares the attribute `name`, as required or optional.
+///
+/// A policy may access a declared attribute where a test by `has` shows it to be present. For an undeclared one no such
+/// test helps.
 ///
 /// # Errors
 ///
-/// - `NoMemory`: the attribute's type has as many owners as can be counted.
+/// - `NoMemory`: an expression built the attribute's type, and the count of references to it would overflow.
 pub fn is_declared<'a>(
     schema: &'a Schema,
     environment: &'a Environment,

@@ -18,7 +18,7 @@ use type_checker::{
 };
 use validator::TypeFault;
 
-/// What a typing error blames.
+/// The first typing error of a policy, and what it blames.
 #[derive(Drop)]
 pub struct TypeBlame<'a> {
     /// The error, as [`check`](validator::check) returns it.
@@ -29,7 +29,7 @@ pub struct TypeBlame<'a> {
     pub place: BlamedForm<'a>,
 }
 
-/// Returns the reported error, or `None` if the expression has a type.
+/// Returns the validator's error for the error in `judged`, or `None` if that is a type.
 fn told(judged: Result<Typed<'_>, ExpressionFault>) -> Result<Option<TypeFault>, NoMemory>
     ensures { IsToldIn judged.entry result }
 {
@@ -45,7 +45,7 @@ fn told(judged: Result<Typed<'_>, ExpressionFault>) -> Result<Option<TypeFault>,
     }
 }
 
-/// Returns why an expression has no type without capabilities, or `None` if it has one.
+/// Returns the error of typing an expression without known capabilities, or `None` if it has a type.
 fn fault_in<'a>(
     alloc: Global,
     env: TypingEnvironment<'a>,
@@ -57,7 +57,8 @@ fn fault_in<'a>(
     told(judge_behind(alloc, env, nothing.as_slice(), whole))
 }
 
-/// Returns the error in one environment with what it blames, or `None` if the expression has no error there.
+/// Returns the error of `whole` in the environment of the index `at`, with what it blames, or `None` if `whole` has a
+/// type there.
 fn blame_in<'a>(
     alloc: Global,
     schema: &'a Schema,
@@ -88,8 +89,8 @@ fn blame_in<'a>(
 /// `whole` is the policy's expression, as [`expression_of`](validator::expression_of) builds it: paths begin at its
 /// root.
 ///
-/// Types the policy once in each environment up to the first with an error; there, once more for each level of the
-/// blamed expression.
+/// Types the policy once in each environment up to the first with an error. There, types parts of it once more for each
+/// level of the path to the blamed expression.
 ///
 /// # Errors
 ///

@@ -1,4 +1,4 @@
-//! The cause of a typing error.
+//! The cause of a typing error that a report names: the attribute of error 44.
 ghost use Rattle.std.specs.Prelude.{◌≡◌, ◌++◌, OnOk, string_bytes};
 ghost use Rattle.fault_paths.specs.Words.{is_missing, attribute_of, typing_cause};
 
@@ -6,7 +6,7 @@ use grammar_core::Expr;
 use plain::NoMemory;
 use validator::TypeFault;
 
-/// Returns whether an error is that of an attribute that may be missing.
+/// Returns whether an error is that of an attribute that is undeclared or may be missing (44).
 pub(crate) fn is_missing(fault: TypeFault) -> bool
     ensures { result ≡ is_missing fault }
 {
@@ -22,7 +22,7 @@ pub(crate) fn is_missing(fault: TypeFault) -> bool
     }
 }
 
-/// Returns the name of the attribute that a form reads; an empty one for other forms.
+/// Returns the name of the attribute that a form accesses; empty for a form that accesses none.
 pub(crate) fn attribute_of(form: &Expr) -> &str
     ensures { result.now ≡ attribute_of form.now }
 {
@@ -43,7 +43,7 @@ pub(crate) fn attribute_of(form: &Expr) -> &str
     }
 }
 
-/// Appends the cause of a typing error: the attribute, if it may be missing.
+/// Appends the cause of a typing error: the name of the attribute for error 44, else nothing.
 pub(crate) fn push_cause(out: &mut String, fault: TypeFault, form: &Expr) -> Result<(), NoMemory>
     ensures { OnOk result (string_bytes out.new ≡ string_bytes out.old ++ typing_cause fault form.now) }
 {

@@ -1,4 +1,4 @@
-//! The path to the blamed expression.
+//! The path to the expression that a type error blames.
 ghost use Rattle.std.specs.Prelude.{◌≡◌, [], ◌++◌, IfOk};
 ghost use Rattle.validator.specs.typing.Environment as typing;
 ghost use Rattle.validator.specs.typing.Faults.{Faults};
@@ -24,7 +24,7 @@ pub struct BlamedForm<'a> {
     pub types: Vec<StaticType<'a>>,
 }
 
-/// Appends the index of the blamed operand to the path to its form.
+/// Appends the index `operand` of the blamed operand to the path to its form; `None` if the form itself is blamed.
 fn close(path: &mut Vec<usize>, operand: Option<usize>) -> Result<(), NoMemory>
     ensures { IfOk result (λ _. path.new.items ≡ path.old.items ++ last_of operand) }
 {
@@ -37,7 +37,8 @@ fn close(path: &mut Vec<usize>, operand: Option<usize>) -> Result<(), NoMemory>
     }
 }
 
-/// Returns what the error of an expression blames; for an expression without an error, any value.
+/// Returns what the error of the expression `whole` in the environment `env` blames. For an expression without an error
+/// the result is unspecified.
 pub(crate) fn descend<'a>(
     alloc: Global,
     env: TypingEnvironment<'a>,

@@ -14,7 +14,7 @@ use plain::NoMemory;
 use type_checker::{Environment, Schema, StaticType};
 use validator::TypeFault;
 
-/// Appends whether a type declares an attribute.
+/// Appends that an attribute is optional in the type `owner`, or not declared in it.
 fn push_declaration(
     out: &mut String,
     declared: bool,
@@ -33,7 +33,7 @@ fn push_declaration(
     Ok(())
 }
 
-/// Appends whether the first of these types declares an attribute of this name.
+/// Appends whether the first of these types declares the attribute `name`; nothing without a type.
 fn push_declared<'a>(
     out: &mut String,
     schema: &'a Schema,
@@ -48,14 +48,13 @@ fn push_declared<'a>(
     match types.split_first() {
         Some((owner, _)) => {
             let declared = is_declared(schema, environment, owner, name)?;
-            push_declaration(out, declared, owner)?;
-            Ok(())
+            push_declaration(out, declared, owner)
         }
         None => Ok(()),
     }
 }
 
-/// Appends whether the attribute is declared, if it may be missing; else the types of the operands.
+/// Appends, for error 44, whether the attribute is declared; for other errors the types that the demand is about.
 fn push_what<'a>(
     out: &mut String,
     schema: &'a Schema,
@@ -69,14 +68,12 @@ fn push_what<'a>(
 {
     if is_missing(fault) {
         let name = attribute_of(place.form);
-        push_declared(out, schema, environment, place.types.as_slice(), name)?;
-        return Ok(());
+        return push_declared(out, schema, environment, place.types.as_slice(), name);
     }
-    push_types(out, place.types.as_slice())?;
-    Ok(())
+    push_types(out, place.types.as_slice())
 }
 
-/// Appends the environment of a typing error, and the details there.
+/// Appends the environment of a typing error, and the details of the error there.
 pub(crate) fn push_detail<'a>(
     out: &mut String,
     schema: &'a Schema,

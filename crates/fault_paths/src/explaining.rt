@@ -26,9 +26,10 @@ pub struct PolicyFault {
     pub fault: TypeFault,
     /// The indexes of operands that lead from the policy's whole expression to the form at fault.
     pub path: Vec<usize>,
-    /// The undeclared name, or the attribute that may be missing; empty if there is neither.
+    /// The undeclared name, or the attribute of error 44; empty for other errors.
     pub cause: String,
-    /// The first environment that has the error, and the types there; empty for an undeclared name.
+    /// The first environment that has an error, and there the types that the error is about or, for error 44, whether
+    /// the attribute is declared; empty for an undeclared name.
     pub detail: String,
 }
 
@@ -63,7 +64,7 @@ fn detail_of<'a>(
     Ok(text)
 }
 
-/// Returns the explanation of an undeclared name: its cause, and no detail.
+/// Returns the report on an undeclared name: its cause, and no detail.
 fn tell_name(alloc: Global, schema: &Schema, blame: NameBlame<'_>) -> Result<PolicyFault, NoMemory>
     ensures { IfOk result (IsWordedAs (schema_view schema.now) (PolicyBlame.Name blame.entry)) }
 {
@@ -77,7 +78,7 @@ fn tell_name(alloc: Global, schema: &Schema, blame: NameBlame<'_>) -> Result<Pol
     })
 }
 
-/// Puts a typing error into words.
+/// Returns the report on a typing error: its cause, and its environment with the types there.
 fn tell_typing<'a>(
     alloc: Global,
     schema: &'a Schema,
@@ -95,7 +96,7 @@ fn tell_typing<'a>(
     })
 }
 
-/// Puts the error of a policy into words.
+/// Returns the report on the error of a policy.
 fn tell<'a>(
     alloc: Global,
     schema: &'a Schema,
@@ -109,7 +110,7 @@ fn tell<'a>(
     }
 }
 
-/// Returns why a policy of this expression does not pass, in words.
+/// Returns the report on why a policy with the expression `whole` does not pass validation, or `None` if it passes.
 fn explain_whole<'a>(
     alloc: Global,
     schema: &'a Schema,
@@ -131,8 +132,9 @@ fn explain_whole<'a>(
 
 /// Returns why a policy does not pass validation, in words, or `None` if it passes.
 ///
-/// The error is the one that [`check`](validator::check) returns, the environment the first that has it. Types the
-/// policy once more for each level of the expression at fault.
+/// The error is the one that [`check`](validator::check) returns, the environment the first that has an error. Types
+/// the policy once in each environment up to this one. There, types parts of it once more for each level of the path
+/// to the expression at fault.
 ///
 /// # Errors
 ///

@@ -1,4 +1,4 @@
-//! The types of expressions on the path to the one at fault.
+//! The types of expressions on the path to the expression at fault.
 ghost use Rattle.std.specs.Prelude.{◌≡◌, ◌++◌, IfOk};
 ghost use Rattle.type_checker.specs.Views.{typing_environment};
 ghost use Rattle.type_checker.specs.type_capabilities.Pairs.{pairs};
@@ -9,7 +9,7 @@ use plain::NoMemory;
 use std::alloc::Global;
 use type_checker::{Capability, ExpressionFault, Typed, TypingEnvironment, judge_behind};
 
-/// Returns the type that was found, or `None` if the expression has no type.
+/// Returns the type in `judged`, or `None` if that is an error of typing.
 fn found<'a>(judged: Result<Typed<'a>, ExpressionFault>) -> Result<Option<Typed<'a>>, NoMemory>
     ensures { IsFoundIn judged.entry result }
 {
@@ -22,7 +22,7 @@ fn found<'a>(judged: Result<Typed<'a>, ExpressionFault>) -> Result<Option<Typed<
     }
 }
 
-/// Returns the type of an expression with these capabilities, or `None` if it has none.
+/// Returns the type of an expression under the capabilities `known`, or `None` if it has none.
 pub(crate) fn judge<'a>(
     alloc: Global,
     env: TypingEnvironment<'a>,
@@ -42,8 +42,7 @@ pub(crate) fn know_too<'a>(
 ) -> Result<(), NoMemory>
     ensures { IfOk result (λ _. known.new.items ≡ known.old.items ++ learns.now.items) }
 {
-    known.extend_from_slice(learns.as_slice())?;
-    Ok(())
+    known.extend_from_slice(learns.as_slice())
 }
 
 /// Returns the known capabilities, followed by the gained ones.
@@ -60,7 +59,7 @@ fn both<'a>(
     Ok(both)
 }
 
-/// Returns the type of an expression with both lists of capabilities, or `None` if it has none.
+/// Returns the type of an expression under the capabilities `known` and then `learns`, or `None` if it has none.
 pub(crate) fn judge_with<'a>(
     alloc: Global,
     env: TypingEnvironment<'a>,

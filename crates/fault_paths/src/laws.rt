@@ -1,4 +1,4 @@
-//! Theorems on the definitions. The functions are no-ops.
+//! Theorems about the places of errors. The functions are no-ops.
 ghost use Rattle.fault_paths.specs.Laws.{OneFirstBlame, OneUnknownName};
 
 use type_checker::expressions_have_one_judgement;

@@ -1,7 +1,10 @@
-//! The place of a rejected policy's error (the path of the blamed expression, or the undeclared name), and the report
-//! on it in words: the cause, the environment, the types.
+//! The place of a rejected policy's error, that is, the blamed expression or the undeclared name with its path, and the
+//! report on it in words: the cause, the environment, the types.
 //!
-//! A second pass, made only after [`check`](validator::check) rejected a policy.
+//! Each core expression is a *form* with operands. A typing error *blames* the form whose demand is not met, or the
+//! operand that does not meet it. A *path* leads from the whole expression to a part of it by the indexes of operands.
+//!
+//! This is a second pass, only for policies that [`check`](validator::check) rejected.
 #![tactic(auto)]
 
 mod attributes;

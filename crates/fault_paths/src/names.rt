@@ -1,4 +1,4 @@
-//! The first name of a policy that the schema does not declare, with its place.
+//! The search for the first name of a policy that the schema does not declare.
 ghost use Rattle.std.specs.Prelude.{[], ◌∷◌, IfOk, MatchOption, All};
 ghost use Rattle.type_checker.specs.schema.Views.{schema_view};
 ghost use Rattle.validator.specs.Names.{names_in, entity, tested_type, literal_names, operator_names};
@@ -41,7 +41,7 @@ pub struct NameBlame<'a> {
     pub path: Vec<usize>,
 }
 
-/// Returns the uid of a literal, if the schema does not declare it.
+/// Returns the uid of an entity literal with its error if the schema does not declare it, else `None`.
 fn entity_fault<'a>(schema: &Schema, uid: &'a EntityUid) -> Option<NameFault<'a>>
     ensures { AreNames (schema_view schema.now) (entity uid.entry.now ∷ []) result }
 {
@@ -54,7 +54,7 @@ fn entity_fault<'a>(schema: &Schema, uid: &'a EntityUid) -> Option<NameFault<'a>
     }
 }
 
-/// Returns a type after `is`, if the schema does not declare it.
+/// Returns a type after `is` with its error if the schema does not declare it, else `None`.
 fn type_fault<'a>(schema: &Schema, name: &'a TypeName) -> Option<NameFault<'a>>
     ensures { AreNames (schema_view schema.now) (tested_type name.entry.now ∷ []) result }
 {
@@ -67,7 +67,7 @@ fn type_fault<'a>(schema: &Schema, name: &'a TypeName) -> Option<NameFault<'a>>
     }
 }
 
-/// Returns the entity of a literal, if it is one that the schema does not declare.
+/// Returns the uid of a literal with its error if it is an entity that the schema does not declare, else `None`.
 fn literal_fault<'a>(schema: &Schema, literal: &'a Literal) -> Option<NameFault<'a>>
     ensures { AreNames (schema_view schema.now) (literal_names literal.entry.now) result }
 {
@@ -79,7 +79,8 @@ fn literal_fault<'a>(schema: &Schema, literal: &'a Literal) -> Option<NameFault<
     }
 }
 
-/// Returns the type of an operator, if it is one that the schema does not declare.
+/// Returns the type of an operator with its error if it is an `is` with a type that the schema does not declare, else
+/// `None`.
 fn operator_fault<'a>(schema: &Schema, operator: &'a Unary) -> Option<NameFault<'a>>
     ensures { AreNames (schema_view schema.now) (operator_names operator.entry.now) result }
 {
@@ -91,7 +92,7 @@ fn operator_fault<'a>(schema: &Schema, operator: &'a Unary) -> Option<NameFault<
     }
 }
 
-/// Returns the name that a form itself has, if the schema does not declare it.
+/// Returns the name that a form itself has with its error if the schema does not declare it, else `None`.
 fn own_name<'a>(schema: &Schema, expr: &'a Expr) -> Option<NameFault<'a>>
     ensures { IsOwnName (schema_view schema.now) expr.entry.now result }
 {
@@ -112,8 +113,8 @@ fn own_name<'a>(schema: &Schema, expr: &'a Expr) -> Option<NameFault<'a>>
     }
 }
 
-/// Returns the first name of an expression that the schema does not declare, and appends the path to it to
-/// `path`. If the schema declares all names, `path` stays as it is.
+/// Returns the first name of an expression that the schema does not declare, and appends the path from the expression
+/// to the name to `path`. If the schema declares all names, returns `None` and leaves `path` unchanged.
 fn find<'a>(
     schema: &Schema,
     expr: &'a Expr,

@@ -14,7 +14,7 @@ use plain::NoMemory;
 use std::alloc::Global;
 use type_checker::{Policy, Schema};
 
-/// The error for which a policy is rejected, with its place.
+/// The error for which a policy is rejected, with the name or expression that it blames.
 #[derive(Drop)]
 pub enum PolicyBlame<'a> {
     /// A name that the schema does not declare (40, 41).
@@ -23,7 +23,8 @@ pub enum PolicyBlame<'a> {
     Typing(TypeBlame<'a>),
 }
 
-/// Returns what the first typing error of a policy blames, if all of its names are declared.
+/// Returns the first typing error of a policy whose names are all declared, with its place, or `None` if the policy
+/// passes.
 fn by_types<'a>(
     alloc: Global,
     schema: &'a Schema,

@@ -1,10 +1,10 @@
-//! One step towards the blamed expression.
+//! One step from an expression with an error towards the blamed expression.
 ghost use Rattle.std.specs.Prelude.{◌≡◌, ◌∷◌, [], ◌++◌, IfOk, Some, None};
 ghost use Rattle.grammar_core.specs.declared.expr.Expr.{Expr};
 ghost use Rattle.grammar_core.specs.declared.expr.Expr.TheVariants as form;
 ghost use Rattle.validator.specs.typing.Types as types;
 ghost use Rattle.validator.specs.typing.Types.{false_type, IsBoolean};
-ghost use Rattle.validator.specs.typing.Learned.{Pairs};
+ghost use Rattle.validator.specs.typing.Gained.{Pairs};
 ghost use Rattle.validator.specs.typing.Typing.{Types};
 ghost use Rattle.type_checker.specs.Views.{static_view, typing_environment};
 ghost use Rattle.type_checker.specs.type_capabilities.Pairs.{pairs};
@@ -19,16 +19,17 @@ use type_checker::{
 };
 use typing::operand;
 
-/// A step from a form with an error.
+/// A step from a form that has an error.
 #[derive(Drop)]
 pub(crate) enum Step<'a> {
-    /// To the operand of this index, which has the error.
+    /// The operand of this index has the error.
     Down(usize, &'a Expr),
-    /// The form's demand is not met: the operand of this index is blamed, or the form. The types are its operands'.
+    /// The form's demand is not met: the operand of this index is blamed, or the form itself for `None`. The types are
+    /// those of the operands that the demand is about.
     Stop(Option<usize>, Vec<StaticType<'a>>),
 }
 
-/// Stops at an operand that is not a boolean.
+/// Returns the step that stops at the operand `at`, which has the type `kind` and should be a boolean.
 fn stop_at<'a>(alloc: Global, at: usize, kind: StaticType<'a>) -> Result<Step<'a>, NoMemory>
     ensures { IfOk result (StopsAt at kind.entry) }
 {
@@ -37,7 +38,7 @@ fn stop_at<'a>(alloc: Global, at: usize, kind: StaticType<'a>) -> Result<Step<'a
     Ok(Step::Stop(Some(at), types))
 }
 
-/// Stops at branches without a common type.
+/// Returns the step that stops at an `if` whose branches have the types `then` and `other`, without a common type.
 fn stop_at_branches<'a>(
     alloc: Global,
     then: StaticType<'a>,
@@ -51,7 +52,7 @@ fn stop_at_branches<'a>(
     Ok(Step::Stop(None, types))
 }
 
-/// Returns the step from `&&` after its left.
+/// Returns the step from an `&&` whose left side is a boolean and gains the capabilities `learns`.
 fn from_right_of_and<'a>(
     alloc: Global,
     env: TypingEnvironment<'a>,
@@ -73,7 +74,7 @@ fn from_right_of_and<'a>(
     }
 }
 
-/// Returns the step from `&&`, whose left has a type.
+/// Returns the step from an `&&` whose left side has a type.
 fn from_and<'a>(
     alloc: Global,
     env: TypingEnvironment<'a>,
@@ -92,7 +93,7 @@ fn from_and<'a>(
     }
 }
 
-/// Returns the step from `||` after its left.
+/// Returns the step from an `||` whose left side is a boolean.
 fn from_right_of_or<'a>(
     alloc: Global,
     env: TypingEnvironment<'a>,
@@ -110,7 +111,7 @@ fn from_right_of_or<'a>(
     }
 }
 
-/// Returns the step from `||`, whose left has a type.
+/// Returns the step from an `||` whose left side has a type.
 fn from_or<'a>(
     alloc: Global,
     env: TypingEnvironment<'a>,
@@ -129,7 +130,7 @@ fn from_or<'a>(
     }
 }
 
-/// Returns the step from `if` whose `then` has a type.
+/// Returns the step from an `if` whose test may be true and whose `then` has the type `then`.
 fn from_else<'a>(
     alloc: Global,
     env: TypingEnvironment<'a>,
@@ -148,7 +149,7 @@ fn from_else<'a>(
     }
 }
 
-/// Returns the step from `if` whose test may be true.
+/// Returns the step from an `if` whose test may be true and gains the capabilities `learns`.
 fn from_branches<'a>(
     alloc: Global,
     env: TypingEnvironment<'a>,
@@ -172,7 +173,7 @@ fn from_branches<'a>(
     }
 }
 
-/// Returns the step from `if`, whose test has a type.
+/// Returns the step from an `if` whose test has a type.
 fn from_if<'a>(
     alloc: Global,
     env: TypingEnvironment<'a>,
@@ -196,7 +197,7 @@ fn from_if<'a>(
     }
 }
 
-/// Appends the found type to the others, and returns whether one was found.
+/// Appends the found type to `types`, and returns whether one was found.
 fn keep_type<'a>(
     types: &mut Vec<StaticType<'a>>,
     found: Option<Typed<'a>>,
@@ -212,7 +213,8 @@ fn keep_type<'a>(
     }
 }
 
-/// Returns the step from a form that needs the types of all its operands; it blames the one of this index, or itself.
+/// Returns the step from a form that needs the types of all its operands. If all have types, the step stops at the
+/// operand of the index `blamed`, or at the form itself for `None`.
 fn from_operands<'a>(
     alloc: Global,
     env: TypingEnvironment<'a>,
@@ -238,7 +240,7 @@ fn from_operands<'a>(
     }
 }
 
-/// Returns the step from `&&`.
+/// Returns the step from an `&&` that has an error.
 fn step_and<'a>(
     alloc: Global,
     env: TypingEnvironment<'a>,
@@ -258,7 +260,7 @@ fn step_and<'a>(
     }
 }
 
-/// Returns the step from `||`.
+/// Returns the step from an `||` that has an error.
 fn step_or<'a>(
     alloc: Global,
     env: TypingEnvironment<'a>,
@@ -278,7 +280,7 @@ fn step_or<'a>(
     }
 }
 
-/// Returns the step from `if`.
+/// Returns the step from an `if` that has an error.
 fn step_if<'a>(
     alloc: Global,
     env: TypingEnvironment<'a>,
@@ -300,8 +302,8 @@ fn step_if<'a>(
     }
 }
 
-/// Returns the step from a form with an error under these capabilities; a step to an operand replaces them by those
-/// that apply there.
+/// Returns the step from a form that has an error under the capabilities `known`. A step to an operand replaces `known`
+/// by the capabilities that apply there.
 pub(crate) fn step_from<'a>(
     alloc: Global,
     env: TypingEnvironment<'a>,

@@ -1,4 +1,4 @@
-//! Names of types, entities and environments.
+//! The words for types, entities and environments in a report.
 ghost use Rattle.std.specs.Prelude.{◌≡◌, ◌++◌, OnOk, map, string_bytes};
 ghost use Rattle.fault_paths.specs.NamesAt.{name_view};
 ghost use Rattle.type_checker.specs.schema.Views.{environment_view};
@@ -26,7 +26,7 @@ fn leaf_word<'r>(leaf: &'r Leaf<'_>) -> &'r str
     }
 }
 
-/// Returns the word for a type, as a schema has it.
+/// Returns the word for a type that schemas use.
 fn type_word<'r>(ty: &'r StaticType<'_>) -> &'r str
     ensures { result.now ≡ type_word (static_view ty.now) }
 {
@@ -43,11 +43,10 @@ fn type_word<'r>(ty: &'r StaticType<'_>) -> &'r str
 pub(crate) fn push_type(out: &mut String, ty: &StaticType<'_>) -> Result<(), NoMemory>
     ensures { OnOk result (string_bytes out.new ≡ string_bytes out.old ++ type_word (static_view ty.now)) }
 {
-    out.push_str(type_word(ty))?;
-    Ok(())
+    out.push_str(type_word(ty))
 }
 
-/// Appends the words for types, each after a comma.
+/// Appends the words for types, each after a comma and a blank.
 fn push_more(out: &mut String, types: &[StaticType<'_>]) -> Result<(), NoMemory>
     ensures { OnOk result (string_bytes out.new
         ≡ string_bytes out.old ++ more_words (map static_view types.now)) }
@@ -59,7 +58,7 @@ fn push_more(out: &mut String, types: &[StaticType<'_>]) -> Result<(), NoMemory>
     Ok(())
 }
 
-/// Appends the words for types, if there are any.
+/// Appends a colon and the words for types, separated by commas; nothing without types.
 pub(crate) fn push_types(out: &mut String, types: &[StaticType<'_>]) -> Result<(), NoMemory>
     ensures { OnOk result (string_bytes out.new
         ≡ string_bytes out.old ++ types_words (map static_view types.now)) }
@@ -68,22 +67,20 @@ pub(crate) fn push_types(out: &mut String, types: &[StaticType<'_>]) -> Result<(
         Some((first, rest)) => {
             out.push_str(": ")?;
             push_type(out, first)?;
-            push_more(out, rest)?;
-            Ok(())
+            push_more(out, rest)
         }
         None => Ok(()),
     }
 }
 
-/// Appends an entity uid, as a policy has it.
+/// Appends an entity uid in the form `T::"id"` of policies, but without escapes in the id.
 fn push_uid(out: &mut String, uid: &EntityUid) -> Result<(), NoMemory>
     ensures { OnOk result (string_bytes out.new ≡ string_bytes out.old ++ uid_words uid.now) }
 {
     out.push_str(uid.type_name.as_str())?;
     out.push_str("::\"")?;
     out.push_str(uid.id.as_str())?;
-    out.push_str("\"")?;
-    Ok(())
+    out.push_str("\"")
 }
 
 /// Appends an undeclared name.
@@ -91,18 +88,12 @@ pub(crate) fn push_name(out: &mut String, name: &UnknownName<'_>) -> Result<(), 
     ensures { OnOk result (string_bytes out.new ≡ string_bytes out.old ++ name_words (name_view name.now)) }
 {
     match name {
-        UnknownName::TestedType(name) => {
-            out.push_str(name.as_str())?;
-            Ok(())
-        }
-        UnknownName::Entity(uid) => {
-            push_uid(out, *uid)?;
-            Ok(())
-        }
+        UnknownName::TestedType(name) => out.push_str(name.as_str()),
+        UnknownName::Entity(uid) => push_uid(out, *uid),
     }
 }
 
-/// Appends the types of an environment's principal and resource, with its action between them.
+/// Appends the name of an environment: the type of its principal, its action, and the type of its resource.
 pub(crate) fn push_environment(out: &mut String, environment: &Environment) -> Result<(), NoMemory>
     ensures { OnOk result (string_bytes out.new
         ≡ string_bytes out.old ++ environment_words (environment_view environment.now)) }
@@ -112,6 +103,5 @@ pub(crate) fn push_environment(out: &mut String, environment: &Environment) -> R
     out.push_str(", ")?;
     push_uid(out, &environment.place.action)?;
     out.push_str(", ")?;
-    out.push_str(environment.place.resource.as_str())?;
-    Ok(())
+    out.push_str(environment.place.resource.as_str())
 }

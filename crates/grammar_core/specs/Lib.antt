@@ -1,3 +1,4 @@
 pub mod Like
 pub mod LikeTest
+pub mod Operators
 pub mod Size

@@ -1,6 +1,6 @@
 -- Defines the meaning of `like`.
--- Source: Cedar reference guide, "Operators: like" (`*` is any run of characters, the empty one too; everything else
--- matches itself).
+-- Source: Cedar reference guide, "Operators: like" (`*` matches any run of characters, the empty one too; every other
+-- character matches itself).
 use Rattle.std.specs.Prelude.{◌≡◌, ℕ, List, [], ◌∷◌}
 use Rattle.std.specs.List.{AllZip, concat}
 use Rattle.std.specs.Str.{IsUtf8}
@@ -10,17 +10,17 @@ pub data Element : Type 0 where
   literal : List ℕ → Element
   star : Element
 
--- `behind_stars texts` are these literals, with a star before each.
+-- `behind_stars texts` are the literals `texts`, with a star before each.
 abbrev pub behind_stars : List (List ℕ) → List Element
 behind_stars [] = []
 behind_stars (text ∷ texts) = star ∷ literal text ∷ behind_stars texts
 
--- `elements texts` are the elements of the pattern with these literal texts: a star between each two.
+-- `elements texts` are the elements of the pattern whose literal texts are `texts`, with a star between each two.
 abbrev pub elements : List (List ℕ) → List Element
 elements [] = []
 elements (text ∷ texts) = literal text ∷ behind_stars texts
 
--- `IsPieceOf e piece` holds if the element `e` matches `piece`: a literal matches only itself, a star any string.
+-- `IsPieceOf e piece` holds if the element `e` matches `piece`: a literal matches only itself, a star any UTF-8 string.
 abbrev pub IsPieceOf : Element → List ℕ → Type 0
 IsPieceOf (literal text) piece = piece ≡ text
 IsPieceOf star piece = IsUtf8 piece
@@ -31,6 +31,6 @@ pub record IsJoined (es : List Element) (text : List ℕ) : Type 0 where
   pub stand : AllZip IsPieceOf es pieces
   pub joined : text ≡ concat pieces
 
--- `Matches pattern text` holds if `text` matches the pattern with these literal texts.
+-- `Matches pattern text` holds if `text` matches the pattern whose literal texts are `pattern`.
 abbrev pub Matches : List (List ℕ) → List ℕ → Type 0
 Matches pattern text = IsJoined (elements pattern) text

@@ -10,12 +10,12 @@ use Rattle.std.specs.Str.{IsUtf8, is_utf8, bytes_eq}
 use Rattle.std.proofs.lemmas.Str.{IsUtf8-from_is_utf8, is_utf8-from_IsUtf8}
 use Rattle.grammar_core.specs.Like.{Element, literal, star, elements, IsPieceOf, IsJoined, Matches}
 
--- `some_cut test text` tests whether some cut of `text` in two passes `test`.
+-- `some_cut test text` tests whether `text` can be cut in two so that the two strings pass `test`.
 abbrev pub some_cut : (List ℕ → List ℕ → Bool) → List ℕ → Bool
 some_cut test [] = test [] []
 some_cut test (c ∷ cs) = test [] (c ∷ cs) || some_cut (λ piece rest. test (c ∷ piece) rest) cs
 
--- `is_piece_of e piece` tests `IsPieceOf e piece`.
+-- `is_piece_of e piece` tests whether the element `e` matches `piece`.
 abbrev pub is_piece_of : Element → List ℕ → Bool
 is_piece_of (literal text) piece = bytes_eq piece text
 is_piece_of star piece = is_utf8 piece
@@ -25,13 +25,14 @@ abbrev pub is_joined : List Element → List ℕ → Bool
 is_joined [] text = bytes_eq text []
 is_joined (e ∷ es) text = some_cut (λ piece rest. is_piece_of e piece && is_joined es rest) text
 
--- `is_match pattern text` tests whether `text` matches the pattern with these literal texts.
+-- `is_match pattern text` tests whether `text` matches the pattern whose literal texts are `pattern`.
 abbrev pub is_match : List (List ℕ) → List ℕ → Bool
 is_match pattern text = is_joined (elements pattern) text
 
 -- ## The test and the relation agree.
 
--- `Joins es text` holds if `text` is a piece of the first element, followed by a concatenation for the others.
+-- `Joins es text` says the same as `IsJoined es text` by recursion on `es`: `text` is a piece of the first element,
+-- followed by a concatenation of pieces of the others.
 abbrev pub Joins : List Element → List ℕ → Type 0
 Joins [] text = text ≡ []
 Joins (e ∷ es) text = (piece : List ℕ) × (rest : List ℕ) × (text ≡ piece ++ rest) × IsPieceOf e piece × Joins es rest
@@ -57,7 +58,7 @@ joins_pieces (x ∷ xs) (p ∷ ps) text h e = (p, concat ps, e, h.0, joins_piece
 pub joins_from_joined : (es : List Element) (text : List ℕ) → IsJoined es text → Joins es text
 joins_from_joined es text h = joins_pieces es h.pieces text h.stand h.joined
 
--- `SomeCut test text` holds if some cut of `text` in two passes `test`.
+-- `SomeCut test text` holds if `text` can be cut in two so that the two strings pass `test`.
 SomeCut : (List ℕ → List ℕ → Bool) → List ℕ → Type 0
 SomeCut test text = (piece : List ℕ) × (rest : List ℕ) × (text ≡ piece ++ rest) × (test piece rest ≡ true)
 
@@ -111,7 +112,7 @@ test_from_joins (x ∷ xs) text h =
     (passes_cut (λ piece rest. is_piece_of x piece && is_joined xs rest) h.0 h.1
     (and_from (is_piece_of x h.0) (is_joined xs h.1) ((piece_decided x h.0).1 h.3) (test_from_joins xs h.1 h.4)))
 
--- The test decides the relation.
+-- `is_match-Decides`: the test `is_match` decides the relation `Matches`.
 pub is_match-Decides : (pattern : List (List ℕ)) (text : List ℕ)
     → Decides (is_match pattern text) (Matches pattern text)
 is_match-Decides pattern text = (
@@ -121,15 +122,15 @@ is_match-Decides pattern text = (
 
 -- ## Theorems
 
--- `IsDecided`: the test decides the relation.
+-- `IsDecided`: the test `is_match` decides the relation `Matches`.
 abbrev pub IsDecided : Type 0
 IsDecided = (pattern : List (List ℕ)) (text : List ℕ) → Decides (is_match pattern text) (Matches pattern text)
 
--- `LiteralsMatchThemselves`: a pattern without a wildcard matches only its literal text.
+-- `LiteralsMatchThemselves`: a pattern without a wildcard matches its literal text, and nothing else.
 abbrev pub LiteralsMatchThemselves : Type 0
 LiteralsMatchThemselves = (literal text : List ℕ) → Matches (literal ∷ []) text ↔ (text ≡ literal)
 
--- `WildcardMatchesAll`: a single wildcard matches every string.
+-- `WildcardMatchesAll`: a pattern that is a single wildcard matches every string.
 abbrev pub WildcardMatchesAll : Type 0
 WildcardMatchesAll = (text : List ℕ) → IsUtf8 text → Matches ([] ∷ [] ∷ []) text
 

@@ -5,7 +5,7 @@ use Rattle.grammar_core.specs.declared.expr.Expr.TheOpen.{Expr-F}
 use Rattle.grammar_core.specs.declared.expr.Expr.TheFolds.{fold-Expr}
 use Rattle.grammar_core.specs.declared.expr.Named.{Named}
 
--- `greatest ns` is the greatest of `ns`, 0 for none.
+-- `greatest ns` is the greatest of `ns`, or 0 if `ns` is empty.
 abbrev pub greatest : List ℕ → ℕ
 greatest [] = 0
 greatest (n ∷ ns) = max n (greatest ns)
@@ -19,7 +19,7 @@ total (n ∷ ns) = n + total ns
 abbrev pub values_of : {X : Type 0} → List (Named X) → List X
 values_of fields = map (λ f. f.value) fields
 
--- `height_step e` is the height of the node `e`, given those of its operands.
+-- `height_step e` is the height of the node `e`, given the heights of its operands in their place.
 abbrev pub height_step : Expr-F ℕ → ℕ
 height_step (Expr-F.Literal literal) = 1
 height_step (Expr-F.Variable variable) = 1
@@ -39,7 +39,7 @@ height_step (Expr-F.BinaryCall called left right) = max left right + 1
 abbrev pub height : Expr → ℕ
 height = fold-Expr ℕ height_step
 
--- `forms_step e` is the number of nodes of a node, given the numbers of nodes of its operands.
+-- `forms_step e` is the number of nodes below and including the node `e`, given those of its operands in their place.
 abbrev pub forms_step : Expr-F ℕ → ℕ
 forms_step (Expr-F.Literal literal) = 1
 forms_step (Expr-F.Variable variable) = 1
@@ -55,16 +55,16 @@ forms_step (Expr-F.Record fields) = total (values_of fields) + 1
 forms_step (Expr-F.UnaryCall called operand) = operand + 1
 forms_step (Expr-F.BinaryCall called left right) = left + right + 1
 
--- `forms e` is the number of nodes of `e`, itself included.
+-- `forms e` is the number of nodes of `e`, its root included.
 abbrev pub forms : Expr → ℕ
 forms = fold-Expr ℕ forms_step
 
--- `capped n` is `n` as a saturated `u32`.
+-- `capped n` is `n`, but at most 2^32 - 1, the greatest `u32`.
 abbrev pub capped : ℕ → ℕ
 capped n = min n 4294967295
 
--- `most_height` and `most_forms` are the limits on a policy's expression, a rule of this product. `1 == 2` has height
--- 2 and three nodes, and each further `!` before it adds one to both.
+-- `most_height` and `most_forms` are the limits on a policy's expression, a rule of this product. For example, `1 == 2`
+-- has height 2 and three nodes, and each `!` around it adds one to both.
 abbrev pub most_height : ℕ
 most_height = 1_000
 

@@ -3,7 +3,7 @@ use crate::leaf::{Literal, Variable};
 use crate::operator::{Binary, BinaryCall, Unary, UnaryCall};
 use plain::{Items, Shared, Text};
 
-/// A value with a name, as a field of a record.
+/// A value with a name, such as a field of a record.
 #[derive(Drop)]
 pub struct Named<T> {
     /// The name.
@@ -15,7 +15,7 @@ pub struct Named<T> {
 /// A core expression: the language after rewriting (`a != b` is `!(a == b)`, `a > b` is `!(a <= b)`, `a >= b` is
 /// `!(a < b)`, `a is T in b` is `a is T && a in b`, `a["f"]` is `a.f`).
 ///
-/// Calls have two variants, so that each has the number of operands of its function or method.
+/// Calls have two variants, so that each call has as many operands as its function or method takes.
 ///
 /// Source: Cedar reference guide, "Grammar" and "Operators and functions".
 #[derive(Drop)]
@@ -34,9 +34,9 @@ pub enum Expr {
     Unary(Unary, Shared<Expr>),
     /// An operator with its operands.
     Binary(Binary, Shared<Expr>, Shared<Expr>),
-    /// `.`: the value of the field of a record, or the attribute of an entity, of this name.
+    /// `.`: the value of the field of a record, or of the attribute of an entity, with this name.
     Field(Shared<Expr>, Text),
-    /// `has`: whether there is a field or an attribute of this name.
+    /// `has`: whether a record has a field, or an entity an attribute, with this name.
     Has(Shared<Expr>, Text),
     /// A set of these members.
     Set(Items<Expr>),

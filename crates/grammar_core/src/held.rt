@@ -1,19 +1,19 @@
-//! Operands on the heap. Each function is generic, so that the drop after a failed allocation is one step and not one
-//! for each variant.
+//! Functions that put operands on the heap. Each is generic, so that the drop after a failed allocation is one step of
+//! its proof, and not one for each variant of an expression.
 
 ghost use Rattle.std.specs.Prelude.{◌≡◌, IfOk};
 
 use plain::{NoMemory, Shared};
 use std::alloc::Global;
 
-/// Returns two values, each shared.
+/// Returns two values, each as a shared value.
 pub(crate) fn two<T: Drop>(alloc: Global, a: T, b: T) -> Result<(Shared<T>, Shared<T>), NoMemory>
     ensures { IfOk result (λ all. all ≡ (a, b)) }
 {
     Ok((Shared::new(alloc, a)?, Shared::new(alloc, b)?))
 }
 
-/// Returns three values, each shared.
+/// Returns three values, each as a shared value.
 pub(crate) fn three<T: Drop>(
     alloc: Global,
     a: T,
@@ -29,7 +29,7 @@ pub(crate) fn three<T: Drop>(
     ))
 }
 
-/// Returns `a` shared twice, and `b` shared.
+/// Returns two references to `a`, shared, and `b` as a shared value.
 pub(crate) fn twice<T: Drop>(
     alloc: Global,
     a: T,

@@ -1,6 +1,6 @@
-//! Core expressions: the conditions of policies once their text is parsed and rewritten.
+//! Core expressions: what the text of a policy becomes when it is parsed and rewritten.
 //!
-//! Contracts see an expression as an algebraic data type: `≡` on it is structural equality.
+//! Contracts see an expression as an algebraic data type, on which `≡` is structural equality.
 #![tactic(auto)]
 
 mod builders;
@@ -15,6 +15,6 @@ mod size;
 pub use expr::{Expr, Named};
 pub use laws::patterns_are_decided;
 pub use leaf::{Literal, Variable};
-pub use operator::{Binary, BinaryCall, Unary, UnaryCall};
+pub use operator::{Binary, BinaryCall, Method, Unary, UnaryCall, function_named, method_named};
 pub use pattern::Pattern;
 pub use size::{FORMS_MAX, HEIGHT_MAX};

@@ -1,4 +1,6 @@
 //! Operators, functions and methods (Cedar reference guide, "Operators and functions").
+ghost use Rattle.std.specs.Prelude.{◌≡◌};
+ghost use Rattle.grammar_core.specs.Operators.{function_of, method_of, takes};
 
 use crate::pattern::Pattern;
 use values::TypeName;
@@ -21,7 +23,7 @@ pub enum Unary {
 pub enum Binary {
     /// `==`.
     Equal,
-    /// `in`: whether an entity is another one or a descendant of it, or is so for some member of a set.
+    /// `in`: whether an entity equals another one, or one of a set, or is a descendant of it.
     In,
     /// `<`.
     Less,
@@ -71,4 +73,59 @@ pub enum BinaryCall {
     GreaterThanOrEqual,
     /// `isInRange`, of addresses.
     IsInRange,
+}
+
+/// A method: the operator or the call that its name means.
+#[derive(Clone, Copy)]
+pub enum Method {
+    /// A call without arguments.
+    Alone(UnaryCall),
+    /// An operator with one argument.
+    Operator(Binary),
+    /// A call with one argument.
+    WithArgument(BinaryCall),
+}
+
+/// Returns the function that `name` names, if it names one.
+pub fn function_named(name: &str) -> Option<UnaryCall>
+    ensures { result ≡ function_of name.now }
+{
+    match name {
+        "ip" => Some(UnaryCall::Ip),
+        "decimal" => Some(UnaryCall::Decimal),
+        _ => None,
+    }
+}
+
+/// Returns the method that `name` names, if it names one.
+pub fn method_named(name: &str) -> Option<Method>
+    ensures { result ≡ method_of name.now }
+{
+    match name {
+        "contains" => Some(Method::Operator(Binary::Contains)),
+        "containsAll" => Some(Method::Operator(Binary::ContainsAll)),
+        "containsAny" => Some(Method::Operator(Binary::ContainsAny)),
+        "lessThan" => Some(Method::WithArgument(BinaryCall::LessThan)),
+        "lessThanOrEqual" => Some(Method::WithArgument(BinaryCall::LessThanOrEqual)),
+        "greaterThan" => Some(Method::WithArgument(BinaryCall::GreaterThan)),
+        "greaterThanOrEqual" => Some(Method::WithArgument(BinaryCall::GreaterThanOrEqual)),
+        "isInRange" => Some(Method::WithArgument(BinaryCall::IsInRange)),
+        "isIpv4" => Some(Method::Alone(UnaryCall::IsIpv4)),
+        "isIpv6" => Some(Method::Alone(UnaryCall::IsIpv6)),
+        "isLoopback" => Some(Method::Alone(UnaryCall::IsLoopback)),
+        "isMulticast" => Some(Method::Alone(UnaryCall::IsMulticast)),
+        _ => None,
+    }
+}
+
+impl Method {
+    /// Returns the number of arguments that the method takes.
+    pub fn takes(self) -> usize
+        ensures { result ≡ takes self }
+    {
+        match self {
+            Method::Alone(_) => 0,
+            Method::Operator(_) | Method::WithArgument(_) => 1,
+        }
+    }
 }

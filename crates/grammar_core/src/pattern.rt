@@ -7,7 +7,7 @@ use plain::{Items, Text};
 use std::marker::Model;
 
 /// A pattern of `like`: literal texts with a wildcard between each two. Contracts see the list of the literal texts,
-/// which has one more than there are wildcards; so each pattern has one form.
+/// which may be empty texts; there is one more of them than wildcards.
 ///
 /// Source: Cedar reference guide, "Operators: like".
 #[derive(Drop)]
@@ -27,7 +27,7 @@ impl Model for Pattern {
 }
 
 impl Pattern {
-    /// Returns the pattern with these literal texts, a wildcard between each two. Does not allocate.
+    /// Returns the pattern whose literal texts are `literals`, with a wildcard between each two. Does not allocate.
     pub fn from_literals(literals: Vec<Text>) -> Pattern
         requires { 0 < length literals.items }
         ensures { result ≡ literals.items }
@@ -54,10 +54,10 @@ impl Pattern {
         same_texts(&self.before, &other.before) && self.last.same(&other.last)
     }
 
-    /// Returns whether a string matches the pattern: it is a concatenation of pieces, one for each element of the
-    /// pattern in order, where a literal's piece equals it and a wildcard's is any string.
+    /// Returns whether a string matches the pattern: whether it is a concatenation of pieces, one for each literal and
+    /// each wildcard in order, where a literal's piece equals the literal and a wildcard's piece is any string.
     ///
-    /// Does not allocate. Takes time at most proportional to the product of the lengths of pattern and string.
+    /// O(length of the pattern times length of the string). Does not allocate.
     pub fn matches(&self, text: &str) -> bool
         ensures like { IsTrue result ↔ Matches self.now text.now }
         ensures test { result ≡ is_match self.now text.now }
@@ -69,8 +69,8 @@ impl Pattern {
     }
 }
 
-/// Returns whether a string begins with the first literal, and the rest matches a wildcard before each of the other
-/// literals.
+/// Returns whether a string begins with the first literal, and its rest matches the other literals, in order, with a
+/// wildcard before each.
 fn first_matches(first: &Text, middle: &[Text], last: &Text, text: &str) -> bool
     ensures { IsTrue result ↔ Joins (literal first.now ∷ behind_stars (middle.now ++ last.now ∷ [])) text.now }
 {
@@ -80,10 +80,10 @@ fn first_matches(first: &Text, middle: &[Text], last: &Text, text: &str) -> bool
     }
 }
 
-/// Returns whether a string matches a wildcard before each of the literals, and ends with the last.
+/// Returns whether a string matches the literals `middle` and then `last`, with a wildcard before each.
 ///
 /// Each literal but the last is matched at its first occurrence. That leaves the longest rest, and the next wildcard
-/// may match whatever a later occurrence would have skipped. So the search never backtracks.
+/// may match what a later occurrence would have skipped, so the search never backtracks.
 fn others_match(middle: &[Text], last: &str, text: &str) -> bool
     ensures { IsTrue result ↔ Joins (behind_stars (middle.now ++ last.now ∷ [])) text.now }
 {
@@ -97,7 +97,7 @@ fn others_match(middle: &[Text], last: &str, text: &str) -> bool
     rest.ends_with(last)
 }
 
-/// Returns whether two lists have equal strings, index by index.
+/// Returns whether two lists of strings are equal.
 fn same_texts(ones: &Items<Text>, twos: &Items<Text>) -> bool
     ensures { IsTrue result ↔ (ones.now ≡ twos.now) }
 {

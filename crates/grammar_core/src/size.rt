@@ -1,5 +1,5 @@
-//! Limits on the size of a policy's expression. The size is computed on the syntax tree, before any core expression
-//! is built; `height`, `forms` and `IsSmall` of specs/Size define it.
+//! Limits on the size of a policy's expression. specs/Size defines the height (`height`), the number of nodes (`forms`)
+//! and the limits (`IsSmall`); the parser computes them on the syntax tree, before it builds a core expression.
 
 /// The greatest height of a policy's expression.
 pub const HEIGHT_MAX: u32 = 1_000;

@@ -6,7 +6,7 @@ use Rattle.std.proofs.lemmas.Slice.Eq.{bytes_eq-Decides}
 use Rattle.grammar_desugaring.specs.declared.fault.DesugarFault.{DesugarFault}
 use Rattle.grammar_desugaring.specs.declared.fault.DesugarFault.TheVariants.{RepeatedKey}
 use Rattle.grammar_desugaring.specs.Refused.{earlier_of, least}
-use Rattle.grammar_desugaring.specs.Repeats.{NameAt, StandsAgain, places_of, repeats, repeat_faults, RepeatsStandAgain, RepeatsAreReported}
+use Rattle.grammar_desugaring.specs.Repeats.{NameAt, IsRepeatedAt, places_of, repeats, repeat_faults, RepeatsAreExact, RepeatsAreReported}
 use Rattle.grammar_trees.specs.Repeats.{IsLeast, ReportsLeast}
 use Rattle.grammar_trees.specs.inner.Lesser.{lesser_of}
 use Rattle.grammar_desugaring.specs.inner.Searching.{repeat_fault}
@@ -44,22 +44,22 @@ of-places name (m ∷ ms) at c = elim (kept-of (bytes_eq name m.name) m (filter 
   | inr more ↦ inr (of-places name ms at more)
 ]
 
-in-repeats : (ms : List NameAt) (at : ℕ) → StandsAgain ms at → Contains (repeats ms) at
+in-repeats : (ms : List NameAt) (at : ℕ) → IsRepeatedAt ms at → Contains (repeats ms) at
 in-repeats [] at again = again-none at again
 in-repeats (m ∷ ms) at again = elim (again-front m ms at again) [
   | inl later ↦ Contains-append_left (places_of m.name ms) (repeats ms) at (in-places m.name ms at later)
   | inr more ↦ Contains-append_right (places_of m.name ms) (repeats ms) at (in-repeats ms at more)
 ]
 
-of-repeats : (ms : List NameAt) (at : ℕ) → Contains (repeats ms) at → StandsAgain ms at
+of-repeats : (ms : List NameAt) (at : ℕ) → Contains (repeats ms) at → IsRepeatedAt ms at
 of-repeats [] at c = Contains-none at c
 of-repeats (m ∷ ms) at c = elim (Contains-append_cases (places_of m.name ms) (repeats ms) at c) [
   | inl here ↦ again-here m ms at (of-places m.name ms at here)
   | inr more ↦ again-there m ms at (of-repeats ms at more)
 ]
 
-pub repeats_stand_again : RepeatsStandAgain
-repeats_stand_again marks at = (of-repeats marks at, in-repeats marks at)
+pub repeats_are_exact : RepeatsAreExact
+repeats_are_exact marks at = (of-repeats marks at, in-repeats marks at)
 
 -- ---- what is told
 
@@ -102,19 +102,19 @@ tells-one P (Some x) None a b = absurd (b x a.here)
 tells-one P (Some x) (Some y) a b = ap Some (least-same P x y a b)
 
 -- the least place is told
-told-at : (marks : List NameAt) (o : Option ℕ) → ReportsLeast (StandsAgain marks) o → least (repeat_faults marks) ≡ repeat_fault o
+told-at : (marks : List NameAt) (o : Option ℕ) → ReportsLeast (IsRepeatedAt marks) o → least (repeat_faults marks) ≡ repeat_fault o
 told-at marks o tells =
     least_fault (repeats marks)
-    ∙ ap repeat_fault (tells-one (StandsAgain marks) (least_at (repeats marks)) o
-    (tells-same (Contains (repeats marks)) (StandsAgain marks) (least_at (repeats marks)) (of-repeats marks) (in-repeats marks) (tells_least (repeats marks))) tells)
+    ∙ ap repeat_fault (tells-one (IsRepeatedAt marks) (least_at (repeats marks)) o
+    (tells-same (Contains (repeats marks)) (IsRepeatedAt marks) (least_at (repeats marks)) (of-repeats marks) (in-repeats marks) (tells_least (repeats marks))) tells)
 
 -- as a fault
-pub fault_told : (marks : List NameAt) (o : Option ℕ) (fault : Option DesugarFault) → ReportsLeast (StandsAgain marks) o → fault ≡ repeat_fault o → fault ≡ least (repeat_faults marks)
+pub fault_told : (marks : List NameAt) (o : Option ℕ) (fault : Option DesugarFault) → ReportsLeast (IsRepeatedAt marks) o → fault ≡ repeat_fault o → fault ≡ least (repeat_faults marks)
 fault_told marks o fault tells is = is ∙ sym (told-at marks o tells)
 
 pub repeats_are_told : RepeatsAreReported
 repeats_are_told marks others there back =
     told-at marks (least_at (repeats others))
-    (tells-same (Contains (repeats others)) (StandsAgain marks) (least_at (repeats others)) (λ at c. back at (of-repeats others at c)) (λ at again. in-repeats others at (there at again))
+    (tells-same (Contains (repeats others)) (IsRepeatedAt marks) (least_at (repeats others)) (λ at c. back at (of-repeats others at c)) (λ at again. in-repeats others at (there at again))
     (tells_least (repeats others)))
     ∙ sym (least_fault (repeats others))

@@ -1,7 +1,7 @@
 -- Which names stand again in a list of marks, told from its front. This file and Members are meant to be imported by
 -- the proofs of crates above.
 use Rattle.std.proofs.Common.{◌≡◌, ◌⊎◌, ℕ, List, [], ◌∷◌, ◌++◌, map, Contains, refl, sym, ◌∙◌, ap, subst, inl, inr}
-use Rattle.grammar_desugaring.specs.Repeats.{NameAt, StandsAgain}
+use Rattle.grammar_desugaring.specs.Repeats.{NameAt, IsRepeatedAt}
 use Rattle.plain.proofs.Members.{Contains-here, Contains-there, Contains-cases, Contains-none}
 
 -- a mark of this name stands here
@@ -19,7 +19,7 @@ later-at : (before : List NameAt) (mark : NameAt) (behind : List NameAt) → Lat
 later-at [] mark behind = inl (refl, refl)
 later-at (b ∷ bs) mark behind = inr (later-at bs mark behind)
 
-pub again-there : (m : NameAt) (ms : List NameAt) (at : ℕ) → StandsAgain ms at → StandsAgain (m ∷ ms) at
+pub again-there : (m : NameAt) (ms : List NameAt) (at : ℕ) → IsRepeatedAt ms at → IsRepeatedAt (m ∷ ms) at
 again-there m ms at again = record {
   before = m ∷ again.before;
   mark = again.mark;
@@ -37,7 +37,7 @@ split-later name (m ∷ ms) at later = elim later [
   | inr more ↦ let s = split-later name ms at more in (m ∷ s.0, s.1, s.2, ap (λ xs. m ∷ xs) s.3, s.4, s.5)
 ]
 
-pub again-here : (m : NameAt) (ms : List NameAt) (at : ℕ) → Later m.name ms at → StandsAgain (m ∷ ms) at
+pub again-here : (m : NameAt) (ms : List NameAt) (at : ℕ) → Later m.name ms at → IsRepeatedAt (m ∷ ms) at
 again-here m ms at later = let s = split-later m.name ms at later in record {
   before = m ∷ s.0;
   mark = s.1;
@@ -48,7 +48,7 @@ again-here m ms at later = let s = split-later m.name ms at later in record {
 }
 
 front : (m : NameAt) (ms before : List NameAt) (mark : NameAt) (behind : List NameAt) (at : ℕ) → m ∷ ms ≡ before ++ mark ∷ behind →
-    Contains (map (λ x. x.name) before) mark.name → at ≡ mark.at → Later m.name ms at ⊎ StandsAgain ms at
+    Contains (map (λ x. x.name) before) mark.name → at ≡ mark.at → Later m.name ms at ⊎ IsRepeatedAt ms at
 front m ms [] mark behind at whole again place = Contains-none mark.name again
 front m ms (b ∷ bs) mark behind at whole again place =
     let same : m ≡ b = heads m b _ _ whole in
@@ -59,10 +59,10 @@ front m ms (b ∷ bs) mark behind at whole again place =
       | inr more ↦ inr (record { before = bs; mark = mark; behind = behind; whole = rest; again = more; place = place })
     ]
 
-pub again-front : (m : NameAt) (ms : List NameAt) (at : ℕ) → StandsAgain (m ∷ ms) at → Later m.name ms at ⊎ StandsAgain ms at
+pub again-front : (m : NameAt) (ms : List NameAt) (at : ℕ) → IsRepeatedAt (m ∷ ms) at → Later m.name ms at ⊎ IsRepeatedAt ms at
 again-front m ms at again = front m ms again.before again.mark again.behind at again.whole again.again again.place
 
-pub again-none : (at : ℕ) {G : Type 0} → StandsAgain [] at → G
+pub again-none : (at : ℕ) {G : Type 0} → IsRepeatedAt [] at → G
 again-none at again = nothing again.before again.mark again.behind again.whole where
   nothing : {G : Type 0} (before : List NameAt) (mark : NameAt) (behind : List NameAt) → [] ≡ before ++ mark ∷ behind → G
   nothing [] mark behind e = absurd cc

@@ -10,7 +10,7 @@ use Rattle.grammar_trees.specs.declared.tree.Access.TheVariants as access
 use Rattle.grammar_trees.specs.declared.tree.Comparison.{Comparison}
 use Rattle.grammar_trees.specs.declared.tree.RecordEntry.{RecordEntry}
 use Rattle.grammar_trees.specs.declared.tree.KeyTree.{KeyTree}
-use Rattle.grammar_trees.specs.declared.tree.Variable.{Variable}
+use Rattle.grammar_trees.specs.declared.tree.RequestKeyword.{RequestKeyword}
 use Rattle.grammar_trees.specs.declared.tree.Term.{Term}
 use Rattle.grammar_trees.specs.declared.tree.ExprTree.{ExprTree, out-ExprTree, roll-ExprTree, map-ExprTree}
 use Rattle.grammar_trees.specs.declared.tree.ExprTree.{fold_out-ExprTree, roll-out-ExprTree}
@@ -41,7 +41,7 @@ module _ (text : List ℕ) where
   core-Text token =
       ap (core_of text) (sym (t.rolls-Text token)) ∙ ap (λ m. m.alone) (fold-roll-ExprTree Meaning (core_step text) (tree.Text token))
 
-  pub core-Variable : (word : Variable) → core_of text (t.Variable word) ≡ core.Variable (variable_of word)
+  pub core-Variable : (word : RequestKeyword) → core_of text (t.Variable word) ≡ core.Variable (variable_of word)
   core-Variable word =
       ap (core_of text) (sym (t.rolls-Variable word)) ∙ ap (λ m. m.alone) (fold-roll-ExprTree Meaning (core_step text) (tree.Variable word))
 

@@ -10,7 +10,7 @@ use Rattle.grammar_trees.specs.declared.tree.Access.TheVariants as access
 use Rattle.grammar_trees.specs.declared.tree.Comparison.{Comparison}
 use Rattle.grammar_trees.specs.declared.tree.RecordEntry.{RecordEntry}
 use Rattle.grammar_trees.specs.declared.tree.KeyTree.{KeyTree}
-use Rattle.grammar_trees.specs.declared.tree.Variable.{Variable}
+use Rattle.grammar_trees.specs.declared.tree.RequestKeyword.{RequestKeyword}
 use Rattle.grammar_trees.specs.declared.tree.Term.{Term}
 use Rattle.grammar_trees.specs.declared.tree.ExprTree.{ExprTree, out-ExprTree, roll-ExprTree, map-ExprTree}
 use Rattle.grammar_trees.specs.declared.tree.ExprTree.{fold_out-ExprTree, roll-out-ExprTree}
@@ -38,7 +38,7 @@ module _ (text : List ℕ) where
   faults-Text token =
       ap (faults_of text) (sym (t.rolls-Text token)) ∙ ap (λ f. f.alone) (fold-roll-ExprTree Faulty (fault_step text) (tree.Text token))
 
-  pub faults-Variable : (word : Variable) → faults_of text (t.Variable word) ≡ []
+  pub faults-Variable : (word : RequestKeyword) → faults_of text (t.Variable word) ≡ []
   faults-Variable word =
       ap (faults_of text) (sym (t.rolls-Variable word)) ∙ ap (λ f. f.alone) (fold-roll-ExprTree Faulty (fault_step text) (tree.Variable word))
 

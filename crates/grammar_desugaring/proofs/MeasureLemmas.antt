@@ -11,7 +11,7 @@ use Rattle.grammar_trees.specs.declared.tree.Access.TheVariants as access
 use Rattle.grammar_trees.specs.declared.tree.Comparison.{Comparison}
 use Rattle.grammar_trees.specs.declared.tree.RecordEntry.{RecordEntry}
 use Rattle.grammar_trees.specs.declared.tree.KeyTree.{KeyTree}
-use Rattle.grammar_trees.specs.declared.tree.Variable.{Variable}
+use Rattle.grammar_trees.specs.declared.tree.RequestKeyword.{RequestKeyword}
 use Rattle.grammar_trees.specs.declared.tree.Term.{Term}
 use Rattle.grammar_trees.specs.declared.tree.ExprTree.{ExprTree}
 use Rattle.grammar_trees.specs.declared.tree.ExprTree.TheVariants as t
@@ -26,7 +26,7 @@ use Rattle.grammar_desugaring.specs.declared.fault.DesugarFault.{DesugarFault}
 use Rattle.grammar_desugaring.specs.Numbers.{fits, fits_negated}
 use Rattle.grammar_desugaring.specs.Strings.{pattern_of}
 use Rattle.grammar_desugaring.specs.Meaning.{path_name, name_of, sign_of}
-use Rattle.grammar_desugaring.specs.Names.{method_of, method_takes}
+use Rattle.grammar_core.specs.Operators.{method_of, method_takes}
 use Rattle.grammar_desugaring.specs.Core as spec
 use Rattle.grammar_desugaring.specs.Core.{core_of, accessed, added, field, in_term, in_entry, in_access, function}
 use Rattle.grammar_desugaring.specs.Repeats.{repeat_faults}
@@ -116,7 +116,7 @@ module _ (text : List ℕ) where
   measured-Text token =
       same_of (core-Text text token) (faults-Text text token) ∙ of-Literal _ []
 
-  pub measured-Variable : (word : Variable) → measured text (t.Variable word) ≡ leaf None
+  pub measured-Variable : (word : RequestKeyword) → measured text (t.Variable word) ≡ leaf None
   measured-Variable word =
       same_of (core-Variable text word) (faults-Variable text word) ∙ of-Variable _ []
 

@@ -20,10 +20,10 @@ use Rattle.grammar_core.proofs.Forms.{fold_literal, fold_variable, fold_if, fold
 use Rattle.grammar_desugaring.specs.declared.fault.DesugarFault.{DesugarFault}
 use Rattle.grammar_desugaring.specs.declared.fault.DesugarFault.TheVariants.{UnknownCall, Arity}
 use Rattle.grammar_desugaring.specs.declared.measure.Measure.{Measure}
-use Rattle.grammar_desugaring.specs.declared.names.Method.{Method}
-use Rattle.grammar_desugaring.specs.declared.names.Method.TheVariants as method
+use Rattle.grammar_core.specs.declared.operator.Method.{Method}
+use Rattle.grammar_core.specs.declared.operator.Method.TheVariants as method
 use Rattle.grammar_desugaring.specs.Refused.{earlier_of, least}
-use Rattle.grammar_desugaring.specs.Names.{function_takes, method_takes}
+use Rattle.grammar_core.specs.Operators.{function_takes, method_takes}
 use Rattle.grammar_desugaring.specs.Core.{compared, method_called, no_call}
 use Rattle.grammar_desugaring.specs.Core as spec
 use Rattle.grammar_desugaring.specs.Faults.{call_faults}

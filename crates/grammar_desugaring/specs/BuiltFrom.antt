@@ -1,11 +1,11 @@
--- Defines that a tree is made of tokens that are spelled in the text.
+-- Defines what it means that a tree is made of tokens that a text spells.
 use Rattle.std.specs.Prelude.{ℕ, List}
 use Rattle.std.specs.List.{AllByRecursion}
 use Rattle.grammar_trees.specs.grammar_tokens.declared.token.Token.{Token}
 use Rattle.grammar_trees.specs.grammar_tokens.Lexing.{IsSpelledIn}
 
--- `IsBuiltFrom text WellFormed` holds if something is made, as `WellFormed` says, of tokens that are spelled in
--- `text`.
+-- `IsBuiltFrom text WellFormed` holds if there are tokens, each spelled in `text`, of which `WellFormed` holds: it says
+-- of a tree that it is made of given tokens.
 pub record IsBuiltFrom (text : List ℕ) (WellFormed : List Token → Type 0) : Type 0 where
   pub tokens : List Token
   pub spelled : AllByRecursion (IsSpelledIn text) tokens

@@ -1,5 +1,5 @@
--- Defines the core expression of a syntax tree, with the text that has its tokens, by one line for each form of
--- tree. It says nothing useful of a tree with errors, which is rejected.
+-- Defines the core expression of a syntax tree over the text that its tokens are in, by one equation for each form of
+-- tree. For a tree with errors, which is rejected, the expression means nothing.
 -- Source: Cedar reference guide 4.0, "Grammar specification for Cedar policy syntax" and "Operators and functions".
 -- Operators of one level group to the left.
 use Rattle.std.specs.Prelude.{ℕ, ℤ, false, List, [], ◌∷◌, map, Option, Some, None}
@@ -25,14 +25,14 @@ use Rattle.grammar_trees.specs.declared.tree.ExprTree.TheOpen.{ExprTree-F as tre
 use Rattle.grammar_trees.specs.declared.tree.ExprTree.TheFolds.{fold-ExprTree}
 use Rattle.grammar_desugaring.specs.declared.forms.Chain.{Chain}
 use Rattle.grammar_desugaring.specs.declared.forms.Chain.TheVariants as chain
-use Rattle.grammar_desugaring.specs.declared.names.Method.{Method}
-use Rattle.grammar_desugaring.specs.declared.names.Method.TheVariants as method
-use Rattle.grammar_desugaring.specs.Names.{function_of, method_of}
+use Rattle.grammar_core.specs.declared.operator.Method.{Method}
+use Rattle.grammar_core.specs.declared.operator.Method.TheVariants as method
+use Rattle.grammar_core.specs.Operators.{function_of, method_of}
 use Rattle.grammar_desugaring.specs.Numbers.{positive, negative}
 use Rattle.grammar_desugaring.specs.Strings.{value_of, pattern_of}
 use Rattle.grammar_desugaring.specs.Meaning.{variable_of, sign_of, path_name, uid_of, name_of}
 
--- A `Meaning` is the expression of a tree by itself, and after a minus.
+-- A `Meaning` has the core expression of a tree by itself, and that of the tree after a minus.
 pub record Meaning : Type 0 where
   pub alone : Expr
   pub negated : Expr
@@ -41,15 +41,15 @@ pub record Meaning : Type 0 where
 abbrev pub long : ℤ → Expr
 long n = core.Literal (literal.Long n)
 
--- `number digits`: a minus before a number belongs to it.
+-- `number digits` is the meaning of a number: a minus before it belongs to it.
 abbrev pub number : List ℕ → Meaning
 number digits = record { alone = long (positive digits); negated = long (negative digits) }
 
--- `plain e`: before anything else a minus is an operator.
+-- `plain e` is the meaning of any other tree, with the expression `e`: a minus before it is an operator.
 abbrev pub plain : Expr → Meaning
 plain e = record { alone = e; negated = core.Unary Negate e }
 
--- `compared operator a b` is a comparison: `!=`, `>` and `>=` are the negations of `==`, `<=` and `<`.
+-- `compared operator a b` is the comparison of `a` and `b`: `!=`, `>` and `>=` are the negations of `==`, `<=` and `<`.
 abbrev pub compared : Comparison → Expr → Expr → Expr
 compared is.Less a b = core.Binary Less a b
 compared is.LessOrEqual a b = core.Binary LessOrEqual a b
@@ -59,45 +59,48 @@ compared is.Equal a b = core.Binary Equal a b
 compared is.NotEqual a b = core.Unary Not (core.Binary Equal a b)
 compared is.In a b = core.Binary In a b
 
--- `no_call` is the placeholder for a call that is rejected.
+-- `no_call` is the placeholder for a call that is rejected, since no function or method has the name and this number of
+-- arguments.
 abbrev pub no_call : Expr
 no_call = core.Literal (literal.Boolean false)
 
--- `function_at text first more` is the function of a Path: only a single word names one.
+-- `function_at text first more` is the function that the Path of the words `first` and `more` names: only a Path of one
+-- word names one.
 abbrev pub function_at : List ℕ → Token → List Token → Option UnaryCall
 function_at text first [] = function_of (spelling_of text first)
 function_at text first (word ∷ more) = None
 
--- `function text path` is the function of a Path.
+-- `function text path` is the function that the Path `path` names.
 abbrev pub function : List ℕ → PathTree → Option UnaryCall
 function text path = function_at text path.first path.more
 
--- `called function arguments` is a call of a function.
+-- `called function arguments` is a call of `function`, or the placeholder.
 abbrev pub called : Option UnaryCall → List Expr → Expr
 called (Some call) (a ∷ []) = core.UnaryCall call a
 called _ _ = no_call
 
--- `method_called method receiver arguments` is a call of a method.
+-- `method_called method receiver arguments` is a call of `method`, or the placeholder.
 abbrev pub method_called : Option Method → Expr → List Expr → Expr
 method_called (Some (method.Alone call)) receiver [] = core.UnaryCall call receiver
 method_called (Some (method.Operator operator)) receiver (a ∷ []) = core.Binary operator receiver a
 method_called (Some (method.WithArgument call)) receiver (a ∷ []) = core.BinaryCall call receiver a
 method_called _ _ _ = no_call
 
--- `accessed text e access` is an access to `e`; `e["f"]` is `e.f`.
+-- `accessed text e access` is the access `access` to `e`, where `e["f"]` is `e.f`.
 abbrev pub accessed : List ℕ → Expr → Access (List Expr) → Expr
 accessed text e (access.Field key) = core.Field e (name_of text key)
 accessed text e (access.Method name arguments) = method_called (method_of (spelling_of text name)) e arguments
 
--- `added left term` is a sum with one more term.
+-- `added left term` is the sum `left` with the further term `term`.
 abbrev pub added : Expr → Term Expr → Expr
 added left term = core.Binary (sign_of term.sign) left term.operand
 
--- `field text entry` is the named value of a record's entry.
+-- `field text entry` is the field of a record that `entry` denotes.
 abbrev pub field : List ℕ → RecordEntry Expr → Named Expr
 field text entry = record { name = name_of text entry.key; value = entry.value }
 
--- The parts of a list, each with its expression mapped by `f`.
+-- `in_term term`, `in_entry entry` and `in_access access` are a term, an entry and an access with their expressions
+-- mapped by `f`.
 module _ {A B : Type 0} (f : A → B) where
   abbrev pub in_term : Term A → Term B
   in_term term = record { sign = term.sign; operand = f term.operand }
@@ -109,10 +112,11 @@ module _ {A B : Type 0} (f : A → B) where
   in_access (access.Field key) = access.Field key
   in_access (access.Method name arguments) = access.Method name (map f arguments)
 
+-- `by_itself m` is the expression of the meaning `m` without a minus.
 abbrev by_itself : Meaning → Expr
 by_itself m = m.alone
 
--- `core_step text x` is the meaning of the node `x`, given those of its parts.
+-- `core_step text x` is the meaning of the node `x`, given the meanings of its subexpressions in the place of these.
 abbrev pub core_step : List ℕ → tree Meaning → Meaning
 core_step text (tree.Boolean value) = plain (core.Literal (literal.Boolean value))
 core_step text (tree.Number t) = number (spelling_of text t)
@@ -146,25 +150,25 @@ meaning text = fold-ExprTree Meaning (core_step text)
 abbrev pub core_of : List ℕ → ExprTree → Expr
 core_of text x = (meaning text x).alone
 
--- `negated text x` is that of `x` after a minus.
+-- `negated text x` is the core expression of the tree `x` after a minus.
 abbrev pub negated : List ℕ → ExprTree → Expr
 negated text x = (meaning text x).negated
 
--- ## The same for the loops of the code
+-- ## Steps of the code's loops
 
--- `joined_by chain a b` are two operands of a chain, joined.
+-- `joined_by chain a b` joins two operands of a chain.
 abbrev pub joined_by : Chain → Expr → Expr → Expr
 joined_by chain.Product = core.Binary Multiply
 joined_by (chain.Sum sign) = core.Binary (sign_of sign)
 joined_by chain.And = core.And
 joined_by chain.Or = core.Or
 
--- `single_of es` is the argument, if there is exactly one.
+-- `single_of es` is the only one of the arguments `es`, if there is exactly one.
 abbrev pub single_of : List Expr → Option Expr
 single_of (a ∷ []) = Some a
 single_of _ = None
 
--- `called_with method receiver a` is a call of a method with one argument.
+-- `called_with method receiver a` is a call of `method` with one argument, or the placeholder.
 abbrev pub called_with : Method → Expr → Expr → Expr
 called_with (method.Alone call) receiver a = no_call
 called_with (method.Operator operator) receiver a = core.Binary operator receiver a

@@ -1,4 +1,4 @@
--- Defines the errors of a syntax tree, with the text that has its tokens: its own and those of its parts.
+-- Defines the errors of a syntax tree over the text that its tokens are in: its own, and then those of its parts.
 -- Source: Cedar reference guide 4.0, "Data types: Long", "Data types: Record", "Operators and functions". The offsets
 -- are a rule of this product.
 use Rattle.std.specs.Prelude.{ℕ, Bool, List, [], ◌∷◌, ◌++◌, map, length, Option, Some, None, nat_eq, if◌then◌else◌}
@@ -14,7 +14,7 @@ use Rattle.grammar_trees.specs.declared.tree.ExprTree.TheOpen.{ExprTree-F as tre
 use Rattle.grammar_trees.specs.declared.tree.ExprTree.TheFolds.{fold-ExprTree}
 use Rattle.grammar_desugaring.specs.declared.fault.DesugarFault.{DesugarFault}
 use Rattle.grammar_desugaring.specs.declared.fault.DesugarFault.TheVariants.{NumberRange, UnknownCall, Arity}
-use Rattle.grammar_desugaring.specs.Names.{method_of, function_takes, method_takes}
+use Rattle.grammar_core.specs.Operators.{method_of, function_takes, method_takes}
 use Rattle.grammar_desugaring.specs.Numbers.{fits, fits_negated}
 use Rattle.grammar_desugaring.specs.Meaning.{name_of, place_of}
 use Rattle.grammar_desugaring.specs.Core.{function, in_access}
@@ -25,25 +25,28 @@ pub record Faulty : Type 0 where
   pub alone : List DesugarFault
   pub negated : List DesugarFault
 
--- `either_way faults` are these errors, with or without a minus.
+-- `either_way faults` are the errors `faults`, by itself and after a minus.
 abbrev pub either_way : List DesugarFault → Faulty
 either_way faults = record { alone = faults; negated = faults }
 
--- `range within t` is the error of a number at the token `t`, unless it is in range.
+-- `range within t` is the error of the number at the token `t`, where `within` says whether it is in range; `[]` if it
+-- is.
 abbrev pub range : Bool → Token → List DesugarFault
 range within t = if within then [] else NumberRange t.start ∷ []
 
--- `call_faults at takes count` is the error of a call at offset `at`, with `count` arguments, of a name that takes
+-- `call_faults at takes count` is the error of a call at offset `at` with `count` arguments, of a name that takes
 -- `takes` arguments, or that is unknown (`None`); `[]` if the numbers agree.
 abbrev pub call_faults : ℕ → Option ℕ → ℕ → List DesugarFault
 call_faults at None count = UnknownCall at ∷ []
 call_faults at (Some takes) count = if nat_eq count takes then [] else Arity at ∷ []
 
--- `function_faults text path count` is that of a function, at the first byte of its name.
+-- `function_faults text path count` is the error of a call of the function `path` with `count` arguments, at the first
+-- byte of its name.
 abbrev pub function_faults : List ℕ → PathTree → ℕ → List DesugarFault
 function_faults text path count = call_faults path.first.start (function_takes (function text path)) count
 
--- `access_faults text access` are those of an access: of a method at its name, and of its arguments.
+-- `access_faults text access` are the errors of an access, given those of its arguments: that of a method, at its name,
+-- and then those of the arguments.
 abbrev pub access_faults : List ℕ → Access (List (List DesugarFault)) → List DesugarFault
 access_faults text (access.Field key) = []
 access_faults text (access.Method name arguments) =
@@ -54,13 +57,14 @@ access_faults text (access.Method name arguments) =
 abbrev pub key_of : List ℕ → {A : Type 0} → RecordEntry A → NameAt
 key_of text entry = record { name = name_of text entry.key; at = place_of entry.key }
 
+-- `by_itself f` are the errors of `f` without a minus, and `in_all fs` those of each of `fs`.
 abbrev by_itself : Faulty → List DesugarFault
 by_itself f = f.alone
 
 abbrev in_all : List Faulty → List DesugarFault
 in_all = flat_map by_itself
 
--- `fault_step text x` are the errors of the node `x`, given those of its parts.
+-- `fault_step text x` are the errors of the node `x`, given those of its subexpressions in the place of these.
 abbrev pub fault_step : List ℕ → tree Faulty → Faulty
 fault_step text (tree.Boolean value) = either_way []
 fault_step text (tree.Number t) =
@@ -89,14 +93,14 @@ fault_step text (tree.And a more) = either_way (a.alone ++ in_all more)
 fault_step text (tree.Or a more) = either_way (a.alone ++ in_all more)
 fault_step text (tree.If a b c) = either_way (a.alone ++ (b.alone ++ c.alone))
 
--- `fault_meaning text x` are the errors of the tree `x`.
+-- `fault_meaning text x` are the errors of the tree `x`, by itself and after a minus.
 abbrev pub fault_meaning : List ℕ → ExprTree → Faulty
 fault_meaning text = fold-ExprTree Faulty (fault_step text)
 
--- `faults_of text x` are the errors of the tree `x`.
+-- `faults_of text x` are the errors of the tree `x` by itself.
 abbrev pub faults_of : List ℕ → ExprTree → List DesugarFault
 faults_of text x = (fault_meaning text x).alone
 
--- `negated_faults text x` are those of `x` after a minus.
+-- `negated_faults text x` are the errors of the tree `x` after a minus.
 abbrev pub negated_faults : List ℕ → ExprTree → List DesugarFault
 negated_faults text x = (fault_meaning text x).negated

@@ -2,7 +2,6 @@ pub mod Core
 pub mod Faults
 pub mod Measured
 pub mod Meaning
-pub mod Names
 pub mod Numbers
 pub mod Repeats
 pub mod BuiltFrom

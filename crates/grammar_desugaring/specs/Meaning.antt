@@ -13,18 +13,18 @@ use Rattle.grammar_trees.specs.declared.tree.KeyTree.{KeyTree}
 use Rattle.grammar_trees.specs.declared.tree.KeyTree.TheVariants.{Word, Quoted}
 use Rattle.grammar_trees.specs.declared.tree.Sign.{Sign}
 use Rattle.grammar_trees.specs.declared.tree.Sign.TheVariants.{Plus, Minus}
-use Rattle.grammar_trees.specs.declared.tree.Variable as tree
-use Rattle.grammar_trees.specs.declared.tree.Variable.TheVariants as word
+use Rattle.grammar_trees.specs.declared.tree.RequestKeyword as tree
+use Rattle.grammar_trees.specs.declared.tree.RequestKeyword.TheVariants as word
 use Rattle.grammar_desugaring.specs.Strings.{value_of}
 
 -- `variable_of word` is the variable of a keyword.
-abbrev pub variable_of : tree.Variable → Variable
+abbrev pub variable_of : tree.RequestKeyword → Variable
 variable_of word.Principal = Principal
 variable_of word.Action = Action
 variable_of word.Resource = Resource
 variable_of word.Context = Context
 
--- `sign_of sign` is the operator before a further term of a sum.
+-- `sign_of sign` is the operator of the sign before a further term of a sum.
 abbrev pub sign_of : Sign → Binary
 sign_of Plus = Add
 sign_of Minus = Subtract
@@ -33,7 +33,7 @@ sign_of Minus = Subtract
 abbrev pub path_name : List ℕ → PathTree → List ℕ
 path_name text path = joined_path (spelling_of text path.first) (map (spelling_of text) path.more)
 
--- `uid_of text tree` is the uid with its type's name and its string's value.
+-- `uid_of text tree` is the uid of `tree`: the name of its Path and the value of its string.
 abbrev pub uid_of : List ℕ → UidTree → EntityUid
 uid_of text tree = record { type_name = path_name text tree.path; id = value_of (spelling_of text tree.id) }
 
@@ -42,7 +42,7 @@ abbrev pub name_of : List ℕ → KeyTree → List ℕ
 name_of text (Word word) = spelling_of text word
 name_of text (Quoted quoted) = value_of (spelling_of text quoted)
 
--- `place_of key` is its byte offset.
+-- `place_of key` is the byte offset of `key`.
 abbrev pub place_of : KeyTree → ℕ
 place_of (Word word) = word.start
 place_of (Quoted quoted) = quoted.start

@@ -1,4 +1,5 @@
--- Defines the measure of a tree before anything is built: the size of its core expression, and its least error.
+-- Defines the measure of a tree: the size of its core expression, and its reported error. It is computed before that
+-- expression is built.
 use Rattle.std.specs.Prelude.{ℕ, List, map, Option}
 use Rattle.grammar_core.specs.declared.expr.Expr.{Expr}
 use Rattle.grammar_core.specs.Size.{height, forms, capped, greatest, total}
@@ -9,22 +10,23 @@ use Rattle.grammar_desugaring.specs.Refused.{least}
 use Rattle.grammar_desugaring.specs.Core.{core_of, negated}
 use Rattle.grammar_desugaring.specs.Faults.{faults_of, negated_faults}
 
--- `measure h f fault` is the measure with this height and nodes, saturated.
+-- `measure h f fault` is the measure with the height `h` and `f` nodes, each capped at the greatest `u32`, and the
+-- error `fault`.
 abbrev pub measure : ℕ → ℕ → Option DesugarFault → Measure
 measure h f fault = record { height = capped h; forms = capped f; fault = fault }
 
--- `of e faults` is the measure of the expression `e` of a tree with these errors.
+-- `of e faults` is the measure of a tree with the core expression `e` and the errors `faults`.
 abbrev pub of : Expr → List DesugarFault → Measure
 of e faults = measure (height e) (forms e) (least faults)
 
--- `of_row es faults` is that of expressions side by side.
+-- `of_row es faults` is the measure of trees side by side, with the core expressions `es` and the errors `faults`.
 abbrev pub of_row : List Expr → List DesugarFault → Measure
 of_row es faults = measure (greatest (map height es)) (total (map forms es)) (least faults)
 
--- `measured text x` is that of the tree `x`.
+-- `measured text x` is the measure of the tree `x`.
 abbrev pub measured : List ℕ → ExprTree → Measure
 measured text x = of (core_of text x) (faults_of text x)
 
--- `measured_negated text x` is that of the tree `x` after a minus.
+-- `measured_negated text x` is the measure of the tree `x` after a minus.
 abbrev pub measured_negated : List ℕ → ExprTree → Measure
 measured_negated text x = of (negated text x) (negated_faults text x)

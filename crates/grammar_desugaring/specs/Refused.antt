@@ -11,7 +11,7 @@ at (UnknownCall place) = place
 at (Arity place) = place
 at (RepeatedKey place) = place
 
--- `earlier e f` is the one at the lesser offset, `e` if they are equal.
+-- `earlier e f` is the error at the lesser offset, or `e` if both are at one offset.
 abbrev pub earlier : DesugarFault → DesugarFault → DesugarFault
 earlier e f = if nat_lt (at f) (at e) then f else e
 
@@ -28,8 +28,8 @@ least (fault ∷ faults) = earlier_of (Some fault) (least faults)
 
 -- ## Theorems
 
--- `IsLeastOf faults fault` holds if `fault` is one of `faults`, and none has a lesser offset. `LeastIsLeast`:
--- `least faults` is so. `NoneOfNone`: if it is `None`, there are no errors.
+-- `IsLeastOf faults fault` holds if `fault` is one of `faults`, and none of these has a lesser offset. `LeastIsLeast`:
+-- this holds of `least faults`. `NoneOfNone`: if `least faults` is `None`, there are no errors.
 pub record IsLeastOf (faults : List DesugarFault) (fault : DesugarFault) : Type 0 where
   pub here : Contains faults fault
   pub first : (other : DesugarFault) → Contains faults other → at fault ≤ at other
@@ -40,6 +40,6 @@ LeastIsLeast = (faults : List DesugarFault) (fault : DesugarFault) → least fau
 abbrev pub NoneOfNone : Type 0
 NoneOfNone = (faults : List DesugarFault) → least faults ≡ None → faults ≡ []
 
--- `LeastOfBoth`: of two lists of errors together, it is the earlier of their least errors.
+-- `LeastOfBoth`: `least` of two lists of errors together is the earlier of their least errors.
 abbrev pub LeastOfBoth : Type 0
 LeastOfBoth = (faults more : List DesugarFault) → least (faults ++ more) ≡ earlier_of (least faults) (least more)

@@ -1,33 +1,34 @@
--- Defines the list of offsets at which names are repeated, and their errors.
--- Source: Cedar reference guide 4.0, "Data types: Record": the keys of a record differ.
+-- Defines the offsets at which names repeat an earlier one, as a list, and the errors there.
+-- Source: Cedar reference guide 4.0, "Data types: Record": the keys of a record are distinct.
 use Rattle.std.specs.Prelude.{◌≡◌, ◌↔◌, ℕ, List, [], ◌∷◌, ◌++◌, map, filter, Contains}
 use Rattle.std.specs.Str.{bytes_eq}
 use Rattle.grammar_desugaring.specs.declared.fault.DesugarFault.{DesugarFault}
 use Rattle.grammar_desugaring.specs.declared.fault.DesugarFault.TheVariants.{RepeatedKey}
 use Rattle.grammar_desugaring.specs.Refused.{least}
-pub use Rattle.grammar_trees.specs.Repeats.{NameAt, StandsAgain, abstract_names}
+pub use Rattle.grammar_trees.specs.Repeats.{NameAt, IsRepeatedAt, abstract_names}
 
--- `places_of name marks` are the offsets at which `name` occurs.
+-- `places_of name marks` are the offsets at which `name` occurs in `marks`.
 abbrev pub places_of : List ℕ → List NameAt → List ℕ
 places_of name marks = map (λ m. m.at) (filter (λ m. bytes_eq name m.name) marks)
 
--- `repeats marks` are the offsets at which a name occurs again.
+-- `repeats marks` are the offsets at which a name of `marks` occurs that also occurs earlier. An offset is listed once
+-- for each earlier occurrence.
 abbrev pub repeats : List NameAt → List ℕ
 repeats [] = []
 repeats (mark ∷ behind) = places_of mark.name behind ++ repeats behind
 
--- `repeat_faults marks` are these as errors.
+-- `repeat_faults marks` are the errors at these offsets.
 abbrev pub repeat_faults : List NameAt → List DesugarFault
 repeat_faults marks = map RepeatedKey (repeats marks)
 
 -- ## Theorems
 
--- `RepeatsStandAgain`: `repeats` are exactly the offsets at which a name also occurs earlier.
-abbrev pub RepeatsStandAgain : Type 0
-RepeatsStandAgain = (marks : List NameAt) (at : ℕ) → Contains (repeats marks) at ↔ StandsAgain marks at
+-- `RepeatsAreExact`: `repeats` has exactly the offsets of names that also occur earlier.
+abbrev pub RepeatsAreExact : Type 0
+RepeatsAreExact = (marks : List NameAt) (at : ℕ) → Contains (repeats marks) at ↔ IsRepeatedAt marks at
 
--- `RepeatsAreReported`: the reported error depends only on these offsets.
+-- `RepeatsAreReported`: the reported error depends only on the set of these offsets.
 abbrev pub RepeatsAreReported : Type 0
-RepeatsAreReported = (marks others : List NameAt) → ((at : ℕ) → StandsAgain marks at → StandsAgain others at) →
-    ((at : ℕ) → StandsAgain others at → StandsAgain marks at) →
+RepeatsAreReported = (marks others : List NameAt) → ((at : ℕ) → IsRepeatedAt marks at → IsRepeatedAt others at) →
+    ((at : ℕ) → IsRepeatedAt others at → IsRepeatedAt marks at) →
     least (repeat_faults marks) ≡ least (repeat_faults others)

@@ -1,15 +1,16 @@
--- Defines the meaning of a string: functions whose type says that they follow the grammar of strings and their
--- escapes.
+-- Defines the meaning of a string, by functions whose type (`StringMeaning`) says that they follow the grammar of
+-- strings and their escapes.
 -- Source: Cedar reference guide 4.0, "Data types: String" and "Operators: like".
 use Rattle.std.specs.Prelude.{◌≡◌, ℕ, List}
 use Rattle.grammar_trees.specs.grammar_tokens.Strings.{IsStringOf, IsPatternOf}
 use Rattle.grammar_desugaring.specs.inner.StringReading.{string_meaning}
 
--- `value_of spelling` is the value of a string.
+-- `value_of spelling` is the value of the string `spelling`.
 abbrev pub value_of : List ℕ → List ℕ
 value_of = string_meaning.value
 
--- `pattern_of spelling` are the literal texts of a string as a pattern, with a wildcard between each two.
+-- `pattern_of spelling` are the literal texts of the string `spelling` as a pattern, which has a wildcard between each
+-- two.
 abbrev pub pattern_of : List ℕ → List (List ℕ)
 pattern_of = string_meaning.pattern
 

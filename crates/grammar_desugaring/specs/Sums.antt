@@ -1,4 +1,5 @@
--- Defines how measures are combined.
+-- Defines how the measure of a tree (the size of its core expression, and its error) is composed of the measures of its
+-- parts.
 use Rattle.std.specs.Prelude.{◌≡◌, ℕ, ◌+◌, ◌++◌, max, List, length, Option, Some, None}
 use Rattle.std.specs.List.{fold}
 use Rattle.grammar_trees.specs.grammar_tokens.Lexing.{spelling_of}
@@ -17,11 +18,12 @@ use Rattle.grammar_trees.specs.declared.tree.ExprTree.{ExprTree}
 use Rattle.grammar_desugaring.specs.declared.fault.DesugarFault.{DesugarFault}
 use Rattle.grammar_desugaring.specs.declared.measure.Measure.{Measure}
 use Rattle.grammar_desugaring.specs.Refused.{earlier_of, least}
-use Rattle.grammar_desugaring.specs.Names.{method_of, method_takes}
+use Rattle.grammar_core.specs.Operators.{method_of, method_takes}
 use Rattle.grammar_desugaring.specs.Faults.{call_faults, function_faults}
 use Rattle.grammar_desugaring.specs.Measured.{measure, of, measured}
 
--- `nothing` is the measure of no expression; `leaf fault` that of a node without operands.
+-- `nothing` is the measure of no expressions side by side; `leaf fault` is that of a node without operands,
+-- with the error `fault`, if any.
 abbrev pub nothing : Measure
 nothing = measure 0 0 None
 
@@ -32,25 +34,29 @@ leaf fault = measure 1 1 fault
 abbrev pub above : Measure → Measure
 above j = measure (j.height + 1) (j.forms + 1) j.fault
 
--- `beside i j` is the measure of two expressions side by side; `paired i j` that of a node over both.
+-- `beside i j` is the measure of two expressions side by side, with the measures `i` and `j`; `paired i j` is that of a
+-- node over both.
 abbrev pub beside : Measure → Measure → Measure
 beside i j = measure (max i.height j.height) (i.forms + j.forms) (earlier_of i.fault j.fault)
 
 abbrev pub paired : Measure → Measure → Measure
 paired i j = above (beside i j)
 
--- `called fault operands` is that of a call with these operands, which may have an error of its own.
+-- `called fault operands` is the measure of a call, where `operands` is that of its operands side by side: if the call
+-- has an error of its own, its core expression is a placeholder, a leaf.
 abbrev pub called : Option DesugarFault → Measure → Measure
 called None operands = above operands
 called (Some fault) operands = leaf operands.fault
 
--- `with_fault fault j` is the measure `j` with one more error.
+-- `with_fault fault j` is the measure `j` with the earlier of `fault` and the error of `j`.
 abbrev pub with_fault : Option DesugarFault → Measure → Measure
 with_fault fault j = record { height = j.height; forms = j.forms; fault = earlier_of fault j.fault }
 
 -- ## Theorems
 
--- The measures of a literal, of a unary operator and of `&&`, by those of their parts.
+-- `LiteralIsLeaf`, `UnaryIsAbove` and `AndIsPaired`: the measures of a literal, of a unary operator and of `&&` are
+-- `leaf`, `above` and `paired` of the measures of their parts. `faults` are the errors of the tree; for `&&`, `faults`
+-- are those of the left operand, and `more` those of the right one.
 abbrev pub LiteralIsLeaf : Type 0
 LiteralIsLeaf = (value : Literal) (faults : List DesugarFault) → of (core.Literal value) faults ≡ leaf (least faults)
 
@@ -62,25 +68,28 @@ abbrev pub AndIsPaired : Type 0
 AndIsPaired = (a b : Expr) (faults more : List DesugarFault) →
     of (core.And a b) (faults ++ more) ≡ paired (of a faults) (of b more)
 
--- ## Lists of trees
+-- ## Lists of trees, where `text` is the source text
 
--- `measured_all text xs` is the measure of trees side by side.
+-- `measured_all text xs` is the measure of the trees `xs` side by side.
 abbrev pub measured_all : List ℕ → List ExprTree → Measure
 measured_all text xs = fold (λ j x. beside j (measured text x)) nothing xs
 
--- `measured_chain text j xs` is that of a chain of operands, the first with the measure `j`.
+-- `measured_chain text j xs` is the measure of a chain of operands: the first with the measure `j`, and then the trees
+-- `xs`.
 abbrev pub measured_chain : List ℕ → Measure → List ExprTree → Measure
 measured_chain text = fold (λ j x. paired j (measured text x))
 
--- `measured_term text j term` is that with one more term.
+-- `measured_term text j term` is the measure of a sum whose last term is `term`; `j` is that of the sum before it.
 abbrev pub measured_term : List ℕ → Measure → Term ExprTree → Measure
 measured_term text j term = paired j (measured text term.operand)
 
--- `measured_entry text j entry` is that with one more entry.
+-- `measured_entry text j entry` is the measure of entries of a record side by side, the last of which is `entry`; `j`
+-- is that of those before it.
 abbrev pub measured_entry : List ℕ → Measure → RecordEntry ExprTree → Measure
 measured_entry text j entry = beside j (measured text entry.value)
 
--- `measured_compared operator i j` is that of a comparison.
+-- `measured_compared operator i j` is the measure of a comparison of operands with the measures `i` and `j`. `>`, `>=`
+-- and `!=` become negations, which have one more node.
 abbrev pub measured_compared : Comparison → Measure → Measure → Measure
 measured_compared is.Less i j = paired i j
 measured_compared is.LessOrEqual i j = paired i j
@@ -90,13 +99,13 @@ measured_compared is.Equal i j = paired i j
 measured_compared is.NotEqual i j = above (paired i j)
 measured_compared is.In i j = paired i j
 
--- `measured_call text path arguments` is that of a function call.
+-- `measured_call text path arguments` is the measure of a call of the function `path`.
 abbrev pub measured_call : List ℕ → PathTree → List ExprTree → Measure
 measured_call text path arguments =
     let fault = least (function_faults text path (length arguments)) in
     called fault (with_fault fault (measured_all text arguments))
 
--- `measured_access text j access` is that of an access to an expression with the measure `j`.
+-- `measured_access text j access` is the measure of an access to an expression with the measure `j`.
 abbrev pub measured_access : List ℕ → Measure → Access (List ExprTree) → Measure
 measured_access text j (access.Field key) = above j
 measured_access text j (access.Method name arguments) =

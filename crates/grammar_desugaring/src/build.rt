@@ -1,4 +1,4 @@
-//! The core expression of a tree.
+//! Building of the core expression of a tree.
 ghost use Rattle.std.specs.Prelude.{◌≡◌, IfOk, map};
 ghost use Rattle.std.specs.List.{AllByRecursion, fold};
 ghost use Rattle.grammar_desugaring.specs.Core as spec;
@@ -8,28 +8,25 @@ ghost use Rattle.grammar_desugaring.specs.inner.WellFormed.{WellFormedAccess};
 
 use crate::calls::{call, call_with_row};
 use crate::forms::{
-    Chain, apply, compare, field, has, if_then_else, is, is_in, join_next, like, named, record, set,
+    Chain, apply, compare, field, has, if_then_else, is, is_in, join_next, like, named,
 };
-use crate::leaves::{
-    boolean_literal, negated_literal, number_literal, text_literal, uid_literal, variable,
-};
+use crate::leaves::{negated_literal, number_literal, text_literal, uid_literal, variable};
 use crate::measuring::function_at;
-use crate::names::method_named;
 use crate::pairs::{add, both};
 use crate::words::name;
-use grammar_core::{Expr, Named, Unary};
+use grammar_core::{Expr, Literal, Named, Unary, method_named};
 use grammar_trees::{Access, ExprTree, RecordEntry, Term, spelling};
 use plain::{Boxed, Items, NoMemory};
 use std::alloc::Global;
 
-/// Returns the core expression of a tree; for a tree with errors, some expression.
+/// Returns the core expression of a tree. For a tree with errors, the expression means nothing.
 #[cycle(build)]
 pub(crate) fn build_tree(alloc: Global, text: &str, tree: &ExprTree) -> Result<Expr, NoMemory>
     requires { WellFormed text.now tree.now }
     ensures { IfOk result (λ e. e ≡ core_of text.now tree.now) }
 {
     match tree {
-        ExprTree::Boolean(value) => Ok(boolean_literal(*value)),
+        ExprTree::Boolean(value) => Ok(Expr::Literal(Literal::Boolean(*value))),
         ExprTree::Number(token) => Ok(number_literal(text, *token)),
         ExprTree::Text(token) => text_literal(alloc, text, *token),
         ExprTree::Variable(word) => Ok(variable(*word)),
@@ -40,8 +37,12 @@ pub(crate) fn build_tree(alloc: Global, text: &str, tree: &ExprTree) -> Result<E
             build_all(alloc, text, arguments.as_slice()),
         ),
         ExprTree::Parentheses(inner) => build_tree(alloc, text, inner.get()),
-        ExprTree::Set(members) => set(build_all(alloc, text, members.as_slice())),
-        ExprTree::Record(entries) => record(build_entries(alloc, text, entries.as_slice())),
+        ExprTree::Set(members) => Ok(Expr::Set(build_all(alloc, text, members.as_slice())?)),
+        ExprTree::Record(entries) => Ok(Expr::Record(build_entries(
+            alloc,
+            text,
+            entries.as_slice(),
+        )?)),
         ExprTree::Member(inner, accesses) => build_accesses(alloc, text, accesses, inner),
         ExprTree::Not(inner) => apply(alloc, Unary::Not, build_tree(alloc, text, inner.get())),
         ExprTree::Minus(inner) => build_behind_minus(alloc, text, inner.get()),
@@ -69,7 +70,7 @@ pub(crate) fn build_tree(alloc: Global, text: &str, tree: &ExprTree) -> Result<E
     }
 }
 
-/// Returns the core expression of a tree after a minus, which belongs to a number.
+/// Returns the core expression of a tree after a minus, which belongs to the tree if that is a number.
 #[cycle(build)]
 fn build_behind_minus(alloc: Global, text: &str, tree: &ExprTree) -> Result<Expr, NoMemory>
     requires { WellFormed text.now tree.now }
@@ -96,6 +97,7 @@ fn build_both(
     both(first, build_tree(alloc, text, right.get()))
 }
 
+/// Returns the core expressions of some trees, in order.
 #[cycle(build)]
 fn build_all(alloc: Global, text: &str, trees: &[ExprTree]) -> Result<Items<Expr>, NoMemory>
     requires { AllWellFormed text.now trees.now }
@@ -108,6 +110,7 @@ fn build_all(alloc: Global, text: &str, trees: &[ExprTree]) -> Result<Items<Expr
     Ok(Items::from_vec(row))
 }
 
+/// Returns the fields that the entries of a record denote, in order.
 #[cycle(build)]
 fn build_entries(
     alloc: Global,
@@ -125,7 +128,7 @@ fn build_entries(
     Ok(Items::from_vec(row))
 }
 
-/// Returns the expression of a chain of operands.
+/// Returns the core expression of a chain of operands.
 #[cycle(build)]
 fn build_chain(
     alloc: Global,
@@ -146,7 +149,7 @@ fn build_chain(
     Ok(left)
 }
 
-/// Returns the expression of a sum.
+/// Returns the core expression of a sum.
 #[cycle(build)]
 fn build_terms(
     alloc: Global,
@@ -167,7 +170,7 @@ fn build_terms(
     Ok(left)
 }
 
-/// Returns the expression of accesses.
+/// Returns the core expression of a receiver with accesses.
 #[cycle(build)]
 fn build_accesses(
     alloc: Global,
@@ -189,6 +192,7 @@ fn build_accesses(
     Ok(left)
 }
 
+/// Returns the expression of one access to a receiver.
 #[cycle(build)]
 fn build_access(
     alloc: Global,

@@ -1,11 +1,10 @@
-//! Calls of functions and methods.
+//! Core expressions of calls of functions and methods. A call that is rejected has a placeholder, `no_call`.
 ghost use Rattle.std.specs.Prelude.{◌≡◌, IfOk, Some};
 ghost use Rattle.grammar_desugaring.specs.Core as spec;
-ghost use Rattle.grammar_desugaring.specs.declared.names.Method.TheVariants as method;
+ghost use Rattle.grammar_core.specs.declared.operator.Method.TheVariants as method;
 ghost use Rattle.grammar_desugaring.specs.inner.Giving.{Gave};
 
-use crate::names::Method;
-use grammar_core::{Expr, Literal, UnaryCall};
+use grammar_core::{Expr, Literal, Method, UnaryCall};
 use plain::{Items, NoMemory, beside};
 use std::alloc::Global;
 
@@ -24,7 +23,7 @@ fn single(arguments: Items<Expr>) -> Option<Expr>
     if rest.len() == 1 { rest.pop() } else { None }
 }
 
-/// Returns a call of a function.
+/// Returns a call of a function, or the placeholder; or the error of its arguments.
 pub(crate) fn call(
     alloc: Global,
     function: Option<UnaryCall>,
@@ -42,7 +41,7 @@ pub(crate) fn call(
     }
 }
 
-/// Returns a call of a method with one argument.
+/// Returns a call of a method with one argument, or the placeholder.
 fn call_with(
     alloc: Global,
     method: Method,
@@ -58,7 +57,7 @@ fn call_with(
     }
 }
 
-/// Returns a call of a method without arguments.
+/// Returns a call of a method that takes no arguments, or the placeholder.
 fn call_alone(
     alloc: Global,
     called: UnaryCall,
@@ -74,26 +73,7 @@ fn call_alone(
     }
 }
 
-/// Returns a call of a method.
-fn call_method(
-    alloc: Global,
-    method: Option<Method>,
-    receiver: Expr,
-    arguments: Items<Expr>,
-) -> Result<Expr, NoMemory>
-    ensures { IfOk result (λ e. e ≡ spec.method_called method receiver arguments) }
-{
-    match method {
-        None => Ok(no_call(receiver, arguments)),
-        Some(Method::Alone(called)) => call_alone(alloc, called, receiver, arguments),
-        Some(other) => match single(arguments) {
-            Some(argument) => call_with(alloc, other, receiver, argument),
-            None => Ok(no_call(receiver, ())),
-        },
-    }
-}
-
-/// Returns a call of a method, or the error if the arguments are one.
+/// Returns a call of a method, or the placeholder; or the error of its arguments.
 pub(crate) fn call_with_row(
     alloc: Global,
     method: Option<Method>,
@@ -103,5 +83,12 @@ pub(crate) fn call_with_row(
     ensures { IfOk result (λ e. Gave arguments (λ es. e ≡ spec.method_called method receiver es)) }
 {
     let (receiver, arguments) = beside(receiver, arguments)?;
-    call_method(alloc, method, receiver, arguments)
+    match method {
+        None => Ok(no_call(receiver, arguments)),
+        Some(Method::Alone(called)) => call_alone(alloc, called, receiver, arguments),
+        Some(other) => match single(arguments) {
+            Some(argument) => call_with(alloc, other, receiver, argument),
+            None => Ok(no_call(receiver, ())),
+        },
+    }
 }

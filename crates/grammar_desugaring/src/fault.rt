@@ -16,7 +16,7 @@ pub enum DesugarFault {
     /// The function or method of this name takes another number of arguments.
     #[error("policy 14: wrong number of arguments at byte {0}")]
     Arity(usize),
-    /// This key occurs earlier in the same record.
+    /// This key of a record, annotation of a policy, or name of a policy in a file occurs earlier.
     #[error("policy 15: repeated key at byte {0}")]
     RepeatedKey(usize),
 }
@@ -35,7 +35,7 @@ impl DesugarFault {
     }
 }
 
-/// Returns the error at the lesser offset, if there is one; the first if the offsets are equal.
+/// Returns the error at the lesser offset of those that are present; `one` if the offsets are equal.
 pub fn earlier_of(one: Option<DesugarFault>, other: Option<DesugarFault>) -> Option<DesugarFault>
     ensures { result ≡ spec.earlier_of one other }
 {

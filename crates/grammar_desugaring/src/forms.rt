@@ -1,4 +1,4 @@
-//! Core expressions, from their operands.
+//! Core expressions made of their operands. An operand is a result, since building it may fail; its error is returned.
 ghost use Rattle.std.specs.Prelude.{◌≡◌, IfOk};
 ghost use Rattle.grammar_trees.specs.grammar_tokens.Lexing.{spelling_of};
 ghost use Rattle.grammar_core.specs.declared.operator.Unary.TheVariants as unary;
@@ -15,14 +15,14 @@ use crate::pairs::{all_three, both};
 use crate::words::{name, path_type, pattern, sign};
 use grammar_core::{Binary, Expr, Named, Unary};
 use grammar_trees::{Comparison, KeyTree, PathTree, Sign, Token};
-use plain::{Items, NoMemory, Text, beside};
+use plain::{NoMemory, Text, beside};
 use std::alloc::Global;
 
-/// How the operands of a chain are joined.
+/// The operator that joins the operands of a chain.
 #[derive(Clone, Copy)]
 pub(crate) enum Chain {
     Product,
-    /// The sign of the next term.
+    /// `+` or `-`: the sign of the next term.
     Sum(Sign),
     And,
     Or,
@@ -99,7 +99,7 @@ pub(crate) fn is_in(
     Expr::is_in(alloc, operand, type_name, ancestor)
 }
 
-/// Returns an operator with one operand.
+/// Returns an operator applied to one operand.
 pub(crate) fn apply(
     alloc: Global,
     operator: Unary,
@@ -125,13 +125,6 @@ pub(crate) fn if_then_else(
     Expr::if_then_else(alloc, test, consequent, alternative)
 }
 
-/// Returns `[members]`.
-pub(crate) fn set(members: Result<Items<Expr>, NoMemory>) -> Result<Expr, NoMemory>
-    ensures { IfOk result (λ e. Gave members (λ es. e ≡ core.Set es)) }
-{
-    Ok(Expr::Set(members?))
-}
-
 /// Returns the field `name: value`.
 pub(crate) fn named(
     name: Result<Text, NoMemory>,
@@ -142,13 +135,6 @@ pub(crate) fn named(
 {
     let (name, value) = both(name, value)?;
     Ok(Named { name, value })
-}
-
-/// Returns `{fields}`.
-pub(crate) fn record(fields: Result<Items<Named<Expr>>, NoMemory>) -> Result<Expr, NoMemory>
-    ensures { IfOk result (λ e. Gave fields (λ fs. e ≡ core.Record fs)) }
-{
-    Ok(Expr::Record(fields?))
 }
 
 /// Returns a comparison: `!=`, `>` and `>=` are the negations of `==`, `<=` and `<`.
@@ -171,19 +157,7 @@ pub(crate) fn compare(
     }
 }
 
-/// Returns two operands of a chain, joined.
-fn join(alloc: Global, chain: Chain, left: Expr, right: Expr) -> Result<Expr, NoMemory>
-    ensures { IfOk result (λ e. e ≡ spec.joined_by chain left right) }
-{
-    match chain {
-        Chain::Product => Expr::binary(alloc, Binary::Multiply, left, right),
-        Chain::Sum(before) => Expr::binary(alloc, sign(before), left, right),
-        Chain::And => Expr::and(alloc, left, right),
-        Chain::Or => Expr::or(alloc, left, right),
-    }
-}
-
-/// Returns a chain, joined with its next operand.
+/// Joins a chain with its next operand.
 pub(crate) fn join_next(
     alloc: Global,
     chain: Chain,
@@ -193,5 +167,10 @@ pub(crate) fn join_next(
     ensures { IfOk result (λ e. Gave right (λ b. e ≡ spec.joined_by chain left b)) }
 {
     let (left, right) = beside(left, right)?;
-    join(alloc, chain, left, right)
+    match chain {
+        Chain::Product => Expr::binary(alloc, Binary::Multiply, left, right),
+        Chain::Sum(before) => Expr::binary(alloc, sign(before), left, right),
+        Chain::And => Expr::and(alloc, left, right),
+        Chain::Or => Expr::or(alloc, left, right),
+    }
 }

@@ -1,31 +1,33 @@
-//! Theorems about the definitions.
+//! Theorems about errors, strings, repeated names and measures. The functions are no-ops.
 ghost use Rattle.grammar_desugaring.specs.Refused.{LeastIsLeast, NoneOfNone, LeastOfBoth};
-ghost use Rattle.grammar_desugaring.specs.Repeats.{RepeatsStandAgain, RepeatsAreReported};
+ghost use Rattle.grammar_desugaring.specs.Repeats.{RepeatsAreExact, RepeatsAreReported};
 ghost use Rattle.grammar_desugaring.specs.Strings.{ValueIsValue, PatternIsPattern};
 ghost use Rattle.grammar_desugaring.specs.Sums.{LiteralIsLeaf, UnaryIsAbove, AndIsPaired};
 
-/// Proves that the reported error is one of the tree's errors at the least offset, that a tree without a reported
-/// error has none, and that of two lists of errors together the earlier reported one is reported. No-op.
-pub fn least_fault_is_told()
+/// Proves that the error that `least` reports of a list is one of the list at the least offset; that it reports one
+/// unless the list is empty; and that of two lists together it reports the earlier of their reported errors. No-op.
+pub fn least_fault_is_reported()
     ensures least { LeastIsLeast }
     ensures none { NoneOfNone }
     ensures both { LeastOfBoth }
 {}
 
-/// Proves that the computed value and pattern of a string are the ones that its grammar defines. No-op.
+/// Proves that the value and the literal texts that are computed of a string are those that the grammar of strings
+/// defines. No-op.
 pub fn strings_are_read()
     ensures values { ValueIsValue }
     ensures patterns { PatternIsPattern }
 {}
 
-/// Proves that the list of offsets of duplicate names has exactly these offsets, and that the reported error depends
-/// only on them. No-op.
-pub fn repeats_stand_again()
-    ensures again { RepeatsStandAgain }
+/// Proves that `repeats` has exactly the offsets of names that occur earlier, and that the reported error depends only
+/// on the set of these offsets. No-op.
+pub fn repeats_are_exact()
+    ensures again { RepeatsAreExact }
     ensures told { RepeatsAreReported }
 {}
 
-/// Proves that the measure of a literal, of a unary operator and of `&&` is composed of those of their parts. No-op.
+/// Proves that the measures of a literal, of a unary operator and of `&&` are composed of the measures of their parts.
+/// No-op.
 pub fn measures_add_up()
     ensures literal { LiteralIsLeaf }
     ensures unary { UnaryIsAbove }

@@ -19,20 +19,15 @@ use plain::{NoMemory, Text};
 use std::alloc::Global;
 use values::{EntityUid, SharedText};
 
-pub(crate) fn boolean_literal(value: bool) -> Expr
-    ensures { result ≡ core.Literal (literal.Boolean value) }
-{
-    Expr::Literal(Literal::Boolean(value))
-}
-
-pub(crate) fn variable(word: grammar_trees::Variable) -> Expr
+/// Returns the variable of a keyword.
+pub(crate) fn variable(word: grammar_trees::RequestKeyword) -> Expr
     ensures { result ≡ core.Variable (variable_of word) }
 {
     match word {
-        grammar_trees::Variable::Principal => Expr::Variable(Variable::Principal),
-        grammar_trees::Variable::Action => Expr::Variable(Variable::Action),
-        grammar_trees::Variable::Resource => Expr::Variable(Variable::Resource),
-        grammar_trees::Variable::Context => Expr::Variable(Variable::Context),
+        grammar_trees::RequestKeyword::Principal => Expr::Variable(Variable::Principal),
+        grammar_trees::RequestKeyword::Action => Expr::Variable(Variable::Action),
+        grammar_trees::RequestKeyword::Resource => Expr::Variable(Variable::Resource),
+        grammar_trees::RequestKeyword::Context => Expr::Variable(Variable::Context),
     }
 }
 
@@ -52,6 +47,7 @@ pub(crate) fn negated_literal(text: &str, token: Token) -> Expr
     Expr::Literal(Literal::Long(numbers::negative(spelling(text, token).as_bytes())))
 }
 
+/// Returns the literal of a string.
 pub(crate) fn text_literal(alloc: Global, text: &str, token: Token) -> Result<Expr, NoMemory>
     requires { TokenIn text.now (only k.Text) token }
     ensures { IfOk result (λ e. e ≡ core.Literal (literal.Text (value_of (spelling_of text.now token)))) }
@@ -60,6 +56,7 @@ pub(crate) fn text_literal(alloc: Global, text: &str, token: Token) -> Result<Ex
     Ok(Expr::Literal(Literal::Text(value)))
 }
 
+/// Returns the literal of a uid.
 pub(crate) fn uid_literal(alloc: Global, text: &str, tree: &UidTree) -> Result<Expr, NoMemory>
     requires { UidIn text.now tree.now }
     ensures { IfOk result (λ e. e ≡ core.Literal (literal.Entity (uid_of text.now tree.now))) }

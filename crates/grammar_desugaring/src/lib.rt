@@ -1,5 +1,6 @@
-//! Desugaring of syntax trees of expressions into core expressions: numbers in range, known calls with the right
-//! number of arguments, distinct keys, and core operators only.
+//! Desugaring of syntax trees of expressions into core expressions. It checks that numbers are in range, that calls are
+//! known and have the right number of arguments, and that keys of records are distinct; and it writes all operators in
+//! terms of the core ones.
 #![tactic(auto)]
 
 mod build;
@@ -10,7 +11,6 @@ mod laws;
 mod leaves;
 mod measure;
 mod measuring;
-mod names;
 mod numbers;
 mod pairs;
 mod repeats;
@@ -22,7 +22,7 @@ pub use grammar_trees::{
     LexFault, NameAt, Token, TokenKind, decode_string, lexing_is_unique, spelling,
     strings_have_one_meaning, tokens,
 };
-pub use laws::{least_fault_is_told, measures_add_up, repeats_stand_again, strings_are_read};
+pub use laws::{least_fault_is_reported, measures_add_up, repeats_are_exact, strings_are_read};
 pub use measure::Measure;
 pub use repeats::first_duplicate;
 pub use whole::{build_expr, measure_expr, type_name};

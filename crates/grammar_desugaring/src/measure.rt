@@ -1,22 +1,23 @@
-//! The size of a core expression and its error, computed before it is built.
+//! Measures of trees: the size of a core expression and the error of its tree, computed before the expression is built.
 ghost use Rattle.std.specs.Prelude.{◌≡◌};
 ghost use Rattle.grammar_desugaring.specs.Sums as spec;
 
 use crate::fault::{DesugarFault, earlier_of};
 
-/// The size of a core expression, and the error at the least offset of its tree. Sizes are saturated `u32`s.
+/// The size of the core expression of a tree, and the error of the tree at the least offset. Sizes saturate at
+/// `u32::MAX`.
 #[derive(Clone, Copy)]
 pub struct Measure {
     /// The height; 1 for a leaf.
     pub height: u32,
     /// The number of nodes.
     pub forms: u32,
-    /// The error at the least offset; without one there is a core expression.
+    /// The error at the least offset, or `None`: then the tree has a core expression.
     pub fault: Option<DesugarFault>,
 }
 
 impl Measure {
-    /// Returns the measure of no expression.
+    /// Returns the measure of no expressions side by side.
     pub(crate) fn nothing() -> Measure
         ensures { result ≡ spec.nothing }
     {
@@ -60,14 +61,15 @@ impl Measure {
         }
     }
 
-    /// Returns the measure of a node over two operands. Of two errors at one offset, the first is kept.
+    /// Returns the measure of a node over two operands. Of two errors at one offset, it has the first operand's.
     pub fn paired(self, other: Measure) -> Measure
         ensures { result ≡ spec.paired self other }
     {
         self.beside(other).above()
     }
 
-    /// Returns the measure of a call with these operands that may have an error of its own.
+    /// Returns the measure of a call with these operands, whose own error is `fault`: with one, the core expression is
+    /// a placeholder, a leaf.
     pub(crate) fn called(self, fault: Option<DesugarFault>) -> Measure
         ensures { result ≡ spec.called fault self }
     {

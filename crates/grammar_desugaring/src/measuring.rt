@@ -1,5 +1,5 @@
-//! Whether a tree has a core expression, and its size, computed without building it. Allocates only for the keys of
-//! records.
+//! Measuring of a tree: whether it has a core expression, and the size of that, found without building it. Only the
+//! keys of records are allocated.
 ghost use Rattle.std.specs.Prelude.{◌≡◌, IfOk};
 ghost use Rattle.std.specs.List.{AllByRecursion, fold};
 ghost use Rattle.grammar_trees.specs.grammar_tokens.declared.token.TokenKind.TheVariants as k;
@@ -7,7 +7,7 @@ ghost use Rattle.grammar_trees.specs.grammar_tokens.Lexing.{spelling_of};
 ghost use Rattle.grammar_trees.specs.grammar_tokens.Kinds.{only};
 ghost use Rattle.grammar_trees.specs.grammar_tokens.Grammar.{identifiers};
 ghost use Rattle.grammar_desugaring.specs.Core.{function};
-ghost use Rattle.grammar_desugaring.specs.Names.{method_takes, method_of};
+ghost use Rattle.grammar_core.specs.Operators.{method_takes, method_of};
 ghost use Rattle.grammar_desugaring.specs.Numbers as number;
 ghost use Rattle.grammar_desugaring.specs.Refused.{least};
 ghost use Rattle.grammar_desugaring.specs.Faults.{range, call_faults, function_faults};
@@ -21,10 +21,9 @@ ghost use Rattle.grammar_desugaring.specs.Sums as spec;
 
 use crate::fault::DesugarFault;
 use crate::measure::Measure;
-use crate::names::{function_named, method_named};
 use crate::numbers::{fits, fits_negated};
 use crate::repeats::repeated_key;
-use grammar_core::UnaryCall;
+use grammar_core::{UnaryCall, function_named, method_named};
 use grammar_trees::{Access, Comparison, ExprTree, PathTree, RecordEntry, Term, Token, spelling};
 use plain::{Boxed, Items, NoMemory};
 use std::alloc::Global;
@@ -33,9 +32,9 @@ use std::alloc::Global;
 type Told = Result<Measure, NoMemory>;
 
 /// Two measures, or `NoMemory`.
-type BothTold = Result<(Measure, Measure), NoMemory>;
+type BothMeasured = Result<(Measure, Measure), NoMemory>;
 
-/// Returns the error of a number that is out of range.
+/// Returns the error of a number, or `None` if it is `within` range.
 fn range_fault(within: bool, token: Token) -> Option<DesugarFault>
     ensures { result ≡ least (range within token) }
 {
@@ -64,7 +63,7 @@ fn measure_negated_number(text: &str, token: Token) -> Measure
     Measure::leaf(range_fault(fits_negated(digits), token))
 }
 
-/// Returns the error of a call with `count` arguments, given how many a known name takes.
+/// Returns the error of a call with `count` arguments of a name that takes `takes`, or that is unknown (`None`).
 fn call_fault(at: usize, takes: Option<usize>, count: usize) -> Option<DesugarFault>
     ensures { result ≡ least (call_faults at takes count) }
 {
@@ -80,7 +79,7 @@ fn call_fault(at: usize, takes: Option<usize>, count: usize) -> Option<DesugarFa
     }
 }
 
-/// Returns the function that a Path names.
+/// Returns the function that a Path names: only a Path of one word names one.
 pub(crate) fn function_at(text: &str, path: &PathTree) -> Option<UnaryCall>
     requires { PathIn text.now path.now }
     ensures { result ≡ function text.now path.now }
@@ -91,7 +90,7 @@ pub(crate) fn function_at(text: &str, path: &PathTree) -> Option<UnaryCall>
     }
 }
 
-/// Returns the error of a function call.
+/// Returns the error of a call of a function with `count` arguments.
 fn function_fault(text: &str, path: &PathTree, count: usize) -> Option<DesugarFault>
     requires { PathIn text.now path.now }
     ensures { result ≡ least (function_faults text.now path.now count) }
@@ -103,7 +102,7 @@ fn function_fault(text: &str, path: &PathTree, count: usize) -> Option<DesugarFa
     call_fault(path.first.start, takes, count)
 }
 
-/// Returns the error of a method call.
+/// Returns the error of a call of a method with `count` arguments.
 fn method_fault(text: &str, name: Token, count: usize) -> Option<DesugarFault>
     requires { TokenIn text.now identifiers name }
     ensures { result ≡ least (call_faults name.start (method_takes (method_of (spelling_of text.now name))) count) }
@@ -113,17 +112,6 @@ fn method_fault(text: &str, name: Token, count: usize) -> Option<DesugarFault>
         Some(method) => Some(method.takes()),
     };
     call_fault(name.start, takes, count)
-}
-
-/// Returns the measure of a comparison: a negated one has one more node.
-fn measure_comparison(operator: Comparison, left: Measure, right: Measure) -> Measure
-    ensures { result ≡ spec.measured_compared operator left right }
-{
-    let both = left.paired(right);
-    match operator {
-        Comparison::Greater | Comparison::GreaterOrEqual | Comparison::NotEqual => both.above(),
-        Comparison::Less | Comparison::LessOrEqual | Comparison::Equal | Comparison::In => both,
-    }
 }
 
 /// Returns the measure of a node over one operand.
@@ -148,16 +136,22 @@ fn record(fault: Result<Option<DesugarFault>, NoMemory>, entries: Told) -> Told
     Ok(entries?.with_fault(fault).above())
 }
 
-/// Returns the measure of `left operator right`.
-fn compare(operator: Comparison, operands: BothTold) -> Told
+/// Returns the measure of `left operator right`: a negated comparison has one more node.
+fn compare(operator: Comparison, operands: BothMeasured) -> Told
     ensures { IfOk result (λ j. Gave operands (λ pair. j ≡ spec.measured_compared operator pair.0 pair.1)) }
 {
     let (left, right) = operands?;
-    Ok(measure_comparison(operator, left, right))
+    let both = left.paired(right);
+    match operator {
+        Comparison::Greater | Comparison::GreaterOrEqual | Comparison::NotEqual => Ok(both.above()),
+        Comparison::Less | Comparison::LessOrEqual | Comparison::Equal | Comparison::In => {
+            Ok(both)
+        }
+    }
 }
 
 /// Returns the measure of `operand is path in ancestor`, in which the operand occurs twice.
-fn is_in(operands: BothTold) -> Told
+fn is_in(operands: BothMeasured) -> Told
     ensures { IfOk result
         (λ j. Gave operands (λ pair. j ≡ spec.paired (spec.above pair.0) (spec.paired pair.0 pair.1))) }
 {
@@ -220,7 +214,7 @@ pub(crate) fn measure_tree(alloc: Global, text: &str, tree: &ExprTree) -> Told
     }
 }
 
-/// Returns the measure of a tree after a minus, which belongs to a number.
+/// Returns the measure of a tree after a minus, which belongs to the tree if that is a number.
 #[cycle(measuring)]
 fn measure_behind_minus(alloc: Global, text: &str, tree: &ExprTree) -> Told
     requires { WellFormed text.now tree.now }
@@ -239,7 +233,7 @@ fn measure_both(
     text: &str,
     left: &Boxed<ExprTree>,
     right: &Boxed<ExprTree>,
-) -> BothTold
+) -> BothMeasured
     requires { WellFormed text.now left.now × WellFormed text.now right.now }
     ensures { IfOk result (λ pair. pair ≡ (measured text.now left.now, measured text.now right.now)) }
 {
@@ -248,6 +242,7 @@ fn measure_both(
     Ok((first, second))
 }
 
+/// Returns the measure of some trees side by side.
 #[cycle(measuring)]
 fn measure_all(alloc: Global, text: &str, trees: &[ExprTree]) -> Told
     requires { AllWellFormed text.now trees.now }
@@ -260,6 +255,7 @@ fn measure_all(alloc: Global, text: &str, trees: &[ExprTree]) -> Told
     Ok(row)
 }
 
+/// Returns the measure of the values of a record's entries side by side.
 #[cycle(measuring)]
 fn measure_entries(alloc: Global, text: &str, entries: &[RecordEntry<ExprTree>]) -> Told
     requires { AllByRecursion (WellFormedEntry text.now) entries.now }
@@ -305,7 +301,7 @@ fn measure_terms(
     Ok(left)
 }
 
-/// Returns the measure of accesses.
+/// Returns the measure of a receiver with accesses.
 #[cycle(measuring)]
 fn measure_accesses(
     alloc: Global,
@@ -324,6 +320,7 @@ fn measure_accesses(
     Ok(left)
 }
 
+/// Returns the measure of one access to a receiver.
 #[cycle(measuring)]
 fn measure_access(
     alloc: Global,

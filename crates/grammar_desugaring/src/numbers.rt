@@ -1,8 +1,8 @@
-//! Numbers from their digits.
+//! The numbers that digits denote, with and without a minus before them.
 ghost use Rattle.std.specs.Prelude.{◌≡◌, ◌<◌, ◌≤◌, ◌^◌, ◌+◌, ◌*◌, ◌-◌, MatchOption};
 ghost use Rattle.grammar_desugaring.specs.Numbers.{written, fits, fits_negated, positive, negative};
 
-/// Returns the number with one more digit, if it fits in 64 bits.
+/// Returns the number with one more decimal digit, if it fits in 64 bits.
 fn with_digit(number: u64, digit: u8) -> Option<u64>
     ensures { MatchOption result (2 ^ 64 ≤ 10 * number + (digit - 48)) (λ n. n ≡ 10 * number + (digit - 48)) }
 {
@@ -14,7 +14,7 @@ fn with_digit(number: u64, digit: u8) -> Option<u64>
     }
 }
 
-/// Returns the number of these digits, if it fits in 64 bits.
+/// Returns the number that these digits denote, if it fits in 64 bits.
 fn amount(digits: &[u8]) -> Option<u64>
     ensures { MatchOption result (2 ^ 64 ≤ written digits.now) (λ n. n ≡ written digits.now) }
 {
@@ -28,7 +28,7 @@ fn amount(digits: &[u8]) -> Option<u64>
     Some(so_far)
 }
 
-/// Returns whether the number of these digits is in range.
+/// Returns whether the number that these digits denote fits in signed 64 bits.
 pub(crate) fn fits(digits: &[u8]) -> bool
     ensures { result ≡ fits digits.now }
 {
@@ -38,7 +38,7 @@ pub(crate) fn fits(digits: &[u8]) -> bool
     }
 }
 
-/// Returns whether the number of these digits is in range after a minus.
+/// Returns whether the number that these digits denote after a minus fits in signed 64 bits.
 pub(crate) fn fits_negated(digits: &[u8]) -> bool
     ensures { result ≡ fits_negated digits.now }
 {
@@ -48,7 +48,7 @@ pub(crate) fn fits_negated(digits: &[u8]) -> bool
     }
 }
 
-/// Returns the number of these digits, or 0 if it is out of range.
+/// Returns the number that these digits denote, or 0 if it is out of range.
 pub(crate) fn positive(digits: &[u8]) -> i64
     ensures { result ≡ positive digits.now }
 {
@@ -58,7 +58,7 @@ pub(crate) fn positive(digits: &[u8]) -> i64
     }
 }
 
-/// Returns the number of these digits after a minus, or 0 if it is out of range.
+/// Returns the number that these digits denote after a minus, or 0 if it is out of range.
 pub(crate) fn negative(digits: &[u8]) -> i64
     ensures { result ≡ negative digits.now }
 {

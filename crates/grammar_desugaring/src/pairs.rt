@@ -1,10 +1,13 @@
-//! Results of building parts, combined.
+//! Combinations of the results of building parts.
 ghost use Rattle.std.specs.Prelude.{◌≡◌, ◌++◌, ◌∷◌, [], IfOk};
 ghost use Rattle.grammar_desugaring.specs.inner.Giving.{Gave};
 
 use plain::NoMemory;
 
-/// Returns both values, or `NoMemory`. Generic, so that the drop is one step and not one for each variant.
+/// Returns both values, or `NoMemory`.
+///
+/// The functions of this module are generic, so that dropping a value is one step of their proof, and not one for each
+/// variant of an expression.
 pub(crate) fn both<A: Drop, B: Drop>(
     left: Result<A, NoMemory>,
     right: Result<B, NoMemory>,
@@ -31,7 +34,7 @@ pub(crate) fn all_three<A: Drop, B: Drop, C: Drop>(
     Ok((first, second, third))
 }
 
-/// Appends a built value to a list.
+/// Appends a built value to a list, or returns its error.
 pub(crate) fn add<T: Drop>(row: &mut Vec<T>, made: Result<T, NoMemory>) -> Result<(), NoMemory>
     ensures { IfOk result (λ done. Gave made (λ x. row.new.items ≡ row.old.items ++ x ∷ [])) }
 {

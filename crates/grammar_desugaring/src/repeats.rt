@@ -1,4 +1,4 @@
-//! Duplicate names, as errors.
+//! The errors of names that repeat an earlier one.
 ghost use Rattle.std.specs.Prelude.{◌≡◌, IfOk, map};
 ghost use Rattle.std.specs.List.{AllByRecursion};
 ghost use Rattle.grammar_desugaring.specs.inner.WellFormed.{WellFormedEntry};
@@ -20,7 +20,7 @@ pub(crate) struct Key {
     at: usize,
 }
 
-/// Returns the offset of a duplicate as an error.
+/// Returns the error of a repeated name at this offset.
 fn fault_at(place: Option<usize>) -> Option<DesugarFault>
     ensures { result ≡ repeat_fault place }
 {
@@ -30,7 +30,7 @@ fn fault_at(place: Option<usize>) -> Option<DesugarFault>
     }
 }
 
-/// Returns the error of a duplicate name, the one at the least offset.
+/// Returns the error of the repeated name at the least offset, or `None` if all names are distinct.
 ///
 /// O(n log n). The only error is `NoMemory`.
 #[tactic(auto, using(crate::proofs::Again::fault_told))]
@@ -44,7 +44,7 @@ pub fn first_duplicate(
     Ok(fault_at(place))
 }
 
-/// Returns the keys of a record.
+/// Returns the keys of a record, each with its offset.
 fn keys_of(
     alloc: Global,
     text: &str,
@@ -64,7 +64,7 @@ fn keys_of(
     Ok(keys)
 }
 
-/// Returns the keys, borrowed.
+/// Returns the keys with their names borrowed.
 fn names_of<'a>(alloc: Global, keys: &'a [Key]) -> Result<Vec<NameAt<'a>>, NoMemory>
     ensures { IfOk result (λ marks. abstract_names marks.items ≡ map held keys.entry.now) }
 {
@@ -78,7 +78,7 @@ fn names_of<'a>(alloc: Global, keys: &'a [Key]) -> Result<Vec<NameAt<'a>>, NoMem
     Ok(marks)
 }
 
-/// Returns the error of a record's duplicate key, the one at the least offset.
+/// Returns the error of the repeated key of a record at the least offset, or `None` if all keys are distinct.
 pub(crate) fn repeated_key(
     alloc: Global,
     text: &str,

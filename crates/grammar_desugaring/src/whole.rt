@@ -1,4 +1,4 @@
-//! Whole trees: their measure, and their core expression.
+//! The measure and the core expression of a whole tree.
 ghost use Rattle.std.specs.Prelude.{◌≡◌, [], IfOk};
 ghost use Rattle.grammar_trees.specs.WellFormed.{WellFormedExpr, WellFormedPath};
 ghost use Rattle.grammar_desugaring.specs.BuiltFrom.{IsBuiltFrom};
@@ -17,11 +17,11 @@ use plain::NoMemory;
 use std::alloc::Global;
 use values::TypeName;
 
-/// Returns the measure of a tree before anything is built: the size of its core expression, and its error at the
-/// least offset.
+/// Returns the measure of a tree: the size of its core expression, which is not built, and its error at the least
+/// offset.
 ///
-/// Allocates only for the keys of records. Takes time proportional to the tree, except for n keys, which take n log
-/// n. The only error is `NoMemory`.
+/// Allocates only for the keys of records. Takes time proportional to the tree, except that n keys of a record take O(n
+/// log n). The only error is `NoMemory`.
 pub fn measure_expr(alloc: Global, text: &str, tree: &ExprTree) -> Result<Measure, NoMemory>
     requires { IsBuiltFrom text.now (λ tokens. WellFormedExpr tokens tree.now) }
     ensures { IfOk result (λ measure. measure ≡ measured text.now tree.now) }
@@ -40,7 +40,7 @@ pub fn build_expr(alloc: Global, text: &str, tree: &ExprTree) -> Result<Expr, No
     build_tree(alloc, text, tree)
 }
 
-/// Returns the type name of a path. The only error is `NoMemory`.
+/// Returns the type name that a Path denotes. The only error is `NoMemory`.
 pub fn type_name(alloc: Global, text: &str, path: &PathTree) -> Result<TypeName, NoMemory>
     requires { IsBuiltFrom text.now (λ tokens. WellFormedPath tokens path.now) }
     ensures { IfOk result (λ name. name ≡ path_name text.now path.now) }

@@ -1,4 +1,4 @@
-//! The meaning of the tokens of a tree.
+//! The meanings of signs, strings, keys and Paths.
 ghost use Rattle.std.specs.Prelude.{◌≡◌, ◌∷◌, IfOk, map};
 ghost use Rattle.plain.specs.Words.{AreIdents};
 ghost use Rattle.grammar_trees.specs.grammar_tokens.Lexing.{spelling_of};
@@ -16,7 +16,7 @@ use plain::{NoMemory, Text};
 use std::alloc::Global;
 use values::TypeName;
 
-/// Returns the operator before a further term of a sum.
+/// Returns the operator of the sign before a further term of a sum.
 pub(crate) fn sign(sign: Sign) -> Binary
     ensures { result ≡ sign_of sign }
 {
@@ -34,7 +34,7 @@ pub(crate) fn string(alloc: Global, text: &str, token: Token) -> Result<Text, No
     decode_string(alloc, text, token)
 }
 
-/// Returns the pattern of a string.
+/// Returns the pattern that a string denotes.
 pub(crate) fn pattern(alloc: Global, text: &str, token: Token) -> Result<Pattern, NoMemory>
     requires { TokenIn text.now patterns token }
     ensures { IfOk result (λ pattern. pattern ≡ pattern_of (spelling_of text.now token)) }
@@ -80,7 +80,7 @@ fn words_of<'a>(alloc: Global, text: &'a str, path: &PathTree) -> Result<Vec<&'a
     Ok(words)
 }
 
-/// Returns the type name of a path of one word, as most are. Allocates only for the name.
+/// Returns the type name that a Path of one word denotes: most Paths are such. Allocates only for the name.
 fn word_type(alloc: Global, text: &str, word: Token) -> Result<TypeName, NoMemory>
     requires { TokenIn text.now identifiers word }
     ensures { IfOk result (λ name. name ≡ spelling_of text.now word) }
@@ -88,7 +88,7 @@ fn word_type(alloc: Global, text: &str, word: Token) -> Result<TypeName, NoMemor
     TypeName::from_words(alloc, &[spelling(text, word)])
 }
 
-/// Returns the type name of a path of several words.
+/// Returns the type name that a Path of several words denotes.
 fn joined_type(alloc: Global, text: &str, path: &PathTree) -> Result<TypeName, NoMemory>
     requires { PathIn text.now path.now }
     ensures { IfOk result (λ name. name ≡ path_name text.now path.now) }
@@ -97,7 +97,7 @@ fn joined_type(alloc: Global, text: &str, path: &PathTree) -> Result<TypeName, N
     TypeName::from_words(alloc, &words)
 }
 
-/// Returns the type name of a path.
+/// Returns the type name that a Path denotes.
 pub(crate) fn path_type(alloc: Global, text: &str, path: &PathTree) -> Result<TypeName, NoMemory>
     requires { PathIn text.now path.now }
     ensures { IfOk result (λ name. name ≡ path_name text.now path.now) }

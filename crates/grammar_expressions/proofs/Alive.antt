@@ -13,7 +13,7 @@ use Rattle.grammar_trees.specs.grammar_tokens.Lang.{Lang}
 use Rattle.grammar_trees.specs.grammar_tokens.Lang as lang
 use Rattle.grammar_expressions.specs.Expressions as g
 use Rattle.grammar_expressions.specs.Expressions.{sign_of, comparison_of, signs, comparisons, is_in}
-use Rattle.grammar_expressions.specs.ExpressionReading.{firsts}
+use Rattle.grammar_expressions.specs.ExpressionParsing.{firsts}
 use Rattle.grammar_trees.specs.grammar_tokens.Reads.{Begins}
 use Rattle.grammar_trees.proofs.of_grammar_tokens.Forms.{Starts, starts_of, starts_both, starts_or, alive_empty}
 use Rattle.grammar_trees.proofs.of_grammar_tokens.Forms.{alive_right}

@@ -5,7 +5,7 @@ use Rattle.grammar_trees.specs.grammar_tokens.declared.fault.StopCause.{StopCaus
 use Rattle.grammar_trees.specs.declared.tree.ExprTree.{ExprTree}
 use Rattle.grammar_expressions.specs.Expressions as g
 use Rattle.grammar_expressions.specs.Expressions.{nesting_limit, any_expr}
-use Rattle.grammar_expressions.specs.ExpressionReading as r
+use Rattle.grammar_expressions.specs.ExpressionParsing as r
 use Rattle.grammar_trees.specs.grammar_tokens.ParsesTo.{ParsesTo}
 use Rattle.grammar_trees.specs.grammar_tokens.Reads.{Begins, HasOneTree, HasOneAnswerWithin}
 use Rattle.grammar_trees.specs.grammar_tokens.Reads.{ReadsFrontWithin, OpensNextLevel}

@@ -14,7 +14,7 @@ use Rattle.grammar_expressions.specs.Expressions as g
 use Rattle.grammar_expressions.specs.Expressions.{sign_of, comparison_of, patterns, signs, comparisons, is_in}
 use Rattle.grammar_expressions.specs.Expressions.{is_positive}
 use Rattle.grammar_trees.specs.grammar_tokens.Reading.{Parser, ◌>>=◌, ◌>>◌, pure, token, optional}
-use Rattle.grammar_expressions.specs.ExpressionReading as r
+use Rattle.grammar_expressions.specs.ExpressionParsing as r
 use Rattle.grammar_trees.proofs.of_grammar_tokens.Sets.{apart}
 use Rattle.grammar_trees.proofs.of_grammar_tokens.Rules.{Rule, Levels}
 use Rattle.grammar_trees.proofs.of_grammar_tokens.Forms.{Leads, of, nothing, leads_starts, leads_empty, leads_or}
@@ -201,11 +201,9 @@ module _ (o : Bool) (E : Lang ExprTree) (p : Parser ExprTree) (D : Levels) (i : 
   -- ---- a level
 
   firm_consequent : o ≡ true → Firm (a.then_expr o E) (r.consequent o p)
-  unfolding r.consequent
   firm_consequent h = firm_token k.Then after_expr D (i.rule h) (inner h)
 
   firm_alternative : o ≡ true → Firm (a.else_expr o E) (r.alternative o p)
-  unfolding r.alternative
   firm_alternative h = firm_token k.Else after_expr D (i.rule h) (inner h)
 
   firm_decided : o ≡ true → (test consequent : ExprTree) → Firm (a.decided o E test consequent) (r.decided o p test consequent)

@@ -12,8 +12,8 @@ use Rattle.grammar_expressions.specs.Expressions as g
 use Rattle.grammar_expressions.specs.Expressions.{sign_of, comparison_of, patterns, signs, comparisons, is_in}
 use Rattle.grammar_expressions.specs.Expressions.{is_positive}
 use Rattle.grammar_trees.specs.grammar_tokens.Reading.{Parser, Why, Unexpected, TooDeep, ◌>>◌}
-use Rattle.grammar_expressions.specs.ExpressionReading as r
-use Rattle.grammar_expressions.specs.ExpressionReading.{firsts}
+use Rattle.grammar_expressions.specs.ExpressionParsing as r
+use Rattle.grammar_expressions.specs.ExpressionParsing.{firsts}
 use Rattle.grammar_trees.specs.grammar_tokens.Reads.{Begins}
 use Rattle.grammar_trees.proofs.of_grammar_tokens.Sets.{apart, within}
 use Rattle.grammar_trees.proofs.of_grammar_tokens.Rules.{Rule, Levels, Keeps}
@@ -197,11 +197,9 @@ module _ (o o' : Bool) (E F : Lang ExprTree) (p q : Parser ExprTree) (D : Levels
   -- ---- a level
 
   pub consequent_rule : o ≡ true → Rule (a.then_expr o E) (a.then_expr o' F) (r.consequent o p) (r.consequent o' q) after_expr D
-  unfolding r.consequent
   consequent_rule h = behind k.Then after_expr D (i.rule h) (i.alive h)
 
   pub alternative_rule : o ≡ true → Rule (a.else_expr o E) (a.else_expr o' F) (r.alternative o p) (r.alternative o' q) after_expr D
-  unfolding r.alternative
   alternative_rule h = behind k.Else after_expr D (i.rule h) (i.alive h)
 
   pub decided_rule : o ≡ true → (test consequent : ExprTree) → Rule (a.decided o E test consequent) (a.decided o' F test consequent) (r.decided o p test consequent) (r.decided o' q test consequent) after_expr D

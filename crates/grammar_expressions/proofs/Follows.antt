@@ -3,7 +3,7 @@ use Rattle.std.proofs.Common.{true, false, ◌||◌}
 use Rattle.grammar_trees.specs.grammar_tokens.declared.token.TokenKind.TheVariants as k
 use Rattle.grammar_trees.specs.grammar_tokens.Kinds.{Kinds}
 use Rattle.grammar_expressions.specs.Expressions.{comparisons, keys}
-use Rattle.grammar_expressions.specs.ExpressionReading.{firsts}
+use Rattle.grammar_expressions.specs.ExpressionParsing.{firsts}
 
 -- a variable, a Uid or a call, and any Primary
 abbrev pub after_named : Kinds

@@ -6,7 +6,7 @@ use Rattle.grammar_trees.specs.grammar_tokens.declared.token.TokenKind.TheVarian
 use Rattle.grammar_trees.specs.grammar_tokens.declared.tree.PathTree.{PathTree}
 use Rattle.grammar_trees.specs.declared.tree.ExprTree.{ExprTree}
 use Rattle.grammar_trees.specs.declared.tree.ExprTree.TheVariants as tree
-use Rattle.grammar_trees.specs.declared.tree.Variable.{Variable}
+use Rattle.grammar_trees.specs.declared.tree.RequestKeyword.{RequestKeyword}
 use Rattle.grammar_trees.specs.grammar_tokens.Kinds.{only, same_kind}
 use Rattle.grammar_trees.specs.grammar_tokens.Lang.{Lang}
 use Rattle.grammar_trees.specs.grammar_tokens.Lang as lang
@@ -15,7 +15,7 @@ use Rattle.grammar_expressions.specs.Expressions as g
 use Rattle.grammar_expressions.specs.Expressions.{known, variable_of}
 use Rattle.grammar_trees.specs.grammar_tokens.Reads.{Begins}
 use Rattle.grammar_trees.specs.grammar_tokens.Parsing.{pieces, is_text, ended_by, ends, uid_tree}
-use Rattle.grammar_expressions.specs.ExpressionReading.{path_of, variable_at}
+use Rattle.grammar_expressions.specs.ExpressionParsing.{path_of, variable_at}
 use Rattle.grammar_trees.proofs.of_grammar_tokens.Sets.{is_within}
 use Rattle.grammar_trees.proofs.of_grammar_tokens.Forms.{same_self, Leads, leads_empty}
 use Rattle.grammar_trees.proofs.of_grammar_tokens.Many.{looped}
@@ -30,7 +30,7 @@ use Rattle.grammar_expressions.proofs.Follows.{after_named}
 abbrev pub rest_of_call : Bool → Lang ExprTree → PathTree → Lang ExprTree
 rest_of_call o E name = lang.◌>>=◌ (g.called o E) (λ found. lang.empty (tree.Call name found))
 
-abbrev pub variable_by : Option Variable → Lang ExprTree
+abbrev pub variable_by : Option RequestKeyword → Lang ExprTree
 variable_by (Some variable) = lang.empty (tree.Variable variable)
 variable_by None = lang.never
 
@@ -81,12 +81,12 @@ on_by false o E first front ts e d =
 pub on : (o : Bool) (E : Lang ExprTree) (first : Token) (front ts : List Token) → segments front ts → Begins (lang.◌>>=◌ segments (behind_pieces o E first)) front
 on o E first front ts d = on_by (ends false ts) o E first front ts refl d
 
-pub leads_variable : (found : Option Variable) → Leads (variable_by found) (only k.LParen) after_named
+pub leads_variable : (found : Option RequestKeyword) → Leads (variable_by found) (only k.LParen) after_named
 unfolding same_kind
 leads_variable (Some variable) = leads_empty (tree.Variable variable) (only k.LParen) after_named refl
 leads_variable None = λ front a rest d h. absurd d
 
-pub leads_variable_colons : (found : Option Variable) → Leads (variable_by found) (only k.Colons) after_named
+pub leads_variable_colons : (found : Option RequestKeyword) → Leads (variable_by found) (only k.Colons) after_named
 unfolding same_kind
 leads_variable_colons (Some variable) = leads_empty (tree.Variable variable) (only k.Colons) after_named refl
 leads_variable_colons None = λ front a rest d h. absurd d
@@ -165,7 +165,7 @@ as_variable ts words back first [] x b s d = stands (variable_of first.kind) ref
   alone : back ≡ [] → ts ≡ first ∷ []
   alone none = b.whole ∙ ap (λ z. b.head ++ (z ++ back)) s ∙ ap (λ z. b.head ++ z) none ∙ append-nil b.head ∙ b.one.0
 
-  stands : (found : Option Variable) → variable_of first.kind ≡ found → variable_by found back x → lang.◌giving◌ (g.symbol variable_of) tree.Variable ts x
+  stands : (found : Option RequestKeyword) → variable_of first.kind ≡ found → variable_by found back x → lang.◌giving◌ (g.symbol variable_of) tree.Variable ts x
   stands (Some variable) e v = record { front = ts; back = []; value = variable; whole = sym (append-nil ts); first = (first, alone v.0, e); second = (refl, v.1) }
   stands None e v = absurd v
 as_variable ts words back first (t ∷ more) x b s d = absurd d

@@ -7,7 +7,7 @@ use Rattle.grammar_trees.specs.grammar_tokens.declared.token.TokenKind.TheVarian
 use Rattle.grammar_trees.specs.grammar_tokens.declared.tree.PathTree.{PathTree}
 use Rattle.grammar_trees.specs.declared.tree.Access.TheVariants as access
 use Rattle.grammar_trees.specs.declared.tree.KeyTree.TheVariants.{Quoted}
-use Rattle.grammar_trees.specs.declared.tree.Variable.{Variable}
+use Rattle.grammar_trees.specs.declared.tree.RequestKeyword.{RequestKeyword}
 use Rattle.grammar_trees.specs.declared.tree.ExprTree.{ExprTree}
 use Rattle.grammar_trees.specs.declared.tree.ExprTree.TheVariants as tree
 use Rattle.grammar_trees.specs.grammar_tokens.Kinds.{Kinds, only, same_kind}
@@ -17,8 +17,8 @@ use Rattle.grammar_trees.specs.grammar_tokens.Grammar.{identifiers}
 use Rattle.grammar_expressions.specs.Expressions as g
 use Rattle.grammar_expressions.specs.Expressions.{boolean_of, booleans, joined, accessed}
 use Rattle.grammar_trees.specs.grammar_tokens.Reading.{Parser, ◌>>=◌, ◌>>◌, pure}
-use Rattle.grammar_expressions.specs.ExpressionReading as r
-use Rattle.grammar_expressions.specs.ExpressionReading.{openers, access_firsts, path_of, name_by, variable_at}
+use Rattle.grammar_expressions.specs.ExpressionParsing as r
+use Rattle.grammar_expressions.specs.ExpressionParsing.{openers, access_firsts, path_of, name_by, variable_at}
 use Rattle.grammar_trees.specs.grammar_tokens.Parsing.{ends, uid_tree}
 use Rattle.grammar_trees.proofs.of_grammar_tokens.Sets.{apart, within}
 use Rattle.grammar_trees.proofs.of_grammar_tokens.Rules.{Rule, Levels}
@@ -81,7 +81,7 @@ module _ (D : Levels) where
       (λ name. free _ none) (λ name. go_one k.RBracket (λ _. alive_empty (access.Field (Quoted name)))))
       (go_one k.Text (λ name. go_one k.RBracket (λ _. alive_empty (access.Field (Quoted name))))))
 
-  firm_variable : (found : Option Variable) → Firm (variable_by found) (r.variable_by found)
+  firm_variable : (found : Option RequestKeyword) → Firm (variable_by found) (r.variable_by found)
   firm_variable (Some variable) = firm_nothing (tree.Variable variable)
   firm_variable None = firm_never (r.variable_by None)
 
@@ -89,7 +89,6 @@ module _ (o : Bool) (E : Lang ExprTree) (p : Parser ExprTree) (D : Levels) (i : 
   -- ---- names
 
   firm_call : (name : PathTree) → o ≡ true → Firm (rest_of_call o E name) (r.call_of o p name)
-  unfolding r.call_of
   firm_call name h = firm_free (seq (primary_rules.called_rule o o E E p p D i h) (λ found. nothing (tree.Call name found) none D) (λ found. free _ none) (λ found. alive_empty (tree.Call name found)))
 
   firm_call_or_variable : (first : Token) (ts : List Token) → Firm (behind_by false o E first ts) (r.call_or_variable o p (path_of first ts))
@@ -161,7 +160,6 @@ module _ (o : Bool) (E : Lang ExprTree) (p : Parser ExprTree) (D : Levels) (i : 
   -- ---- Member
 
   firm_some : o ≡ true → Firm (primaries.call_arguments o E) (r.call_arguments o p)
-  unfolding r.call_arguments
   firm_some h = firm_free (giving Some none D (primary_rules.called_rule o o E E p p D i h))
 
   firm_maybe_called : Firm (g.maybe_called o E) (r.maybe_called o p)

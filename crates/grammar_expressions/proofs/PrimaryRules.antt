@@ -8,7 +8,7 @@ use Rattle.grammar_trees.specs.declared.tree.Access.TheVariants as access
 use Rattle.grammar_trees.specs.declared.tree.ExprTree.{ExprTree}
 use Rattle.grammar_trees.specs.declared.tree.KeyTree.TheVariants.{Word, Quoted}
 use Rattle.grammar_trees.specs.declared.tree.ExprTree.TheVariants as tree
-use Rattle.grammar_trees.specs.declared.tree.Variable.{Variable}
+use Rattle.grammar_trees.specs.declared.tree.RequestKeyword.{RequestKeyword}
 use Rattle.grammar_trees.specs.grammar_tokens.Kinds.{Kinds, only, same_kind}
 use Rattle.grammar_trees.specs.grammar_tokens.Lang.{Lang}
 use Rattle.grammar_trees.specs.grammar_tokens.Lang as lang
@@ -18,8 +18,8 @@ use Rattle.grammar_expressions.specs.Expressions.{boolean_of, booleans, keys, jo
 use Rattle.grammar_trees.specs.grammar_tokens.Reading.{Parser, ParseResult, Read, Stop, and_then, ◌>>=◌, ◌>>◌, pure}
 use Rattle.grammar_trees.specs.grammar_tokens.Reading.{many}
 use Rattle.grammar_trees.specs.grammar_tokens.Reading as reading
-use Rattle.grammar_expressions.specs.ExpressionReading as r
-use Rattle.grammar_expressions.specs.ExpressionReading.{openers, access_firsts, firsts, path_of, name_by, variable_at}
+use Rattle.grammar_expressions.specs.ExpressionParsing as r
+use Rattle.grammar_expressions.specs.ExpressionParsing.{openers, access_firsts, firsts, path_of, name_by, variable_at}
 use Rattle.grammar_trees.specs.grammar_tokens.Parsing.{piece, ended_by, goes_on, ends, uid_tree}
 use Rattle.grammar_trees.specs.grammar_tokens.Reads.{Begins}
 use Rattle.grammar_trees.proofs.of_grammar_tokens.Sets.{apart, within}
@@ -82,7 +82,7 @@ module _ (D : Levels) where
       (λ name. free _ after_access) (λ name. go_one k.RBracket (λ _. alive_empty (access.Field (Quoted name)))))
       (go_one k.Text (λ name. go_one k.RBracket (λ _. alive_empty (access.Field (Quoted name)))))
 
-  variable_rule : (found : Option Variable) → Rule (variable_by found) (variable_by found) (r.variable_by found) (r.variable_by found) after_named D
+  variable_rule : (found : Option RequestKeyword) → Rule (variable_by found) (variable_by found) (r.variable_by found) (r.variable_by found) after_named D
   variable_rule (Some variable) = nothing (tree.Variable variable) after_named D
   variable_rule None = refused after_named D
 
@@ -170,7 +170,6 @@ module _ (o o' : Bool) (E F : Lang ExprTree) (p q : Parser ExprTree) (D : Levels
   -- ---- names
 
   pub call_rule : (name : PathTree) → o ≡ true → Rule (rest_of_call o E name) (rest_of_call o' F name) (r.call_of o p name) (r.call_of o' q name) after_named D
-  unfolding r.call_of
   call_rule name h = seq (called_rule h) (λ found. nothing (tree.Call name found) after_named D) (λ found. free _ after_named) (λ found. alive_empty (tree.Call name found))
 
   call_or_variable_rule : (first : Token) (ts : List Token) → Rule (behind_by false o E first ts) (behind_by false o' F first ts) (r.call_or_variable o p (path_of first ts)) (r.call_or_variable o' q (path_of first ts)) after_named D
@@ -256,7 +255,6 @@ module _ (o o' : Bool) (E F : Lang ExprTree) (p q : Parser ExprTree) (D : Levels
   -- ---- Member
 
   pub some_rule : o ≡ true → Rule (primaries.call_arguments o E) (primaries.call_arguments o' F) (r.call_arguments o p) (r.call_arguments o' q) after_access D
-  unfolding r.call_arguments
   some_rule h = giving Some after_access D (called_rule h)
 
   pub maybe_called_rule : Rule (g.maybe_called o E) (g.maybe_called o' F) (r.maybe_called o p) (r.maybe_called o' q) after_access D

@@ -10,7 +10,7 @@ use Rattle.grammar_trees.specs.grammar_tokens.ParsesTo.{ParsesTo}
 use Rattle.grammar_trees.specs.Relations.{DerivesFront}
 use Rattle.grammar_expressions.specs.Expressions as g
 use Rattle.grammar_expressions.specs.Expressions.{is_positive}
-use Rattle.grammar_expressions.specs.ExpressionReading as r
+use Rattle.grammar_expressions.specs.ExpressionParsing as r
 use Rattle.grammar_trees.proofs.of_grammar_tokens.Rules.{ReadsFront}
 use Rattle.grammar_trees.proofs.of_grammar_tokens.Depths.{levels}
 use Rattle.grammar_expressions.proofs.PrimaryRules.{Inner}

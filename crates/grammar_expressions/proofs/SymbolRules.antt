@@ -12,8 +12,8 @@ use Rattle.grammar_trees.proofs.of_grammar_tokens.Openings.{Opening}
 use Rattle.grammar_trees.proofs.of_grammar_tokens.WellFormedLemmas.{Makes}
 use Rattle.grammar_expressions.specs.Expressions as g
 use Rattle.grammar_expressions.specs.Expressions.{known}
-use Rattle.grammar_expressions.specs.ExpressionReading as r
-use Rattle.grammar_expressions.specs.ExpressionReading.{symbol_by}
+use Rattle.grammar_expressions.specs.ExpressionParsing as r
+use Rattle.grammar_expressions.specs.ExpressionParsing.{symbol_by}
 
 pub starts_symbol : {A : Type 0} (meaning : TokenKind → Option A) → Starts (g.symbol meaning) (known meaning)
 starts_symbol meaning ts a h = ap (sees (known meaning)) h.1 ∙ ap is_some h.2

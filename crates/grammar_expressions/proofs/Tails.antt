@@ -9,7 +9,7 @@ use Rattle.grammar_trees.specs.grammar_tokens.Reading.{Parser, ParseResult, Read
 use Rattle.grammar_trees.specs.grammar_tokens.Reading.{chosen}
 use Rattle.grammar_trees.specs.grammar_tokens.Parsing.{path}
 use Rattle.grammar_expressions.specs.Expressions.{comparison_of, comparisons, patterns}
-use Rattle.grammar_expressions.specs.ExpressionReading as r
+use Rattle.grammar_expressions.specs.ExpressionParsing as r
 use Rattle.grammar_expressions.specs.inner.Tails as t
 use Rattle.grammar_expressions.specs.inner.Tails.{relate}
 use Rattle.grammar_expressions.specs.declared.relations.Tail.TheVariants.{Compared, Has, Like, Is}

@@ -12,7 +12,7 @@ use Rattle.grammar_trees.specs.declared.tree.KeyTree.{KeyTree}
 use Rattle.grammar_trees.specs.declared.tree.Term.{Term}
 use Rattle.grammar_trees.specs.declared.tree.ExprTree.{ExprTree}
 use Rattle.grammar_trees.specs.declared.tree.ExprTree.TheVariants as t
-use Rattle.grammar_trees.specs.declared.tree.Variable.{Variable}
+use Rattle.grammar_trees.specs.declared.tree.RequestKeyword.{RequestKeyword}
 use Rattle.grammar_trees.specs.grammar_tokens.Kinds.{Kinds, only}
 use Rattle.grammar_trees.specs.grammar_tokens.Grammar.{identifiers}
 use Rattle.grammar_expressions.specs.Expressions.{patterns}
@@ -76,7 +76,7 @@ module _ (ts : List Token) where
   pub of-Text : (token : Token) → WellFormedToken (only k.Text) ts token → Tree (t.Text token)
   of-Text token h = one_token (t.Text token) (only k.Text) token (parts-Text token) h
 
-  pub of-Variable : (variable : Variable) → Tree (t.Variable variable)
+  pub of-Variable : (variable : RequestKeyword) → Tree (t.Variable variable)
   of-Variable variable = made (t.Variable variable) [] (parts-Variable variable) tt
 
   pub of-Uid : (uid : UidTree) → WellFormedUid ts uid → Tree (t.Uid uid)

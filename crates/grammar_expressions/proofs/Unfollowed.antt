@@ -1,15 +1,12 @@
 -- An operand behind which no piece begins is a whole level.
-use Rattle.std.proofs.Common.{◌≡◌, ℕ, zero, suc, Bool, true, false, List, [], Result, Ok, Err, refl, ap, ◌∙◌}
+use Rattle.std.proofs.Common.{◌≡◌, ℕ, zero, suc, Bool, true, false, List, [], refl, ap}
 use Rattle.grammar_trees.specs.grammar_tokens.declared.token.Token.{Token}
 use Rattle.grammar_trees.specs.declared.tree.ExprTree.{ExprTree}
 use Rattle.grammar_trees.specs.grammar_tokens.Kinds.{Kinds}
 use Rattle.grammar_trees.specs.grammar_tokens.Reads.{sees}
 use Rattle.grammar_trees.specs.grammar_tokens.Reading.{Parser, Read, and_then, pure, chosen, loop_from}
-use Rattle.grammar_trees.specs.grammar_tokens.ParsesTo.{ParsesTo}
-use Rattle.grammar_trees.specs.grammar_tokens.declared.fault.StopCause.{StopCause}
-use Rattle.grammar_trees.specs.grammar_tokens.declared.fault.StopCause.TheVariants as halt
 use Rattle.grammar_expressions.specs.Expressions.{joined}
-use Rattle.grammar_expressions.specs.inner.Chains.{chained, chained_on}
+use Rattle.grammar_expressions.specs.inner.Chains.{chained}
 
 skipped : {A : Type 0} (b : Bool) (p q : Parser A) (ts : List Token) → b ≡ false → chosen b p q ts ≡ q ts
 skipped false p q ts h = refl
@@ -21,10 +18,6 @@ unfolding loop_from
 none_from ks p zero ts h = refl
 none_from ks p (suc n) ts h = skipped (sees ks ts) _ _ ts h
 
-module _ {A : Type 0} (operand : Parser ExprTree) (ks : Kinds) (piece : Parser A) (make : ExprTree → List A → ExprTree) (ts rest : List Token) where
-  pub unfollowed : (r : Result ExprTree StopCause) → ParsesTo (operand ts) r rest → sees ks rest ≡ false → ParsesTo (chained operand ks piece make ts) r rest
-  unfollowed (Ok x) e h =
-      ap (λ o. and_then o (chained_on ks piece make)) e ∙ ap (λ o. and_then o (λ more. pure (joined make x more))) (none_from ks piece _ rest h)
-  unfollowed (Err halt.NoMemory) e h = tt
-  unfollowed (Err halt.Unexpected) e h = ap (λ o. and_then o (chained_on ks piece make)) e
-  unfollowed (Err halt.TooDeep) e h = ap (λ o. and_then o (chained_on ks piece make)) e
+pub unfollowed : {A : Type 0} (ks : Kinds) (piece : Parser A) (make : ExprTree → List A → ExprTree) (x : ExprTree) (ts : List Token)
+    → sees ks ts ≡ false → chained ks piece make x ts ≡ Read x ts
+unfollowed ks piece make x ts h = ap (λ o. and_then o (λ more. pure (joined make x more))) (none_from ks piece _ ts h)

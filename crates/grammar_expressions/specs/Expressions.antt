@@ -1,5 +1,5 @@
--- Defines the grammar of expressions, over tokens: which trees a list of tokens derives, by one definition for each
--- production.
+-- Defines the grammar of expressions over tokens, which says which trees a list of tokens derives. A comment states the
+-- production that its definition writes in the combinators of Lang.
 -- Source: Cedar reference guide 4.0, "Grammar specification for Cedar policy syntax".
 -- Rules of this product: a variable's word followed by `::` or `(` is a Path, and the nesting of expressions is
 -- limited.
@@ -20,8 +20,8 @@ use Rattle.grammar_trees.specs.declared.tree.Sign.TheVariants.{Plus, Minus}
 use Rattle.grammar_trees.specs.declared.tree.Term.{Term}
 use Rattle.grammar_trees.specs.declared.tree.ExprTree.{ExprTree}
 use Rattle.grammar_trees.specs.declared.tree.ExprTree.TheVariants as tree
-use Rattle.grammar_trees.specs.declared.tree.Variable.{Variable}
-use Rattle.grammar_trees.specs.declared.tree.Variable.TheVariants as variable
+use Rattle.grammar_trees.specs.declared.tree.RequestKeyword.{RequestKeyword}
+use Rattle.grammar_trees.specs.declared.tree.RequestKeyword.TheVariants as variable
 use Rattle.grammar_trees.specs.grammar_tokens.Kinds.{Kinds}
 pub use Rattle.grammar_trees.specs.Patterns.{patterns}
 use Rattle.grammar_trees.specs.Relations.{relation as one_tail}
@@ -32,7 +32,7 @@ use Rattle.grammar_trees.specs.grammar_tokens.Grammar.{identifiers, path, uid}
 
 -- ## Tokens whose kind is all their meaning
 
--- `symbol meaning`: a token, as the meaning of its kind
+-- `symbol meaning`: one token whose kind has a meaning, with that meaning as its value
 abbrev pub symbol : {A : Type 0} → (TokenKind → Option A) → Lang A
 symbol meaning ts a = (t : Token) × (ts ≡ t ∷ []) × (meaning t.kind ≡ Some a)
 
@@ -47,7 +47,7 @@ boolean_of k.False = Some false
 boolean_of _ = None
 
 -- Variable = "principal" | "action" | "resource" | "context"
-abbrev pub variable_of : TokenKind → Option Variable
+abbrev pub variable_of : TokenKind → Option RequestKeyword
 variable_of k.Principal = Some variable.Principal
 variable_of k.Action = Some variable.Action
 variable_of k.Resource = Some variable.Resource
@@ -71,7 +71,8 @@ comparison_of k.NotEqual = Some comparison.NotEqual
 comparison_of k.In = Some comparison.In
 comparison_of _ = None
 
--- `booleans`, `signs` and `comparisons` are the kinds of these tokens.
+-- `booleans`, `signs` and `comparisons` are the kinds that have a meaning by `boolean_of`, `sign_of` and
+-- `comparison_of`.
 abbrev pub booleans : Kinds
 booleans = known boolean_of
 
@@ -100,12 +101,12 @@ abbrev pub accessed : Token → Option (List ExprTree) → Access (List ExprTree
 accessed name None = access.Field (Word name)
 accessed name (Some arguments) = access.Method name arguments
 
--- `is_in x type_name y` is `x is T`, or `x is T in y`.
+-- `is_in x type_name y` is the tree of `x is T`, or of `x is T in y` if there is a `y`, where T is `type_name`.
 abbrev pub is_in : ExprTree → PathTree → Option ExprTree → ExprTree
 is_in x type_name None = tree.Is x type_name
 is_in x type_name (Some y) = tree.IsIn x type_name y
 
--- First { Piece }
+-- `chain first piece make`: First { Piece }, with the tree that `make` gives to the first and the pieces
 abbrev pub chain : {A : Type 0} → Lang ExprTree → Lang A → (ExprTree → List A → ExprTree) → Lang ExprTree
 chain first piece make = do
   x ← first
@@ -128,7 +129,8 @@ indexed = do
   one k.RBracket
   empty (access.Field (Quoted name))
 
--- `may`: whether one more level of nesting may be opened; `inner`: the expressions of that level
+-- In this module `may` says whether one more level of nesting may be opened, and `inner` is the language of the
+-- expressions of that level.
 module _ (may : Bool) (inner : Lang ExprTree) where
   -- Arguments = [ Expr { "," Expr } ]
   abbrev pub arguments : Lang (List ExprTree)
@@ -189,6 +191,7 @@ module _ (may : Bool) (inner : Lang ExprTree) where
     one k.RBrace
     empty (tree.Record found)
 
+  -- "(" Expr ")" | "[" Arguments "]" | "{" [ Key ":" Expr { "," Key ":" Expr } ] "}"
   abbrev pub nested : Lang ExprTree
   nested = parenthesized or set or braced
 
@@ -213,7 +216,8 @@ module _ (may : Bool) (inner : Lang ExprTree) where
   abbrev pub member : Lang ExprTree
   member = chain primary (dotted or indexed) tree.Member
 
-  -- at most this many of a sign, and a Member
+  -- `signed sign make n`: at most `n` tokens of the kind `sign`, and a Member, where `make` is the tree of a sign with
+  -- its operand
   abbrev pub signed : TokenKind → (ExprTree → ExprTree) → ℕ → Lang ExprTree
   signed sign make zero = member
   signed sign make (suc n) = (do one sign; x ← signed sign make n; empty (make x)) or member
@@ -270,7 +274,7 @@ module _ (may : Bool) (inner : Lang ExprTree) where
     y ← optional inside
     empty (is_in x type_name y)
 
-  -- `tailed x` is the language of the tail of the Sum x, which may be empty.
+  -- `tailed x` is the language of the tail, which may be empty, of the Relation that begins with the Sum `x`.
   abbrev pub tailed : ExprTree → Lang ExprTree
   tailed x = compared x or has x or like x or type_test x or empty x
 
@@ -311,11 +315,11 @@ unfoldable pub expr : ℕ → Lang ExprTree
 expr zero = never
 expr (suc levels) = level (is_positive levels) (expr levels)
 
--- `nesting_limit` is the most levels: `1` has one and `(1)` two, so an expression may be in at most 63 pairs of
--- parentheses.
+-- `nesting_limit` is the greatest number of levels: `1` has one and `(1)` two, so an expression may be in at most 63
+-- pairs of parentheses.
 abbrev pub nesting_limit : ℕ
 nesting_limit = 64
 
--- `any_expr`: Expr, without a limit of nesting
+-- `any_expr`: Expr, without a limit on nesting
 abbrev pub any_expr : Lang ExprTree
 any_expr = at_any expr

@@ -1,4 +1,4 @@
-pub mod ExpressionReading
+pub mod ExpressionParsing
 pub mod Expressions
 pub mod inner
 -- Specifications of lower crates, re-exported.

@@ -1,7 +1,8 @@
-//! Expressions.
+//! Parsers of expressions and conditionals. Each parses a production, by the function of the same name in
+//! specs/ExpressionParsing.
 
 ghost use Rattle.std.specs.Prelude.{◌≡◌, ◌<◌, Err};
-ghost use Rattle.grammar_expressions.specs.ExpressionReading as spec;
+ghost use Rattle.grammar_expressions.specs.ExpressionParsing as spec;
 ghost use Rattle.grammar_expressions.specs.Expressions as grammar;
 ghost use Rattle.grammar_expressions.specs.Expressions.{is_positive};
 ghost use Rattle.grammar_trees.specs.grammar_tokens.ParsesTo.{ParsesTo};
@@ -14,36 +15,24 @@ use grammar_trees::{Cursor, ExprTree, StopCause, TokenKind};
 use plain::{Boxed, beside};
 use std::alloc::Global;
 
-/// The most levels of nesting of an expression: its own, and one more inside parentheses, brackets, braces or call
-/// arguments, and in each part of an `if`.
+/// The greatest number of levels of nesting of an expression: its own, and one more inside parentheses, brackets,
+/// braces or call arguments, and in each part of an `if`.
 pub const NESTING_LIMIT: usize = 64;
 
 impl<F: Fn(Global, &mut Cursor<'_>, usize) -> Result<ExprTree, StopCause>> Reader<F> {
-    /// "else" Expr
-    #[tactic(auto, unfolding(crate::specs::ExpressionReading::alternative))]
-    fn alternative(&self, tokens: &mut Cursor<'_>) -> Result<Boxed<ExprTree>, StopCause>
+    /// Parses a word, "then" or "else", and an expression.
+    fn branch(&self, tokens: &mut Cursor<'_>, word: TokenKind) -> Result<Boxed<ExprTree>, StopCause>
         requires { Nests self.now.levels (F.pre self.now.expr) (F.post self.now.expr) }
-        ensures { ParsesTo (spec.alternative (is_positive self.now.levels)
-            (spec.expr self.now.levels) tokens.old.rest.now)
+        ensures { ParsesTo (spec.branch (is_positive self.now.levels) (spec.expr self.now.levels)
+            word tokens.old.rest.now)
             result tokens.new.rest.now }
     {
-        tokens.take(TokenKind::Else)?;
+        tokens.take(word)?;
         self.boxed_inner(tokens)
     }
 
-    /// "then" Expr
-    #[tactic(auto, unfolding(crate::specs::ExpressionReading::consequent))]
-    fn consequent(&self, tokens: &mut Cursor<'_>) -> Result<Boxed<ExprTree>, StopCause>
-        requires { Nests self.now.levels (F.pre self.now.expr) (F.post self.now.expr) }
-        ensures { ParsesTo (spec.consequent (is_positive self.now.levels)
-            (spec.expr self.now.levels) tokens.old.rest.now)
-            result tokens.new.rest.now }
-    {
-        tokens.take(TokenKind::Then)?;
-        self.boxed_inner(tokens)
-    }
-
-    #[tactic(auto, unfolding(crate::specs::ExpressionReading::decided))]
+    /// Parses the rest of a conditional after its `then` branch.
+    #[tactic(auto, unfolding(crate::specs::ExpressionParsing::decided))]
     fn decided(
         &self,
         tokens: &mut Cursor<'_>,
@@ -57,12 +46,13 @@ impl<F: Fn(Global, &mut Cursor<'_>, usize) -> Result<ExprTree, StopCause>> Reade
     {
         let ((test, consequent), alternative) = beside(
             (test, consequent),
-            self.alternative(tokens),
+            self.branch(tokens, TokenKind::Else),
         )?;
         Ok(ExprTree::If(test, consequent, alternative))
     }
 
-    #[tactic(auto, unfolding(crate::specs::ExpressionReading::conditional_tail))]
+    /// Parses the rest of a conditional after its test.
+    #[tactic(auto, unfolding(crate::specs::ExpressionParsing::conditional_tail))]
     fn conditional_tail(
         &self,
         tokens: &mut Cursor<'_>,
@@ -73,12 +63,12 @@ impl<F: Fn(Global, &mut Cursor<'_>, usize) -> Result<ExprTree, StopCause>> Reade
             (spec.expr self.now.levels) test tokens.old.rest.now)
             result tokens.new.rest.now }
     {
-        let (test, consequent) = beside(test, self.consequent(tokens))?;
+        let (test, consequent) = beside(test, self.branch(tokens, TokenKind::Then))?;
         self.decided(tokens, test, consequent)
     }
 
-    /// "if" Expr "then" Expr "else" Expr
-    #[tactic(auto, unfolding(crate::specs::ExpressionReading::conditional))]
+    /// Parses "if" Expr "then" Expr "else" Expr.
+    #[tactic(auto, unfolding(crate::specs::ExpressionParsing::conditional))]
     fn conditional(&self, tokens: &mut Cursor<'_>) -> Result<ExprTree, StopCause>
         requires { Nests self.now.levels (F.pre self.now.expr) (F.post self.now.expr) }
         ensures { ParsesTo (spec.conditional (is_positive self.now.levels)
@@ -90,8 +80,8 @@ impl<F: Fn(Global, &mut Cursor<'_>, usize) -> Result<ExprTree, StopCause>> Reade
         self.conditional_tail(tokens, test)
     }
 
-    /// "if" Expr "then" Expr "else" Expr | Or
-    #[tactic(auto, unfolding(crate::specs::ExpressionReading::level))]
+    /// Parses "if" Expr "then" Expr "else" Expr | Or.
+    #[tactic(auto, unfolding(crate::specs::ExpressionParsing::level))]
     fn level(&self, tokens: &mut Cursor<'_>) -> Result<ExprTree, StopCause>
         requires { Nests self.now.levels (F.pre self.now.expr) (F.post self.now.expr) }
         ensures { ParsesTo (spec.level (is_positive self.now.levels) (spec.expr self.now.levels) tokens.old.rest.now)
@@ -107,11 +97,16 @@ impl<F: Fn(Global, &mut Cursor<'_>, usize) -> Result<ExprTree, StopCause>> Reade
     }
 }
 
-/// Parses an expression with at most `levels` levels of nesting, its own included, from the front of the tokens and
-/// as long as possible.
+/// Parses an expression of at most `levels` levels of nesting, its own included, from the front of the tokens, and goes
+/// on as long as an expression can go on with the next token.
 ///
-/// The remaining tokens begin after it, or with the one at which parsing stops: with `TooDeep` if more levels would
-/// go on with it.
+/// The cursor is then after the expression, or on an error before the token at which parsing stops.
+///
+/// # Errors
+///
+/// - `TooDeep`: the next token could occur there only with more levels; or `levels` is 0.
+/// - `Unexpected`: the next token cannot occur there, or the tokens end too early.
+/// - `NoMemory`: an allocation failed; possible at any point.
 pub fn expr(alloc: Global, tokens: &mut Cursor<'_>, levels: usize) -> Result<ExprTree, StopCause>
     ensures reads { 0 < levels → ReadsFrontWithin (grammar.expr levels) grammar.any_expr
         tokens.old.rest.now result tokens.new.rest.now }

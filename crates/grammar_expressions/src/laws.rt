@@ -1,9 +1,9 @@
-//! Theorems about the definitions.
+//! Theorems about the grammar of expressions. The function is a no-op.
 ghost use Rattle.grammar_expressions.specs.Expressions.{expr, any_expr, nesting_limit};
 ghost use Rattle.grammar_trees.specs.grammar_tokens.Reads.{HasOneTree, HasOneAnswerWithin, OpensNextLevel};
 
-/// Proves that a list of tokens has exactly one result, a tree or an error, and that a token which is too deep opens
-/// the first level past the limit. No-op.
+/// Proves that each list of tokens has exactly one result as an expression, a tree or an error, and that a token with
+/// the error `TooDeep` opens the first level past the limit. No-op.
 pub fn expression_is_unique()
     ensures one_tree { HasOneTree (expr nesting_limit) }
     ensures one_tree_at_any_depth { HasOneTree any_expr }

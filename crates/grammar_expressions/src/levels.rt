@@ -1,37 +1,29 @@
-//! Levels of operators: an operand, and then pieces as long as the next token is in a set of kinds.
+//! Parsing of one level of operators: an operand, and then pieces as long as the next token is in a set of kinds.
 
 ghost use Rattle.std.specs.Prelude.{◌≡◌, List, IfOk};
 ghost use Rattle.grammar_trees.specs.grammar_tokens.ParsesTo.{ParsesTo};
 ghost use Rattle.grammar_trees.specs.grammar_tokens.Reading.{Parser, many};
 ghost use Rattle.grammar_trees.specs.declared.tree.ExprTree as trees;
 ghost use Rattle.grammar_expressions.specs.Expressions.{joined};
-ghost use Rattle.grammar_expressions.specs.inner.Chains.{chained, chained_on};
+ghost use Rattle.grammar_expressions.specs.inner.Chains.{chained};
 
 use grammar_trees::{Cursor, ExprTree, KindSet, StopCause, read_many};
 use plain::{Boxed, Items, beside};
 use std::alloc::{AllocError, Global};
 
-/// A level of operators, whose proof is shared by all levels.
+/// A level of operators. All levels share the functions of this module and their proofs.
 pub(crate) trait Level {
-    /// What may follow the first operand, repeatedly.
+    /// A piece: what may follow the first operand, repeatedly.
     type Piece: Drop;
 
     /// The condition under which the parsers may be called.
     ghost can_read: { Self → Type 0 };
 
-    /// How an operand is parsed.
-    ghost operands: { Self → Parser trees.ExprTree };
-
-    /// How a piece is parsed.
+    /// The parsing function of a piece.
     ghost pieces: { Self → Parser Self.Piece };
 
     /// The tree of an operand and the pieces after it.
     ghost joins: { trees.ExprTree → List Self.Piece → trees.ExprTree };
-
-    /// Parses an operand.
-    fn operand(&self, tokens: &mut Cursor<'_>) -> Result<ExprTree, StopCause>
-        requires { can_read self.now }
-        ensures { ParsesTo (operands self.now tokens.old.rest.now) result tokens.new.rest.now };
 
     /// Parses a piece.
     fn piece(&self, tokens: &mut Cursor<'_>) -> Result<Self::Piece, StopCause>
@@ -70,8 +62,9 @@ fn join<L: Level>(
     }
 }
 
-/// Parses the pieces after the operand `first`, as long as the next token is in the set. Returns the tree of both.
-fn chain_on<L: Level, S: KindSet>(
+/// Parses the pieces after the operand `first`, as long as the next token is in the set. Returns the tree of both. An
+/// operand without pieces, the usual case, is returned as it is, without a list.
+pub(crate) fn chain<L: Level, S: KindSet>(
     alloc: Global,
     tokens: &mut Cursor<'_>,
     level: &L,
@@ -79,30 +72,12 @@ fn chain_on<L: Level, S: KindSet>(
     first: ExprTree,
 ) -> Result<ExprTree, StopCause>
     requires { L.can_read level.now }
-    ensures { ParsesTo (chained_on (S.included set) (L.pieces level.now) L.joins first tokens.old.rest.now)
+    ensures { ParsesTo (chained (S.included set) (L.pieces level.now) L.joins first tokens.old.rest.now)
         result tokens.new.rest.now }
 {
+    if !tokens.sees_one_of(set) {
+        return Ok(first);
+    }
     let (first, more) = beside(first, pieces(alloc, tokens, level, set))?;
     Ok(join::<L>(alloc, first, more)?)
-}
-
-/// Parses an operand and the pieces after it, as long as the next token is in the set. An operand without pieces, the
-/// usual case, is returned as it is, without a list.
-pub(crate) fn chain<L: Level, S: KindSet>(
-    alloc: Global,
-    tokens: &mut Cursor<'_>,
-    level: &L,
-    set: S,
-) -> Result<ExprTree, StopCause>
-    requires { L.can_read level.now }
-    ensures { ParsesTo (chained (L.operands level.now) (S.included set) (L.pieces level.now) L.joins
-        tokens.old.rest.now)
-        result tokens.new.rest.now }
-{
-    let read = level.operand(tokens);
-    if !tokens.sees_one_of(set) {
-        return read;
-    }
-    let first = read?;
-    chain_on(alloc, tokens, level, set, first)
 }

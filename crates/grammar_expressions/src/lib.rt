@@ -1,7 +1,7 @@
-//! The grammar of expressions, over their tokens.
+//! The parser of expressions, from tokens to trees.
 //!
-//! A list of tokens is parsed if and only if the grammar derives it, into the one tree that it derives; otherwise it
-//! is rejected at the first token with which nothing goes on.
+//! A list of tokens that derives a tree in the grammar is parsed as that tree, which is the only one. Any other list is
+//! rejected at the first token that cannot follow those before it, or at its end.
 #![tactic(auto)]
 
 mod expression;

@@ -1,9 +1,9 @@
-//! Accesses and operators, from the highest precedence.
+//! Parsers of accesses and operators, from the highest precedence to the lowest.
 
 ghost use Rattle.std.specs.Prelude.{◌≡◌, IfOk};
-ghost use Rattle.grammar_expressions.specs.ExpressionReading as spec;
+ghost use Rattle.grammar_expressions.specs.ExpressionParsing as spec;
 ghost use Rattle.grammar_expressions.specs.Expressions as grammar;
-ghost use Rattle.grammar_expressions.specs.Expressions.{is_positive, accessed};
+ghost use Rattle.grammar_expressions.specs.Expressions.{is_positive};
 ghost use Rattle.grammar_trees.specs.grammar_tokens.ParsesTo.{ParsesTo};
 ghost use Rattle.grammar_expressions.specs.inner.Nests.{Nests};
 ghost use Rattle.grammar_expressions.specs.inner.Prefixes as prefixes;
@@ -14,8 +14,7 @@ use crate::primary::{Reader, indexed};
 use crate::symbols::take_symbol;
 use crate::token_sets::TokenSet;
 use grammar_trees::{
-    Access, Cursor, ExprTree, KeyTree, NameSet, Related, Sign, StopCause, Term, Token, TokenKind,
-    relation,
+    Access, Cursor, ExprTree, KeyTree, NameSet, Related, Sign, StopCause, Term, TokenKind, relation,
 };
 use plain::{Boxed, Items};
 use std::alloc::{AllocError, Global};
@@ -30,6 +29,7 @@ pub(crate) enum Prefix {
 }
 
 impl Prefix {
+    /// Returns the kind of the prefix's token.
     fn kind(self) -> TokenKind
         ensures { result ≡ prefixes.kind_of self }
     {
@@ -40,6 +40,7 @@ impl Prefix {
     }
 }
 
+/// Returns the tree of a prefix with its operand.
 fn under(alloc: Global, prefix: Prefix, x: ExprTree) -> Result<ExprTree, AllocError>
     ensures { IfOk result (λ e. e ≡ prefixes.under prefix x) }
 {
@@ -50,29 +51,9 @@ fn under(alloc: Global, prefix: Prefix, x: ExprTree) -> Result<ExprTree, AllocEr
     }
 }
 
-fn access(name: Token, found: Option<Items<ExprTree>>) -> Access<Items<ExprTree>>
-    ensures { result ≡ accessed name found }
-{
-    match found {
-        None => Access::Field(KeyTree::Word(name)),
-        Some(found) => Access::Method(name, found),
-    }
-}
-
 impl<F: Fn(Global, &mut Cursor<'_>, usize) -> Result<ExprTree, StopCause>> Reader<F> {
-    #[tactic(auto, unfolding(crate::specs::ExpressionReading::call_arguments))]
-    fn call_arguments(&self, tokens: &mut Cursor<'_>) -> Result<Option<Items<ExprTree>>, StopCause>
-        requires { Nests self.now.levels (F.pre self.now.expr) (F.post self.now.expr) }
-        ensures { ParsesTo (spec.call_arguments (is_positive self.now.levels)
-            (spec.expr self.now.levels) tokens.old.rest.now)
-            result tokens.new.rest.now }
-    {
-        let found = self.called(tokens)?;
-        Ok(Some(found))
-    }
-
     /// [ "(" Arguments ")" ]
-    #[tactic(auto, unfolding(crate::specs::ExpressionReading::maybe_called))]
+    #[tactic(auto, unfolding(crate::specs::ExpressionParsing::maybe_called))]
     fn maybe_called(&self, tokens: &mut Cursor<'_>) -> Result<Option<Items<ExprTree>>, StopCause>
         requires { Nests self.now.levels (F.pre self.now.expr) (F.post self.now.expr) }
         ensures { ParsesTo (spec.maybe_called (is_positive self.now.levels) (spec.expr self.now.levels)
@@ -85,11 +66,12 @@ impl<F: Fn(Global, &mut Cursor<'_>, usize) -> Result<ExprTree, StopCause>> Reade
         if self.levels == 0 {
             return Err(StopCause::TooDeep);
         }
-        self.call_arguments(tokens)
+        let found = self.called(tokens)?;
+        Ok(Some(found))
     }
 
-    /// "." Ident [ "(" Arguments ")" ]
-    #[tactic(auto, unfolding(crate::specs::ExpressionReading::dotted))]
+    /// Parses "." Ident [ "(" Arguments ")" ].
+    #[tactic(auto, unfolding(crate::specs::ExpressionParsing::dotted))]
     fn dotted(&self, tokens: &mut Cursor<'_>) -> Result<Access<Items<ExprTree>>, StopCause>
         requires { Nests self.now.levels (F.pre self.now.expr) (F.post self.now.expr) }
         ensures { ParsesTo (spec.dotted (is_positive self.now.levels) (spec.expr self.now.levels) tokens.old.rest.now)
@@ -97,21 +79,30 @@ impl<F: Fn(Global, &mut Cursor<'_>, usize) -> Result<ExprTree, StopCause>> Reade
     {
         tokens.take(TokenKind::Dot)?;
         let name = tokens.take_one_of(NameSet::Identifiers)?;
-        let found = self.maybe_called(tokens)?;
-        Ok(access(name, found))
+        match self.maybe_called(tokens)? {
+            None => Ok(Access::Field(KeyTree::Word(name))),
+            Some(found) => Ok(Access::Method(name, found)),
+        }
     }
 
-    /// Primary { "." Ident [ "(" Arguments ")" ] | "[" String "]" }
-    #[tactic(auto, unfolding(crate::specs::ExpressionReading::member, crate::specs::ExpressionReading::accesses))]
+    /// Parses Primary { "." Ident [ "(" Arguments ")" ] | "[" String "]" }.
+    #[tactic(auto, unfolding(crate::specs::ExpressionParsing::member, crate::specs::ExpressionParsing::accesses))]
     fn member(&self, tokens: &mut Cursor<'_>) -> Result<ExprTree, StopCause>
         requires { Nests self.now.levels (F.pre self.now.expr) (F.post self.now.expr) }
         ensures { ParsesTo (spec.member (is_positive self.now.levels) (spec.expr self.now.levels) tokens.old.rest.now)
             result tokens.new.rest.now }
     {
-        chain(self.alloc, tokens, &Members(self), TokenSet::AccessStarts)
+        let first = self.primary(tokens)?;
+        chain(
+            self.alloc,
+            tokens,
+            &Members(self),
+            TokenSet::AccessStarts,
+            first,
+        )
     }
 
-    /// At most `most` of a prefix, and a Member.
+    /// Parses at most `most` of a prefix, and a Member.
     fn signed(&self, tokens: &mut Cursor<'_>, sign: Prefix, most: u8) -> Result<ExprTree, StopCause>
         requires { Nests self.now.levels (F.pre self.now.expr) (F.post self.now.expr) }
         ensures { ParsesTo (spec.signed (is_positive self.now.levels) (spec.expr self.now.levels)
@@ -129,8 +120,8 @@ impl<F: Fn(Global, &mut Cursor<'_>, usize) -> Result<ExprTree, StopCause>> Reade
         Ok(under(self.alloc, sign, x)?)
     }
 
-    /// Up to four "!" Member | up to four "-" Member
-    #[tactic(auto, unfolding(crate::specs::ExpressionReading::unary, crate::specs::ExpressionReading::signed))]
+    /// Parses up to four "!" Member | up to four "-" Member.
+    #[tactic(auto, unfolding(crate::specs::ExpressionParsing::unary, crate::specs::ExpressionParsing::signed))]
     fn unary(&self, tokens: &mut Cursor<'_>) -> Result<ExprTree, StopCause>
         requires { Nests self.now.levels (F.pre self.now.expr) (F.post self.now.expr) }
         ensures { ParsesTo (spec.unary (is_positive self.now.levels) (spec.expr self.now.levels) tokens.old.rest.now)
@@ -142,28 +133,30 @@ impl<F: Fn(Global, &mut Cursor<'_>, usize) -> Result<ExprTree, StopCause>> Reade
         self.signed(tokens, Prefix::Minus, 4)
     }
 
-    /// Unary { "*" Unary }
-    #[tactic(auto, unfolding(crate::specs::ExpressionReading::product, crate::specs::ExpressionReading::factors))]
+    /// Parses Unary { "*" Unary }.
+    #[tactic(auto, unfolding(crate::specs::ExpressionParsing::product, crate::specs::ExpressionParsing::factors))]
     fn product(&self, tokens: &mut Cursor<'_>) -> Result<ExprTree, StopCause>
         requires { Nests self.now.levels (F.pre self.now.expr) (F.post self.now.expr) }
         ensures { ParsesTo (spec.product (is_positive self.now.levels) (spec.expr self.now.levels) tokens.old.rest.now)
             result tokens.new.rest.now }
     {
-        chain(self.alloc, tokens, &Products(self), TokenKind::Star)
+        let first = self.unary(tokens)?;
+        chain(self.alloc, tokens, &Products(self), TokenKind::Star, first)
     }
 
-    /// Product { ("+" | "-") Product }
-    #[tactic(auto, unfolding(crate::specs::ExpressionReading::sum, crate::specs::ExpressionReading::terms))]
+    /// Parses Product { ("+" | "-") Product }.
+    #[tactic(auto, unfolding(crate::specs::ExpressionParsing::sum, crate::specs::ExpressionParsing::terms))]
     pub(crate) fn sum(&self, tokens: &mut Cursor<'_>) -> Result<ExprTree, StopCause>
         requires { Nests self.now.levels (F.pre self.now.expr) (F.post self.now.expr) }
         ensures { ParsesTo (spec.sum (is_positive self.now.levels) (spec.expr self.now.levels) tokens.old.rest.now)
             result tokens.new.rest.now }
     {
-        chain(self.alloc, tokens, &Sums(self), TokenSet::Signs)
+        let first = self.product(tokens)?;
+        chain(self.alloc, tokens, &Sums(self), TokenSet::Signs, first)
     }
 
-    /// Sum [ comparison Sum | "has" (Ident | String) | "like" Pattern | "is" Path [ "in" Sum ] ]
-    #[tactic(auto, unfolding(crate::specs::ExpressionReading::relation))]
+    /// Parses Sum [ comparison Sum | "has" (Ident | String) | "like" Pattern | "is" Path [ "in" Sum ] ].
+    #[tactic(auto, unfolding(crate::specs::ExpressionParsing::relation))]
     fn relation(&self, tokens: &mut Cursor<'_>) -> Result<ExprTree, StopCause>
         requires { Nests self.now.levels (F.pre self.now.expr) (F.post self.now.expr) }
         ensures { ParsesTo (spec.relation (is_positive self.now.levels) (spec.expr self.now.levels) tokens.old.rest.now)
@@ -172,30 +165,44 @@ impl<F: Fn(Global, &mut Cursor<'_>, usize) -> Result<ExprTree, StopCause>> Reade
         relation(tokens, &Relations(self))
     }
 
-    /// Relation { "&&" Relation }
-    #[tactic(auto, unfolding(crate::specs::ExpressionReading::conjunction, crate::specs::ExpressionReading::ands))]
+    /// Parses Relation { "&&" Relation }.
+    #[tactic(auto, unfolding(crate::specs::ExpressionParsing::conjunction, crate::specs::ExpressionParsing::ands))]
     fn conjunction(&self, tokens: &mut Cursor<'_>) -> Result<ExprTree, StopCause>
         requires { Nests self.now.levels (F.pre self.now.expr) (F.post self.now.expr) }
         ensures { ParsesTo (spec.conjunction (is_positive self.now.levels)
             (spec.expr self.now.levels) tokens.old.rest.now)
             result tokens.new.rest.now }
     {
-        chain(self.alloc, tokens, &Conjunctions(self), TokenKind::And)
+        let first = self.relation(tokens)?;
+        chain(
+            self.alloc,
+            tokens,
+            &Conjunctions(self),
+            TokenKind::And,
+            first,
+        )
     }
 
-    /// And { "||" And }
-    #[tactic(auto, unfolding(crate::specs::ExpressionReading::disjunction, crate::specs::ExpressionReading::ors))]
+    /// Parses And { "||" And }.
+    #[tactic(auto, unfolding(crate::specs::ExpressionParsing::disjunction, crate::specs::ExpressionParsing::ors))]
     pub(crate) fn disjunction(&self, tokens: &mut Cursor<'_>) -> Result<ExprTree, StopCause>
         requires { Nests self.now.levels (F.pre self.now.expr) (F.post self.now.expr) }
         ensures { ParsesTo (spec.disjunction (is_positive self.now.levels)
             (spec.expr self.now.levels) tokens.old.rest.now)
             result tokens.new.rest.now }
     {
-        chain(self.alloc, tokens, &Disjunctions(self), TokenKind::Or)
+        let first = self.conjunction(tokens)?;
+        chain(
+            self.alloc,
+            tokens,
+            &Disjunctions(self),
+            TokenKind::Or,
+            first,
+        )
     }
 }
 
-/// Accesses, after a Primary.
+/// The level of a Member: accesses after a Primary.
 #[derive(Drop)]
 struct Members<'r, F>(&'r Reader<F>);
 
@@ -205,17 +212,11 @@ impl<F: Fn(Global, &mut Cursor<'_>, usize) -> Result<ExprTree, StopCause>> Level
 
     ghost can_read = { λ s. Nests s.0.now.levels (F.pre s.0.now.expr) (F.post s.0.now.expr) };
 
-    ghost operands = { λ s. spec.primary (is_positive s.0.now.levels) (spec.expr s.0.now.levels) };
-
     ghost pieces = { λ s. spec.accessing (is_positive s.0.now.levels) (spec.expr s.0.now.levels) };
 
     ghost joins = { tree.Member };
 
-    fn operand(&self, tokens: &mut Cursor<'_>) -> Result<ExprTree, StopCause> {
-        self.0.primary(tokens)
-    }
-
-    #[tactic(auto, unfolding(crate::specs::ExpressionReading::accessing))]
+    #[tactic(auto, unfolding(crate::specs::ExpressionParsing::accessing))]
     fn piece(&self, tokens: &mut Cursor<'_>) -> Result<Access<Items<ExprTree>>, StopCause> {
         if tokens.sees(TokenKind::Dot) {
             return self.0.dotted(tokens);
@@ -230,7 +231,7 @@ impl<F: Fn(Global, &mut Cursor<'_>, usize) -> Result<ExprTree, StopCause>> Level
     }
 }
 
-/// Factors, after a Unary.
+/// The level of a Product: factors after a Unary.
 #[derive(Drop)]
 struct Products<'r, F>(&'r Reader<F>);
 
@@ -240,17 +241,11 @@ impl<F: Fn(Global, &mut Cursor<'_>, usize) -> Result<ExprTree, StopCause>> Level
 
     ghost can_read = { λ s. Nests s.0.now.levels (F.pre s.0.now.expr) (F.post s.0.now.expr) };
 
-    ghost operands = { λ s. spec.unary (is_positive s.0.now.levels) (spec.expr s.0.now.levels) };
-
     ghost pieces = { λ s. spec.factor (is_positive s.0.now.levels) (spec.expr s.0.now.levels) };
 
     ghost joins = { tree.Product };
 
-    fn operand(&self, tokens: &mut Cursor<'_>) -> Result<ExprTree, StopCause> {
-        self.0.unary(tokens)
-    }
-
-    #[tactic(auto, unfolding(crate::specs::ExpressionReading::factor))]
+    #[tactic(auto, unfolding(crate::specs::ExpressionParsing::factor))]
     fn piece(&self, tokens: &mut Cursor<'_>) -> Result<ExprTree, StopCause> {
         tokens.take(TokenKind::Star)?;
         self.0.unary(tokens)
@@ -263,7 +258,7 @@ impl<F: Fn(Global, &mut Cursor<'_>, usize) -> Result<ExprTree, StopCause>> Level
     }
 }
 
-/// ("+" | "-") Product, after a Product.
+/// The level of a Sum: ("+" | "-") Product after a Product.
 #[derive(Drop)]
 struct Sums<'r, F>(&'r Reader<F>);
 
@@ -272,17 +267,11 @@ impl<F: Fn(Global, &mut Cursor<'_>, usize) -> Result<ExprTree, StopCause>> Level
 
     ghost can_read = { λ s. Nests s.0.now.levels (F.pre s.0.now.expr) (F.post s.0.now.expr) };
 
-    ghost operands = { λ s. spec.product (is_positive s.0.now.levels) (spec.expr s.0.now.levels) };
-
     ghost pieces = { λ s. spec.term (is_positive s.0.now.levels) (spec.expr s.0.now.levels) };
 
     ghost joins = { tree.Sum };
 
-    fn operand(&self, tokens: &mut Cursor<'_>) -> Result<ExprTree, StopCause> {
-        self.0.product(tokens)
-    }
-
-    #[tactic(auto, unfolding(crate::specs::ExpressionReading::term))]
+    #[tactic(auto, unfolding(crate::specs::ExpressionParsing::term))]
     fn piece(&self, tokens: &mut Cursor<'_>) -> Result<Term<ExprTree>, StopCause> {
         let sign = take_symbol::<Sign>(tokens)?;
         let operand = self.0.product(tokens)?;
@@ -296,7 +285,7 @@ impl<F: Fn(Global, &mut Cursor<'_>, usize) -> Result<ExprTree, StopCause>> Level
     }
 }
 
-/// The operand of a relation, a Sum, and its tail.
+/// The form of a Relation: a Sum and its tail.
 #[derive(Drop)]
 struct Relations<'r, F>(&'r Reader<F>);
 
@@ -321,7 +310,7 @@ impl<F: Fn(Global, &mut Cursor<'_>, usize) -> Result<ExprTree, StopCause>> Relat
     }
 }
 
-/// "&&" Relation, after a Relation.
+/// The level of an And: "&&" Relation after a Relation.
 #[derive(Drop)]
 struct Conjunctions<'r, F>(&'r Reader<F>);
 
@@ -331,17 +320,11 @@ impl<F: Fn(Global, &mut Cursor<'_>, usize) -> Result<ExprTree, StopCause>> Level
 
     ghost can_read = { λ s. Nests s.0.now.levels (F.pre s.0.now.expr) (F.post s.0.now.expr) };
 
-    ghost operands = { λ s. spec.relation (is_positive s.0.now.levels) (spec.expr s.0.now.levels) };
-
     ghost pieces = { λ s. spec.next_and (is_positive s.0.now.levels) (spec.expr s.0.now.levels) };
 
     ghost joins = { tree.And };
 
-    fn operand(&self, tokens: &mut Cursor<'_>) -> Result<ExprTree, StopCause> {
-        self.0.relation(tokens)
-    }
-
-    #[tactic(auto, unfolding(crate::specs::ExpressionReading::next_and))]
+    #[tactic(auto, unfolding(crate::specs::ExpressionParsing::next_and))]
     fn piece(&self, tokens: &mut Cursor<'_>) -> Result<ExprTree, StopCause> {
         tokens.take(TokenKind::And)?;
         self.0.relation(tokens)
@@ -354,7 +337,7 @@ impl<F: Fn(Global, &mut Cursor<'_>, usize) -> Result<ExprTree, StopCause>> Level
     }
 }
 
-/// "||" And, after an And.
+/// The level of an Or: "||" And after an And.
 #[derive(Drop)]
 struct Disjunctions<'r, F>(&'r Reader<F>);
 
@@ -364,17 +347,11 @@ impl<F: Fn(Global, &mut Cursor<'_>, usize) -> Result<ExprTree, StopCause>> Level
 
     ghost can_read = { λ s. Nests s.0.now.levels (F.pre s.0.now.expr) (F.post s.0.now.expr) };
 
-    ghost operands = { λ s. spec.conjunction (is_positive s.0.now.levels) (spec.expr s.0.now.levels) };
-
     ghost pieces = { λ s. spec.next_or (is_positive s.0.now.levels) (spec.expr s.0.now.levels) };
 
     ghost joins = { tree.Or };
 
-    fn operand(&self, tokens: &mut Cursor<'_>) -> Result<ExprTree, StopCause> {
-        self.0.conjunction(tokens)
-    }
-
-    #[tactic(auto, unfolding(crate::specs::ExpressionReading::next_or))]
+    #[tactic(auto, unfolding(crate::specs::ExpressionParsing::next_or))]
     fn piece(&self, tokens: &mut Cursor<'_>) -> Result<ExprTree, StopCause> {
         tokens.take(TokenKind::Or)?;
         self.0.conjunction(tokens)

@@ -1,7 +1,7 @@
-//! Primaries: literals, names, calls, and expressions in brackets.
+//! Parsers of primaries: literals, names, calls, and expressions in brackets.
 
 ghost use Rattle.std.specs.Prelude.{◌≡◌, IfErr};
-ghost use Rattle.grammar_expressions.specs.ExpressionReading as spec;
+ghost use Rattle.grammar_expressions.specs.ExpressionParsing as spec;
 ghost use Rattle.grammar_expressions.specs.Expressions.{is_positive};
 ghost use Rattle.grammar_trees.specs.grammar_tokens.ParsesTo.{ParsesTo};
 ghost use Rattle.grammar_expressions.specs.inner.Nests.{Nests};
@@ -10,14 +10,14 @@ ghost use Rattle.grammar_trees.specs.grammar_tokens.declared.fault.StopCause.The
 use crate::symbols::{Symbol, take_symbol};
 use crate::token_sets::TokenSet;
 use grammar_trees::{
-    Access, Cursor, ExprTree, KeyTree, Name, NameSet, PathTree, RecordEntry, StopCause, Token,
-    TokenKind, Variable, read_more, rest_of_name,
+    Access, Cursor, ExprTree, KeyTree, NameSet, PathOrUid, PathTree, RecordEntry, RequestKeyword,
+    StopCause, TokenKind, read_more, rest_of_name,
 };
 use plain::{Boxed, Items, beside};
 use std::alloc::Global;
 
-/// "true" | "false" | Number | String
-#[tactic(auto, unfolding(crate::specs::ExpressionReading::literal))]
+/// Parses "true" | "false" | Number | String.
+#[tactic(auto, unfolding(crate::specs::ExpressionParsing::literal))]
 fn literal(tokens: &mut Cursor<'_>) -> Result<ExprTree, StopCause>
     ensures reads { ParsesTo (spec.literal tokens.old.rest.now) result tokens.new.rest.now }
     ensures only { IfErr result (λ why. why ≡ halt.Unexpected) }
@@ -34,8 +34,8 @@ fn literal(tokens: &mut Cursor<'_>) -> Result<ExprTree, StopCause>
     Ok(ExprTree::Text(token))
 }
 
-/// Ident | String
-#[tactic(auto, unfolding(crate::specs::ExpressionReading::key))]
+/// Parses Ident | String.
+#[tactic(auto, unfolding(crate::specs::ExpressionParsing::key))]
 pub(crate) fn key(tokens: &mut Cursor<'_>) -> Result<KeyTree, StopCause>
     ensures reads { ParsesTo (spec.key tokens.old.rest.now) result tokens.new.rest.now }
     ensures only { IfErr result (λ why. why ≡ halt.Unexpected) }
@@ -48,8 +48,8 @@ pub(crate) fn key(tokens: &mut Cursor<'_>) -> Result<KeyTree, StopCause>
     Ok(KeyTree::Quoted(quoted))
 }
 
-/// "[" String "]"
-#[tactic(auto, unfolding(crate::specs::ExpressionReading::indexed))]
+/// Parses "[" String "]".
+#[tactic(auto, unfolding(crate::specs::ExpressionParsing::indexed))]
 pub(crate) fn indexed(tokens: &mut Cursor<'_>) -> Result<Access<Items<ExprTree>>, StopCause>
     ensures reads { ParsesTo (spec.indexed tokens.old.rest.now) result tokens.new.rest.now }
     ensures only { IfErr result (λ why. why ≡ halt.Unexpected) }
@@ -60,18 +60,18 @@ pub(crate) fn indexed(tokens: &mut Cursor<'_>) -> Result<Access<Items<ExprTree>>
     Ok(Access::Field(KeyTree::Quoted(name)))
 }
 
-/// Returns the variable that a Path of one word names.
-fn variable_at(path: &PathTree) -> Option<Variable>
+/// Returns the variable that a Path names: only a Path of one word may name one.
+fn variable_at(path: &PathTree) -> Option<RequestKeyword>
     ensures { result ≡ spec.variable_at path.now.first path.now.more }
 {
     match path.more.as_slice() {
-        [] => Variable::of(path.first.kind),
+        [] => RequestKeyword::of(path.first.kind),
         _ => None,
     }
 }
 
-/// Returns a Path without arguments: a variable, or an error.
-#[tactic(auto, unfolding(crate::specs::ExpressionReading::alone))]
+/// Returns the variable that a Path without arguments names, or `Unexpected`.
+#[tactic(auto, unfolding(crate::specs::ExpressionParsing::alone))]
 fn alone(tokens: &Cursor<'_>, path: PathTree) -> Result<ExprTree, StopCause>
     ensures reads { ParsesTo (spec.alone path tokens.now.rest.now) result tokens.now.rest.now }
     ensures only { IfErr result (λ why. why ≡ halt.Unexpected) }
@@ -82,18 +82,20 @@ fn alone(tokens: &Cursor<'_>, path: PathTree) -> Result<ExprTree, StopCause>
     }
 }
 
-/// A parser of expressions that may open `levels` levels of nesting. The parser of the expressions one level deeper is
-/// a parameter, so that each production is proved by itself.
+/// A parser of expressions that may open `levels` levels of nesting.
+///
+/// The parser `expr` of the expressions one level deeper is a parameter, so that each production is proved by itself.
 #[derive(Drop)]
 pub(crate) struct Reader<F> {
     pub(crate) alloc: Global,
-    /// How many levels of nesting may still be opened.
+    /// The number of levels of nesting that may still be opened.
     pub(crate) levels: usize,
+    /// The parser of expressions, given the number of their levels.
     pub(crate) expr: F,
 }
 
 impl<F: Fn(Global, &mut Cursor<'_>, usize) -> Result<ExprTree, StopCause>> Reader<F> {
-    /// Parses an expression one level deeper.
+    /// Parses an expression of the next level.
     pub(crate) fn inner(&self, tokens: &mut Cursor<'_>) -> Result<ExprTree, StopCause>
         requires { Nests self.now.levels (F.pre self.now.expr) (F.post self.now.expr) }
         ensures { ParsesTo (spec.expr self.now.levels tokens.old.rest.now) result tokens.new.rest.now }
@@ -101,7 +103,7 @@ impl<F: Fn(Global, &mut Cursor<'_>, usize) -> Result<ExprTree, StopCause>> Reade
         (self.expr)(self.alloc, tokens, self.levels)
     }
 
-    /// Parses an expression one level deeper, into a box.
+    /// Parses an expression of the next level, into a box.
     pub(crate) fn boxed_inner(&self, tokens: &mut Cursor<'_>) -> Result<Boxed<ExprTree>, StopCause>
         requires { Nests self.now.levels (F.pre self.now.expr) (F.post self.now.expr) }
         ensures { ParsesTo (spec.expr self.now.levels tokens.old.rest.now) result tokens.new.rest.now }
@@ -110,7 +112,8 @@ impl<F: Fn(Global, &mut Cursor<'_>, usize) -> Result<ExprTree, StopCause>> Reade
         Ok(Boxed::new(self.alloc, x)?)
     }
 
-    #[tactic(auto, unfolding(crate::specs::ExpressionReading::next_argument))]
+    /// Parses "," Expr.
+    #[tactic(auto, unfolding(crate::specs::ExpressionParsing::next_argument))]
     fn next_argument(&self, tokens: &mut Cursor<'_>) -> Result<ExprTree, StopCause>
         requires { Nests self.now.levels (F.pre self.now.expr) (F.post self.now.expr) }
         ensures { ParsesTo (spec.next_argument (is_positive self.now.levels) (spec.expr self.now.levels)
@@ -121,6 +124,7 @@ impl<F: Fn(Global, &mut Cursor<'_>, usize) -> Result<ExprTree, StopCause>> Reade
         self.inner(tokens)
     }
 
+    /// Parses { "," Expr }, after the argument `first`.
     fn rest_of_arguments(
         &self,
         tokens: &mut Cursor<'_>,
@@ -136,8 +140,8 @@ impl<F: Fn(Global, &mut Cursor<'_>, usize) -> Result<ExprTree, StopCause>> Reade
         })
     }
 
-    /// [ Expr { "," Expr } ]
-    #[tactic(auto, unfolding(crate::specs::ExpressionReading::arguments))]
+    /// Parses [ Expr { "," Expr } ].
+    #[tactic(auto, unfolding(crate::specs::ExpressionParsing::arguments))]
     fn arguments(&self, tokens: &mut Cursor<'_>) -> Result<Items<ExprTree>, StopCause>
         requires { Nests self.now.levels (F.pre self.now.expr) (F.post self.now.expr) }
         ensures { ParsesTo (spec.arguments (is_positive self.now.levels)
@@ -151,8 +155,8 @@ impl<F: Fn(Global, &mut Cursor<'_>, usize) -> Result<ExprTree, StopCause>> Reade
         self.rest_of_arguments(tokens, first)
     }
 
-    /// "(" Arguments ")"
-    #[tactic(auto, unfolding(crate::specs::ExpressionReading::called))]
+    /// Parses "(" Arguments ")".
+    #[tactic(auto, unfolding(crate::specs::ExpressionParsing::called))]
     pub(crate) fn called(&self, tokens: &mut Cursor<'_>) -> Result<Items<ExprTree>, StopCause>
         requires { Nests self.now.levels (F.pre self.now.expr) (F.post self.now.expr) }
         ensures { ParsesTo (spec.called (is_positive self.now.levels) (spec.expr self.now.levels) tokens.old.rest.now)
@@ -164,8 +168,8 @@ impl<F: Fn(Global, &mut Cursor<'_>, usize) -> Result<ExprTree, StopCause>> Reade
         Ok(found)
     }
 
-    /// Key ":" Expr
-    #[tactic(auto, unfolding(crate::specs::ExpressionReading::entry))]
+    /// Parses Key ":" Expr.
+    #[tactic(auto, unfolding(crate::specs::ExpressionParsing::entry))]
     fn entry(&self, tokens: &mut Cursor<'_>) -> Result<RecordEntry<ExprTree>, StopCause>
         requires { Nests self.now.levels (F.pre self.now.expr) (F.post self.now.expr) }
         ensures { ParsesTo (spec.entry (is_positive self.now.levels) (spec.expr self.now.levels) tokens.old.rest.now)
@@ -177,7 +181,8 @@ impl<F: Fn(Global, &mut Cursor<'_>, usize) -> Result<ExprTree, StopCause>> Reade
         Ok(RecordEntry { key, value })
     }
 
-    #[tactic(auto, unfolding(crate::specs::ExpressionReading::next_entry))]
+    /// Parses "," Key ":" Expr.
+    #[tactic(auto, unfolding(crate::specs::ExpressionParsing::next_entry))]
     fn next_entry(&self, tokens: &mut Cursor<'_>) -> Result<RecordEntry<ExprTree>, StopCause>
         requires { Nests self.now.levels (F.pre self.now.expr) (F.post self.now.expr) }
         ensures { ParsesTo (spec.next_entry (is_positive self.now.levels)
@@ -188,6 +193,7 @@ impl<F: Fn(Global, &mut Cursor<'_>, usize) -> Result<ExprTree, StopCause>> Reade
         self.entry(tokens)
     }
 
+    /// Parses { "," Key ":" Expr }, after the entry `first`.
     fn rest_of_entries(
         &self,
         tokens: &mut Cursor<'_>,
@@ -203,8 +209,8 @@ impl<F: Fn(Global, &mut Cursor<'_>, usize) -> Result<ExprTree, StopCause>> Reade
         })
     }
 
-    /// [ Key ":" Expr { "," Key ":" Expr } ]
-    #[tactic(auto, unfolding(crate::specs::ExpressionReading::entries))]
+    /// Parses [ Key ":" Expr { "," Key ":" Expr } ].
+    #[tactic(auto, unfolding(crate::specs::ExpressionParsing::entries))]
     fn entries(&self, tokens: &mut Cursor<'_>) -> Result<Items<RecordEntry<ExprTree>>, StopCause>
         requires { Nests self.now.levels (F.pre self.now.expr) (F.post self.now.expr) }
         ensures { ParsesTo (spec.entries (is_positive self.now.levels) (spec.expr self.now.levels) tokens.old.rest.now)
@@ -217,18 +223,8 @@ impl<F: Fn(Global, &mut Cursor<'_>, usize) -> Result<ExprTree, StopCause>> Reade
         self.rest_of_entries(tokens, first)
     }
 
-    #[tactic(auto, unfolding(crate::specs::ExpressionReading::call_of))]
-    fn call_of(&self, tokens: &mut Cursor<'_>, path: PathTree) -> Result<ExprTree, StopCause>
-        requires { Nests self.now.levels (F.pre self.now.expr) (F.post self.now.expr) }
-        ensures { ParsesTo (spec.call_of (is_positive self.now.levels) (spec.expr self.now.levels) path
-            tokens.old.rest.now)
-            result tokens.new.rest.now }
-    {
-        let found = self.called(tokens)?;
-        Ok(ExprTree::Call(path, found))
-    }
-
-    #[tactic(auto, unfolding(crate::specs::ExpressionReading::call_or_variable))]
+    /// Parses what follows a Path: the arguments of a call, or nothing if the Path names a variable.
+    #[tactic(auto, unfolding(crate::specs::ExpressionParsing::call_or_variable))]
     fn call_or_variable(
         &self,
         tokens: &mut Cursor<'_>,
@@ -245,35 +241,26 @@ impl<F: Fn(Global, &mut Cursor<'_>, usize) -> Result<ExprTree, StopCause>> Reade
         if self.levels == 0 {
             return Err(StopCause::TooDeep);
         }
-        self.call_of(tokens, path)
-    }
-
-    #[tactic(auto, unfolding(crate::specs::ExpressionReading::rest_of_named))]
-    fn rest_of_named(&self, tokens: &mut Cursor<'_>, first: Token) -> Result<ExprTree, StopCause>
-        requires { Nests self.now.levels (F.pre self.now.expr) (F.post self.now.expr) }
-        ensures { ParsesTo (spec.rest_of_named (is_positive self.now.levels) (spec.expr self.now.levels)
-            first tokens.old.rest.now)
-            result tokens.new.rest.now }
-    {
-        match rest_of_name(self.alloc, tokens, first)? {
-            Name::Uid(uid) => Ok(ExprTree::Uid(uid)),
-            Name::Path(path) => self.call_or_variable(tokens, path),
-        }
+        let (path, found) = beside(path, self.called(tokens))?;
+        Ok(ExprTree::Call(path, found))
     }
 
     /// Variable | Uid | Path "(" Arguments ")"
-    #[tactic(auto, unfolding(crate::specs::ExpressionReading::named))]
+    #[tactic(auto, unfolding(crate::specs::ExpressionParsing::named, crate::specs::ExpressionParsing::rest_of_named))]
     fn named(&self, tokens: &mut Cursor<'_>) -> Result<ExprTree, StopCause>
         requires { Nests self.now.levels (F.pre self.now.expr) (F.post self.now.expr) }
         ensures { ParsesTo (spec.named (is_positive self.now.levels) (spec.expr self.now.levels) tokens.old.rest.now)
             result tokens.new.rest.now }
     {
         let first = tokens.take_one_of(NameSet::Identifiers)?;
-        self.rest_of_named(tokens, first)
+        match rest_of_name(self.alloc, tokens, first)? {
+            PathOrUid::Uid(uid) => Ok(ExprTree::Uid(uid)),
+            PathOrUid::Path(path) => self.call_or_variable(tokens, path),
+        }
     }
 
-    /// "(" Expr ")"
-    #[tactic(auto, unfolding(crate::specs::ExpressionReading::parenthesized))]
+    /// Parses "(" Expr ")".
+    #[tactic(auto, unfolding(crate::specs::ExpressionParsing::parenthesized))]
     fn parenthesized(&self, tokens: &mut Cursor<'_>) -> Result<ExprTree, StopCause>
         requires { Nests self.now.levels (F.pre self.now.expr) (F.post self.now.expr) }
         ensures { ParsesTo (spec.parenthesized (is_positive self.now.levels) (spec.expr self.now.levels)
@@ -286,8 +273,8 @@ impl<F: Fn(Global, &mut Cursor<'_>, usize) -> Result<ExprTree, StopCause>> Reade
         Ok(ExprTree::Parentheses(x))
     }
 
-    /// "[" Arguments "]"
-    #[tactic(auto, unfolding(crate::specs::ExpressionReading::set))]
+    /// Parses "[" Arguments "]".
+    #[tactic(auto, unfolding(crate::specs::ExpressionParsing::set))]
     fn set(&self, tokens: &mut Cursor<'_>) -> Result<ExprTree, StopCause>
         requires { Nests self.now.levels (F.pre self.now.expr) (F.post self.now.expr) }
         ensures { ParsesTo (spec.set (is_positive self.now.levels) (spec.expr self.now.levels) tokens.old.rest.now)
@@ -299,8 +286,8 @@ impl<F: Fn(Global, &mut Cursor<'_>, usize) -> Result<ExprTree, StopCause>> Reade
         Ok(ExprTree::Set(found))
     }
 
-    /// "{" [ Key ":" Expr { "," Key ":" Expr } ] "}"
-    #[tactic(auto, unfolding(crate::specs::ExpressionReading::braced))]
+    /// Parses "{" [ Key ":" Expr { "," Key ":" Expr } ] "}".
+    #[tactic(auto, unfolding(crate::specs::ExpressionParsing::braced))]
     fn braced(&self, tokens: &mut Cursor<'_>) -> Result<ExprTree, StopCause>
         requires { Nests self.now.levels (F.pre self.now.expr) (F.post self.now.expr) }
         ensures { ParsesTo (spec.braced (is_positive self.now.levels) (spec.expr self.now.levels) tokens.old.rest.now)
@@ -312,7 +299,8 @@ impl<F: Fn(Global, &mut Cursor<'_>, usize) -> Result<ExprTree, StopCause>> Reade
         Ok(ExprTree::Record(found))
     }
 
-    #[tactic(auto, unfolding(crate::specs::ExpressionReading::nested))]
+    /// Parses "(" Expr ")" | "[" Arguments "]" | "{" .. "}".
+    #[tactic(auto, unfolding(crate::specs::ExpressionParsing::nested))]
     fn nested(&self, tokens: &mut Cursor<'_>) -> Result<ExprTree, StopCause>
         requires { Nests self.now.levels (F.pre self.now.expr) (F.post self.now.expr) }
         ensures { ParsesTo (spec.nested (is_positive self.now.levels) (spec.expr self.now.levels) tokens.old.rest.now)
@@ -327,8 +315,8 @@ impl<F: Fn(Global, &mut Cursor<'_>, usize) -> Result<ExprTree, StopCause>> Reade
         self.braced(tokens)
     }
 
-    /// Variable | Uid | Call | "(" Expr ")" | "[" Arguments "]" | "{" .. "}" | Literal
-    #[tactic(auto, unfolding(crate::specs::ExpressionReading::primary))]
+    /// Parses Variable | Uid | Call | "(" Expr ")" | "[" Arguments "]" | "{" .. "}" | Literal.
+    #[tactic(auto, unfolding(crate::specs::ExpressionParsing::primary))]
     pub(crate) fn primary(&self, tokens: &mut Cursor<'_>) -> Result<ExprTree, StopCause>
         requires { Nests self.now.levels (F.pre self.now.expr) (F.post self.now.expr) }
         ensures { ParsesTo (spec.primary (is_positive self.now.levels) (spec.expr self.now.levels) tokens.old.rest.now)

@@ -1,7 +1,7 @@
-//! Relations: what follows a Sum is parsed first, and then joined to it.
+//! Parsers of relations. The tail that follows a Sum is parsed by itself, and then joined to the Sum.
 
 ghost use Rattle.std.specs.Prelude.{◌≡◌, IfOk};
-ghost use Rattle.grammar_expressions.specs.ExpressionReading as spec;
+ghost use Rattle.grammar_expressions.specs.ExpressionParsing as spec;
 ghost use Rattle.grammar_expressions.specs.Expressions.{is_positive};
 ghost use Rattle.grammar_trees.specs.grammar_tokens.ParsesTo.{ParsesTo};
 ghost use Rattle.grammar_expressions.specs.inner.Nests.{Nests};
@@ -16,20 +16,20 @@ use grammar_trees::{
 use plain::{Boxed, beside};
 use std::alloc::{AllocError, Global};
 
-/// What may follow the first Sum of a relation.
+/// The tail of a relation: what may follow its first Sum.
 #[derive(Drop)]
 pub(crate) enum Tail {
     /// A comparison, and the other operand.
     Compared(Comparison, Boxed<ExprTree>),
-    /// `has`, and the attribute.
+    /// `has`, and the name of the attribute.
     Has(KeyTree),
     /// `like`, and the pattern.
     Like(Token),
-    /// `is`, the type, and the operand of `in`.
+    /// `is`, the type, and the operand of `in` if there is one.
     Is(PathTree, Option<Boxed<ExprTree>>),
 }
 
-/// "has" (Ident | String)
+/// Parses "has" (Ident | String).
 #[tactic(auto, unfolding(crate::specs::inner::Tails::has))]
 fn has(tokens: &mut Cursor<'_>) -> Result<Option<Tail>, StopCause>
     ensures { ParsesTo (tails.has tokens.old.rest.now) result tokens.new.rest.now }
@@ -39,7 +39,7 @@ fn has(tokens: &mut Cursor<'_>) -> Result<Option<Tail>, StopCause>
     Ok(Some(Tail::Has(name)))
 }
 
-/// "like" Pattern
+/// Parses "like" Pattern.
 #[tactic(auto, unfolding(crate::specs::inner::Tails::like))]
 fn like(tokens: &mut Cursor<'_>) -> Result<Option<Tail>, StopCause>
     ensures { ParsesTo (tails.like tokens.old.rest.now) result tokens.new.rest.now }
@@ -49,6 +49,7 @@ fn like(tokens: &mut Cursor<'_>) -> Result<Option<Tail>, StopCause>
     Ok(Some(Tail::Like(text)))
 }
 
+/// Returns the relation of an operand and a tail.
 fn form(x: Boxed<ExprTree>, tail: Tail) -> ExprTree
     ensures { result ≡ tails.form x tail }
 {
@@ -63,6 +64,7 @@ fn form(x: Boxed<ExprTree>, tail: Tail) -> ExprTree
     }
 }
 
+/// Returns the relation of an operand and a tail, or the operand itself if there is no tail.
 fn relate(alloc: Global, x: ExprTree, tail: Option<Tail>) -> Result<ExprTree, AllocError>
     ensures { IfOk result (λ e. e ≡ tails.relate x tail) }
 {
@@ -86,7 +88,7 @@ impl<F: Fn(Global, &mut Cursor<'_>, usize) -> Result<ExprTree, StopCause>> Reade
         Ok(Boxed::new(self.alloc, x)?)
     }
 
-    /// ("<" | "<=" | ">" | ">=" | "==" | "!=" | "in") Sum
+    /// Parses ("<" | "<=" | ">" | ">=" | "==" | "!=" | "in") Sum.
     #[tactic(auto, unfolding(crate::specs::inner::Tails::compared))]
     fn compared(&self, tokens: &mut Cursor<'_>) -> Result<Option<Tail>, StopCause>
         requires { Nests self.now.levels (F.pre self.now.expr) (F.post self.now.expr) }
@@ -99,18 +101,8 @@ impl<F: Fn(Global, &mut Cursor<'_>, usize) -> Result<ExprTree, StopCause>> Reade
         Ok(Some(Tail::Compared(operator, y)))
     }
 
-    #[tactic(auto, unfolding(crate::specs::ExpressionReading::inside))]
-    fn inside(&self, tokens: &mut Cursor<'_>) -> Result<Boxed<ExprTree>, StopCause>
-        requires { Nests self.now.levels (F.pre self.now.expr) (F.post self.now.expr) }
-        ensures { ParsesTo (spec.inside (is_positive self.now.levels) (spec.expr self.now.levels) tokens.old.rest.now)
-            result tokens.new.rest.now }
-    {
-        tokens.take(TokenKind::In)?;
-        self.boxed_sum(tokens)
-    }
-
     /// [ "in" Sum ]
-    #[tactic(auto, unfolding(crate::specs::ExpressionReading::maybe_inside))]
+    #[tactic(auto, unfolding(crate::specs::ExpressionParsing::maybe_inside, crate::specs::ExpressionParsing::inside))]
     fn maybe_inside(&self, tokens: &mut Cursor<'_>) -> Result<Option<Boxed<ExprTree>>, StopCause>
         requires { Nests self.now.levels (F.pre self.now.expr) (F.post self.now.expr) }
         ensures { ParsesTo (spec.maybe_inside (is_positive self.now.levels)
@@ -120,11 +112,12 @@ impl<F: Fn(Global, &mut Cursor<'_>, usize) -> Result<ExprTree, StopCause>> Reade
         if !tokens.sees(TokenKind::In) {
             return Ok(None);
         }
-        let entity = self.inside(tokens)?;
+        tokens.take(TokenKind::In)?;
+        let entity = self.boxed_sum(tokens)?;
         Ok(Some(entity))
     }
 
-    /// "is" Path [ "in" Sum ]
+    /// Parses "is" Path [ "in" Sum ].
     #[tactic(auto, unfolding(crate::specs::inner::Tails::type_test))]
     fn type_test(&self, tokens: &mut Cursor<'_>) -> Result<Option<Tail>, StopCause>
         requires { Nests self.now.levels (F.pre self.now.expr) (F.post self.now.expr) }
@@ -137,6 +130,7 @@ impl<F: Fn(Global, &mut Cursor<'_>, usize) -> Result<ExprTree, StopCause>> Reade
         Ok(Some(Tail::Is(type_name, entity)))
     }
 
+    /// Parses [ "has" (Ident | String) | "like" Pattern | "is" Path [ "in" Sum ] ].
     #[tactic(auto, unfolding(crate::specs::inner::Tails::test_tail))]
     fn test_tail(&self, tokens: &mut Cursor<'_>) -> Result<Option<Tail>, StopCause>
         requires { Nests self.now.levels (F.pre self.now.expr) (F.post self.now.expr) }
@@ -156,7 +150,7 @@ impl<F: Fn(Global, &mut Cursor<'_>, usize) -> Result<ExprTree, StopCause>> Reade
         Ok(None)
     }
 
-    /// [ comparison Sum | "has" (Ident | String) | "like" Pattern | "is" Path [ "in" Sum ] ]
+    /// Parses [ comparison Sum | "has" (Ident | String) | "like" Pattern | "is" Path [ "in" Sum ] ].
     #[tactic(auto, unfolding(crate::specs::inner::Tails::tail))]
     fn tail(&self, tokens: &mut Cursor<'_>) -> Result<Option<Tail>, StopCause>
         requires { Nests self.now.levels (F.pre self.now.expr) (F.post self.now.expr) }
@@ -169,6 +163,7 @@ impl<F: Fn(Global, &mut Cursor<'_>, usize) -> Result<ExprTree, StopCause>> Reade
         self.test_tail(tokens)
     }
 
+    /// Parses a tail after `x`, and returns the relation of both.
     #[tactic(auto, unfolding(crate::specs::inner::Tails::joined))]
     fn join_tail(&self, tokens: &mut Cursor<'_>, x: ExprTree) -> Result<ExprTree, StopCause>
         requires { Nests self.now.levels (F.pre self.now.expr) (F.post self.now.expr) }
@@ -180,7 +175,7 @@ impl<F: Fn(Global, &mut Cursor<'_>, usize) -> Result<ExprTree, StopCause>> Reade
         Ok(relate(self.alloc, x, tail)?)
     }
 
-    /// Parses what follows a Sum, and returns the relation of both.
+    /// Parses the tail after the Sum `x`, which may be empty, and returns the relation of both.
     pub(crate) fn related(
         &self,
         tokens: &mut Cursor<'_>,

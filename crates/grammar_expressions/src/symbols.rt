@@ -5,11 +5,11 @@ ghost use Rattle.grammar_trees.specs.grammar_tokens.declared.token.TokenKind as 
 ghost use Rattle.grammar_trees.specs.grammar_tokens.ParsesTo.{ParsesTo};
 ghost use Rattle.grammar_trees.specs.grammar_tokens.declared.fault.StopCause.TheVariants as halt;
 ghost use Rattle.grammar_expressions.specs.Expressions.{boolean_of, variable_of, sign_of, comparison_of};
-ghost use Rattle.grammar_expressions.specs.ExpressionReading as spec;
+ghost use Rattle.grammar_expressions.specs.ExpressionParsing as spec;
 
-use grammar_trees::{Comparison, Cursor, Sign, StopCause, TokenKind, Variable};
+use grammar_trees::{Comparison, Cursor, RequestKeyword, Sign, StopCause, TokenKind};
 
-/// The meanings of tokens of some kinds.
+/// Values that are the meanings of some kinds of tokens.
 pub trait Symbol: Copy {
     ghost meaning: { kinds.TokenKind → Option Self };
 
@@ -30,15 +30,15 @@ impl Symbol for bool {
     }
 }
 
-impl Symbol for Variable {
+impl Symbol for RequestKeyword {
     ghost meaning = { variable_of };
 
-    fn of(kind: TokenKind) -> Option<Variable> {
+    fn of(kind: TokenKind) -> Option<RequestKeyword> {
         match kind {
-            TokenKind::Principal => Some(Variable::Principal),
-            TokenKind::Action => Some(Variable::Action),
-            TokenKind::Resource => Some(Variable::Resource),
-            TokenKind::Context => Some(Variable::Context),
+            TokenKind::Principal => Some(RequestKeyword::Principal),
+            TokenKind::Action => Some(RequestKeyword::Action),
+            TokenKind::Resource => Some(RequestKeyword::Resource),
+            TokenKind::Context => Some(RequestKeyword::Context),
             _ => None,
         }
     }
@@ -73,10 +73,10 @@ impl Symbol for Comparison {
     }
 }
 
-/// Parses a token that has a meaning of this type; otherwise consumes nothing.
+/// Parses a token whose kind has a meaning of this type, and returns the meaning. Consumes nothing if it has none.
 ///
 /// The only error is `Unexpected`.
-#[tactic(auto, unfolding(crate::specs::ExpressionReading::symbol))]
+#[tactic(auto, unfolding(crate::specs::ExpressionParsing::symbol))]
 pub fn take_symbol<S: Symbol>(tokens: &mut Cursor<'_>) -> Result<S, StopCause>
     ensures reads { ParsesTo (spec.symbol S.meaning tokens.old.rest.now) result tokens.new.rest.now }
     ensures only { IfErr result (λ why. why ≡ halt.Unexpected) }

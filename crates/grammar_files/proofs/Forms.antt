@@ -10,7 +10,7 @@ use Rattle.grammar_files.specs.grammar_trees.declared.tree.Access.TheVariants as
 use Rattle.grammar_files.specs.grammar_trees.declared.tree.Comparison.{Comparison}
 use Rattle.grammar_files.specs.grammar_trees.declared.tree.RecordEntry.{RecordEntry}
 use Rattle.grammar_files.specs.grammar_trees.declared.tree.KeyTree.{KeyTree}
-use Rattle.grammar_files.specs.grammar_trees.declared.tree.Variable.{Variable}
+use Rattle.grammar_files.specs.grammar_trees.declared.tree.RequestKeyword.{RequestKeyword}
 use Rattle.grammar_files.specs.grammar_trees.declared.tree.Term.{Term}
 use Rattle.grammar_files.specs.grammar_trees.declared.tree.ExprTree.{ExprTree}
 use Rattle.grammar_files.specs.grammar_trees.declared.tree.ExprTree.TheVariants as t
@@ -23,7 +23,7 @@ use Rattle.policy_grammar.specs.grammar_core.declared.expr.Expr.{Expr}
 use Rattle.policy_grammar.specs.grammar_core.declared.expr.Expr.TheVariants as core
 use Rattle.policy_grammar.specs.grammar_desugaring.Strings.{value_of, pattern_of}
 use Rattle.policy_grammar.specs.grammar_desugaring.Meaning.{variable_of, path_name, uid_of, name_of}
-use Rattle.policy_grammar.specs.grammar_desugaring.Names.{method_of}
+use Rattle.policy_grammar.specs.grammar_core.Operators.{method_of}
 use Rattle.policy_grammar.specs.grammar_desugaring.Core.{Meaning, core_step, meaning, core_of, plain, number, compared}
 use Rattle.policy_grammar.specs.grammar_desugaring.Core.{accessed, added, field, in_term, in_entry, in_access, called, function}
 use Rattle.policy_grammar.specs.grammar_desugaring.Core.{method_called}
@@ -88,7 +88,7 @@ module _ (text part : List ℕ) where
       ap (meaning text) (sym (t.rolls-Text a)) ∙ fold-roll-ExprTree Meaning (core_step text) (tree.Text a) ∙ ap (λ s. plain (core.Literal (literal.Text (value_of s)))) h.spelled
       ∙ sym (ap (meaning part) (sym (t.rolls-Text b)) ∙ fold-roll-ExprTree Meaning (core_step part) (tree.Text b))
 
-  pub same-Variable : (a b : Variable) → a ≡ b → SameTree (t.Variable a) (t.Variable b)
+  pub same-Variable : (a b : RequestKeyword) → a ≡ b → SameTree (t.Variable a) (t.Variable b)
   same-Variable a b h =
       ap (meaning text) (sym (t.rolls-Variable a)) ∙ fold-roll-ExprTree Meaning (core_step text) (tree.Variable a) ∙ ap (λ v. plain (core.Variable (variable_of v))) h
       ∙ sym (ap (meaning part) (sym (t.rolls-Variable b)) ∙ fold-roll-ExprTree Meaning (core_step part) (tree.Variable b))

@@ -19,7 +19,7 @@ use Rattle.grammar_files.specs.grammar_expressions.Expressions as e
 use Rattle.grammar_files.specs.grammar_expressions.Expressions.{boolean_of, variable_of, sign_of, comparison_of, patterns}
 use Rattle.grammar_files.specs.grammar_expressions.Expressions.{joined, accessed, is_in, is_positive, expr}
 use Rattle.policy_grammar.specs.grammar_desugaring.Strings.{value_of}
-use Rattle.policy_grammar.specs.grammar_desugaring.Names.{function_of}
+use Rattle.policy_grammar.specs.grammar_core.Operators.{function_of}
 use Rattle.policy_grammar.specs.grammar_desugaring.Core.{function_at}
 use Rattle.grammar_files.proofs.Kin.{Same, Kin, Both, of_kin, empty_kin, both_kin, giving_kin, or_kin, maybe_kin}
 use Rattle.grammar_files.proofs.Kin.{many_kin, gate_kin, symbol_kin, behind_kin}

@@ -1,9 +1,9 @@
--- Defines the texts of the policies in a file, each by itself.
+-- Defines the text of each policy in a file.
 --
 -- Source: Cedar reference guide 4.0, "Grammar specification for Cedar policy syntax": a policy ends with `;`, and no
 -- other token of it is one.
--- Rules of this product: what precedes a policy belongs to its text, comments included, without the whitespace before
--- the first of it; what follows the last `;` belongs to no policy.
+-- Rules of this product: the text of a policy begins at the first character after the previous policy that is not
+-- whitespace, so comments before a policy belong to its text. What follows the last `;` belongs to no policy.
 use Rattle.std.specs.Prelude.{◌≡◌, ℕ, Bool, true, false, List, [], ◌∷◌, ◌++◌, length, map, drop, slice_range}
 use Rattle.std.specs.Prelude.{if◌then◌else◌}
 use Rattle.std.specs.List.{AllByRecursion, AllZip, concat}
@@ -21,19 +21,20 @@ abbrev pub is_end : TokenKind → Bool
 is_end k.Semicolon = true
 is_end _ = false
 
--- `parts_from text from ts` are the parts of `text` from the byte `from` on, each up to and including a token of `ts`
--- that ends a policy.
+-- `parts_from text from ts` are the parts into which the `;` among the tokens `ts` cut `text`, from the byte `from` on;
+-- each ends with its `;`.
 abbrev pub parts_from : List ℕ → ℕ → List Token → List (List ℕ)
 parts_from text from [] = []
 parts_from text from (t ∷ ts) =
     if is_end t.kind then slice_range text from t.end ∷ parts_from text t.end ts else parts_from text from ts
 
--- `left_from from ts` is the byte at which the last of these parts ends.
+-- `left_from from ts` is the byte after the last of these parts, or `from` otherwise.
 abbrev pub left_from : ℕ → List Token → ℕ
 left_from from [] = from
 left_from from (t ∷ ts) = if is_end t.kind then left_from t.end ts else left_from from ts
 
--- `policy_texts text ts` are the texts of the policies of `text`, whose tokens are `ts`.
+-- `policy_texts text ts` are the texts of the policies of `text`, whose tokens are `ts`: the parts without leading
+-- whitespace.
 abbrev pub policy_texts : List ℕ → List Token → List (List ℕ)
 policy_texts text ts = map trim_start (parts_from text 0 ts)
 
@@ -43,8 +44,7 @@ AreTextsOf text texts = (ts : List Token) × IsLexed text ts × (texts ≡ polic
 
 -- ## Theorems
 
--- `StandsAlone text` holds if `text` by itself has tokens, of which the last ends a policy, at the end of `text`, and
--- no other does.
+-- `StandsAlone text` holds if `text` by itself has tokens, of which exactly the last is a `;`, and that ends `text`.
 pub record StandsAlone (text : List ℕ) : Type 0 where
   pub before : List Token
   pub last : Token
@@ -58,23 +58,23 @@ abbrev pub EachStandsAlone : Type 0
 EachStandsAlone = (text : List ℕ) (ts : List Token) → IsUtf8 text → IsLexed text ts
     → AllByRecursion StandsAlone (policy_texts text ts)
 
--- `PartsJoin`: a text is the concatenation of its parts, and of the rest.
+-- `PartsJoin`: a text is the concatenation of its parts and of the rest after the last.
 abbrev pub PartsJoin : Type 0
 PartsJoin = (text : List ℕ) (ts : List Token) → IsLexed text ts
     → text ≡ concat (parts_from text 0 ts) ++ drop (left_from 0 ts) text
 
--- `IsSpaced part text` holds if `part` is whitespace followed by `text`, which does not begin with whitespace.
+-- `IsSpaced part text` holds if `part` is whitespace, which may be empty, followed by `text`.
 pub record IsSpaced (part text : List ℕ) : Type 0 where
   pub space : List ℕ
   pub is_space : NoCharPasses is_not_whitespace space
   pub whole : part ≡ space ++ text
 
--- `EachIsSpaced`: each text of a policy is its part without leading whitespace.
+-- `EachIsSpaced`: each part is whitespace followed by the text of its policy.
 abbrev pub EachIsSpaced : Type 0
 EachIsSpaced = (text : List ℕ) (ts : List Token) → IsUtf8 text → IsLexed text ts
     → AllZip IsSpaced (parts_from text 0 ts) (policy_texts text ts)
 
--- `AreAsManyAsPolicies`: a text that is derived as policies has as many texts.
+-- `AreAsManyAsPolicies`: if the tokens of a text derive policies, it has one text for each of them.
 abbrev pub AreAsManyAsPolicies : Type 0
 AreAsManyAsPolicies = (levels : ℕ) (text : List ℕ) (ts : List Token) (trees : List PolicyTree) (texts : List (List ℕ))
     → IsLexed text ts → policies levels ts trees → AreTextsOf text texts → length texts ≡ length trees
@@ -86,8 +86,8 @@ pub record DerivesPolicy (levels : ℕ) (text : List ℕ) : Type 0 where
   pub tree : PolicyTree
   pub derived : policy levels tokens tree
 
--- `EachDerivesPolicy`: if a file derives policies, each text of `policy_texts` derives a policy; none has a syntax
--- error.
+-- `EachDerivesPolicy`: if the tokens of a file derive policies, each text of `policy_texts` by itself derives a policy,
+-- so it has no syntax error.
 abbrev pub EachDerivesPolicy : Type 0
 EachDerivesPolicy = (levels : ℕ) (text : List ℕ) (ts : List Token) (trees : List PolicyTree) → IsUtf8 text
     → IsLexed text ts → policies levels ts trees → AllByRecursion (DerivesPolicy levels) (policy_texts text ts)

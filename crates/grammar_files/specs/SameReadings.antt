@@ -1,4 +1,4 @@
--- Defines the theorem that the text of a policy means the same by itself as in its file.
+-- Defines the theorem that the text of a policy is parsed by itself as the policy that it is in its file.
 -- Rules of this product: what surrounds a policy in its file does not affect its meaning, except for its name.
 use Rattle.std.specs.Prelude.{◌≡◌, ℕ, List}
 use Rattle.std.specs.List.{AllZip}
@@ -7,12 +7,13 @@ use Rattle.policy_grammar.specs.declared.policy.Policy.{Policy}
 use Rattle.policy_grammar.specs.PolicyText.{IsPolicyFile, IsPolicyText}
 use Rattle.grammar_files.specs.Cuts.{AreTextsOf}
 
--- `ReadsAs text policy` holds if `text` is parsed as `policy`, if it is parsed as a policy at all: one that is too
--- long by itself is not.
+-- `ReadsAs text policy` holds if `text` is parsed as no policy other than `policy`. It may be parsed as none: a policy
+-- in a file may be too long by itself.
 abbrev pub ReadsAs : List ℕ → Policy → Type 0
 ReadsAs text policy = (read : Policy) → IsPolicyText text read → read ≡ policy
 
--- `EachReadsAsInItsFile`: each text of a file's policies is parsed as the policy at its index.
+-- `EachReadsAsInItsFile`: the text of each policy of a file, by itself, is parsed as the policy at the same index, if
+-- it is parsed at all.
 abbrev pub EachReadsAsInItsFile : Type 0
 EachReadsAsInItsFile = (text : List ℕ) (names : List (List ℕ)) (policies : List Policy) (texts : List (List ℕ))
     → IsUtf8 text → IsPolicyFile text names policies → AreTextsOf text texts → AllZip ReadsAs texts policies

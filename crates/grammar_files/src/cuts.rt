@@ -1,4 +1,4 @@
-//! The texts of the policies in a file.
+//! The text of each policy in a file.
 ghost use Rattle.std.specs.Prelude.{◌≡◌, IfOk, IfErr, map};
 ghost use Rattle.std.specs.List.{AllByRecursion};
 ghost use Rattle.grammar_policies.specs.grammar_tokens.Lexing.{IsLexed, IsSpelledIn, AreInOrder, IsFault};
@@ -15,7 +15,7 @@ fn is_end(kind: TokenKind) -> bool
     matches!(kind, TokenKind::Semicolon)
 }
 
-/// Returns the parts of a text up to and including each token that ends a policy, without leading whitespace.
+/// Returns the parts of a text that its `;` tokens end, each without leading whitespace.
 fn cut<'t>(alloc: Global, text: &'t str, tokens: &[Token]) -> Result<Vec<&'t str>, NoMemory>
     requires spelled { AllByRecursion (IsSpelledIn text.now) tokens.now }
     requires ordered { AreInOrder 0 tokens.now }
@@ -35,14 +35,15 @@ fn cut<'t>(alloc: Global, text: &'t str, tokens: &[Token]) -> Result<Vec<&'t str
 
 /// Returns the text of each policy of a file, in order, as slices of the file.
 ///
-/// A policy's text ends with its `;`, and begins where the previous one ended, at the first character that is not
-/// whitespace: comments before a policy belong to its text. Text after the last `;` belongs to none. Only tokens are
-/// read, so a text that is not a file of policies has such texts too. Takes time proportional to the text, and memory
-/// for its tokens.
+/// A policy's text begins at the first character after the previous policy that is not whitespace, so comments before a
+/// policy belong to its text. It ends with its `;`. What follows the last `;` belongs to no policy. The text is cut by
+/// its tokens alone: it need not be a file of policies.
+///
+/// O(length of `text`). Allocates the tokens and the list of texts.
 ///
 /// # Errors
 ///
-/// - `BadToken`: the first byte at which no token starts.
+/// - `BadToken`: the first byte at which neither whitespace nor a comment nor a token starts.
 /// - `NoMemory`: an allocation failed; possible at any point.
 pub fn policy_texts<'t>(alloc: Global, text: &'t str) -> Result<Vec<&'t str>, LexFault>
     ensures cut { IfOk result (λ texts. AreTextsOf text.now (map (λ t. t.now) texts.items)) }

@@ -1,10 +1,10 @@
-//! A theorem about the definitions.
+//! A theorem about the policies of a file. The function is a no-op.
 ghost use Rattle.grammar_files.specs.SameReadings.{EachReadsAsInItsFile};
 
 use grammar_policies::{lexing_is_unique, reading_is_unique};
 
-/// Proves that the text of each policy of a file, if it is parsed by itself as a policy, is parsed as the same policy
-/// as in the file. No-op.
+/// Proves that the text of each policy of a file is parsed by itself as the policy that it is in the file, if it is
+/// parsed as a policy at all. No-op.
 pub fn texts_read_as_in_their_file()
     ensures { EachReadsAsInItsFile }
 {

@@ -1,4 +1,4 @@
-//! The texts of the policies in a file, each by itself, and the theorem that each is the same policy as in the file.
+//! The text of each policy in a file, and the theorem that it is the same policy by itself as in the file.
 #![tactic(auto)]
 
 mod cuts;

@@ -15,7 +15,7 @@ use Rattle.grammar_expressions.specs.grammar_tokens.Lang as lang
 use Rattle.grammar_policies.specs.Grammar as g
 use Rattle.grammar_policies.specs.Grammar.{words, effects, condition_word_of, condition_words}
 use Rattle.grammar_expressions.specs.Expressions.{expr, symbol}
-use Rattle.grammar_expressions.specs.ExpressionReading as expressions
+use Rattle.grammar_expressions.specs.ExpressionParsing as expressions
 use Rattle.grammar_expressions.proofs.Published.{after_expr, expr_rule, alive_expr, starts_symbol, symbol_rule}
 use Rattle.grammar_expressions.proofs.of_grammar_tokens.Depths.{levels}
 use Rattle.grammar_expressions.specs.grammar_tokens.Reads.{Begins, sees}

@@ -1,8 +1,8 @@
--- Defines the grammar of policies, over tokens: which trees a list of tokens derives, by one definition for each
--- production.
+-- Defines the grammar of policies over tokens, which says which trees a list of tokens derives. A comment states the
+-- production that its definition writes in the combinators of Lang.
 -- Source: Cedar reference guide 4.0, "Grammar specification for Cedar policy syntax".
--- Rules of this product: `__cedar` is reserved too, and so is not an Ident; an annotation's value may be missing,
--- with its parentheses or between them.
+-- Rules of this product: `__cedar` is reserved too, and so is not an Ident; an annotation may lack its value, with or
+-- without the parentheses.
 use Rattle.std.specs.Prelude.{ℕ, true, false, ◌||◌, List, [], ◌∷◌, Option, Some, None}
 use Rattle.grammar_expressions.specs.grammar_tokens.declared.token.TokenKind.{TokenKind}
 use Rattle.grammar_expressions.specs.grammar_tokens.declared.token.TokenKind.TheVariants as k
@@ -60,11 +60,12 @@ equal_uid = one k.Equal >> uid
 abbrev pub in_uid : Lang UidTree
 in_uid = one k.In >> uid
 
--- "is" Path [ "in" Uid ]
+-- `is_in type_name entity` is the constraint `is T`, or `is T in E` if there is an `entity`, where T is `type_name`.
 abbrev pub is_in : PathTree → Option UidTree → PartTree
 is_in type_name None = part.Is type_name
 is_in type_name (Some entity) = part.IsIn type_name entity
 
+-- "is" Path [ "in" Uid ]
 abbrev pub type_test : Lang PartTree
 type_test = do
   one k.Is
@@ -76,7 +77,8 @@ type_test = do
 abbrev pub entity_constraint : Lang PartTree
 entity_constraint = (equal_uid giving part.Equal) or (in_uid giving part.In) or type_test or empty part.Any
 
--- Principal is the word "principal" and a constraint, and Resource the word "resource" and a constraint.
+-- `entity_part variable`: the word `variable` and a constraint. Principal is that of "principal", and Resource that of
+-- "resource".
 abbrev pub entity_part : TokenKind → Lang PartTree
 entity_part variable = one variable >> entity_constraint
 
@@ -100,7 +102,7 @@ in_actions = one k.In >> (uid_list or (uid giving action.In))
 abbrev pub action_constraint : Lang ActionTree
 action_constraint = (equal_uid giving action.Equal) or in_actions or empty action.Any
 
--- Action = "action" and its constraint
+-- Action = "action" [ "==" Uid | "in" Uid | "in" "[" [ Uid { "," Uid } ] "]" ]
 abbrev pub action_part : Lang ActionTree
 action_part = one k.Action >> action_constraint
 
@@ -120,10 +122,11 @@ condition_word_of k.When = Some When
 condition_word_of k.Unless = Some Unless
 condition_word_of _ = None
 
+-- the kinds of "when" and "unless"
 abbrev pub condition_words : Kinds
 condition_words = known condition_word_of
 
--- `levels`: the levels of nesting that an expression may have
+-- In this module `levels` is the number of levels of nesting that an expression may have.
 module _ (levels : ℕ) where
   -- Condition = ("when" | "unless") "{" Expr "}"
   abbrev pub condition : Lang Condition
@@ -153,6 +156,6 @@ module _ (levels : ℕ) where
       conditions = conditions;
     })
 
-  -- a file: any number of policies
+  -- { Policy }: the policies of a file
   abbrev pub policies : Lang (List PolicyTree)
   policies = many policy

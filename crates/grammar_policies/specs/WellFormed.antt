@@ -1,4 +1,4 @@
--- Defines well-formed trees of policies: made of tokens of the text, each of a kind that its position allows.
+-- Defines well-formed trees of policies: their tokens are tokens of the text, each of a kind that its position allows.
 use Rattle.std.specs.Prelude.{List, Option, Some, None}
 use Rattle.std.specs.List.{AllByRecursion}
 use Rattle.grammar_expressions.specs.grammar_tokens.declared.token.TokenKind.TheVariants as k
@@ -16,17 +16,18 @@ pub use Rattle.grammar_expressions.specs.grammar_trees.WellFormed.{WellFormedTok
 pub use Rattle.grammar_expressions.specs.grammar_trees.WellFormed.{WellFormedExpr}
 use Rattle.grammar_policies.specs.Grammar.{words, effects}
 
--- `WellFormedValue ts o` holds if the annotation's value `o`, if there is one, is a String of `ts`.
+-- `WellFormedValue ts o` holds if the value `o` of an annotation, if it has one, is a String among `ts`.
 abbrev pub WellFormedValue : List Token → Option Token → Type 0
 WellFormedValue ts None = Unit {0}
 WellFormedValue ts (Some t) = WellFormedToken (only k.Text) ts t
 
--- `WellFormedAnnotation ts a` holds if the annotation `a` is made of tokens of `ts`.
+-- `WellFormedAnnotation ts a` holds if the annotation `a` is made of tokens of `ts`, each of a kind that its position
+-- allows.
 abbrev pub WellFormedAnnotation : List Token → Annotation → Type 0
 WellFormedAnnotation ts a = WellFormedToken (only k.At) ts a.at × WellFormedToken words ts a.key
     × WellFormedValue ts a.value
 
--- `WellFormedPart ts part` holds if the scope's part on the principal or resource is made of tokens of `ts`.
+-- `WellFormedPart ts part` holds if `part`, a constraint on the principal or the resource, is made of tokens of `ts`.
 abbrev pub WellFormedPart : List Token → PartTree → Type 0
 WellFormedPart ts part.Any = Unit {0}
 WellFormedPart ts (part.Equal u) = WellFormedUid ts u
@@ -34,7 +35,7 @@ WellFormedPart ts (part.In u) = WellFormedUid ts u
 WellFormedPart ts (part.Is p) = WellFormedPath ts p
 WellFormedPart ts (part.IsIn p u) = WellFormedPath ts p × WellFormedUid ts u
 
--- `WellFormedAction ts part` holds if the scope's part on the action is made of tokens of `ts`.
+-- `WellFormedAction ts part` holds if `part`, a constraint on the action, is made of tokens of `ts`.
 abbrev pub WellFormedAction : List Token → ActionTree → Type 0
 WellFormedAction ts action.Any = Unit {0}
 WellFormedAction ts (action.Equal u) = WellFormedUid ts u

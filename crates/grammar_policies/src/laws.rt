@@ -1,4 +1,4 @@
-//! Theorems about the definitions.
+//! Theorems about the grammar of policies. The functions are no-ops.
 ghost use Rattle.std.specs.List.{AllByRecursion};
 ghost use Rattle.grammar_policies.specs.Grammar.{policy, policies, uid};
 ghost use Rattle.grammar_policies.specs.WellFormed.{IsMadeOfTokens, WellFormedPolicy, WellFormedUid};
@@ -7,8 +7,8 @@ ghost use Rattle.grammar_expressions.specs.grammar_tokens.Lang.{at_any};
 ghost use Rattle.grammar_expressions.specs.grammar_tokens.Reads.{HasOneTree, HasOneAnswer, HasOneAnswerWithin};
 ghost use Rattle.grammar_expressions.specs.grammar_tokens.Reads.{OpensNextLevel};
 
-/// Proves that a list of tokens has exactly one result, a tree or an error, and that a token which is too deep opens
-/// the first level past the limit. No-op.
+/// Proves that each list of tokens has exactly one result, a tree or an error, as a policy, as a list of policies and
+/// as a uid; and that a token with the error `TooDeep` opens the first level past the limit. No-op.
 pub fn reading_is_unique()
     ensures one_policy { HasOneTree (policy nesting_limit) }
     ensures one_list { HasOneTree (policies nesting_limit) }
@@ -20,8 +20,8 @@ pub fn reading_is_unique()
     ensures list_too_deep { OpensNextLevel policies nesting_limit }
 {}
 
-/// Proves that a tree is made of the tokens that derive it, each of a kind that its position allows. No-op.
-pub fn trees_stand_in_tokens()
+/// Proves that a tree is made of tokens of the list that derives it, each of a kind that its position allows. No-op.
+pub fn trees_are_made_of_tokens()
     ensures policy { IsMadeOfTokens (policy nesting_limit) WellFormedPolicy }
     ensures list { IsMadeOfTokens (policies nesting_limit) (λ ts. AllByRecursion (WellFormedPolicy ts)) }
     ensures uid { IsMadeOfTokens uid WellFormedUid }

@@ -1,7 +1,7 @@
-//! The grammar of policies, over their tokens.
+//! The parser of policies, from tokens to trees.
 //!
-//! A list of tokens is parsed if and only if the grammar derives it, into the one tree that it derives; otherwise it
-//! is rejected at the first token with which nothing goes on.
+//! A list of tokens that derives a tree in the grammar is parsed as that tree, which is the only one. Any other list is
+//! rejected at the first token that cannot follow those before it, or at its end.
 #![tactic(auto)]
 
 mod laws;
@@ -15,6 +15,6 @@ mod tree;
 pub use grammar_expressions::{
     LexFault, PathTree, SyntaxFault, Token, TokenKind, UidTree, lexing_is_unique, tokens,
 };
-pub use laws::{reading_is_unique, trees_stand_in_tokens};
+pub use laws::{reading_is_unique, trees_are_made_of_tokens};
 pub use read::{read_policies, read_policy, read_uid};
 pub use tree::{ActionTree, Annotation, Condition, ConditionWord, PartTree, PolicyTree};

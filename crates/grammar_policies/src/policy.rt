@@ -1,4 +1,4 @@
-//! Annotations and policies.
+//! Parsers of annotations, conditions and policies.
 
 ghost use Rattle.std.specs.Prelude.{◌≡◌, IfErr};
 ghost use Rattle.grammar_expressions.specs.grammar_tokens.ParsesTo.{ParsesTo};
@@ -15,6 +15,7 @@ use grammar_expressions::{
 use plain::{Items, beside};
 use std::alloc::Global;
 
+/// Parses [ String ].
 #[tactic(auto, unfolding(crate::specs::inner::Parsing::maybe_text))]
 fn maybe_text(tokens: &mut Cursor<'_>) -> Result<Option<Token>, StopCause>
     ensures reads { ParsesTo (spec.maybe_text tokens.old.rest.now) result tokens.new.rest.now }
@@ -27,19 +28,8 @@ fn maybe_text(tokens: &mut Cursor<'_>) -> Result<Option<Token>, StopCause>
     Ok(Some(text))
 }
 
-/// "(" [ String ] ")"
-#[tactic(auto, unfolding(crate::specs::inner::Parsing::annotation_value))]
-fn annotation_value(tokens: &mut Cursor<'_>) -> Result<Option<Token>, StopCause>
-    ensures reads { ParsesTo (spec.annotation_value tokens.old.rest.now) result tokens.new.rest.now }
-    ensures only { IfErr result (λ why. why ≡ halt.Unexpected) }
-{
-    tokens.take(TokenKind::LParen)?;
-    let text = maybe_text(tokens)?;
-    tokens.take(TokenKind::RParen)?;
-    Ok(text)
-}
-
-#[tactic(auto, unfolding(crate::specs::inner::Parsing::maybe_value))]
+/// [ "(" [ String ] ")" ]
+#[tactic(auto, unfolding(crate::specs::inner::Parsing::maybe_value, crate::specs::inner::Parsing::annotation_value))]
 fn maybe_value(tokens: &mut Cursor<'_>) -> Result<Option<Token>, StopCause>
     ensures reads { ParsesTo (spec.maybe_value tokens.old.rest.now) result tokens.new.rest.now }
     ensures only { IfErr result (λ why. why ≡ halt.Unexpected) }
@@ -47,10 +37,13 @@ fn maybe_value(tokens: &mut Cursor<'_>) -> Result<Option<Token>, StopCause>
     if !tokens.sees(TokenKind::LParen) {
         return Ok(None);
     }
-    annotation_value(tokens)
+    tokens.take(TokenKind::LParen)?;
+    let text = maybe_text(tokens)?;
+    tokens.take(TokenKind::RParen)?;
+    Ok(text)
 }
 
-/// Annotation = "@" (Ident | Reserved) [ "(" [ String ] ")" ]
+/// Parses "@" (Ident | Reserved) [ "(" [ String ] ")" ].
 #[tactic(auto, unfolding(crate::specs::inner::Parsing::annotation))]
 fn annotation(tokens: &mut Cursor<'_>) -> Result<Annotation, StopCause>
     ensures reads { ParsesTo (spec.annotation tokens.old.rest.now) result tokens.new.rest.now }
@@ -62,6 +55,7 @@ fn annotation(tokens: &mut Cursor<'_>) -> Result<Annotation, StopCause>
     Ok(Annotation { at, key, value })
 }
 
+/// Parses { Annotation }.
 #[tactic(auto, unfolding(crate::specs::inner::Parsing::annotations))]
 fn annotations(alloc: Global, tokens: &mut Cursor<'_>) -> Result<Items<Annotation>, StopCause>
     ensures { ParsesTo (spec.annotations tokens.old.rest.now) result tokens.new.rest.now }
@@ -69,7 +63,7 @@ fn annotations(alloc: Global, tokens: &mut Cursor<'_>) -> Result<Items<Annotatio
     read_many(alloc, tokens, TokenKind::At, annotation)
 }
 
-/// ("when" | "unless") "{" Expr "}"
+/// Parses ("when" | "unless") "{" Expr "}".
 #[tactic(auto, unfolding(crate::specs::inner::Parsing::condition))]
 fn condition(alloc: Global, tokens: &mut Cursor<'_>) -> Result<Condition, StopCause>
     ensures { ParsesTo (spec.condition nesting_limit tokens.old.rest.now) result tokens.new.rest.now }
@@ -81,6 +75,7 @@ fn condition(alloc: Global, tokens: &mut Cursor<'_>) -> Result<Condition, StopCa
     Ok(Condition { word, expression })
 }
 
+/// Parses { Condition }.
 #[tactic(auto, unfolding(crate::specs::inner::Parsing::conditions))]
 fn conditions(alloc: Global, tokens: &mut Cursor<'_>) -> Result<Items<Condition>, StopCause>
     ensures { ParsesTo (spec.conditions nesting_limit tokens.old.rest.now) result tokens.new.rest.now }
@@ -90,7 +85,7 @@ fn conditions(alloc: Global, tokens: &mut Cursor<'_>) -> Result<Items<Condition>
     })
 }
 
-/// ")" { Condition } ";"
+/// Parses ")" { Condition } ";".
 #[tactic(auto, unfolding(crate::specs::inner::Parsing::scope_tail))]
 fn scope_tail(alloc: Global, tokens: &mut Cursor<'_>) -> Result<Items<Condition>, StopCause>
     ensures { ParsesTo (spec.scope_tail nesting_limit tokens.old.rest.now) result tokens.new.rest.now }
@@ -127,7 +122,7 @@ fn policy_of(
     })
 }
 
-/// Policy = { Annotation } Effect "(" Scope ")" { Condition } ";"
+/// Parses { Annotation } Effect "(" Scope ")" { Condition } ";".
 #[tactic(auto, unfolding(crate::specs::inner::Parsing::policy))]
 pub(crate) fn policy(alloc: Global, tokens: &mut Cursor<'_>) -> Result<PolicyTree, StopCause>
     ensures { ParsesTo (spec.policy nesting_limit tokens.old.rest.now) result tokens.new.rest.now }
@@ -139,7 +134,7 @@ pub(crate) fn policy(alloc: Global, tokens: &mut Cursor<'_>) -> Result<PolicyTre
     policy_of(alloc, tokens, annotations, effect, found)
 }
 
-/// Parses a file: any number of policies.
+/// Parses { Policy }.
 #[tactic(auto, unfolding(crate::specs::inner::Parsing::policies))]
 pub(crate) fn policies(
     alloc: Global,

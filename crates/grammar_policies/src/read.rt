@@ -1,4 +1,4 @@
-//! Parsers of whole lists of tokens.
+//! Parsers of whole lists of tokens: policies and uids.
 
 ghost use Rattle.std.specs.Prelude.{IfOk};
 ghost use Rattle.std.specs.List.{AllByRecursion};
@@ -13,7 +13,13 @@ use crate::tree::PolicyTree;
 use grammar_expressions::{Cursor, SyntaxFault, Token, UidTree, read_to_end, uid};
 use std::alloc::Global;
 
-/// Parses a policy; an error has the index of the first token with which no policy goes on.
+/// Parses a list of tokens as a policy.
+///
+/// # Errors
+///
+/// - `Unexpected`, `Slot` or `TooDeep`, with the index of the first token that cannot follow those before it in a
+///   policy, or the number of tokens if they end too early.
+/// - `NoMemory`: an allocation failed; possible at any point.
 pub fn read_policy(alloc: Global, tokens: &[Token]) -> Result<PolicyTree, SyntaxFault>
     ensures reads { ReadsWithin (grammar.policy nesting_limit) (at_any grammar.policy) tokens.now result }
     ensures stands { IfOk result (WellFormedPolicy tokens.now) }
@@ -23,9 +29,15 @@ pub fn read_policy(alloc: Global, tokens: &[Token]) -> Result<PolicyTree, Syntax
     read_to_end(tokens, &cursor, read)
 }
 
-/// Parses a list of policies; an error has the index of the first token with which no list goes on.
+/// Parses a list of tokens as any number of policies.
 ///
-/// Takes time and memory proportional to the tokens.
+/// Takes time and memory proportional to the number of tokens.
+///
+/// # Errors
+///
+/// - `Unexpected`, `Slot` or `TooDeep`, with the index of the first token that cannot follow those before it in a list
+///   of policies, or the number of tokens if they end too early.
+/// - `NoMemory`: an allocation failed; possible at any point.
 pub fn read_policies(alloc: Global, tokens: &[Token]) -> Result<Vec<PolicyTree>, SyntaxFault>
     ensures reads { ReadsWithin (grammar.policies nesting_limit) (at_any grammar.policies)
         tokens.now (with_items result) }
@@ -38,7 +50,13 @@ pub fn read_policies(alloc: Global, tokens: &[Token]) -> Result<Vec<PolicyTree>,
     Ok(found)
 }
 
-/// Parses a uid; an error has the index of the first token with which no uid goes on.
+/// Parses a list of tokens as a uid.
+///
+/// # Errors
+///
+/// - `Unexpected` or `Slot`, with the index of the first token that cannot follow those before it in a uid, or the
+///   number of tokens if they end too early.
+/// - `NoMemory`: an allocation failed; possible at any point.
 pub fn read_uid(alloc: Global, tokens: &[Token]) -> Result<UidTree, SyntaxFault>
     ensures reads { Reads grammar.uid tokens.now result }
     ensures stands { IfOk result (WellFormedUid tokens.now) }

@@ -1,4 +1,4 @@
-//! The parts of a scope.
+//! Parsers of the parts of a scope.
 
 ghost use Rattle.grammar_expressions.specs.grammar_tokens.ParsesTo.{ParsesTo};
 ghost use Rattle.grammar_policies.specs.inner.Parsing as spec;
@@ -8,7 +8,7 @@ use grammar_expressions::{Cursor, NameSet, StopCause, TokenKind, UidTree, path, 
 use plain::{Items, beside};
 use std::alloc::Global;
 
-/// "==" Uid
+/// Parses "==" Uid.
 #[tactic(auto, unfolding(crate::specs::inner::Parsing::equal_uid))]
 fn equal_uid(alloc: Global, tokens: &mut Cursor<'_>) -> Result<UidTree, StopCause>
     ensures { ParsesTo (spec.equal_uid tokens.old.rest.now) result tokens.new.rest.now }
@@ -17,7 +17,7 @@ fn equal_uid(alloc: Global, tokens: &mut Cursor<'_>) -> Result<UidTree, StopCaus
     uid(alloc, tokens)
 }
 
-/// "in" Uid
+/// Parses "in" Uid.
 #[tactic(auto, unfolding(crate::specs::inner::Parsing::in_uid))]
 fn in_uid(alloc: Global, tokens: &mut Cursor<'_>) -> Result<UidTree, StopCause>
     ensures { ParsesTo (spec.in_uid tokens.old.rest.now) result tokens.new.rest.now }
@@ -26,7 +26,7 @@ fn in_uid(alloc: Global, tokens: &mut Cursor<'_>) -> Result<UidTree, StopCause>
     uid(alloc, tokens)
 }
 
-/// "is" Path [ "in" Uid ]
+/// Parses "is" Path [ "in" Uid ].
 #[tactic(auto, unfolding(crate::specs::inner::Parsing::type_test))]
 fn type_test(alloc: Global, tokens: &mut Cursor<'_>) -> Result<PartTree, StopCause>
     ensures { ParsesTo (spec.type_test tokens.old.rest.now) result tokens.new.rest.now }
@@ -40,7 +40,7 @@ fn type_test(alloc: Global, tokens: &mut Cursor<'_>) -> Result<PartTree, StopCau
     Ok(PartTree::IsIn(type_name, entity))
 }
 
-/// [ "==" Uid | "in" Uid | "is" Path [ "in" Uid ] ]
+/// Parses [ "==" Uid | "in" Uid | "is" Path [ "in" Uid ] ].
 #[tactic(auto, unfolding(crate::specs::inner::Parsing::entity_constraint))]
 fn entity_constraint(alloc: Global, tokens: &mut Cursor<'_>) -> Result<PartTree, StopCause>
     ensures { ParsesTo (spec.entity_constraint tokens.old.rest.now) result tokens.new.rest.now }
@@ -59,7 +59,7 @@ fn entity_constraint(alloc: Global, tokens: &mut Cursor<'_>) -> Result<PartTree,
     Ok(PartTree::Any)
 }
 
-/// Parses a variable and its constraint: Principal or Resource.
+/// Parses the word `variable` and its constraint: a Principal or a Resource.
 #[tactic(auto, unfolding(crate::specs::inner::Parsing::entity_part))]
 fn entity_part(
     alloc: Global,
@@ -72,6 +72,7 @@ fn entity_part(
     entity_constraint(alloc, tokens)
 }
 
+/// Parses "," Uid.
 #[tactic(auto, unfolding(crate::specs::inner::Parsing::comma_uid))]
 fn comma_uid(alloc: Global, tokens: &mut Cursor<'_>) -> Result<UidTree, StopCause>
     ensures { ParsesTo (spec.comma_uid tokens.old.rest.now) result tokens.new.rest.now }
@@ -80,6 +81,7 @@ fn comma_uid(alloc: Global, tokens: &mut Cursor<'_>) -> Result<UidTree, StopCaus
     uid(alloc, tokens)
 }
 
+/// Parses { "," Uid }, after the Uid `first`.
 fn rest_of_uids(
     alloc: Global,
     tokens: &mut Cursor<'_>,
@@ -92,7 +94,7 @@ fn rest_of_uids(
     })
 }
 
-/// [ Uid { "," Uid } ]
+/// Parses [ Uid { "," Uid } ].
 #[tactic(auto, unfolding(crate::specs::inner::Parsing::uids))]
 fn uids(alloc: Global, tokens: &mut Cursor<'_>) -> Result<Items<UidTree>, StopCause>
     ensures { ParsesTo (spec.uids tokens.old.rest.now) result tokens.new.rest.now }
@@ -104,6 +106,7 @@ fn uids(alloc: Global, tokens: &mut Cursor<'_>) -> Result<Items<UidTree>, StopCa
     rest_of_uids(alloc, tokens, first)
 }
 
+/// Parses "[" [ Uid { "," Uid } ] "]".
 #[tactic(auto, unfolding(crate::specs::inner::Parsing::uid_list))]
 fn uid_list(alloc: Global, tokens: &mut Cursor<'_>) -> Result<ActionTree, StopCause>
     ensures { ParsesTo (spec.uid_list tokens.old.rest.now) result tokens.new.rest.now }
@@ -114,6 +117,7 @@ fn uid_list(alloc: Global, tokens: &mut Cursor<'_>) -> Result<ActionTree, StopCa
     Ok(ActionTree::InList(found))
 }
 
+/// Parses "[" [ Uid { "," Uid } ] "]" | Uid.
 #[tactic(auto, unfolding(crate::specs::inner::Parsing::list_or_uid))]
 fn list_or_uid(alloc: Global, tokens: &mut Cursor<'_>) -> Result<ActionTree, StopCause>
     ensures { ParsesTo (spec.list_or_uid tokens.old.rest.now) result tokens.new.rest.now }
@@ -125,7 +129,7 @@ fn list_or_uid(alloc: Global, tokens: &mut Cursor<'_>) -> Result<ActionTree, Sto
     Ok(ActionTree::In(entity))
 }
 
-/// "in" ( "[" [ Uid { "," Uid } ] "]" | Uid )
+/// Parses "in" ( "[" [ Uid { "," Uid } ] "]" | Uid ).
 #[tactic(auto, unfolding(crate::specs::inner::Parsing::in_actions))]
 fn in_actions(alloc: Global, tokens: &mut Cursor<'_>) -> Result<ActionTree, StopCause>
     ensures { ParsesTo (spec.in_actions tokens.old.rest.now) result tokens.new.rest.now }
@@ -134,7 +138,7 @@ fn in_actions(alloc: Global, tokens: &mut Cursor<'_>) -> Result<ActionTree, Stop
     list_or_uid(alloc, tokens)
 }
 
-/// [ "==" Uid | "in" Uid | "in" "[" [ Uid { "," Uid } ] "]" ]
+/// Parses [ "==" Uid | "in" Uid | "in" "[" [ Uid { "," Uid } ] "]" ].
 #[tactic(auto, unfolding(crate::specs::inner::Parsing::action_constraint))]
 fn action_constraint(alloc: Global, tokens: &mut Cursor<'_>) -> Result<ActionTree, StopCause>
     ensures { ParsesTo (spec.action_constraint tokens.old.rest.now) result tokens.new.rest.now }
@@ -149,7 +153,7 @@ fn action_constraint(alloc: Global, tokens: &mut Cursor<'_>) -> Result<ActionTre
     Ok(ActionTree::Any)
 }
 
-/// "action" and its constraint.
+/// Parses "action" and its constraint.
 #[tactic(auto, unfolding(crate::specs::inner::Parsing::action_part))]
 fn action_part(alloc: Global, tokens: &mut Cursor<'_>) -> Result<ActionTree, StopCause>
     ensures { ParsesTo (spec.action_part tokens.old.rest.now) result tokens.new.rest.now }
@@ -158,7 +162,7 @@ fn action_part(alloc: Global, tokens: &mut Cursor<'_>) -> Result<ActionTree, Sto
     action_constraint(alloc, tokens)
 }
 
-/// Scope = Principal "," Action "," Resource
+/// Parses Principal "," Action "," Resource.
 #[tactic(auto, unfolding(crate::specs::inner::Parsing::scope))]
 pub(crate) fn scope(alloc: Global, tokens: &mut Cursor<'_>) -> Result<ScopeTree, StopCause>
     ensures { ParsesTo (spec.scope tokens.old.rest.now) result tokens.new.rest.now }

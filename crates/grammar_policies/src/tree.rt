@@ -16,23 +16,32 @@ pub struct Annotation {
 /// The constraint of a scope on the principal or the resource.
 #[derive(Drop)]
 pub enum PartTree {
+    /// No constraint.
     Any,
+    /// `== E`
     Equal(UidTree),
+    /// `in E`
     In(UidTree),
+    /// `is T`
     Is(PathTree),
+    /// `is T in E`
     IsIn(PathTree, UidTree),
 }
 
 /// The constraint of a scope on the action.
 #[derive(Drop)]
 pub enum ActionTree {
+    /// No constraint.
     Any,
+    /// `== E`
     Equal(UidTree),
+    /// `in E`
     In(UidTree),
+    /// `in [E, ..]`
     InList(Items<UidTree>),
 }
 
-/// The three parts of a scope.
+/// The three constraints of a scope.
 #[derive(Drop)]
 pub(crate) struct ScopeTree {
     pub(crate) principal: PartTree,

@@ -5,8 +5,8 @@ use Rattle.grammar_tokens.specs.declared.token.Token.{Token}
 use Rattle.grammar_tokens.specs.declared.token.TokenKind.TheVariants as k
 use Rattle.grammar_tokens.specs.declared.fault.StopCause.{StopCause}
 use Rattle.grammar_tokens.specs.declared.fault.StopCause.TheVariants as halt
-use Rattle.grammar_tokens.specs.declared.tree.Name.{Name}
-use Rattle.grammar_tokens.specs.declared.tree.Name.TheVariants as name
+use Rattle.grammar_tokens.specs.declared.tree.PathOrUid.{PathOrUid}
+use Rattle.grammar_tokens.specs.declared.tree.PathOrUid.TheVariants as name
 use Rattle.grammar_tokens.specs.ParsesTo.{ParsesTo}
 use Rattle.grammar_tokens.specs.Kinds.{only}
 use Rattle.grammar_tokens.specs.Reads.{sees}
@@ -15,22 +15,22 @@ use Rattle.grammar_tokens.specs.Parsing.{piece, is_text, ends, beginning, last_o
 use Rattle.grammar_tokens.proofs.Gathered.{next_turn, no_more}
 use Rattle.grammar_tokens.proofs.UidLoop.{steps, step_seen, step_unseen, step_ended}
 
-abbrev pub path_named : Token → List Token → Name
+abbrev pub path_named : Token → List Token → PathOrUid
 path_named first more = name.Path (record { first = first; more = more })
 
-abbrev pub uid_named : Token → List Token → Token → Name
+abbrev pub uid_named : Token → List Token → Token → PathOrUid
 uid_named first more id = name.Uid (record { path = record { first = first; more = more }; id = id })
 
 -- behind the words that were read
-abbrev name_on : Bool → Token → List Token → List Token → Name
+abbrev name_on : Bool → Token → List Token → List Token → PathOrUid
 name_on true first more ts = uid_named first (more ++ beginning ts) (last_of first ts)
 name_on false first more ts = path_named first (more ++ ts)
 
-abbrev finish : Bool → Token → List Token → List Token → Parser Name
+abbrev finish : Bool → Token → List Token → List Token → Parser PathOrUid
 finish ended first more ts = pure (name_on (ends ended ts) first more ts)
 
 -- what is read with n more turns
-abbrev pub taken : ℕ → Token → List Token → Parser Name
+abbrev pub taken : ℕ → Token → List Token → Parser PathOrUid
 taken n first more = λ ts. and_then (steps n false ts) (finish false first more)
 
 none_before : (b : Bool) (first : Token) (ts : List Token) → name_by b first ts ≡ name_on b first [] ts
@@ -90,7 +90,7 @@ none_comes (suc n) first more ts seen = ap (λ o. and_then o (finish false first
 
 -- ---- the code's loop, at the place at of end turns
 
-module _ (x : ParseResult Name) (end at : ℕ) (first : Token) (more ts : List Token) where
+module _ (x : ParseResult PathOrUid) (end at : ℕ) (first : Token) (more ts : List Token) where
   pub turned : (more' : List Token) (t : Token) (mid : List Token) → x ≡ taken (end - at) first more ts → at < end → true ≡ sees (only k.Colons) ts → piece ts ≡ Read t mid → is_text t ≡ false → more' ≡ more ++ t ∷ []
       → x ≡ taken (end - (at + 1)) first more' mid
   turned more' t mid e below seen r word put =

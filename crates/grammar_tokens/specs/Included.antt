@@ -1,4 +1,4 @@
--- Defines the kinds in each set of tokens that the parsers of names use.
+-- Defines which token kinds are in each set that the parsers of names use.
 use Rattle.grammar_tokens.specs.declared.kind_sets.NameSet.{NameSet}
 use Rattle.grammar_tokens.specs.declared.kind_sets.NameSet.TheVariants as set
 use Rattle.grammar_tokens.specs.Kinds.{Kinds}
@@ -6,7 +6,7 @@ use Rattle.grammar_tokens.specs.Grammar.{identifiers}
 use Rattle.grammar_tokens.specs.Reads.{is_slot}
 use Rattle.grammar_tokens.specs.Parsing.{pieces}
 
--- `included set` are the kinds of `set`.
+-- `included set` are the token kinds in `set`.
 abbrev pub included : NameSet → Kinds
 included set.Identifiers = identifiers
 included set.Pieces = pieces

@@ -8,7 +8,7 @@ use denote.Enum.Declared.{tag_of}
 abbrev pub Kinds : Type 0
 Kinds = TokenKind → Bool
 
--- `number_of k` is the index of the kind `k`, by which the derived `==` compares.
+-- `number_of k` is the index of the variant `k`, which the derived `==` compares.
 abbrev pub number_of : TokenKind → ℕ
 number_of k = tag_of the_type k
 
@@ -16,6 +16,6 @@ number_of k = tag_of the_type k
 unfoldable pub same_kind : TokenKind → TokenKind → Bool
 same_kind a b = number_of a == number_of b
 
--- `only k` is the set of the kind `k`.
+-- `only k` is the set whose only member is `k`.
 abbrev pub only : TokenKind → Kinds
 only k = λ other. same_kind other k

@@ -6,8 +6,8 @@
 -- Rules of this product: white space is what Unicode calls White_Space; a comment ends before a line feed or a
 -- carriage return; a line end may occur in a string; the longest token is taken; `__cedar` is reserved.
 --
--- A text is the list of its bytes in UTF-8, and an offset is a number of bytes from its start. `codes "if"` is the
--- list of the code points of these characters, and `code "i"` that of this one.
+-- A text is the list of its bytes in UTF-8, and an offset is a number of bytes from its start. `codes "if"` is the list
+-- of the code points of `i` and `f`, and `code "i"` is the code point of `i`.
 use Prim.Native.Char.{code}
 use Rattle.std.specs.Prelude.{◌≡◌, ◌≢◌, ℕ, ◌+◌, ◌-◌, ◌*◌, ◌≤◌, ◌<◌, Bool, true, false, not, ◌==◌, ◌||◌, nat_eq, nat_lt}
 use Rattle.std.specs.Prelude.{if◌then◌else◌, List, [], ◌∷◌, ◌++◌, length, take, drop, Option, Some, None, codes}
@@ -37,31 +37,32 @@ use Rattle.grammar_tokens.specs.declared.lex_fault.LexFault.TheVariants.{NoMemor
 
 -- ## Tokens with one spelling
 
--- A `SpelledKind` is a spelling and its kind of token.
+-- A `SpelledKind` is a spelling with the kind of token that it spells.
 pub record SpelledKind : Type 0 where
   pub spelling : List ℕ
   pub kind : TokenKind
 
+-- `entry s k` is the spelling `s` of the kind `k`.
 abbrev entry : List ℕ → TokenKind → SpelledKind
 entry s k = record { spelling = s; kind = k }
 
--- `entries ss ks` are the spellings `ss`, each with its kind of `ks`.
+-- `entries ss ks` are the spellings `ss`, each with the kind at the same index of `ks`.
 abbrev entries : List (List ℕ) → List TokenKind → List SpelledKind
 entries [] ks = []
 entries (s ∷ ss) [] = []
 entries (s ∷ ss) (k ∷ ks) = entry s k ∷ entries ss ks
 
--- `reserved` are the reserved words, which are not identifiers.
+-- `reserved` are the reserved words with their kinds. They are not identifiers.
 abbrev pub reserved : List SpelledKind
 reserved = entries reserved_words (True ∷ False ∷ If ∷ Then ∷ Else ∷ In ∷ Is ∷ Like ∷ Has ∷ Cedar ∷ [])
 
--- `named` are the identifiers that are keywords too.
+-- `named` are the keywords that are identifiers too, with their kinds.
 abbrev pub named : List SpelledKind
 named = entry (codes "permit") Permit ∷ entry (codes "forbid") Forbid ∷ entry (codes "when") When
     ∷ entry (codes "unless") Unless ∷ entry (codes "principal") Principal ∷ entry (codes "action") Action
     ∷ entry (codes "resource") Resource ∷ entry (codes "context") Context ∷ []
 
--- `singles` are the punctuation marks of one byte.
+-- `singles` are the punctuation marks of one byte, with their kinds.
 abbrev pub singles : List SpelledKind
 singles = entry (codes "@") At ∷ entry (codes "(") LParen ∷ entry (codes ")") RParen ∷ entry (codes "{") LBrace
     ∷ entry (codes "}") RBrace ∷ entry (codes "[") LBracket ∷ entry (codes "]") RBracket ∷ entry (codes ",") Comma
@@ -69,17 +70,17 @@ singles = entry (codes "@") At ∷ entry (codes "(") LParen ∷ entry (codes ")"
     ∷ entry (codes ">") Greater ∷ entry (codes "+") Plus ∷ entry (codes "-") Minus ∷ entry (codes "*") Star
     ∷ entry (codes "!") Not ∷ []
 
--- `pairs` are the punctuation marks of two bytes.
+-- `pairs` are the punctuation marks of two bytes, with their kinds.
 abbrev pub pairs : List SpelledKind
 pairs = entry (codes "::") Colons ∷ entry (codes "==") Equal ∷ entry (codes "!=") NotEqual
     ∷ entry (codes "<=") LessEqual ∷ entry (codes ">=") GreaterEqual ∷ entry (codes "&&") And ∷ entry (codes "||") Or
     ∷ []
 
--- `slots` are the slots of templates.
+-- `slots` are the slots of templates, with their kinds.
 abbrev pub slots : List SpelledKind
 slots = entry (codes "?principal") PrincipalSlot ∷ entry (codes "?resource") ResourceSlot ∷ []
 
--- `listed table w` is the kind of the spelling `w` in `table`.
+-- `listed table w` is the kind of the spelling `w` in `table`, if it is there.
 abbrev pub listed : List SpelledKind → List ℕ → Option TokenKind
 listed [] w = None
 listed (e ∷ table) w = if bytes_eq e.spelling w then Some e.kind else listed table w
@@ -114,13 +115,14 @@ IsNumber (c ∷ cs) = (is_digit c ≡ true) × AllAre is_digit cs
 -- \x7F                          two hexadecimal digits, up to 7F: the character of that number
 -- \u{10FFFF}                    one to six hexadecimal digits: the Unicode scalar value of that number
 
+-- `quote` and `backslash` are the code points of `"` and `\`.
 abbrev pub quote : ℕ
 quote = code "\""
 
 abbrev pub backslash : ℕ
 backslash = code "\\"
 
--- `escapes` are the letters and marks of escapes, each with its meaning.
+-- `escapes` are the letters and marks that may follow the backslash of an escape, each with its meaning.
 abbrev pub escapes : List (ℕ × ℕ)
 escapes = (code "n", code "\n") ∷ (code "r", code "\r") ∷ (code "t", code "\t") ∷ (code "\\", code "\\")
     ∷ (code "0", code "\0") ∷ (code "'", code "'") ∷ (code "\"", code "\"") ∷ []
@@ -143,7 +145,7 @@ abbrev pub hex_after : ℕ → List ℕ → ℕ
 hex_after n [] = n
 hex_after n (d ∷ ds) = hex_after (n * 16 + digit_value d) ds
 
--- `IsEscape p w` holds if the bytes `w` are an escape, of one of these four forms, with the meaning `p`.
+-- `IsEscape p w` holds if the bytes `w` are an escape, of one of the four forms above, with the meaning `p`.
 pub data IsEscape : Piece → List ℕ → Type 0 where
   letter : {p : Piece} {w : List ℕ} (c meant : ℕ) → escaped c ≡ Some meant → w ≡ backslash ∷ c ∷ []
       → p ≡ piece.Char meant → IsEscape p w
@@ -170,12 +172,13 @@ is_star (piece.Byte b) = false
 is_star (piece.Char c) = false
 is_star piece.Star = true
 
--- `has_star ps` tests whether one of the pieces is `\*`.
+-- `has_star ps` tests whether one of the pieces `ps` is `\*`.
 abbrev pub has_star : List Piece → Bool
 has_star [] = false
 has_star (p ∷ ps) = is_star p || has_star ps
 
--- `kind_of_pieces ps` is the kind of a string with these pieces: one with `\*` may only be a pattern.
+-- `kind_of_pieces ps` is the kind of a string with the pieces `ps`: `StarText` if one is `\*`, since such a string may
+-- only be a pattern.
 abbrev pub kind_of_pieces : List Piece → TokenKind
 kind_of_pieces ps = if has_star ps then StarText else Text
 
@@ -192,12 +195,13 @@ pub data IsToken : TokenKind → List ℕ → Type 0 where
   pair : {k : TokenKind} {w : List ℕ} → listed pairs w ≡ Some k → IsToken k w
   slot : {k : TokenKind} {w : List ℕ} → listed slots w ≡ Some k → IsToken k w
 
--- `IsLongest k w rest` holds if `w`, followed by `rest`, is a token of kind `k`, and no longer one starts there.
+-- `IsLongest k w rest` holds if `w` is a token of kind `k`, and the text `w` followed by `rest` begins with no longer
+-- token.
 pub record IsLongest (k : TokenKind) (w rest : List ℕ) : Type 0 where
   pub is : IsToken k w
   pub longest : (j : TokenKind) (v more : List ℕ) → IsToken j v → w ++ rest ≡ v ++ more → length v ≤ length w
 
--- `NoToken text` holds if no token starts at the front of `text`.
+-- `NoToken text` holds if `text` begins with no token.
 abbrev pub NoToken : List ℕ → Type 0
 NoToken text = (k : TokenKind) (w more : List ℕ) → IsToken k w → text ≡ w ++ more → ⊥
 
@@ -219,14 +223,14 @@ pub data IsGap : List ℕ → List ℕ → Type 0 where
   comment : {w rest : List ℕ} (said : List ℕ) → AllAre in_line said → EndsLine rest → w ≡ codes "//" ++ said
       → IsGap w rest
 
--- `NoGap text` holds if neither whitespace nor a comment starts at the front of `text`.
+-- `NoGap text` holds if `text` begins with neither whitespace nor a comment.
 abbrev pub NoGap : List ℕ → Type 0
 NoGap text = (w rest : List ℕ) → IsGap w rest → text ≡ w ++ rest → ⊥
 
 -- ## Texts
 
--- `Lex at text ts to left` holds if `text` at offset `at` is a concatenation of whitespace, comments and the tokens
--- `ts`, each the longest that starts there, followed by `left` at offset `to`.
+-- `Lex at text ts to left` holds if `text`, which begins at offset `at`, is a concatenation of whitespace, comments and
+-- the tokens `ts`, each the longest that starts at its offset, followed by `left`, which begins at offset `to`.
 pub data Lex : ℕ → List ℕ → List Token → ℕ → List ℕ → Type 0 where
   finish : {at : ℕ} {text : List ℕ} → Lex at text [] at text
   gap : {at to : ℕ} {text left : List ℕ} {ts : List Token} (w rest : List ℕ) → text ≡ w ++ rest → IsGap w rest →
@@ -240,8 +244,8 @@ pub data Lex : ℕ → List ℕ → List Token → ℕ → List ℕ → Type 0 w
 abbrev pub IsLexed : List ℕ → List Token → Type 0
 IsLexed text ts = (to : ℕ) × Lex 0 text ts to []
 
--- `IsBadAt text at` holds if `text` is such a concatenation up to `at`, and goes on there with neither whitespace nor
--- a comment nor a token.
+-- `IsBadAt text at` holds if `text` up to `at` is such a concatenation, does not end there, and goes on with neither
+-- whitespace nor a comment nor a token.
 pub record IsBadAt (text : List ℕ) (at : ℕ) : Type 0 where
   pub tokens : List Token
   pub here : ℕ
@@ -250,7 +254,7 @@ pub record IsBadAt (text : List ℕ) (at : ℕ) : Type 0 where
   pub no_gap : NoGap (here ∷ rest)
   pub no_token : NoToken (here ∷ rest)
 
--- `IsFault f text` holds if `f` is the error of `text`; `NoMemory` says nothing of the text.
+-- `IsFault f text` holds if `f` is the error of `text`. `NoMemory` may be returned for any text.
 abbrev pub IsFault : LexFault → List ℕ → Type 0
 IsFault NoMemory text = Unit {0}
 IsFault (BadToken at) text = IsBadAt text at
@@ -261,7 +265,8 @@ IsFault (BadToken at) text = IsBadAt text at
 abbrev pub spelling_of : List ℕ → Token → List ℕ
 spelling_of text t = take (t.end - t.start) (drop t.start text)
 
--- `IsSpelledIn text t` holds if that spells a token of the kind of `t`, and `text` may be cut at both offsets.
+-- `IsSpelledIn text t` holds if this part of `text` spells a token of the kind of `t`, and both its ends are boundaries
+-- of characters.
 pub record IsSpelledIn (text : List ℕ) (t : Token) : Type 0 where
   pub nonempty : t.start < t.end
   pub within : t.end ≤ length text
@@ -292,7 +297,7 @@ OneBadPlace = (text : List ℕ) (at other : ℕ) → IsBadAt text at → IsBadAt
 abbrev pub EachIsLexedOrBad : Type 0
 EachIsLexedOrBad = (text : List ℕ) → ((ts : List Token) × IsLexed text ts) ⊎ ((at : ℕ) × IsBadAt text at)
 
--- `EachIsSpelled`: the text of each token spells its kind.
+-- `EachIsSpelled`: the text of each token spells a token of its kind.
 abbrev pub EachIsSpelled : Type 0
 EachIsSpelled = (text : List ℕ) (ts : List Token) → IsLexed text ts
     → AllByRecursion (λ t. IsToken t.kind (spelling_of text t)) ts

@@ -1,13 +1,13 @@
--- Defines the contract of a parser over tokens: it returns the outcome of its parsing function, unless memory runs
--- out. Outcomes do not include `NoMemory`; a parser that does not allocate has a further clause that it never returns
--- it.
+-- Defines the contract of a parser over tokens: it returns the outcome of its parsing function, or `NoMemory`. No
+-- outcome is `NoMemory`; a parser that does not allocate has a further clause: it never returns that error.
 use Rattle.std.specs.Prelude.{◌≡◌, Result, Ok, Err, List}
 use Rattle.grammar_tokens.specs.declared.token.Token.{Token}
 use Rattle.grammar_tokens.specs.declared.fault.StopCause.{StopCause}
 use Rattle.grammar_tokens.specs.declared.fault.StopCause.TheVariants as halt
 use Rattle.grammar_tokens.specs.Reading.{ParseResult, Read, Stop, Unexpected, TooDeep}
 
--- `ParsesTo outcome r rest` holds if the result `r`, with `rest` remaining, is `outcome`, or `r` is `NoMemory`.
+-- `ParsesTo outcome r rest` holds if the result `r`, with the tokens `rest` remaining, is `outcome`, or `r` is
+-- `NoMemory`.
 abbrev pub ParsesTo : {A : Type 0} → ParseResult A → Result A StopCause → List Token → Type 0
 ParsesTo outcome (Ok a) rest = outcome ≡ Read a rest
 ParsesTo outcome (Err halt.NoMemory) rest = Unit {0}

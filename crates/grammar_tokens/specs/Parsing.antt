@@ -1,16 +1,16 @@
--- Defines how names are parsed, from the left with one token of lookahead.
+-- Defines how names are parsed, from the left with one token of lookahead, in the combinators of Reading.
 use Rattle.std.specs.Prelude.{Bool, true, false, List, [], ◌∷◌}
 use Rattle.grammar_tokens.specs.declared.token.TokenKind.TheVariants as k
 use Rattle.grammar_tokens.specs.declared.token.Token.{Token}
 use Rattle.grammar_tokens.specs.declared.tree.PathTree.{PathTree}
 use Rattle.grammar_tokens.specs.declared.tree.UidTree.{UidTree}
-use Rattle.grammar_tokens.specs.declared.tree.Name.{Name}
-use Rattle.grammar_tokens.specs.declared.tree.Name.TheVariants as name
+use Rattle.grammar_tokens.specs.declared.tree.PathOrUid.{PathOrUid}
+use Rattle.grammar_tokens.specs.declared.tree.PathOrUid.TheVariants as name
 use Rattle.grammar_tokens.specs.Kinds.{Kinds, only, same_kind}
 use Rattle.grammar_tokens.specs.Reading.{Parser, take, token, pure, refuse, ◌>>=◌, ◌>>◌, many, loop}
 use Rattle.grammar_tokens.specs.Grammar.{identifiers}
 
--- `path_word` parses "::" Ident.
+-- `path_word` parses "::" and an Ident.
 unfoldable pub path_word : Parser Token
 path_word = token k.Colons >> take identifiers
 
@@ -22,7 +22,8 @@ rest_of_path first = many (only k.Colons) path_word >>= (λ more. pure (record {
 unfoldable pub path : Parser PathTree
 path = take identifiers >>= rest_of_path
 
--- A Path and the String after it begin alike, so a Uid is parsed piece by piece, each after its "::", up to a String.
+-- `pieces` are the kinds of a piece: what may follow a "::", an Ident or a String. A Path and a Uid begin alike, so a
+-- Uid is parsed piece by piece, each after its "::", up to a String.
 abbrev pub pieces : Kinds
 pieces k.Text = true
 pieces kind = identifiers kind
@@ -31,11 +32,11 @@ pieces kind = identifiers kind
 abbrev pub is_text : Token → Bool
 is_text t = same_kind t.kind k.Text
 
--- `ended_by ended t` tests whether the piece `t` ends the name: a String does.
+-- `ended_by ended t` tests whether the piece `t` ends the name: a String does. It does not depend on `ended`.
 abbrev pub ended_by : Bool → Token → Bool
 ended_by ended t = is_text t
 
--- `goes_on ended` are the kinds that go on with a name: "::", unless a String has ended it.
+-- `goes_on ended` are the kinds with which a name goes on: "::", or none if `ended`: if a String has ended it.
 abbrev pub goes_on : Bool → Kinds
 goes_on false = only k.Colons
 goes_on true = λ kind. false
@@ -44,7 +45,7 @@ goes_on true = λ kind. false
 unfoldable pub piece : Parser Token
 piece = token k.Colons >> take pieces
 
--- `ends ended ts` tests whether the last of the pieces `ts` is a String; it is `ended` if `ts` is empty.
+-- `ends ended ts` tests whether the last of the pieces `ts` is a String; without pieces it is `ended`.
 abbrev pub ends : Bool → List Token → Bool
 ends ended [] = ended
 ends ended (t ∷ ts) = ends (is_text t) ts
@@ -64,7 +65,8 @@ last_of t (u ∷ us) = last_of u us
 abbrev pub uid_tree : Token → List Token → UidTree
 uid_tree first ts = record { path = record { first = first; more = beginning ts }; id = last_of first ts }
 
--- `finished ended first ts` is that Uid if a String has ended the pieces, else an error.
+-- `finished ended first ts` parses nothing, with that Uid as its value, if a String has ended the pieces; else it stops
+-- with an error.
 abbrev pub finished : Bool → Token → List Token → Parser UidTree
 finished true first ts = pure (uid_tree first ts)
 finished false first ts = refuse
@@ -77,15 +79,16 @@ rest_of_uid first = loop ended_by goes_on (λ ended. piece) false >>= (λ ts. fi
 unfoldable pub uid : Parser UidTree
 uid = take identifiers >>= rest_of_uid
 
--- A Path or a Uid: an identifier and pieces after it, which make a Uid if the last one is a String.
+-- A name is a Path or a Uid: an identifier and the pieces after it, which make a Uid if the last one is a String.
+-- `path_of first more` is the Path of the words `first` and `more`.
 abbrev pub path_of : Token → List Token → PathTree
 path_of first more = record { first = first; more = more }
 
--- `name_by ended first ts` is a Uid if a String has ended the pieces, else a Path.
-abbrev pub name_by : Bool → Token → List Token → Name
+-- `name_by ended first ts` is the name of `first` and the pieces `ts`: a Uid if a String has ended them, else a Path.
+abbrev pub name_by : Bool → Token → List Token → PathOrUid
 name_by true first ts = name.Uid (uid_tree first ts)
 name_by false first ts = name.Path (path_of first ts)
 
--- `rest_of_name first` parses the rest of a Path or a Uid after its first word.
-unfoldable pub rest_of_name : Token → Parser Name
+-- `rest_of_name first` parses the rest of a name after its first word.
+unfoldable pub rest_of_name : Token → Parser PathOrUid
 rest_of_name first = loop ended_by goes_on (λ ended. piece) false >>= (λ ts. pure (name_by (ends false ts) first ts))

@@ -1,12 +1,12 @@
--- Defines parsers from the left with one token of lookahead: the combinators of productions as functions.
+-- Defines the combinators that parsing functions are made of, which parse from the left with one token of lookahead.
 use Rattle.std.specs.Prelude.{ℕ, zero, suc, Bool, true, false, List, [], ◌∷◌, length, Option, Some, None}
 use Rattle.grammar_tokens.specs.declared.token.TokenKind.{TokenKind}
 use Rattle.grammar_tokens.specs.declared.token.Token.{Token}
 use Rattle.grammar_tokens.specs.Kinds.{Kinds, only}
 use Rattle.grammar_tokens.specs.Reads.{sees}
 
--- A `Why` is the reason why parsing stops: the next token cannot occur there, or would open one level of nesting too
--- many.
+-- A `Why` is the reason why parsing stops: the next token cannot occur there (or is missing), or it would open one
+-- level of nesting too many.
 pub data Why : Type 0 where
   Unexpected TooDeep : Why
 
@@ -15,7 +15,7 @@ pub data ParseResult (A : Type 0) : Type 0 where
   Read : A → List Token → ParseResult A
   Stop : Why → List Token → ParseResult A
 
--- A `Parser A` maps a list of tokens to a result.
+-- A `Parser A` is a parsing function: it maps a list of tokens to a result.
 abbrev pub Parser : Type 0 → Type 0
 Parser A = List Token → ParseResult A
 
@@ -24,6 +24,8 @@ abbrev pub and_then : {A B : Type 0} → ParseResult A → (A → Parser B) → 
 and_then (Read a rest) f = f a rest
 and_then (Stop w rest) f = Stop w rest
 
+-- `p >>= f` parses by `p`, and then by `f` of its value; `p >> q` parses by `p`, and then by `q`. The notation `do`
+-- uses both.
 infixl 10 ◌>>=◌
 abbrev pub ◌>>=◌ : {A B : Type 0} → Parser A → (A → Parser B) → Parser B
 p >>= f = λ ts. and_then (p ts) f
@@ -32,7 +34,7 @@ infixl 10 ◌>>◌
 abbrev pub ◌>>◌ : {A B : Type 0} → Parser A → Parser B → Parser B
 p >> q = p >>= (λ _. q)
 
--- `pure a` parses nothing, with the value `a`.
+-- `pure a` consumes no token, and has the value `a`.
 abbrev pub pure : {A : Type 0} → A → Parser A
 pure a = λ ts. Read a ts
 
@@ -49,11 +51,12 @@ abbrev pub chosen : {A : Type 0} → Bool → A → A → A
 chosen true x y = x
 chosen false x y = y
 
+-- `take_if b t ts` consumes the token `t`, which `ts` follow, if `b`; else it stops before `t`.
 abbrev pub take_if : Bool → Token → List Token → ParseResult Token
 take_if true t ts = Read t ts
 take_if false t ts = Stop Unexpected (t ∷ ts)
 
--- `take ks` parses a token of these kinds.
+-- `take ks` parses a token of a kind in `ks`.
 unfoldable pub take : Kinds → Parser Token
 take ks [] = Stop Unexpected []
 take ks (t ∷ ts) = take_if (ks t.kind) t ts

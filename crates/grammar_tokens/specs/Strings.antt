@@ -15,18 +15,18 @@ is_string Text = true
 is_string StarText = true
 is_string other = false
 
--- `piece_bytes p` are the bytes that the piece `p` means.
+-- `piece_bytes p` are the bytes that the piece `p` denotes.
 abbrev pub piece_bytes : Piece → List ℕ
 piece_bytes (Byte b) = b ∷ []
 piece_bytes (Char c) = encode_utf8 c
 piece_bytes Star = codes "*"
 
--- `bytes_of ps` are the bytes that the pieces `ps` mean.
+-- `bytes_of ps` are the bytes that the pieces `ps` denote.
 abbrev pub bytes_of : List Piece → List ℕ
 bytes_of [] = []
 bytes_of (p ∷ ps) = piece_bytes p ++ bytes_of ps
 
--- `IsStringOf value spelling` holds if `spelling` is a string in quotes, without `\*`, with this value.
+-- `IsStringOf value spelling` holds if `spelling` is a string in quotes, without `\*`, with the value `value`.
 pub record IsStringOf (value spelling : List ℕ) : Type 0 where
   pub pieces : List Piece
   pub body : List ℕ
@@ -46,13 +46,14 @@ abbrev pub prefixed : List ℕ → List (List ℕ) → List (List ℕ)
 prefixed bytes [] = bytes ∷ []
 prefixed bytes (first ∷ more) = (bytes ++ first) ∷ more
 
--- `literals_of ps` are the literal texts before, between and after the wildcards: one more than there are wildcards.
+-- `literals_of ps` are the literal texts before, between and after the wildcards of the pieces `ps`: one more than
+-- there are wildcards.
 abbrev pub literals_of : List Piece → List (List ℕ)
 literals_of [] = [] ∷ []
 literals_of (p ∷ ps) = if is_wildcard p then [] ∷ literals_of ps else prefixed (piece_bytes p) (literals_of ps)
 
--- `IsPatternOf literals spelling` holds if `spelling` is a string in quotes that, as a pattern, has these literal
--- texts with a wildcard between each two.
+-- `IsPatternOf literals spelling` holds if `spelling` is a string in quotes that, as a pattern, has the literal texts
+-- `literals` with a wildcard between each two.
 pub record IsPatternOf (literals : List (List ℕ)) (spelling : List ℕ) : Type 0 where
   pub pieces : List Piece
   pub body : List ℕ
@@ -70,11 +71,11 @@ HasValue = (spelling : List ℕ) → IsToken Text spelling → (value : List ℕ
 abbrev pub OneValue : Type 0
 OneValue = (v w spelling : List ℕ) → IsStringOf v spelling → IsStringOf w spelling → v ≡ w
 
--- `HasPattern`: each string is a pattern.
+-- `HasPattern`: each string denotes a pattern.
 abbrev pub HasPattern : Type 0
 HasPattern = (k : TokenKind) (spelling : List ℕ) → IsToken k spelling → is_string k ≡ true
     → (literals : List (List ℕ)) × IsPatternOf literals spelling
 
--- `OnePattern`: a string is at most one pattern.
+-- `OnePattern`: a string denotes at most one pattern.
 abbrev pub OnePattern : Type 0
 OnePattern = (v w : List (List ℕ)) (spelling : List ℕ) → IsPatternOf v spelling → IsPatternOf w spelling → v ≡ w

@@ -1,4 +1,4 @@
--- Defines well-formed trees of names: made of tokens of the text, each of the kind that its position requires.
+-- Defines well-formed trees of names: their tokens are tokens of the text, each of a kind that its position allows.
 use Rattle.std.specs.Prelude.{◌≡◌, true, List, Contains}
 use Rattle.std.specs.List.{AllByRecursion}
 use Rattle.grammar_tokens.specs.declared.token.TokenKind.TheVariants as k
@@ -8,14 +8,14 @@ use Rattle.grammar_tokens.specs.declared.tree.UidTree.{UidTree}
 use Rattle.grammar_tokens.specs.Kinds.{Kinds, only}
 use Rattle.grammar_tokens.specs.Grammar.{identifiers}
 
--- `WellFormedToken ks ts t` holds if `t` is one of the tokens `ts`, of a kind of `ks`.
+-- `WellFormedToken ks ts t` holds if `t` is one of the tokens `ts`, and of a kind in `ks`.
 abbrev pub WellFormedToken : Kinds → List Token → Token → Type 0
 WellFormedToken ks ts t = Contains ts t × (ks t.kind ≡ true)
 
--- `WellFormedPath ts p` holds if the path `p` is made of tokens of `ts`.
+-- `WellFormedPath ts p` holds if the words of the path `p` are identifiers among `ts`.
 abbrev pub WellFormedPath : List Token → PathTree → Type 0
 WellFormedPath ts p = WellFormedToken identifiers ts p.first × AllByRecursion (WellFormedToken identifiers ts) p.more
 
--- `WellFormedUid ts u` holds if the uid `u` is made of tokens of `ts`.
+-- `WellFormedUid ts u` holds if the words of the uid `u` are identifiers among `ts`, and its id is a String among `ts`.
 abbrev pub WellFormedUid : List Token → UidTree → Type 0
 WellFormedUid ts u = WellFormedPath ts u.path × WellFormedToken (only k.Text) ts u.id

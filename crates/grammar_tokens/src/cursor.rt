@@ -1,4 +1,4 @@
-//! A cursor over tokens.
+//! A cursor over a list of tokens.
 
 ghost use Rattle.std.specs.Prelude.{◌≡◌, IfErr, length};
 ghost use Rattle.grammar_tokens.specs.ParsesTo.{ParsesTo};
@@ -14,18 +14,19 @@ use crate::token::{Token, TokenKind};
 /// A cursor over the remaining tokens.
 #[derive(Drop)]
 pub struct Cursor<'a> {
+    /// The remaining tokens.
     pub rest: &'a [Token],
 }
 
 impl<'a> Cursor<'a> {
-    /// Returns how many tokens remain.
+    /// Returns the number of remaining tokens.
     pub fn left(&self) -> usize
         ensures { result ≡ length self.now.rest.now }
     {
         self.rest.len()
     }
 
-    /// Returns whether the next token is of this kind.
+    /// Returns whether a token of this kind comes next.
     pub fn sees(&self, kind: TokenKind) -> bool
         ensures { result ≡ reads.sees (spec.only kind) self.now.rest.now }
     {
@@ -35,7 +36,7 @@ impl<'a> Cursor<'a> {
         }
     }
 
-    /// Returns whether the next token is of one of these kinds.
+    /// Returns whether a token of a kind in `set` comes next.
     pub fn sees_one_of<S: KindSet>(&self, set: S) -> bool
         ensures { result ≡ reads.sees (S.included set) self.now.rest.now }
     {
@@ -45,9 +46,9 @@ impl<'a> Cursor<'a> {
         }
     }
 
-    /// Returns the next token, which must be of this kind; otherwise consumes nothing.
+    /// Consumes and returns the next token, if it is of this kind.
     ///
-    /// The only error is `Unexpected`.
+    /// The only error is `Unexpected`; then nothing is consumed.
     #[tactic(auto, unfolding(crate::specs::Reading::take))]
     pub fn take(&mut self, kind: TokenKind) -> Result<Token, StopCause>
         ensures reads { ParsesTo (reading.token kind self.old.rest.now) result self.new.rest.now }
@@ -62,9 +63,9 @@ impl<'a> Cursor<'a> {
         }
     }
 
-    /// Returns the next token, which must be of one of these kinds; otherwise consumes nothing.
+    /// Consumes and returns the next token, if its kind is in `set`.
     ///
-    /// The only error is `Unexpected`.
+    /// The only error is `Unexpected`; then nothing is consumed.
     #[tactic(auto, unfolding(crate::specs::Reading::take))]
     pub fn take_one_of<S: KindSet>(&mut self, set: S) -> Result<Token, StopCause>
         ensures reads { ParsesTo (reading.take (S.included set) self.old.rest.now) result self.new.rest.now }

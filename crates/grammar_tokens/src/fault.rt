@@ -6,16 +6,17 @@ ghost use Rattle.grammar_tokens.specs.declared.fault.StopCause.TheVariants as ha
 use std::alloc::AllocError;
 use thiserror::Error;
 
-/// An error of parsing a list of tokens. An index is that of the first token with which nothing goes on, or the count
-/// of the tokens if they end too early.
+/// An error of parsing a list of tokens. Its index is that of the first token that cannot follow those before it, or
+/// the number of tokens if they end too early.
 #[derive(Clone, Copy, PartialEq, Eq, Debug, Error)]
 pub enum SyntaxFault {
+    /// An allocation failed.
     #[error("policy 1: out of memory")]
     NoMemory,
     /// The token at the index cannot occur there.
     #[error("policy 11: token {0} is unexpected")]
     Unexpected(usize),
-    /// The same, and the token is `?principal` or `?resource`.
+    /// The token at the index is `?principal` or `?resource`, which cannot occur anywhere.
     #[error("policy 16: token {0} is a template slot")]
     Slot(usize),
     /// The token at the index could occur there, but would open one level of nesting too many.
@@ -34,6 +35,7 @@ impl From<AllocError> for SyntaxFault {
 /// Why parsing stops at the next token.
 #[derive(Clone, Copy, PartialEq, Eq)]
 pub enum StopCause {
+    /// An allocation failed.
     NoMemory,
     /// The next token cannot occur there, or the tokens end too early.
     Unexpected,

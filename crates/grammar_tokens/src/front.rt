@@ -1,4 +1,4 @@
-//! The token at the front of a text.
+//! The token that a text begins with. Each function returns `None` if the text begins with no such token.
 ghost use Rattle.std.specs.Prelude.{◌≡◌, ◌<◌, ◌++◌, List, codes, ℕ};
 ghost use Rattle.grammar_tokens.specs.inner.Reading.{ReportsToken, mark_of};
 
@@ -7,7 +7,7 @@ use crate::token::{ScannedToken, TokenKind};
 use crate::words::{pair, single, word_kind};
 use plain::words::{digit, digits_len, letter, word_len};
 
-/// Returns the punctuation that a text begins with.
+/// Returns the punctuation mark that a text begins with.
 pub(crate) fn mark(text: &[u8]) -> Option<ScannedToken>
     ensures { result ≡ mark_of text.now }
 {

@@ -12,7 +12,7 @@ fn in_line(byte: u8) -> bool
     !(byte == b'\n' || byte == b'\r')
 }
 
-/// Returns the number of bytes before the end of the line.
+/// Returns the number of bytes before the end of the first line of a text.
 fn line_len(text: &[u8]) -> usize
     ensures is { result ≡ run in_line text.now }
     ensures within { result ≤ length text.now }
@@ -27,7 +27,7 @@ fn line_len(text: &[u8]) -> usize
     len
 }
 
-/// Returns the length of the whitespace character that a text begins with.
+/// Returns the number of bytes of the whitespace character that a text begins with, or `None`.
 fn blank(text: &str) -> Option<usize>
     ensures { ReportsBlank text.now result }
 {
@@ -41,7 +41,7 @@ fn blank(text: &str) -> Option<usize>
     }
 }
 
-/// Returns the length of the whitespace character or comment that a text begins with.
+/// Returns the number of bytes of the whitespace character or comment that a text begins with, or `None`.
 pub(crate) fn gap(text: &str) -> Option<usize>
     ensures { ReportsGap text.now result }
 {

@@ -15,6 +15,7 @@ pub trait KindSet: Copy {
         ensures { result ≡ included self kind };
 }
 
+/// Returns whether two kinds are equal.
 pub(crate) fn same_kind(a: TokenKind, b: TokenKind) -> bool
     ensures { result ≡ same_kind a b }
 {

@@ -1,10 +1,10 @@
-//! Theorems about the definitions.
+//! Theorems about tokens, words and strings. The functions are no-ops.
 ghost use Rattle.grammar_tokens.specs.Lexing.{OneLexing, BadIsNotLexed, OneBadPlace, EachIsLexedOrBad, EachIsSpelled};
 ghost use Rattle.grammar_tokens.specs.Idents.{IdentsByKind, ReservedByKind, IdentsAreTokens};
 ghost use Rattle.grammar_tokens.specs.Strings.{HasValue, OneValue, HasPattern, OnePattern};
 
-/// Proves that each text has exactly one list of tokens, or exactly one byte at which no token starts, and that
-/// tokens are spelled as their kinds say. No-op.
+/// Proves that each text has exactly one list of tokens, or exactly one byte at which neither whitespace nor a comment
+/// nor a token starts; and that the text of each token spells a token of its kind. No-op.
 pub fn lexing_is_unique()
     ensures one_list { OneLexing }
     ensures not_both { BadIsNotLexed }
@@ -13,14 +13,15 @@ pub fn lexing_is_unique()
     ensures spelled { EachIsSpelled }
 {}
 
-/// Proves that the kinds of tokens classify identifiers and reserved words. No-op.
+/// Proves that the kind of a token determines whether its text is an identifier, and whether it is a reserved word; and
+/// that each identifier is the text of a token. No-op.
 pub fn kinds_of_words()
     ensures idents { IdentsByKind }
     ensures reserved { ReservedByKind }
     ensures each_ident { IdentsAreTokens }
 {}
 
-/// Proves that a string has exactly one value, and is exactly one pattern. No-op.
+/// Proves that a string without `\*` has exactly one value, and that each string denotes exactly one pattern. No-op.
 pub fn strings_have_one_meaning()
     ensures some_value { HasValue }
     ensures one_value { OneValue }

@@ -5,7 +5,7 @@ ghost use Rattle.grammar_tokens.specs.declared.lex_fault.LexFault.TheVariants.{N
 use std::alloc::{AllocError, AllocFailed};
 use thiserror::Error;
 
-/// An error of tokenizing.
+/// An error of tokenizing a text.
 #[derive(Clone, Copy, PartialEq, Eq, Debug, Error)]
 pub enum LexFault {
     /// An allocation failed.

@@ -9,18 +9,18 @@ use crate::lex_fault::LexFault;
 use crate::token::Token;
 use std::alloc::Global;
 
-/// The bytes of a text for each token that the list has room for at first. Ordinary policies have fewer tokens, so that
-/// the list does not grow.
+/// The list of tokens is created with a capacity of one token for this many bytes of the text. Ordinary policies have
+/// fewer tokens, so the list does not grow.
 const BYTES_A_TOKEN: usize = 3;
 
 /// Returns the tokens of a text, each the longest that starts at its byte, between whitespace and comments.
 ///
-/// Takes time proportional to the text, and memory for the tokens.
+/// O(length of the text). Allocates the list of tokens.
 ///
 /// # Errors
 ///
-/// - `BadToken`: the first byte at which no whitespace, comment or token starts; for a string that is not closed, or
-///   has a bad escape, its quote.
+/// - `BadToken`: neither whitespace nor a comment nor a token starts at this byte. For a string that is not closed, or
+///   has a bad escape, it is the byte of the opening quote.
 /// - `NoMemory`: an allocation failed; possible at any point.
 pub fn tokens(alloc: Global, text: &str) -> Result<Vec<Token>, LexFault>
     ensures found { IfOk result (λ tokens. IsLexed text.now tokens.items) }

@@ -1,9 +1,9 @@
-//! Tokens of a policy text, parsers over tokens, the rules for proving these, and names.
+//! The tokens of a policy's text, parsers over tokens with the rules for proving them, and names.
 //!
-//! A grammar is a relation between lists of tokens and trees. A parsing function defines how it is parsed from the
-//! left with one token of lookahead; the code follows that function. The rules of `proofs/` connect the three,
-//! production by production, and are a library for the crates above, which import its files. Names, which all of
-//! these grammars have, are parsed here.
+//! A grammar is a relation between lists of tokens and trees. A parsing function of specs/ defines how the grammar is
+//! parsed from the left with one token of lookahead, and the code follows that function. The rules of `proofs/` connect
+//! these three, production by production; higher crates import them for their own grammars. Names, which occur in all
+//! of these grammars, are parsed here.
 #![tactic(auto)]
 
 mod cursor;
@@ -36,5 +36,5 @@ pub use refused::read_to_end;
 pub use repeated::{read_many, read_more};
 pub use strings::{decode_pattern, decode_string};
 pub use token::{Token, TokenKind};
-pub use tree::{Name, PathTree, UidTree};
+pub use tree::{PathOrUid, PathTree, UidTree};
 pub use written::{body, spelling};

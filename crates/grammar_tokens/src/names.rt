@@ -12,10 +12,11 @@ use crate::fault::StopCause;
 use crate::kind_sets::NameSet;
 use crate::repeated::read_many;
 use crate::token::{Token, TokenKind};
-use crate::tree::{Name, PathTree, UidTree};
+use crate::tree::{PathOrUid, PathTree, UidTree};
 use plain::Items;
 use std::alloc::Global;
 
+/// Parses "::" and an Ident.
 #[tactic(auto, unfolding(crate::specs::Parsing::path_word))]
 fn path_word(tokens: &mut Cursor<'_>) -> Result<Token, StopCause>
     ensures reads { ParsesTo (spec.path_word tokens.old.rest.now) result tokens.new.rest.now }
@@ -25,6 +26,7 @@ fn path_word(tokens: &mut Cursor<'_>) -> Result<Token, StopCause>
     tokens.take_one_of(NameSet::Identifiers)
 }
 
+/// Parses the rest of a Path after its first word.
 #[tactic(auto, unfolding(crate::specs::Parsing::rest_of_path))]
 fn rest_of_path(alloc: Global, tokens: &mut Cursor<'_>, first: Token) -> Result<PathTree, StopCause>
     ensures { ParsesTo (spec.rest_of_path first tokens.old.rest.now) result tokens.new.rest.now }
@@ -33,8 +35,13 @@ fn rest_of_path(alloc: Global, tokens: &mut Cursor<'_>, first: Token) -> Result<
     Ok(PathTree { first, more })
 }
 
-/// Parses Path = Ident { "::" Ident } from the front of the tokens, as long as possible. The remaining tokens begin
-/// after it, or with the one at which parsing stops.
+/// Parses a Path = Ident { "::" Ident } from the front of the tokens, and goes on as long as a Path can go on with the
+/// next token. The cursor is then after the Path, or on an error before the token at which parsing stops.
+///
+/// # Errors
+///
+/// - `Unexpected`: the next token cannot occur there, or the tokens end too early.
+/// - `NoMemory`: an allocation failed; possible at any point.
 #[tactic(auto, unfolding(crate::specs::Parsing::path))]
 pub fn path(alloc: Global, tokens: &mut Cursor<'_>) -> Result<PathTree, StopCause>
     ensures reads { ReadsFront grammar.path tokens.old.rest.now result tokens.new.rest.now }
@@ -44,6 +51,7 @@ pub fn path(alloc: Global, tokens: &mut Cursor<'_>) -> Result<PathTree, StopCaus
     rest_of_path(alloc, tokens, first)
 }
 
+/// Parses "::" and a piece: an Ident or a String.
 #[tactic(auto, unfolding(crate::specs::Parsing::piece))]
 fn piece(tokens: &mut Cursor<'_>) -> Result<Token, StopCause>
     ensures reads { ParsesTo (spec.piece tokens.old.rest.now) result tokens.new.rest.now }
@@ -53,6 +61,7 @@ fn piece(tokens: &mut Cursor<'_>) -> Result<Token, StopCause>
     tokens.take_one_of(NameSet::Pieces)
 }
 
+/// Parses the rest of a Uid after its first word.
 fn rest_of_uid(alloc: Global, tokens: &mut Cursor<'_>, first: Token) -> Result<UidTree, StopCause>
     ensures { ParsesTo (spec.rest_of_uid first tokens.old.rest.now) result tokens.new.rest.now }
 {
@@ -68,8 +77,13 @@ fn rest_of_uid(alloc: Global, tokens: &mut Cursor<'_>, first: Token) -> Result<U
     Err(StopCause::Unexpected)
 }
 
-/// Parses Uid = Path "::" String from the front of the tokens. The remaining tokens begin after it, or with the one
-/// at which parsing stops.
+/// Parses a Uid = Path "::" String from the front of the tokens. The cursor is then after the Uid, or on an error
+/// before the token at which parsing stops.
+///
+/// # Errors
+///
+/// - `Unexpected`: the next token cannot occur there, or the tokens end too early.
+/// - `NoMemory`: an allocation failed; possible at any point.
 #[tactic(auto, unfolding(crate::specs::Parsing::uid))]
 pub fn uid(alloc: Global, tokens: &mut Cursor<'_>) -> Result<UidTree, StopCause>
     ensures reads { ReadsFront grammar.uid tokens.old.rest.now result tokens.new.rest.now }
@@ -79,21 +93,31 @@ pub fn uid(alloc: Global, tokens: &mut Cursor<'_>) -> Result<UidTree, StopCause>
     rest_of_uid(alloc, tokens, first)
 }
 
-/// Parses the rest of a name after its first identifier: a Uid if a String follows, else a Path.
-pub fn rest_of_name(alloc: Global, tokens: &mut Cursor<'_>, first: Token) -> Result<Name, StopCause>
+/// Parses the rest of a name after its first word: a Uid if a String ends the name, else a Path. On an error the cursor
+/// is before the token at which parsing stops.
+///
+/// # Errors
+///
+/// - `Unexpected`: the next token cannot occur there, or the tokens end too early.
+/// - `NoMemory`: an allocation failed; possible at any point.
+pub fn rest_of_name(
+    alloc: Global,
+    tokens: &mut Cursor<'_>,
+    first: Token,
+) -> Result<PathOrUid, StopCause>
     ensures { ParsesTo (spec.rest_of_name first tokens.old.rest.now) result tokens.new.rest.now }
 {
     let mut more = Items::new(alloc);
     for _turn in 0..tokens.left() {
         if !tokens.sees(TokenKind::Colons) {
-            return Ok(Name::Path(PathTree { first, more }));
+            return Ok(PathOrUid::Path(PathTree { first, more }));
         }
         let next = piece(tokens)?;
         if next.kind == TokenKind::Text {
             let path = PathTree { first, more };
-            return Ok(Name::Uid(UidTree { path, id: next }));
+            return Ok(PathOrUid::Uid(UidTree { path, id: next }));
         }
         more.push(next)?;
     }
-    Ok(Name::Path(PathTree { first, more }))
+    Ok(PathOrUid::Path(PathTree { first, more }))
 }

@@ -1,4 +1,5 @@
-//! Strings and their escapes.
+//! Strings and their escapes. Each function with an `Option` returns `None` if the bytes are not of the form that it
+//! looks for.
 ghost use Rattle.std.specs.Prelude.{◌≡◌, ◌<◌, ◌≤◌, ◌∷◌, List, ℕ, length};
 ghost use Rattle.std.specs.Option.{SomeIff};
 ghost use Rattle.std.specs.Char.{digit_value};
@@ -9,7 +10,7 @@ ghost use Rattle.grammar_tokens.specs.inner.Reading.{kind_with, ReportsEscape, R
 use crate::piece::{Escape, Piece};
 use crate::token::{ScannedToken, TokenKind};
 
-/// Returns the character that a letter or mark after a backslash means.
+/// Returns the character that a letter or mark after a backslash denotes.
 fn letter_meant(byte: u8) -> Option<char>
     ensures { result ≡ escaped byte }
 {
@@ -25,7 +26,7 @@ fn letter_meant(byte: u8) -> Option<char>
     }
 }
 
-/// Returns whether this is a hexadecimal digit.
+/// Returns whether a byte is a hexadecimal digit.
 #[tactic(auto, unfolding(crate::specs::Lexing::is_hex))]
 fn hex(byte: u8) -> bool
     ensures { result ≡ is_hex byte }
@@ -33,7 +34,7 @@ fn hex(byte: u8) -> bool
     (byte as char).to_digit(16).is_some()
 }
 
-/// Returns the number of leading hexadecimal digits.
+/// Returns the number of hexadecimal digits that a text begins with.
 fn hex_len(text: &[u8]) -> usize
     ensures is { result ≡ run is_hex text.now }
     ensures within { result ≤ length text.now }
@@ -56,7 +57,7 @@ fn hex_value(byte: u8) -> Option<u32>
     (byte as char).to_digit(16)
 }
 
-/// Returns the escape `\x` with two hexadecimal digits up to 7F.
+/// Returns the escape `\x` with two hexadecimal digits up to 7F, where `text` is what follows the `x`.
 fn short_escape(text: &[u8]) -> Option<Escape>
     ensures { ReportsEscape (backslash ∷ 120 ∷ text.now) result }
 {
@@ -73,7 +74,7 @@ fn short_escape(text: &[u8]) -> Option<Escape>
     })
 }
 
-/// Returns the number of up to six hexadecimal digits.
+/// Returns the number that up to six hexadecimal digits denote.
 fn hex_number(digits: &[u8]) -> u32
     requires hex { AllAre is_hex digits.now }
     requires few { length digits.now ≤ 6 }
@@ -86,7 +87,7 @@ fn hex_number(digits: &[u8]) -> u32
     number
 }
 
-/// Returns the escape `\u` with hexadecimal digits in braces.
+/// Returns the escape `\u` with one to six hexadecimal digits in braces, where `text` is what follows the `u`.
 fn long_escape(text: &[u8]) -> Option<Escape>
     ensures { ReportsEscape (backslash ∷ 117 ∷ text.now) result }
 {
@@ -116,7 +117,7 @@ fn long_escape(text: &[u8]) -> Option<Escape>
     })
 }
 
-/// Returns the escape that a text begins with, at a backslash.
+/// Returns the escape that a text begins with. The text must begin with a backslash.
 pub(crate) fn escape(text: &[u8]) -> Option<Escape>
     requires { (rest : List ℕ) × (text.now ≡ backslash ∷ rest) }
     ensures { ReportsEscape text.now result }
@@ -137,7 +138,7 @@ pub(crate) fn escape(text: &[u8]) -> Option<Escape>
     }
 }
 
-/// Returns the kind of a string, given its kind without this piece.
+/// Returns the kind of a string with this piece, if without the piece its kind is `kind`.
 fn kind_with(kind: TokenKind, piece: Piece) -> TokenKind
     ensures { result ≡ kind_with kind piece }
 {
@@ -147,7 +148,7 @@ fn kind_with(kind: TokenKind, piece: Piece) -> TokenKind
     }
 }
 
-/// Returns the string that a text begins with, at a quote.
+/// Returns the string that a text begins with. The text must begin with a quote.
 pub(crate) fn quoted(text: &[u8]) -> Option<ScannedToken>
     requires { (rest : List ℕ) × (text.now ≡ quote ∷ rest) }
     ensures { ReportsToken text.now result }

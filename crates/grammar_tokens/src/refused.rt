@@ -1,4 +1,4 @@
-//! The result for a whole list of tokens, by where its parser stopped.
+//! The result of parsing a whole list of tokens, from the result of a parser and the cursor that it leaves.
 ghost use Rattle.std.specs.Prelude.{◌≡◌, ◌-◌, length};
 ghost use Rattle.grammar_tokens.specs.Reads.{refusal_of, whole_of};
 
@@ -7,8 +7,8 @@ use crate::fault::{StopCause, SyntaxFault};
 use crate::kind_sets::NameSet;
 use crate::token::Token;
 
-/// Returns the error of tokens at which parsing stopped: its index is that of the first remaining token, or the count
-/// of the tokens if none remains.
+/// Returns the error of `tokens` for the reason `halt` why parsing stopped. Its index is that of the first remaining
+/// token, or the number of tokens if none remains.
 fn refusal(tokens: &[Token], cursor: &Cursor<'_>, halt: StopCause) -> SyntaxFault
     ensures { result ≡ refusal_of halt (length tokens.now - length cursor.now.rest.now) cursor.now.rest.now }
 {
@@ -26,8 +26,15 @@ fn refusal(tokens: &[Token], cursor: &Cursor<'_>, halt: StopCause) -> SyntaxFaul
     }
 }
 
-/// Returns the parsed value if no token remains; else the error. Generic, so that the drop is one step and not one
-/// for each kind of tree.
+/// Returns the result of parsing all of `tokens`, given the result `read` of a parser and the cursor that it leaves.
+///
+/// # Errors
+///
+/// - `NoMemory`, `TooDeep`: that of `read`, `TooDeep` with the index of the first remaining token.
+/// - `Slot` or `Unexpected`, with the index of the first remaining token or the number of tokens: the parser stopped
+///   there, or a token remains after the value.
+///
+/// The function is generic, so that dropping the value is one step of its proof, and not one for each kind of tree.
 pub fn read_to_end<T: Drop>(
     tokens: &[Token],
     cursor: &Cursor<'_>,

@@ -11,7 +11,7 @@ use crate::kind_sets::KindSet;
 use plain::{Items, NoMemory};
 use std::alloc::Global;
 
-/// Returns an empty list, with room for one item if one is `wanted`: most lists of pieces have one item or none.
+/// Returns an empty list, with a capacity of one item if one is `wanted`: most lists of pieces have one item or none.
 fn room_for_one<T>(alloc: Global, wanted: bool) -> Result<Items<T>, NoMemory>
     ensures { IfOk result (λ found. found ≡ []) }
 {
@@ -22,8 +22,8 @@ fn room_for_one<T>(alloc: Global, wanted: bool) -> Result<Items<T>, NoMemory>
     Ok(Items::new(alloc))
 }
 
-/// Appends pieces to `found` as long as a token of the set comes next; returns the first error of a call, or
-/// `NoMemory`.
+/// Appends pieces to `found`, each parsed by a call of `read`, as long as a token of the set comes next; returns the
+/// first error of a call, or `NoMemory`.
 fn read_on<T: Drop, S: KindSet, F: Fn(&mut Cursor<'_>) -> Result<T, StopCause>>(
     mut found: Items<T>,
     tokens: &mut Cursor<'_>,
@@ -46,7 +46,8 @@ fn read_on<T: Drop, S: KindSet, F: Fn(&mut Cursor<'_>) -> Result<T, StopCause>>(
 
 /// Parses pieces as long as a token of the set comes next, each by a call of `read`.
 ///
-/// Returns the first error of such a call, or `NoMemory` if the list cannot grow. Without pieces it does not allocate.
+/// Returns the first error of such a call, or `NoMemory` if the list cannot grow. Does not allocate if there are no
+/// pieces.
 pub fn read_many<T: Drop, S: KindSet, F: Fn(&mut Cursor<'_>) -> Result<T, StopCause>>(
     alloc: Global,
     tokens: &mut Cursor<'_>,

@@ -1,4 +1,4 @@
-//! Values of strings.
+//! The values and the patterns that strings denote.
 ghost use Rattle.std.specs.Prelude.{◌≡◌, ◌≤◌, List, IfOk, length, true};
 ghost use Rattle.grammar_tokens.specs.Lexing.{IsSpelledIn, spelling_of, IsBody};
 ghost use Rattle.plain.specs.Words.{run};
@@ -20,7 +20,7 @@ struct Literal {
     len: usize,
 }
 
-/// Returns whether a byte between quotes denotes itself. In a pattern a star does not.
+/// Returns whether a byte between quotes denotes itself; in a pattern a star does not.
 #[tactic(auto, unfolding(crate::specs::inner::Reading::is_plain))]
 fn plain_byte(in_pattern: bool, byte: u8) -> bool
     ensures { result ≡ is_plain in_pattern byte }
@@ -28,7 +28,7 @@ fn plain_byte(in_pattern: bool, byte: u8) -> bool
     !(byte == b'\\' || (in_pattern && byte == b'*'))
 }
 
-/// Returns the number of leading bytes that denote themselves.
+/// Returns the number of bytes at the beginning of `text` that denote themselves.
 fn plain_len(in_pattern: bool, text: &[u8]) -> usize
     ensures is { result ≡ run (is_plain in_pattern) text.now }
     ensures within { result ≤ length text.now }
@@ -53,7 +53,7 @@ fn character(piece: Piece) -> char
     }
 }
 
-/// Decodes a body, in a pattern up to its first wildcard.
+/// Decodes the body of a string; of a pattern, only up to the first wildcard.
 fn read_literal(alloc: Global, body: &str, in_pattern: bool) -> Result<Literal, NoMemory>
     requires { (ps : List Piece) × IsBody ps body.now }
     ensures { IfOk result (λ literal. IsLiteral in_pattern literal.value literal.len body.now) }

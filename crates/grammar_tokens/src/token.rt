@@ -2,7 +2,7 @@
 ghost use Rattle.std.specs.Prelude.{◌≡◌};
 ghost use Rattle.grammar_tokens.specs.Idents.{is_ident, is_reserved};
 
-/// The kinds of tokens: each keyword, each punctuation, and the open classes.
+/// The kinds of tokens: one for each keyword, slot and punctuation mark, and those of identifiers, numbers and strings.
 #[derive(Clone, Copy, Debug, PartialEq, Eq)]
 pub enum TokenKind {
     /// An identifier that is not a keyword.
@@ -45,20 +45,28 @@ pub enum TokenKind {
     RBracket,
     Comma,
     Semicolon,
+    /// `:`
     Colon,
+    /// `::`
     Colons,
     Dot,
+    /// `==`
     Equal,
+    /// `!=`
     NotEqual,
     Less,
     LessEqual,
     Greater,
     GreaterEqual,
+    /// `&&`
     And,
+    /// `||`
     Or,
     Plus,
     Minus,
+    /// `*`
     Star,
+    /// `!`
     Not,
 }
 

@@ -2,15 +2,15 @@
 use crate::token::Token;
 use plain::Items;
 
-/// The words of a name: a Path.
+/// The syntax tree of a Path: its words.
 #[derive(Drop)]
 pub struct PathTree {
     pub first: Token,
-    /// Those after each `::`.
+    /// The words after each `::`.
     pub more: Items<Token>,
 }
 
-/// An entity, by its type's name and its quoted id.
+/// The syntax tree of a Uid: the name of the entity's type, and the quoted id.
 #[derive(Drop)]
 pub struct UidTree {
     pub path: PathTree,
@@ -20,7 +20,7 @@ pub struct UidTree {
 
 /// A Path or a Uid, which begin alike.
 #[derive(Drop)]
-pub enum Name {
+pub enum PathOrUid {
     Path(PathTree),
     Uid(UidTree),
 }

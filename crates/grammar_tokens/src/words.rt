@@ -1,10 +1,10 @@
-//! Keywords and punctuation.
+//! The kinds of words and of punctuation marks.
 ghost use Rattle.std.specs.Prelude.{◌≡◌, ◌∷◌, []};
 ghost use Rattle.grammar_tokens.specs.Lexing.{kind_of_word, listed, singles, pairs};
 
 use crate::token::TokenKind;
 
-/// Returns the kind of a word: `Ident` for one that is not a keyword.
+/// Returns the kind of a word: that of a reserved word or keyword, else `Ident`.
 #[tactic(auto, unfolding(crate::specs::Lexing::kind_of_word))]
 pub(crate) fn word_kind(word: &str) -> TokenKind
     ensures { result ≡ kind_of_word word.now }
@@ -32,7 +32,7 @@ pub(crate) fn word_kind(word: &str) -> TokenKind
     }
 }
 
-/// Returns the punctuation of one byte.
+/// Returns the kind of the punctuation mark of one byte, or `None`.
 pub(crate) fn single(byte: u8) -> Option<TokenKind>
     ensures { result ≡ listed singles (byte ∷ []) }
 {
@@ -58,7 +58,7 @@ pub(crate) fn single(byte: u8) -> Option<TokenKind>
     }
 }
 
-/// Returns the punctuation of two bytes.
+/// Returns the kind of the punctuation mark of two bytes, or `None`.
 pub(crate) fn pair(first: u8, second: u8) -> Option<TokenKind>
     ensures { result ≡ listed pairs (first ∷ second ∷ []) }
 {

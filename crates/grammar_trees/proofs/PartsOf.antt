@@ -12,7 +12,7 @@ use Rattle.grammar_trees.specs.declared.tree.RecordEntry.{RecordEntry}
 use Rattle.grammar_trees.specs.declared.tree.KeyTree.{KeyTree}
 use Rattle.grammar_trees.specs.declared.tree.Term.{Term}
 use Rattle.grammar_trees.specs.declared.tree.ExprTree.{ExprTree}
-use Rattle.grammar_trees.specs.declared.tree.Variable.{Variable}
+use Rattle.grammar_trees.specs.declared.tree.RequestKeyword.{RequestKeyword}
 use Rattle.grammar_trees.specs.declared.tree.ExprTree.TheVariants as t
 use Rattle.grammar_trees.specs.declared.tree.ExprTree.TheOpen.{ExprTree-F as tree}
 use Rattle.grammar_trees.specs.declared.tree.ExprTree.TheFolds.{fold-roll-ExprTree}
@@ -28,7 +28,7 @@ pub parts-Boolean : (value : Bool) → parts_of (t.Boolean value) ≡ []
 parts-Boolean value =
     ap parts_of (sym (t.rolls-Boolean value)) ∙ fold-roll-ExprTree (List Part) parts_step (tree.Boolean value)
 
-pub parts-Variable : (variable : Variable) → parts_of (t.Variable variable) ≡ []
+pub parts-Variable : (variable : RequestKeyword) → parts_of (t.Variable variable) ≡ []
 parts-Variable variable =
     ap parts_of (sym (t.rolls-Variable variable)) ∙ fold-roll-ExprTree (List Part) parts_step (tree.Variable variable)
 

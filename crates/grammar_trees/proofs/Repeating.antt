@@ -13,7 +13,7 @@ use Rattle.std.proofs.lemmas.Map.Views.{Contains-from_any, list_any-from_Contain
 use Rattle.std.proofs.lemmas.Slice.Eq.{bytes_eq-Decides}
 use denote.Ref.{Bor}
 use Rattle.grammar_trees.specs.declared.repeats.NameAt as code
-use Rattle.grammar_trees.specs.Repeats.{NameAt, StandsAgain, ReportsLeast, abstract_names}
+use Rattle.grammar_trees.specs.Repeats.{NameAt, IsRepeatedAt, ReportsLeast, abstract_names}
 use Rattle.grammar_trees.specs.inner.Lesser.{lesser_of}
 
 -- the names of marks
@@ -27,7 +27,7 @@ has seen bytes = contains_by (λ k. slice_cmp nat_cmp bytes k.now) seen
 -- The set has the names of these marks, and this is the least place at which one of them stands again.
 pub record Seen (marks : List NameAt) (seen : BTreeSet (Bor (List ℕ))) (least : Option ℕ) : Type 0 where
   pub has_names : (bytes : List ℕ) → has seen bytes ≡ list_any (bytes_eq bytes) (names marks)
-  pub tells : ReportsLeast (StandsAgain marks) least
+  pub tells : ReportsLeast (IsRepeatedAt marks) least
 
 -- the same places have the same least
 pub tells-same : (P Q : ℕ → Type 0) (o : Option ℕ) → ((at : ℕ) → P at → Q at) → ((at : ℕ) → Q at → P at) → ReportsLeast P o → ReportsLeast Q o
@@ -68,7 +68,7 @@ split (x ∷ xs) (b ∷ bs) m mark behind e = elim (split xs bs m mark behind (t
 ]
 
 -- what stands again among some marks stands again among more
-again-more : (ms more : List NameAt) (at : ℕ) → StandsAgain ms at → StandsAgain (ms ++ more) at
+again-more : (ms more : List NameAt) (at : ℕ) → IsRepeatedAt ms at → IsRepeatedAt (ms ++ more) at
 again-more ms more at again = record {
   before = again.before;
   mark = again.mark;
@@ -79,10 +79,10 @@ again-more ms more at again = record {
 }
 
 -- the last mark stands again where its name stands before
-again-last : (ms : List NameAt) (m : NameAt) → Contains (names ms) m.name → StandsAgain (ms ++ m ∷ []) m.at
+again-last : (ms : List NameAt) (m : NameAt) → Contains (names ms) m.name → IsRepeatedAt (ms ++ m ∷ []) m.at
 again-last ms m before = record { before = ms; mark = m; behind = []; whole = refl; again = before; place = refl }
 
-again-split : (ms : List NameAt) (m : NameAt) (at : ℕ) → StandsAgain (ms ++ m ∷ []) at → StandsAgain ms at ⊎ ((at ≡ m.at) × Contains (names ms) m.name)
+again-split : (ms : List NameAt) (m : NameAt) (at : ℕ) → IsRepeatedAt (ms ++ m ∷ []) at → IsRepeatedAt ms at ⊎ ((at ≡ m.at) × Contains (names ms) m.name)
 again-split ms m at again = elim (split ms again.before m again.mark again.behind again.whole) [
   | inl found ↦ inl (record { before = again.before; mark = again.mark; behind = found.0; whole = found.1; again = again.again; place = again.place })
   | inr found ↦ inr (
@@ -139,7 +139,7 @@ pub seen-new : (ms : List NameAt) (m : NameAt) (k : Bor (List ℕ)) (seen more :
     has seen k.now ≡ false → Updates (λ x y. slice_cmp nat_cmp x.now y.now) seen more k true → Seen (ms ++ m ∷ []) more least
 seen-new ms m k seen more least was same new updates = record {
   has_names = has-more ms m k seen more same was.has_names updates;
-  tells = tells-same (StandsAgain ms) (StandsAgain (ms ++ m ∷ [])) least (again-more ms (m ∷ [])) (λ at again. elim (again-split ms m at again) [
+  tells = tells-same (IsRepeatedAt ms) (IsRepeatedAt (ms ++ m ∷ [])) least (again-more ms (m ∷ [])) (λ at again. elim (again-split ms m at again) [
     | inl before ↦ before
     | inr last ↦ absurd (differ (list_any-from_Contains bytes_equiv m.name (names ms) last.1) (sym (was.has_names m.name) ∙ ap (has seen) (sym same) ∙ new))
   ]) was.tells;
@@ -150,13 +150,13 @@ pub seen-again : (ms : List NameAt) (m : NameAt) (k : Bor (List ℕ)) (seen more
     has seen k.now ≡ true → Updates (λ x y. slice_cmp nat_cmp x.now y.now) seen more k true → Seen (ms ++ m ∷ []) more (lesser_of least (Some m.at))
 seen-again ms m k seen more least was same old updates = record {
   has_names = has-more ms m k seen more same was.has_names updates;
-  tells = tells-same (λ at. StandsAgain ms at ⊎ (at ≡ m.at)) (StandsAgain (ms ++ m ∷ [])) _
+  tells = tells-same (λ at. IsRepeatedAt ms at ⊎ (at ≡ m.at)) (IsRepeatedAt (ms ++ m ∷ [])) _
       (λ at either. elim either [
         | inl before ↦ again-more ms (m ∷ []) at before
-        | inr e ↦ subst (StandsAgain (ms ++ m ∷ [])) (sym e) (again-last ms m (Contains-from_any bytes_same m.name (names ms) (sym (was.has_names m.name) ∙ ap (has seen) (sym same) ∙ old)))
+        | inr e ↦ subst (IsRepeatedAt (ms ++ m ∷ [])) (sym e) (again-last ms m (Contains-from_any bytes_same m.name (names ms) (sym (was.has_names m.name) ∙ ap (has seen) (sym same) ∙ old)))
       ])
       (λ at again. elim (again-split ms m at again) [ inl before ↦ inl before | inr last ↦ inr last.0 ])
-      (tells-both (StandsAgain ms) (λ at. at ≡ m.at) least (Some m.at) was.tells (record { here = refl; least = λ other e. let same_place : other ≡ m.at = e in omega arith }));
+      (tells-both (IsRepeatedAt ms) (λ at. at ≡ m.at) least (Some m.at) was.tells (record { here = refl; least = λ other e. let same_place : other ≡ m.at = e in omega arith }));
 }
 
 -- one mark more of those that code holds

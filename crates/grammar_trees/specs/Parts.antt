@@ -1,5 +1,5 @@
--- Defines the tokens of a tree, each with the kinds that its position allows. A token whose meaning is its kind alone,
--- such as a sign, is not among them: the tree has the meaning in its place.
+-- Defines the parts of a syntax tree: its tokens, each with the kinds that its position allows. A token whose meaning
+-- is its kind alone, such as `+`, is not a part: the tree has that meaning in its place.
 use Rattle.std.specs.Prelude.{List, [], ◌∷◌, ◌++◌, map}
 use Rattle.std.specs.List.{flat_map}
 use Rattle.grammar_tokens.specs.declared.token.TokenKind.TheVariants as k
@@ -24,7 +24,7 @@ pub record Part : Type 0 where
   pub kinds : Kinds
   pub token : Token
 
--- `part kinds token` is the token with these kinds.
+-- `part kinds token` is the part of `token` at a position that allows `kinds`.
 abbrev pub part : Kinds → Token → Part
 part kinds token = record { kinds = kinds; token = token }
 
@@ -40,8 +40,8 @@ path_parts path = part identifiers path.first ∷ map (part identifiers) path.mo
 abbrev pub uid_parts : UidTree → List Part
 uid_parts uid = part (only k.Text) uid.id ∷ path_parts uid.path
 
--- `access_parts`, `entry_parts` and `term_parts` are the parts of an access, an entry and a term, given those of
--- their expressions.
+-- `access_parts`, `entry_parts` and `term_parts` are the parts of an access, of an entry of a record and of a term of a
+-- sum, given the parts of their expressions in the place of these.
 abbrev pub access_parts : Access (List (List Part)) → List Part
 access_parts (access.Field key) = key_part key ∷ []
 access_parts (access.Method name arguments) = part identifiers name ∷ flat_map (λ parts. parts) arguments
@@ -52,10 +52,11 @@ entry_parts entry = key_part entry.key ∷ entry.value
 abbrev pub term_parts : Term (List Part) → List Part
 term_parts term = term.operand
 
+-- `all lists` are the parts of each of `lists`, in order.
 abbrev all : List (List Part) → List Part
 all = flat_map (λ parts. parts)
 
--- `parts_step x` are the parts of the node `x`, given those of its subexpressions.
+-- `parts_step x` are the parts of the node `x`, given the parts of its subexpressions in the place of these.
 abbrev pub parts_step : tree (List Part) → List Part
 parts_step (tree.Boolean value) = []
 parts_step (tree.Number t) = part (only k.Number) t ∷ []
@@ -84,7 +85,7 @@ parts_step (tree.If a b c) = a ++ (b ++ c)
 abbrev pub parts_of : ExprTree → List Part
 parts_of = fold-ExprTree (List Part) parts_step
 
--- `parts_of_access`, `parts_of_entry` and `parts_of_term` are those of an access, an entry and a term.
+-- `parts_of_access`, `parts_of_entry` and `parts_of_term` are the parts of an access, an entry and a term.
 abbrev pub parts_of_access : Access (List ExprTree) → List Part
 parts_of_access (access.Field key) = key_part key ∷ []
 parts_of_access (access.Method name arguments) = part identifiers name ∷ flat_map parts_of arguments

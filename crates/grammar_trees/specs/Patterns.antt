@@ -1,10 +1,10 @@
--- Defines the kinds of tokens that are patterns.
+-- Defines which kinds of tokens may be patterns.
 -- Source: Cedar reference guide 4.0, "Grammar specification for Cedar policy syntax".
 use Rattle.std.specs.Prelude.{true, false}
 use Rattle.grammar_tokens.specs.declared.token.TokenKind.TheVariants as k
 use Rattle.grammar_tokens.specs.Kinds.{Kinds}
 
--- `patterns`: Pattern, a String in which `\*` may occur.
+-- `patterns` are the kinds of a Pattern: a String in which `\*` may occur.
 abbrev pub patterns : Kinds
 patterns k.Text = true
 patterns k.StarText = true

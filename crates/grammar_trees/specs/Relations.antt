@@ -5,11 +5,11 @@ use Rattle.grammar_tokens.specs.declared.token.Token.{Token}
 use Rattle.grammar_tokens.specs.Lang.{Lang, ◌>>=◌}
 use Rattle.grammar_trees.specs.declared.tree.ExprTree.{ExprTree}
 
--- `relation operand tailed` is the language of an operand x followed by what `tailed x` derives.
+-- `relation operand tailed` is the language of an operand `x`, followed by tokens of `tailed x`.
 abbrev pub relation : Lang ExprTree → (ExprTree → Lang ExprTree) → Lang ExprTree
 relation operand tailed = operand >>= tailed
 
--- `DerivesFront L ts a rest` holds if ts is some tokens that derive a in L, followed by rest.
+-- `DerivesFront L ts a rest` holds if `ts` are some tokens that derive `a` in `L`, followed by `rest`.
 pub record DerivesFront {A : Type 0} (L : Lang A) (ts : List Token) (a : A) (rest : List Token) : Type 0 where
   pub front : List Token
   pub whole : ts ≡ front ++ rest

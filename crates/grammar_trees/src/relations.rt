@@ -9,7 +9,7 @@ ghost use Rattle.grammar_trees.specs.declared.tree.ExprTree as trees;
 use crate::tree::ExprTree;
 use grammar_tokens::{Cursor, StopCause};
 
-/// The parsers of a relation's operand and tail, with what they derive.
+/// The parsers of a relation's operand and tail, with the languages that they parse.
 pub trait Related {
     /// The condition under which the parsers may be called.
     ghost can_read: { Self → Type 0 };
@@ -43,7 +43,8 @@ pub trait Related {
 
 /// Parses a relation: an operand and at most one tail.
 ///
-/// Comparisons do not chain: of `1 < 2 < 3` it reads `1 < 2`, and no production continues with the second `<`.
+/// Comparisons do not chain: of `1 < 2 < 3` it parses `1 < 2`, and no production continues with the second `<`. The
+/// error is the first of the two parsers.
 ///
 /// Source: Cedar reference guide 4.0, "Grammar specification for Cedar policy syntax".
 pub fn relation<R: Related>(tokens: &mut Cursor<'_>, of: &R) -> Result<ExprTree, StopCause>

@@ -1,6 +1,6 @@
 //! Repeated names.
 ghost use Rattle.std.specs.Prelude.{◌≡◌, IfOk};
-ghost use Rattle.grammar_trees.specs.Repeats.{StandsAgain, ReportsLeast, abstract_names};
+ghost use Rattle.grammar_trees.specs.Repeats.{IsRepeatedAt, ReportsLeast, abstract_names};
 ghost use Rattle.grammar_trees.specs.inner.Lesser.{lesser_of};
 
 use plain::NoMemory;
@@ -14,7 +14,7 @@ pub struct NameAt<'a> {
     pub at: usize,
 }
 
-/// Returns the lesser of the offsets that are present.
+/// Returns the lesser of the offsets that are present, or `None`.
 fn lesser(a: Option<usize>, b: Option<usize>) -> Option<usize>
     ensures { result ≡ lesser_of a b }
 {
@@ -33,7 +33,7 @@ fn lesser(a: Option<usize>, b: Option<usize>) -> Option<usize>
 ///
 /// - `NoMemory`: an allocation failed.
 pub fn least_place(alloc: Global, marks: &[NameAt<'_>]) -> Result<Option<usize>, NoMemory>
-    ensures { IfOk result (ReportsLeast (StandsAgain (abstract_names marks.now))) }
+    ensures { IfOk result (ReportsLeast (IsRepeatedAt (abstract_names marks.now))) }
 {
     let mut seen = BTreeSet::new(alloc);
     let mut least = None;

@@ -4,7 +4,7 @@ use plain::{Boxed, Items};
 
 /// A keyword for a part of the request.
 #[derive(Clone, Copy, PartialEq, Eq)]
-pub enum Variable {
+pub enum RequestKeyword {
     /// `principal`
     Principal,
     /// `action`
@@ -75,8 +75,10 @@ pub struct RecordEntry<T> {
     pub value: T,
 }
 
-/// The syntax tree of an expression. Operands of one level, and accesses, are side by side in a list, so that only
-/// parentheses, brackets, braces, arguments and `if` increase the height much; these are limited to 64 levels.
+/// The syntax tree of an expression.
+///
+/// Operands of one level of operators, and accesses, are side by side in a list. So only parentheses, brackets, braces,
+/// arguments and `if` increase the height much, and these nest at most 64 levels deep.
 #[derive(Drop)]
 pub enum ExprTree {
     /// `true` or `false`.
@@ -84,7 +86,7 @@ pub enum ExprTree {
     Number(Token),
     /// A string without `\*`.
     Text(Token),
-    Variable(Variable),
+    Variable(RequestKeyword),
     Uid(UidTree),
     /// A call of a function: its name and its arguments.
     Call(PathTree, Items<ExprTree>),
@@ -105,7 +107,7 @@ pub enum ExprTree {
     Compare(Boxed<ExprTree>, Comparison, Boxed<ExprTree>),
     /// `has`, with a field's name.
     Has(Boxed<ExprTree>, KeyTree),
-    /// `like`, with a string, in which `\*` may occur.
+    /// `like`, with a pattern: a string in which `\*` may occur.
     Like(Boxed<ExprTree>, Token),
     /// `is`
     Is(Boxed<ExprTree>, PathTree),

@@ -18,29 +18,29 @@ use Rattle.http_routes.specs.declared.route.Route.TheVariants.{Authorize, PutPol
 use Rattle.http_routes.specs.declared.route.Route.TheVariants.{PutEntity, DeleteEntity, State, Summary, Delta}
 use Rattle.http_routes.specs.declared.route.Route.TheVariants.{Merge, Unknown, OtherMethod}
 
--- `string_or_null text` is a text as a JSON string, without a control character below U+0020; or null.
+-- `string_or_null text` is a text as a JSON string, without a control character below U+0020; or null if it is absent.
 abbrev pub string_or_null : Option (List ℕ) → List ℕ
 string_or_null (Some text) = quoted text
 string_or_null None = codes "null"
 
--- `text_of bytes` is the text that bytes are, if they are UTF-8.
+-- `text_of bytes` is `bytes` as a text, if they are UTF-8.
 abbrev pub text_of : List ℕ → Option (List ℕ)
 text_of bytes = if is_utf8 bytes then Some bytes else None
 
--- `head_text method target` begins the line: {"method":"GET","target":"/v1/state"
+-- `head_text method target` is the beginning of the line: {"method":"GET","target":"/v1/state"
 abbrev pub head_text : Option (List ℕ) → Option (List ℕ) → List ℕ
 head_text method target =
     codes "{\"method\":" ++ string_or_null method ++ codes ",\"target\":" ++ string_or_null target
 
--- `status_text status` follows: ,"status":200
+-- `status_text status` is the part after the head: ,"status":200
 abbrev pub status_text : StatusCode → List ℕ
 status_text status = codes ",\"status\":" ++ decimal status
 
--- `plain_tail status` ends a line that reports nothing else.
+-- `plain_tail status` is the end of a line that reports only its status.
 abbrev pub plain_tail : StatusCode → List ℕ
 plain_tail status = status_text status ++ codes "}\n"
 
--- `stamp_tail status reply` ends the line of a change, whose reply is its stamp, as in
+-- `stamp_tail status reply` is the end of the line of a change, whose reply is its stamp, as in
 -- ,"status":200,"stamp":{"count":2,"site":"1"}}
 -- No stamp is longer than 128 bytes; a longer reply would be left out.
 abbrev pub stamp_tail : StatusCode → List ℕ → List ℕ
@@ -59,42 +59,46 @@ uid_text None id = codes "null"
 abbrev pub object_text : Data → List ℕ
 object_text d = uid_text (text_at (codes "type") d) (text_at (codes "id") d)
 
--- `inner_text d inner` is that of the member `__entity` of `d`, or of `d` itself without such a member.
+-- `inner_text d inner` is the uid of the object `inner`, the member `__entity` of `d`, or of `d` itself without such a
+-- member.
 abbrev pub inner_text : Data → Option Data → List ℕ
 inner_text d None = object_text d
 inner_text d (Some inner) = object_text inner
 
--- `name_text d text` is a string as it was sent, else the uid of an object: "User::\"ann\""
+-- `name_text d text` is the name of an entity that a request names by `d`: the string `text` as it was sent, if `d` is
+-- one, else the uid of the object `d`: "User::\"ann\""
 abbrev pub name_text : Data → Option (List ℕ) → List ℕ
 name_text d (Some text) = quoted text
 name_text d None = inner_text d (get (codes "__entity") d)
 
--- `named_text found` is how the log names an entity that a request names by a string or by an object, or null.
+-- `named_text found` is that name for the JSON `found`, or null otherwise.
 abbrev pub named_text : Option Data → List ℕ
 named_text (Some d) = name_text d (as_str d)
 named_text None = codes "null"
 
--- `member_text label key json` is a label and what a body's JSON names at a key: ,"principal":"User::\"ann\""
+-- `member_text label key json` is `label` followed by the name at `key` of the body `json`:
+-- ,"principal":"User::\"ann\""
 unfoldable pub member_text : List ℕ → List ℕ → Option Data → List ℕ
 member_text label key json = label ++ named_text (option_and_then (get key) json)
 
--- `members_text json` is the request of a body's JSON: ,"principal":"User::\"ann\"","action":..,"resource":..
+-- `members_text json` names the request with the body `json`: ,"principal":"User::\"ann\"","action":..,"resource":..
 abbrev pub members_text : Option Data → List ℕ
 members_text json =
     member_text (codes ",\"principal\":") (codes "principal") json
     ++ member_text (codes ",\"action\":") (codes "action") json
     ++ member_text (codes ",\"resource\":") (codes "resource") json
 
--- `decision_tail status json reply` ends that of a decision, whose reply is an object: its members follow the request,
--- as ,"cycle":[],"decision":"Allow","errors":[],"reason":["p"]}
+-- `decision_tail status json reply` is the end of the line of a decision, whose reply is an object: its members follow
+-- the request, as ,"cycle":[],"decision":"Allow","errors":[],"reason":["p"]}
 abbrev pub decision_tail : StatusCode → Option Data → List ℕ → List ℕ
 decision_tail status json reply = status_text status ++ members_text json ++ codes "," ++ drop 1 reply ++ codes "\n"
 
--- `decided_tail status json reply` ends that of a request to decide; a rejection is reported by its status.
+-- `decided_tail status json reply` is the end of the line of a request to decide; a rejection is reported only by its
+-- status.
 abbrev pub decided_tail : StatusCode → Option Data → List ℕ → List ℕ
 decided_tail status json reply = if status == 200 then decision_tail status json reply else plain_tail status
 
--- `made_tail route status body reply` is the end for an operation that was executed.
+-- `made_tail route status body reply` is the end of the line of an operation that was executed.
 abbrev pub made_tail : Route → StatusCode → List ℕ → List ℕ → List ℕ
 made_tail Authorize status body reply = decision_tail status (json_of body) reply
 made_tail (PutPolicy id) status body reply = stamp_tail status reply
@@ -109,7 +113,7 @@ made_tail Merge status body reply = plain_tail status
 made_tail Unknown status body reply = plain_tail status
 made_tail OtherMethod status body reply = plain_tail status
 
--- `tail_of route status body reply` ends the line; a rejection is reported by its status.
+-- `tail_of route status body reply` is the end of the line of any request; a rejection is reported only by its status.
 abbrev pub tail_of : Route → StatusCode → List ℕ → List ℕ → List ℕ
 tail_of route status body reply = if status == 200 then made_tail route status body reply else plain_tail status
 
@@ -123,16 +127,16 @@ log_line method target body status reply =
 abbrev pub unread_line : StatusCode → List ℕ
 unread_line status = head_text None None ++ plain_tail status
 
--- `IsUndone asking status reply` holds if the reply to a route's request says that an allocation failed and nothing was
--- done: the error line of code 1, without a place. A request for no operation has its own error line, also when out of
--- memory.
+-- `IsUndone route status reply` holds if the reply to a request for `route` reports that an allocation failed and
+-- nothing was done: the error line of code 1, without a place. A request for no operation has its own error line, also
+-- when out of memory.
 abbrev pub IsUndone : Route → StatusCode → List ℕ → Type 0
 IsUndone Unknown status reply = (status ≡ 404) × (reply ≡ error_line 404)
 IsUndone OtherMethod status reply = (status ≡ 405) × (reply ≡ error_line 405)
 IsUndone _ status reply = (status ≡ 503) × (reply ≡ error_line 1)
 
--- `IsLogLine method target body status reply line` holds if the log may get this line: the request's or, if its
--- allocation failed, so that nothing was done, a line without method and target.
+-- `IsLogLine method target body status reply line` holds if the log may get `line`: that of the request or, if its
+-- allocation failed, so that nothing was done, one without method and target.
 abbrev pub IsLogLine : List ℕ → List ℕ → List ℕ → StatusCode → List ℕ → List ℕ → Type 0
 IsLogLine method target body status reply line =
     (line ≡ log_line method target body status reply)

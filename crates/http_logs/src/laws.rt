@@ -1,4 +1,4 @@
-//! Theorems on the lines of a log. The functions are no-ops.
+//! Theorems about the lines of a log, as functions that do nothing.
 ghost use Rattle.std.specs.Prelude.{◌≡◌, ◌++◌, ℕ, List};
 ghost use Rattle.http.specs.declared.status.StatusCode.{StatusCode};
 ghost use Rattle.json_words.specs.Json.{json_of};
@@ -17,7 +17,7 @@ pub fn lines_have_one_line_feed()
 
 /// Proves that the line of each decision names principal, action and resource as the request does, and has the
 /// members of the reply. No-op.
-pub fn decisions_tell_who_asked()
+pub fn decision_lines_name_requests()
     ensures { (method target body reply line : List ℕ) → route_stated method target ≡ route.Authorize
         → IsLogLine method target body 200 reply line
         → line ≡ head_text (text_of method) (text_of target) ++ decision_tail 200 (json_of body) reply }

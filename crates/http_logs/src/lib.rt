@@ -7,7 +7,7 @@ mod laws;
 mod line;
 mod pieces;
 
-pub use laws::{decisions_tell_who_asked, lines_have_one_line_feed};
+pub use laws::{decision_lines_name_requests, lines_have_one_line_feed};
 pub use line::{put_decided_tail, put_head, put_plain_tail, put_tail, put_unread_line};
 
 /// The most bytes of a line without method and target.

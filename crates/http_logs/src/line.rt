@@ -21,7 +21,9 @@ use std::alloc::Global;
 
 /// Puts the beginning of the line of a request, with room for the rest of the line of a change.
 ///
-/// Fails for memory alone; the line is then unchanged.
+/// # Errors
+///
+/// - `NoMemory`: an allocation failed. The line is then unchanged.
 pub fn put_head(
     alloc: Global,
     line: &mut Vec<u8>,
@@ -54,7 +56,7 @@ fn put_with_room(line: &mut Vec<u8>, piece: &[u8]) -> Result<(), NoMemory>
     Ok(())
 }
 
-/// Appends the status.
+/// Appends the status, in at most 30 bytes.
 fn put_status(line: &mut Vec<u8>, status: StatusCode)
     requires room { vec_len line.old + 30 ≤ vec_capacity line.old }
     ensures items { line.new.items ≡ line.old.items ++ status_text status }
@@ -65,7 +67,7 @@ fn put_status(line: &mut Vec<u8>, status: StatusCode)
     append_number(line, u64::from(status.as_u16()));
 }
 
-/// Ends a line that reports only its status. Does not allocate.
+/// Ends a line that reports only its status, in at most 32 bytes. Does not allocate.
 pub fn put_plain_tail(line: &mut Vec<u8>, status: StatusCode)
     requires room { vec_len line.old + 32 ≤ vec_capacity line.old }
     ensures items { line.new.items ≡ line.old.items ++ plain_tail status }
@@ -101,7 +103,7 @@ fn behind_first(bytes: &[u8]) -> &[u8]
     &bytes[1..]
 }
 
-/// Ends the line of a decision, given the text of its request.
+/// Ends the line of a decision, given the members `asked` that name its request.
 fn put_asked_tail(
     line: &mut Vec<u8>,
     status: StatusCode,
@@ -151,7 +153,9 @@ fn put_decision_tail(
 
 /// Ends the line of a request to decide, by the JSON of its body, which the caller has parsed.
 ///
-/// Fails for memory alone; the line is then unchanged.
+/// # Errors
+///
+/// - `NoMemory`: an allocation failed. The line is then unchanged.
 pub fn put_decided_tail(
     alloc: Global,
     line: &mut Vec<u8>,
@@ -195,8 +199,8 @@ fn put_made_tail(line: &mut Vec<u8>, route: &Route, status: StatusCode, reply: &
     }
 }
 
-/// Ends the line of a request whose reply has this status and this body; that of a request to decide is ended by
-/// [`put_decided_tail`]. Does not allocate.
+/// Ends the line of a request whose reply has this status and this body. Does not allocate. A request to decide needs
+/// [`put_decided_tail`] instead.
 pub fn put_tail(line: &mut Vec<u8>, route: &Route, status: StatusCode, reply: &[u8])
     requires { vec_len line.old + TAIL_ROOM ≤ vec_capacity line.old }
     ensures items { route.now ≢ Route.Authorize

@@ -54,7 +54,7 @@ fn escape_letter(byte: u8) -> u8
     }
 }
 
-/// Returns a hexadecimal digit.
+/// Returns the hexadecimal digit of a number below 16.
 fn hex_digit(digit: u8) -> u8
     requires { digit < 16 }
     ensures { result ≡ digit_char digit }
@@ -79,7 +79,7 @@ fn is_special(byte: u8) -> bool
     byte == b'\\'
 }
 
-/// Appends the escape of a byte in a JSON string.
+/// Appends a byte of a JSON string by its escape, or the byte itself if it has none.
 #[inline(never)]
 #[tactic(auto, unfolding(json::specs::Print::escape_byte))]
 fn append_special(line: &mut Vec<u8>, byte: u8) -> Result<(), NoMemory>
@@ -195,7 +195,7 @@ fn with_object(line: Vec<u8>, value: &Value) -> Result<Vec<u8>, NoMemory>
     }
 }
 
-/// Returns a line followed by the uid that the member `__entity` of an object states, or without it the object itself.
+/// Returns a line followed by the uid of an object: that of its member `__entity` if there is one, else its own.
 fn with_inner(line: Vec<u8>, value: &Value) -> Result<Vec<u8>, NoMemory>
     ensures { IfOk result (λ made.
         made.items ≡ line.items ++ inner_text (view value.now) (get (codes "__entity") (view value.now))) }

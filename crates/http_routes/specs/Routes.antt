@@ -31,7 +31,7 @@ path_of target = before_first is_question_mark target
 unfoldable pub id_in : List ℕ → PolicyId
 id_in bytes = if is_utf8 bytes then Named bytes else NotUtf8
 
--- `id_of segment` is the id that `segment` names.
+-- `id_of segment` is the id in `segment`, percent-decoded.
 abbrev pub id_of : List ℕ → PolicyId
 id_of segment = id_in (percent_decode segment)
 
@@ -70,7 +70,7 @@ policy_route method segment =
     else if bytes_eq method (codes "DELETE") then DeletePolicy (id_of segment)
     else OtherMethod
 
--- `route_at method path segment` is the route of `path`, which names the policy `segment` if there is one.
+-- `route_at method path segment` is the route of `path`, where `segment` names a policy if `path` is that of a policy.
 abbrev pub route_at : List ℕ → List ℕ → Option (List ℕ) → Route
 route_at method path None = plain_route method path
 route_at method path (Some segment) = policy_route method segment

@@ -1,6 +1,5 @@
 //! Routes by method and target.
 ghost use Rattle.std.specs.Prelude.{◌≡◌, IfOk, OnErr, IsTrue, bytes_eq};
-ghost use Rattle.percent_encoding.specs.Percent.{percent_decode};
 ghost use Rattle.http_routes.specs.Routes.{id_in, id_of, only, plain_route, policy_route, route_stated, has_id};
 
 use crate::path::{path_of, segment_of};
@@ -10,16 +9,7 @@ use percent_encoding::percent_decode;
 use plain::{NoMemory, Text};
 use std::alloc::Global;
 
-/// Returns the percent-decoded bytes of a segment.
-fn decoded(alloc: Global, segment: &[u8]) -> Result<Vec<u8>, NoMemory>
-    ensures { IfOk result (λ b. b.items ≡ percent_decode segment.now) }
-{
-    let mut bytes = Vec::with_capacity(alloc, segment.len())?;
-    percent_decode(segment).append_to(&mut bytes)?;
-    Ok(bytes)
-}
-
-/// Returns the id that decoded bytes are. Does not allocate.
+/// Returns decoded bytes as the id of a policy. Does not allocate.
 #[tactic(auto, unfolding(crate::specs::Routes::id_in))]
 fn id_in(bytes: Vec<u8>) -> PolicyId
     ensures { result ≡ id_in bytes.items }
@@ -30,22 +20,23 @@ fn id_in(bytes: Vec<u8>) -> PolicyId
     }
 }
 
-/// Returns the id that a segment names.
+/// Returns the percent-decoded id of a segment.
 fn id_of(alloc: Global, segment: &[u8]) -> Result<PolicyId, NoMemory>
     ensures { IfOk result (λ id. id ≡ id_of segment.now) }
 {
-    let bytes = decoded(alloc, segment)?;
+    let mut bytes = Vec::with_capacity(alloc, segment.len())?;
+    percent_decode(segment).append_to(&mut bytes)?;
     Ok(id_in(bytes))
 }
 
-/// Returns whether these bytes are the method.
+/// Returns whether `bytes` are the method `method`.
 fn is_method(bytes: &[u8], method: &Method) -> bool
     ensures { result ≡ bytes_eq bytes.now method.now }
 {
     bytes == method.as_str().as_bytes()
 }
 
-/// Returns the route of a path that has one method.
+/// Returns `route` if `method` is `wanted`, the only method of its path, else `OtherMethod`.
 #[tactic(auto, unfolding(crate::specs::Routes::only))]
 fn only(wanted: &Method, method: &[u8], route: Route) -> Route
     ensures { result ≡ only wanted.now method.now route }
@@ -86,7 +77,7 @@ fn plain_route(method: &[u8], path: &[u8]) -> Route
     Route::Unknown
 }
 
-/// Returns the route of the policy that a segment names. Allocates only if a policy has this method.
+/// Returns the route of the policy that a segment names. Allocates only if the path of a policy has this method.
 #[tactic(auto, unfolding(crate::specs::Routes::policy_route))]
 fn policy_route(alloc: Global, method: &[u8], segment: &[u8]) -> Result<Route, NoMemory>
     ensures route { IfOk result (λ r. r ≡ policy_route method.now segment.now) }
@@ -112,7 +103,7 @@ fn policy_route(alloc: Global, method: &[u8], segment: &[u8]) -> Result<Route, N
 ///
 /// # Errors
 ///
-/// `NoMemory`, only for the id of a policy: a route without an id does not allocate.
+/// - `NoMemory`: the id of a policy could not be allocated. A route without an id does not allocate.
 #[tactic(auto, unfolding(crate::specs::Routes::route_stated))]
 pub fn route_of(alloc: Global, method: &[u8], target: &[u8]) -> Result<Route, NoMemory>
     ensures route { IfOk result (λ r. r ≡ route_stated method.now target.now) }

@@ -10,7 +10,7 @@ use Rattle.site_calls.specs.site_steps.SiteViews.{SiteView, schema_of, store_in,
 use Rattle.site_calls.specs.site_steps.Runs.{Run}
 use Rattle.site_calls.proofs.of_site_steps.RunLemmas.{run_push, same_step}
 use Rattle.http_routes.specs.Routes.{route_stated}
-use Rattle.site_calls.specs.Asked.{Asked, gives, rejects, unserved}
+use Rattle.site_calls.specs.SiteRequest.{SiteRequest, gives, rejects, unserved}
 use Rattle.http_service.specs.Asked.{asked}
 use Rattle.site_calls.specs.Answers.{Replies}
 use Rattle.http_service.specs.Answered.{answers_over}
@@ -37,7 +37,7 @@ no_step first v new h e = record {
   same = same_then first v.site new h.same (unchanged v.site new e);
 }
 
-one_request : (first : SiteView) (a : Asked) (v : Served) (new : SiteView) (status : StatusCode) (line : List ℕ) → Running first v
+one_request : (first : SiteView) (a : SiteRequest) (v : Served) (new : SiteView) (status : StatusCode) (line : List ℕ) → Running first v
     → Replies v.site a status line new
     → (w : Served) × Continues v a status line w × Running first w × (w.site ≡ new)
 one_request first (gives i) v new status line so_far h = (

@@ -42,7 +42,7 @@ use Rattle.site_calls.specs.site_steps.stamped_store.declared.entry.Stamp.{Stamp
 use Rattle.values.specs.declared.name.Name.{Name}
 use Rattle.values.specs.declared.entity_uid.EntityUid.{EntityUid}
 use Rattle.site_calls.specs.Answers.{Replies}
-use Rattle.site_calls.specs.Asked.{Asked, gives, not_text, rejects, unserved, removal_asked}
+use Rattle.site_calls.specs.SiteRequest.{SiteRequest, gives, not_text, rejects, unserved, removal_asked}
 use Rattle.site_calls.specs.Reports.{reported}
 use Rattle.http_service.specs.Answered.{answers}
 use Rattle.http_service.specs.Asked.{asked}
@@ -189,12 +189,12 @@ step_fits schema n s input.State r t line named c h e = absurd c
 step_fits schema n s input.Summary r t line named c h e = absurd c
 step_fits schema n s (input.Delta bytes) r t line named c h e = absurd c
 
-abbrev AsksChange : Asked → Type 0
+abbrev AsksChange : SiteRequest → Type 0
 AsksChange (gives i) = IsChanging i
 AsksChange (rejects f) = Unit {0}
 AsksChange (unserved s) = ⊥
 
-asked_fits : (old new : SiteView) (a : Asked) (line : List ℕ) → IsSiteName old.name → AsksChange a
+asked_fits : (old new : SiteView) (a : SiteRequest) (line : List ℕ) → IsSiteName old.name → AsksChange a
     → Replies old a 200 line new → length line ≤ 128
 asked_fits old new (gives i) line named c (r, step, same, e) =
     step_fits (schema_of old) old.name (store_in old) i r (store_in new) line named c step e
@@ -360,12 +360,12 @@ no_message schema n s input.State (told.Written r) t c h = absurd c
 no_message schema n s input.Summary (told.Written r) t c h = absurd c
 no_message schema n s (input.Delta bytes) (told.Written r) t c h = absurd c
 
-abbrev AsksPlainly : Asked → Type 0
+abbrev AsksPlainly : SiteRequest → Type 0
 AsksPlainly (gives i) = AsksNoMessage i
 AsksPlainly (rejects f) = Unit {0}
 AsksPlainly (unserved s) = Unit {0}
 
-asked_free : (old new : SiteView) (a : Asked) (status : StatusCode) (line : List ℕ) → AsksPlainly a
+asked_free : (old new : SiteView) (a : SiteRequest) (status : StatusCode) (line : List ℕ) → AsksPlainly a
     → Replies old a status line new → HasNoLineFeed line
 asked_free old new (gives i) status line c (r, step, same, e) =
     same_free status line (reported r) e
@@ -375,7 +375,7 @@ asked_free old new (rejects f) status line c (inr e, same) =
     same_free status line (fault_reply fault.NoMemory) e (site_fault_free fault.NoMemory)
 asked_free old new (unserved s) status line c (e, same) = same_free status line (s, fault_line s None None) e (fault_free s None None)
 
-change_plainly : (a : Asked) → AsksChange a → AsksPlainly a
+change_plainly : (a : SiteRequest) → AsksChange a → AsksPlainly a
 change_plainly (gives (input.PutPolicy id text)) c = tt
 change_plainly (gives (input.DeletePolicy id)) c = tt
 change_plainly (gives (input.PutEntity bytes)) c = tt

@@ -17,16 +17,16 @@ use Rattle.site_calls.specs.site_steps.declared.reply.Reply.TheVariants as reply
 use Rattle.http_routes.specs.Routes.{has_id, route_stated}
 use Rattle.http_routes.specs.declared.route.Route.{Route}
 use Rattle.http_routes.specs.declared.route.Route.TheVariants as route
-use Rattle.site_calls.specs.Asked.{Asked, unserved}
+use Rattle.site_calls.specs.SiteRequest.{SiteRequest, unserved}
 use Rattle.http_service.specs.Asked.{asked}
 use Rattle.site_calls.specs.Answers.{Appends, Replies}
-use Rattle.http_service.specs.inner.Noting.{DealsLogged, DealsNoted, LacksMemory, unserved_status}
+use Rattle.http_service.specs.inner.Noting.{AnswersWithLine, AnswersWithTail, IsUndoneReply, unserved_status}
 use Rattle.http_service.proofs.Dealt.{handed, removal_lacks, unrouted, unserves}
 
 -- the reply that was shown is the one that was appended
 pub noted_so : (old new : SiteView) (asking : Route) (body : List ℕ) (status : StatusCode) (before after line ended shown : List ℕ) (at : ℕ)
     → length before ≡ at → shown ≡ drop at after → Appends old (asked asking body) status before after new
-    → ended ≡ line ++ tail_of asking status body shown → DealsNoted old asking body status before after line ended new
+    → ended ≡ line ++ tail_of asking status body shown → AnswersWithTail old asking body status before after line ended new
 noted_so old new asking body status before after line ended shown at len cut (told, f, replies) e = (
   told,
   f,
@@ -37,7 +37,7 @@ noted_so old new asking body status before after line ended shown at len cut (to
 -- a decision whose memory is refused
 pub undecided : (site : SiteView) (body : List ℕ) (status : StatusCode) (before after line ended : List ℕ)
     → status ≡ (fault_reply fault.NoMemory).0 → after ≡ before ++ (fault_reply fault.NoMemory).1
-    → ended ≡ line ++ plain_tail status → DealsNoted site route.Authorize body status before after line ended site
+    → ended ≡ line ++ plain_tail status → AnswersWithTail site route.Authorize body status before after line ended site
 undecided site body status before after line ended e g h = (
   (fault_reply fault.NoMemory).1,
   g,
@@ -48,8 +48,8 @@ undecided site body status before after line ended e g h = (
 
 -- the same from what was cut back
 pub noted_from : (site : SiteView) (body : List ℕ) (status : StatusCode) (before cut after line kept ended : List ℕ)
-    → cut ≡ before → kept ≡ line → DealsNoted site route.Authorize body status cut after kept ended site
-    → DealsNoted site route.Authorize body status before after line ended site
+    → cut ≡ before → kept ≡ line → AnswersWithTail site route.Authorize body status cut after kept ended site
+    → AnswersWithTail site route.Authorize body status before after line ended site
 noted_from site body status before cut after line kept ended e g (told, f, replies, is) = (
   told,
   f ∙ ap (λ (t : List ℕ). t ++ told) e,
@@ -66,7 +66,7 @@ tail_by line ended body json status shown is e = e ∙ sym (ap (λ (o : Option D
 pub noted_by : (site : SiteView) (body : List ℕ) (json : Option Data) (status : StatusCode) (before after line ended shown : List ℕ) (at : ℕ)
     → length before ≡ at → shown ≡ drop at after → json_of body ≡ json
     → Appends site (asked route.Authorize body) status before after site → ended ≡ line ++ decided_tail status json shown
-    → DealsNoted site route.Authorize body status before after line ended site
+    → AnswersWithTail site route.Authorize body status before after line ended site
 noted_by site body json status before after line ended shown at len cut is appends e =
     noted_so site site route.Authorize body status before after line ended shown at len cut appends
     (tail_by line ended body json status shown is e)
@@ -77,13 +77,13 @@ pub cut_back : (before after cut : List ℕ) (at : ℕ) → length before ≡ at
 cut_back before after cut at len (told, f) e = e ∙ ap (take at) f ∙ take_at before told at len
 
 -- what is appended to nothing is the reply
-replies_alone : (old new : SiteView) (a : Asked) (status : StatusCode) (line : List ℕ) → Appends old a status [] line new
+replies_alone : (old new : SiteView) (a : SiteRequest) (status : StatusCode) (line : List ℕ) → Appends old a status [] line new
     → Replies old a status line new
 replies_alone old new a status line (told, f, h) = subst (λ (t : List ℕ). Replies old a status t new) (sym f) h
 
 -- memory was refused before anything was done
 pub unserved_lacks : (asking : Route) (u status : StatusCode) (before after : List ℕ) → unserved_status asking ≡ Some u
-    → status ≡ (status_reply u).0 → after ≡ before ++ (status_reply u).1 → LacksMemory asking status before after
+    → status ≡ (status_reply u).0 → after ≡ before ++ (status_reply u).1 → IsUndoneReply asking status before after
 unserved_lacks route.Unknown u status before after is e f =
     let same : u ≡ 404 = cc in (
       (status_reply u).1,
@@ -105,7 +105,7 @@ unserved_lacks _ u status before after is e f = absurd cc
 lacks_so : (asking : Route) (status : StatusCode) (before after : List ℕ) → IsUndone asking status (fault_reply fault.NoMemory).1
     → after ≡ before ++ (fault_reply fault.NoMemory).1
     → ((old : SiteView) (body : List ℕ) → Appends old (asked asking body) status [] (fault_reply fault.NoMemory).1 old)
-    → LacksMemory asking status before after
+    → IsUndoneReply asking status before after
 lacks_so asking status before after undone f each = (
   (fault_reply fault.NoMemory).1,
   f,
@@ -115,7 +115,7 @@ lacks_so asking status before after undone f each = (
 
 pub served_lacks : (asking : Route) (status : StatusCode) (before after : List ℕ) → unserved_status asking ≡ None
     → status ≡ (fault_reply fault.NoMemory).0 → after ≡ before ++ (fault_reply fault.NoMemory).1
-    → LacksMemory asking status before after
+    → IsUndoneReply asking status before after
 served_lacks (route.PutPolicy id) status before after is e f = lacks_so (route.PutPolicy id) status before after (e, one_line 1) f
     (λ old body. unrouted old (route.PutPolicy id) body status [] (fault_reply fault.NoMemory).1 refl e refl)
 served_lacks (route.GetPolicy id) status before after is e f = lacks_so (route.GetPolicy id) status before after (e, one_line 1) f
@@ -148,8 +148,8 @@ undone_at _ status has e = (e, one_line 1)
 
 -- the line is put for whoever asked
 pub logged_lacks : (old : SiteView) (asking : Route) (m t body : List ℕ) (status : StatusCode) (before after line : List ℕ)
-    → asking ≡ route_stated m t → LacksMemory asking status before after → line ≡ unread_line status
-    → DealsLogged old m t body status before after line old
+    → asking ≡ route_stated m t → IsUndoneReply asking status before after → line ≡ unread_line status
+    → AnswersWithLine old m t body status before after line old
 logged_lacks old asking m t body status before after line is so e = (
   so.0,
   so.1,
@@ -160,7 +160,7 @@ logged_lacks old asking m t body status before after line is so e = (
 pub logged_unrouted : (old : SiteView) (m t body : List ℕ) (status : StatusCode) (before after line : List ℕ)
     → IsTrue (has_id (route_stated m t)) → status ≡ (fault_reply fault.NoMemory).0
     → after ≡ before ++ (fault_reply fault.NoMemory).1 → line ≡ unread_line status
-    → DealsLogged old m t body status before after line old
+    → AnswersWithLine old m t body status before after line old
 logged_unrouted old m t body status before after line has e f g = (
   (fault_reply fault.NoMemory).1,
   f,
@@ -171,7 +171,7 @@ logged_unrouted old m t body status before after line has e f g = (
 
 pub logged_noted : (old new : SiteView) (asking : Route) (m t body : List ℕ) (status : StatusCode) (before after head line : List ℕ)
     → asking ≡ route_stated m t → head ≡ head_text (text_of m) (text_of t)
-    → DealsNoted old asking body status before after head line new → DealsLogged old m t body status before after line new
+    → AnswersWithTail old asking body status before after head line new → AnswersWithLine old m t body status before after line new
 logged_noted old new asking m t body status before after head line is h (told, f, replies, e) = (
   told,
   f,

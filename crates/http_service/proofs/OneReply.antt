@@ -17,7 +17,7 @@ use Rattle.site_calls.specs.site_steps.declared.reply.Reply.TheVariants as reply
 use Rattle.site_calls.specs.site_steps.Outcomes.{IsWhole, InputsHaveOneOutcome}
 use Rattle.site_calls.specs.site_steps.Runs.{Step}
 use Rattle.http_routes.specs.Routes.{route_stated}
-use Rattle.site_calls.specs.Asked.{Asked, gives, rejects, unserved}
+use Rattle.site_calls.specs.SiteRequest.{SiteRequest, gives, rejects, unserved}
 use Rattle.http_service.specs.Asked.{asked}
 use Rattle.site_calls.specs.Answers.{Replies}
 use Rattle.site_calls.specs.Reports.{reported}
@@ -132,7 +132,7 @@ refused_line : (f : SiteFault) (line : Line) → (line ≡ fault_reply f) ⊎ (l
 refused_line f line (inl is) h = is
 refused_line f line (inr is) h = absurd (h (ap (λ (l : Line). l.0) is))
 
-one_of : HaveOneOutcome → (a : Asked) (old old2 : SiteView) (st st2 : StatusCode) (x x2 : List ℕ) (new new2 : SiteView)
+one_of : HaveOneOutcome → (a : SiteRequest) (old old2 : SiteView) (st st2 : StatusCode) (x x2 : List ℕ) (new new2 : SiteView)
     → IsAlike old old2 → Replies old a st x new → st ≢ 503
     → Replies old2 a st2 x2 new2 → st2 ≢ 503 → (line st x ≡ line st2 x2) × IsAlike new new2
 one_of law (gives i) old old2 st st2 x x2 new new2 alike h some k some2 =

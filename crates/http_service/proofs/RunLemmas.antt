@@ -11,7 +11,7 @@ use Rattle.site_calls.specs.site_steps.Runs.{Run, took}
 use Rattle.site_calls.specs.site_steps.Inputs.{Input}
 use Rattle.site_calls.specs.site_steps.declared.reply.Reply.{Reply}
 use Rattle.http_routes.specs.Routes.{route_stated}
-use Rattle.site_calls.specs.Asked.{Asked, gives, rejects, unserved}
+use Rattle.site_calls.specs.SiteRequest.{SiteRequest, gives, rejects, unserved}
 use Rattle.http_service.specs.Asked.{asked}
 use Rattle.site_calls.specs.Answers.{Replies}
 use Rattle.http_service.specs.Answered.{answers}
@@ -36,7 +36,7 @@ same_run a b s is rs t same h =
     (subst (λ (c : StatedSchema). Run c b.name s is rs t) (ap schema_view same.0) h)
 
 -- a request, and then some more
-before : (a : Asked) (old mid new : SiteView) (status : StatusCode) (line : List ℕ) (is : List Input) (rs : List Reply)
+before : (a : SiteRequest) (old mid new : SiteView) (status : StatusCode) (line : List ℕ) (is : List Input) (rs : List Reply)
     → Replies old a status line mid → IsSameSite mid new
     → Run (schema_of mid) mid.name (store_in mid) is rs (store_in new)
     → (all : List Reply) × Run (schema_of old) old.name (store_in old) (inputs_of a ++ is) all (store_in new)

@@ -11,7 +11,7 @@ use Rattle.http_streams.proofs.Simulated.{answered}
 use Rattle.site_calls.specs.site_steps.SiteViews.{SiteView}
 use Rattle.site_calls.specs.site_steps.Inputs.{Input}
 use Rattle.http_routes.specs.Routes.{route_stated}
-use Rattle.site_calls.specs.Asked.{Asked, gives, rejects, unserved}
+use Rattle.site_calls.specs.SiteRequest.{SiteRequest, gives, rejects, unserved}
 use Rattle.http_service.specs.Asked.{asked}
 use Rattle.site_calls.specs.Answers.{Replies}
 use Rattle.http_service.specs.Answered.{answers}
@@ -21,7 +21,7 @@ use Rattle.http_service.proofs.RunLemmas.{RunsTake, rests_run, ends_run, stops_r
 
 -- ---- each request is answered by the site
 
-replied : (a : Asked) (v w : Served) (status : StatusCode) (line : List ℕ) → Continues v a status line w
+replied : (a : SiteRequest) (v w : Served) (status : StatusCode) (line : List ℕ) → Continues v a status line w
     → Replies v.site a status line w.site
 replied (gives i) v w status line h = (h.0, h.1, h.2, h.3)
 replied (rejects f) v w status line h = h.0
@@ -52,7 +52,7 @@ asks_none v w bytes e = record {
   joined = ap (λ (x : Served). x.inputs) e ∙ sym (append-nil v.inputs);
 }
 
-handed : (a : Asked) (v w : Served) (status : StatusCode) (line : List ℕ) → Continues v a status line w
+handed : (a : SiteRequest) (v w : Served) (status : StatusCode) (line : List ℕ) → Continues v a status line w
     → w.inputs ≡ v.inputs ++ inputs_of a
 handed (gives i) v w status line h = h.4
 handed (rejects f) v w status line h = h.1 ∙ sym (append-nil v.inputs)

@@ -3,7 +3,7 @@ use Rattle.std.proofs.Common.{ℕ, Option, List, [], Err, refl}
 use Rattle.std.proofs.KnownBytes.{Appends-nil, Consumes-nil}
 use Rattle.http.specs.declared.status.StatusCode.{StatusCode}
 use Rattle.http_streams.proofs.OneRequest.{nothing_unfinished}
-use Rattle.http_streams.specs.Logs.{IsLogged, Lining}
+use Rattle.http_streams.specs.Logs.{IsLogged, LineRelation}
 use Rattle.http_streams.specs.declared.serve.StreamFault.TheVariants as fault
 use Rattle.site_calls.specs.site_steps.SiteViews.{SiteView, schema_of, store_in}
 use Rattle.http_service.specs.Serving.{IsServed}
@@ -30,7 +30,7 @@ module _ {R W : Type 0} (left : R → Option (List ℕ)) (read_failures : R → 
     same = (refl, refl);
   }
 
-module _ {R W L : Type 0} (lines : Lining) (refusal : StatusCode → List ℕ) (logged : L → Option (List ℕ))
+module _ {R W L : Type 0} (lines : LineRelation) (refusal : StatusCode → List ℕ) (logged : L → Option (List ℕ))
     (log_failures : L → ℕ) (log_fails : L → L → Type 0) (left : R → Option (List ℕ)) (holds : W → Option (List ℕ)) where
   pub none_logged : (reader : R) (writer : W) (log : L)
       → IsLogged lines refusal logged log_failures log_fails left holds reader reader writer writer log log

@@ -1,5 +1,5 @@
 -- Defines the reply to a request, and the site afterwards.
--- Source: docs/formats.md, of the routes.
+-- Source: docs/formats.md, "Routes of a site".
 -- Rules of this product: the reply is that of the call that the route and the body ask for.
 use Rattle.std.specs.Prelude.{◌≡◌, ℕ, List}
 use Rattle.http.specs.declared.status.StatusCode.{StatusCode}
@@ -17,7 +17,7 @@ abbrev pub answers : SiteView → List ℕ → List ℕ → List ℕ → StatusC
 answers old method target body status line new =
     Replies old (asked (route_stated method target) body) status line new
 
--- `answers_over` is the same relation for a borrowed site, which stays borrowed.
+-- `answers_over` is the same relation for a service over a borrowed site, whose reference stays the same.
 abbrev pub answers_over : SiteService → List ℕ → List ℕ → List ℕ → StatusCode → List ℕ → SiteService → Type 0
 answers_over old method target body status line new =
     answers old.site.now method target body status line new.site.now × (new.site.ghost_name ≡ old.site.ghost_name)

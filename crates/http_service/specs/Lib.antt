@@ -4,7 +4,7 @@ pub mod Answered
 pub mod Lines
 pub mod Streams
 pub mod Serving
--- crates below, passed on to those above
+-- Specifications of lower crates, re-exported.
 pub use Rattle.site_calls.specs.answer_lines
 pub use Rattle.site_calls.specs.entity_data
 pub use Rattle.site_calls.specs.policy_grammar

@@ -23,6 +23,7 @@ IsChange Merge = ⊥
 IsChange Unknown = ⊥
 IsChange OtherMethod = ⊥
 
--- `stamped_end reply` ends the line of a change that was made, as in ,"status":200,"stamp":{"count":2,"site":"1"}}
+-- `stamped_end reply` is the end of the line of a change that was made, as in
+-- ,"status":200,"stamp":{"count":2,"site":"1"}}
 abbrev pub stamped_end : List ℕ → List ℕ
 stamped_end reply = status_text 200 ++ codes ",\"stamp\":" ++ reply ++ codes "}\n"

@@ -11,7 +11,7 @@ use Rattle.site_calls.specs.site_steps.Runs.{Step, Run, took}
 use Rattle.site_calls.specs.site_steps.Inputs.{Input}
 use Rattle.site_calls.specs.site_steps.declared.reply.Reply.{Reply}
 use Rattle.http_routes.specs.Routes.{route_stated}
-use Rattle.site_calls.specs.Asked.{Asked, gives, rejects, unserved}
+use Rattle.site_calls.specs.SiteRequest.{SiteRequest, gives, rejects, unserved}
 use Rattle.http_service.specs.Asked.{asked}
 use Rattle.site_calls.specs.Answers.{Replies}
 use Rattle.site_calls.specs.Reports.{reported}
@@ -29,7 +29,7 @@ unasked site = record { site = site; inputs = []; replies = [] }
 -- `Continues old a status line new` holds if the request that asks `a` may be answered by `status` and `line`, from
 -- `old` to `new`. An input is one step of the site, whose reply is the next of the run; a request that is rejected
 -- before it becomes an input, or asks for no operation, is not part of the run.
-abbrev pub Continues : Served → Asked → StatusCode → List ℕ → Served → Type 0
+abbrev pub Continues : Served → SiteRequest → StatusCode → List ℕ → Served → Type 0
 Continues old (gives i) status line new =
     (r : Reply) × Step (schema_of old.site) old.site.name (store_in old.site) i r (store_in new.site)
     × IsSameSite old.site new.site × ((status, line) ≡ reported r)
@@ -44,7 +44,7 @@ abbrev pub continues_run : Served → List ℕ → List ℕ → List ℕ → Sta
 continues_run old method target body status line new =
     Continues old (asked (route_stated method target) body) status line new
 
--- reader and writer as in http_streams
+-- `left` to `write_fails` describe the states of a reader and a writer, as in `Serving` of http_streams.
 module _ {R W : Type 0} (left : R → Option (List ℕ)) (read_failures : R → ℕ) (reads : R → ℕ → List ℕ → R → Type 0)
     (read_fails : R → R → Type 0) (holds : W → Option (List ℕ)) (write_failures : W → ℕ)
     (write_fails : W → W → Type 0) where
@@ -52,9 +52,9 @@ module _ {R W : Type 0} (left : R → Option (List ℕ)) (read_failures : R → 
   -- requests, whose inputs are `inputs`, in order, and wrote their replies, among them the site's replies to these
   -- inputs; the run of the inputs with these replies leads from `old` to `new`. The result says how the stream ended,
   -- and so which requests are answered: all, or those up to a reply that was sent only in part.
-  -- An example: `PUT /v1/policies/a` and `GET /nowhere` are read, and then the end. The one input is the put of that
-  -- text under `a`, and its reply is a stamp; written are the reply 200 with the stamp and the reply 404; the new
-  -- store is the join of the updates that the site had and this one.
+  -- An example: `PUT /v1/policies/a` and `GET /nowhere` are read, and then the end. The one input is the put of the
+  -- first request's body under `a`, and its reply is a stamp. Written are the reply 200 with the stamp and the reply
+  -- 404. The new store is the join of the updates that the site had and this one.
   pub record IsServed (first last : R) (before after : W) (old new : SiteView) (result : Result (Unit {0}) StreamFault)
       : Type 0 where
     pub inputs : List Input

@@ -9,11 +9,11 @@ use Rattle.site_calls.specs.site_steps.Runs.{Run, took}
 use Rattle.site_calls.specs.site_steps.Inputs.{Input}
 use Rattle.site_calls.specs.site_steps.declared.reply.Reply.{Reply}
 use Rattle.http_routes.specs.Routes.{route_stated}
-use Rattle.site_calls.specs.Asked.{Asked, gives, rejects, unserved}
+use Rattle.site_calls.specs.SiteRequest.{SiteRequest, gives, rejects, unserved}
 use Rattle.http_service.specs.Asked.{asked}
 
 -- `inputs_of a` is the list of the inputs of a request: one, or an empty list.
-abbrev pub inputs_of : Asked → List Input
+abbrev pub inputs_of : SiteRequest → List Input
 inputs_of (gives i) = i ∷ []
 inputs_of (rejects f) = []
 inputs_of (unserved s) = []
@@ -26,7 +26,7 @@ AskFor (suc n) bytes rest is =
     × (is ≡ inputs_of (asked (route_stated head.method head.target) body) ++ more) × AskFor n after rest more
 
 -- `LeavesRun old bytes new` holds if a run of the inputs of the first `count` requests in `bytes` leads from the site
--- `old` to `new`: its store is the join of the updates that it had and those that it applied.
+-- `old` to `new`, and the store of `new` is the join of the updates that `old` had and those that the run applied.
 pub record LeavesRun (old : SiteView) (bytes : List ℕ) (new : SiteView) : Type 0 where
   pub count : ℕ
   pub rest : List ℕ

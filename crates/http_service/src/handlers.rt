@@ -9,7 +9,7 @@ ghost use Rattle.site_calls.specs.site_steps.SiteViews.{SiteView};
 ghost use Rattle.site_calls.specs.Answers.{Appends};
 ghost use Rattle.http_service.specs.Asked.{asked};
 ghost use Rattle.http_logs.specs.declared.TheConstants.{TAIL_ROOM, UNREAD_ROOM};
-ghost use Rattle.http_service.specs.inner.Noting.{DealsLogged, DealsNoted, LacksMemory, unserved_status};
+ghost use Rattle.http_service.specs.inner.Noting.{AnswersWithLine, AnswersWithTail, IsUndoneReply, unserved_status};
 
 use http::StatusCode;
 use http_logs::{put_decided_tail, put_head, put_plain_tail, put_tail, put_unread_line};
@@ -70,8 +70,8 @@ fn answer_route(
     }
 }
 
-/// Answers a request: at most one step of the site, whose reply is appended to the text. The old content of the scratch
-/// has no effect.
+/// Answers a request: makes at most one step of the site, appends the body of the reply to `text`, and returns the
+/// status. `scratch` is reused memory; its earlier content has no effect.
 pub(crate) fn answer(
     alloc: Global,
     scratch: &mut Scratch,
@@ -116,9 +116,9 @@ fn unserved_status(route: &Route) -> Option<StatusCode>
 
 /// Reports that an allocation failed before anything was done. A request for no operation has its own status, also when
 /// out of memory.
-fn report_lacking(route: &Route, text: &mut Vec<u8>) -> StatusCode
+fn report_no_memory(route: &Route, text: &mut Vec<u8>) -> StatusCode
     requires room { vec_len text.old + REPLY_ROOM ≤ vec_capacity text.old }
-    ensures reply { LacksMemory route.now result text.old.items text.new.items }
+    ensures reply { IsUndoneReply route.now result text.old.items text.new.items }
     ensures kept { vec_capacity text.old ≤ vec_capacity text.new }
 {
     match unserved_status(route) {
@@ -127,11 +127,11 @@ fn report_lacking(route: &Route, text: &mut Vec<u8>) -> StatusCode
     }
 }
 
-/// Reports that an allocation failed for a decision, and ends its line.
+/// Reports that an allocation failed for a decision, and ends the line of its request.
 fn report_undecided(text: &mut Vec<u8>, line: &mut Vec<u8>) -> StatusCode
     requires room { vec_len text.old + REPLY_ROOM ≤ vec_capacity text.old }
     requires tail { vec_len line.old + TAIL_ROOM ≤ vec_capacity line.old }
-    ensures reply { (site : SiteView) (body : List ℕ) → DealsNoted site Route.Authorize body result text.old.items
+    ensures reply { (site : SiteView) (body : List ℕ) → AnswersWithTail site Route.Authorize body result text.old.items
         text.new.items line.old.items line.new.items site }
     ensures kept { vec_capacity text.old ≤ vec_capacity text.new }
     ensures line_kept { vec_capacity line.old ≤ vec_capacity line.new }
@@ -141,8 +141,8 @@ fn report_undecided(text: &mut Vec<u8>, line: &mut Vec<u8>) -> StatusCode
     status
 }
 
-/// Decides the request whose body was parsed as this JSON, and ends its line, which has its beginning. If the line
-/// cannot be allocated, the reply is that error in place of the decision.
+/// Decides the request whose body was parsed as `json`, and ends its line, of which `line` has the beginning. If the
+/// end cannot be allocated, the reply is that error in place of the decision.
 fn decide_parsed(
     alloc: Global,
     site: &Site,
@@ -152,8 +152,9 @@ fn decide_parsed(
 ) -> StatusCode
     requires room { vec_len text.old + REPLY_ROOM ≤ vec_capacity text.old }
     requires tail { vec_len line.old + TAIL_ROOM ≤ vec_capacity line.old }
-    ensures reply { (body : List ℕ) → json_of body ≡ option_map view json.now → DealsNoted site.now Route.Authorize body
-        result text.old.items text.new.items line.old.items line.new.items site.now }
+    ensures reply { (body : List ℕ) → json_of body ≡ option_map view json.now
+        → AnswersWithTail site.now Route.Authorize body result text.old.items text.new.items line.old.items
+        line.new.items site.now }
     ensures kept { vec_capacity text.old ≤ vec_capacity text.new }
     ensures line_kept { vec_capacity line.old ≤ vec_capacity line.new }
 {
@@ -168,7 +169,7 @@ fn decide_parsed(
     }
 }
 
-/// Decides a request, and ends its line, which has its beginning. The body is parsed once, for both.
+/// Decides a request, and ends its line, of which `line` has the beginning. The body is parsed once, for both.
 fn decide_noted(
     alloc: Global,
     scratch: &mut Scratch,
@@ -179,8 +180,8 @@ fn decide_noted(
 ) -> StatusCode
     requires room { vec_len text.old + REPLY_ROOM ≤ vec_capacity text.old }
     requires tail { vec_len line.old + TAIL_ROOM ≤ vec_capacity line.old }
-    ensures reply { DealsNoted site.now Route.Authorize body.now result text.old.items text.new.items line.old.items
-        line.new.items site.now }
+    ensures reply { AnswersWithTail site.now Route.Authorize body.now result text.old.items text.new.items
+        line.old.items line.new.items site.now }
     ensures kept { vec_capacity text.old ≤ vec_capacity text.new }
     ensures line_kept { vec_capacity line.old ≤ vec_capacity line.new }
 {
@@ -190,7 +191,7 @@ fn decide_noted(
     }
 }
 
-/// Answers a request of a route other than that of decisions, and ends its line, which has its beginning.
+/// Answers a request of a route other than that of decisions, and ends its line, of which `line` has the beginning.
 fn answer_undecided(
     alloc: Global,
     scratch: &mut Scratch,
@@ -203,7 +204,7 @@ fn answer_undecided(
     requires other { route.now ≢ Route.Authorize }
     requires room { vec_len text.old + REPLY_ROOM ≤ vec_capacity text.old }
     requires tail { vec_len line.old + TAIL_ROOM ≤ vec_capacity line.old }
-    ensures reply { DealsNoted site.old route.now body.now result text.old.items text.new.items line.old.items
+    ensures reply { AnswersWithTail site.old route.now body.now result text.old.items text.new.items line.old.items
         line.new.items site.new }
     ensures kept { vec_capacity text.old ≤ vec_capacity text.new }
     ensures line_kept { vec_capacity line.old ≤ vec_capacity line.new }
@@ -214,7 +215,7 @@ fn answer_undecided(
     status
 }
 
-/// Answers a request of a route, and ends its line, which has its beginning.
+/// Answers a request of a route, and ends its line, of which `line` has the beginning.
 fn answer_noted(
     alloc: Global,
     scratch: &mut Scratch,
@@ -226,7 +227,7 @@ fn answer_noted(
 ) -> StatusCode
     requires room { vec_len text.old + REPLY_ROOM ≤ vec_capacity text.old }
     requires tail { vec_len line.old + TAIL_ROOM ≤ vec_capacity line.old }
-    ensures reply { DealsNoted site.old route.now body.now result text.old.items text.new.items line.old.items
+    ensures reply { AnswersWithTail site.old route.now body.now result text.old.items text.new.items line.old.items
         line.new.items site.new }
     ensures kept { vec_capacity text.old ≤ vec_capacity text.new }
     ensures line_kept { vec_capacity line.old ≤ vec_capacity line.new }
@@ -237,8 +238,8 @@ fn answer_noted(
     }
 }
 
-/// Answers a request like [`answer`], and puts its line. If method and target in it cannot be allocated, nothing is
-/// done.
+/// Answers a request like [`answer`], and puts its line into `line`. If the beginning of the line, with method and
+/// target, cannot be allocated, nothing is done.
 pub(crate) fn answer_with_line(
     alloc: Global,
     scratch: &mut Scratch,
@@ -252,7 +253,7 @@ pub(crate) fn answer_with_line(
     requires room { vec_len text.old + REPLY_ROOM ≤ vec_capacity text.old }
     requires empty { line.old.items ≡ [] }
     requires line_room { UNREAD_ROOM ≤ vec_capacity line.old }
-    ensures reply { DealsLogged site.old method.now target.now body.now result text.old.items text.new.items
+    ensures reply { AnswersWithLine site.old method.now target.now body.now result text.old.items text.new.items
         line.new.items site.new }
     ensures kept { vec_capacity text.old ≤ vec_capacity text.new }
     ensures line_kept { vec_capacity line.old ≤ vec_capacity line.new }
@@ -265,7 +266,7 @@ pub(crate) fn answer_with_line(
     match put_head(alloc, line, method, target) {
         Ok(()) => answer_noted(alloc, scratch, site, &route, body, text, line),
         Err(_) => {
-            let status = report_lacking(&route, text);
+            let status = report_no_memory(&route, text);
             put_unread_line(line, status);
             status
         }

@@ -1,4 +1,4 @@
-//! Theorems on streams over a site.
+//! Theorems about streams over a site, as functions that do nothing.
 ghost use Rattle.std.specs.Prelude.{◌≡◌, ◌≤◌, ◌++◌, ℕ, Bool, List, Result, length};
 ghost use Rattle.std.specs.Io.KnownBytes.{Consumes};
 ghost use Rattle.http.specs.declared.status.StatusCode.{StatusCode};
@@ -18,7 +18,7 @@ ghost use Rattle.site_calls.specs.site_steps.declared.reply.Reply.{Reply};
 ghost use Rattle.site_calls.specs.site_steps.schema.Views.{IsStated};
 ghost use Rattle.site_calls.specs.site_steps.Permitted.{IsPermittedReply};
 ghost use Rattle.site_calls.specs.Answers.{Replies};
-ghost use Rattle.site_calls.specs.Asked.{gives};
+ghost use Rattle.site_calls.specs.SiteRequest.{gives};
 ghost use Rattle.site_calls.specs.Reports.{reported};
 ghost use Rattle.http_service.specs.Answered.{IsAlike, answers};
 ghost use Rattle.http_service.specs.Lines.{IsChange, stamped_end};
@@ -32,7 +32,7 @@ use http_streams::{Sink, Source};
 use site_calls::{inputs_have_one_outcome, runs_are_sound, runs_leave_what_they_took};
 
 /// Proves that, however a stream of requests ends, the site afterwards is the result of a run of the inputs that the
-/// requests ask for, in order. So its store is that of the updates that it had and of those that it applied. No-op.
+/// requests ask for, in order. So its store is the join of the updates that it had and those that it applied. No-op.
 pub fn streams_leave_runs()
     ensures rests { (old new : SiteView) (bytes out : List ℕ) → Rests answers old bytes out new
         → LeavesRun old bytes new }
@@ -44,12 +44,12 @@ pub fn streams_leave_runs()
     runs_leave_what_they_took();
 }
 
-/// Proves the parts of the promise on a call that served a site (`IsServed`). No-op.
+/// Proves the parts of `IsServed`, the promise of a call that served a site. No-op.
 ///
-/// - `answered`: the site as it then was answered each request that was read, the replies were written, and the stream
-///   ended as the result says.
+/// - `answered`: each request that was read was answered by the site as it was then, the replies were written, and the
+///   stream ended as the result says.
 /// - `asked`: the inputs of the run are those that the first requests of what was read ask for.
-/// - `run`: so the site's store is that of the updates that it had and of those that it applied.
+/// - `run`: so the site's store is the join of the updates that it had and those that it applied.
 pub fn served_streams_are_answered<R: Source, W: Sink>()
     ensures answered { (first last : R) (before after : W) (old new : SiteView) (result : Result (Unit {0}) StreamFault)
         → IsServed R.left R.failed R.reads R.fails W.holds W.failed W.fails first last before after old new result
@@ -65,7 +65,7 @@ pub fn served_streams_are_answered<R: Source, W: Sink>()
     runs_leave_what_they_took();
 }
 
-/// Proves that sites with one schema, one name and equal stores answer each request by the same status and body, and
+/// Proves that sites with one schema, one name and equal stores answer each request with the same status and body, and
 /// hold equal stores afterwards, except when out of memory (503). No-op.
 pub fn requests_have_one_reply()
     ensures { HasOneAnswer (in_memory answers) IsAlike }
@@ -74,9 +74,11 @@ pub fn requests_have_one_reply()
 }
 
 /// Proves that, however a stream of requests is split into reads, the same bytes are sent and the site holds the same
-/// store, except when out of memory (503); what is sent before a failed read, write or allocation is a prefix of these.
-/// The one exception: a stream that ends inside a request target that is not UTF-8 may get the reply 400 or nothing.
-/// `http_streams::laws::in_memory_or_503` proves that an answer is one with memory or contains a 503. No-op.
+/// store, except when out of memory (503). No-op.
+///
+/// What is sent before a failed read, write or allocation is a prefix of what is sent without one. One exception to
+/// both: a stream that ends inside a request target that is not UTF-8 may get the reply 400 or nothing.
+/// `http_streams::laws::in_memory_or_503` covers the answers with a 503.
 pub fn cuts_make_no_difference()
     ensures whole { (old old2 new new2 : SiteView) (stream out more : List ℕ) → IsAlike old old2
         → AnswersAll (in_memory answers) old stream out new → AnswersAll (in_memory answers) old2 stream more new2
@@ -90,8 +92,10 @@ pub fn cuts_make_no_difference()
     begins_answer::<ViewedSite>();
 }
 
-/// Proves that no reply to an input reports an error of a type, an attribute or an extension function: it is the reply
-/// of one step, in whose answer each error is `EntityDoesNotExist` or `ArithBoundsError`. No-op.
+/// Proves that under a schema that bytes state no reply to an input reports an error of a type, an attribute or an
+/// extension function. No-op.
+///
+/// The reply is that of one step, in whose answer each error is `EntityDoesNotExist` or `ArithBoundsError`.
 pub fn served_answers_are_sound()
     ensures { (old new : SiteView) (input : Input) (status : StatusCode) (line : List ℕ) → IsStated old.schema
         → Replies old (gives input) status line new
@@ -100,9 +104,11 @@ pub fn served_answers_are_sound()
     runs_are_sound();
 }
 
-/// Proves that the log has the stamp of each change that was made: no stamp that a site issues has a line of more than
-/// 128 bytes, so the line of a put or a deletion with status 200 ends with the reply, which is the stamp. No-op.
-pub fn changes_tell_their_stamps()
+/// Proves that the log has the stamp of each change that was made. No-op.
+///
+/// No stamp that a site issues has a line of more than 128 bytes, so the line of a put or a deletion with status 200
+/// ends with the body of the reply, which is the stamp.
+pub fn change_lines_have_stamps()
     ensures stamp { (s : Stamp) → IsSiteName s.site → s.count ≤ most_count → length (stamp_line s) ≤ 128 }
     ensures put { (s : Stamp) (impossible : Bool) → IsSiteName s.site → s.count ≤ most_count
         → length (put_line s impossible) ≤ 128 }

@@ -1,7 +1,7 @@
 //! The HTTP service over a site: a handler for each route, and the answers to streams of requests.
 //!
-//! Nothing here opens a socket. specs/ defines the call that a request asks for; `site_calls` defines its reply, by at
-//! most one step of the site.
+//! Nothing here opens a socket. specs/ defines the call that a request asks for; the reply to a call, which makes at
+//! most one step of the site, is defined in `site_calls`.
 #![tactic(auto)]
 
 mod handlers;
@@ -15,7 +15,7 @@ pub use http_streams::{
     Ask, Counted, Fed, Kept, Plan, Sink, Source, is_host, is_method, is_target,
 };
 pub use laws::{
-    changes_tell_their_stamps, cuts_make_no_difference, requests_have_one_reply,
+    change_lines_have_stamps, cuts_make_no_difference, requests_have_one_reply,
     served_answers_are_sound, served_lines_are_one_line, served_streams_are_answered,
     streams_leave_runs,
 };

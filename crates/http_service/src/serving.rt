@@ -31,15 +31,19 @@ fn serve_borrowed<R: Source, W: Sink>(
     serve_stream(alloc, service, reader, writer)
 }
 
-/// Answers each whole request of the stream in order, before it reads on: each is at most one step of the site,
-/// reported by status and body. It ends at the end of the input or after a reply that ends the stream.
+/// Answers each whole request of the stream in order, before it reads on.
 ///
-/// Less than a whole request changes nothing. The site's errors, and lack of memory for one request, are replies (404,
-/// 405, 409, 422, 503), and the stream goes on; schema and name are unchanged.
+/// A request is at most one step of the site, reported by status and body. The call ends at the end of the input or
+/// after a reply that ends the stream. Less than a whole request changes nothing. The site's errors, and out of memory
+/// for one request, are replies (404, 405, 409, 422, 503), and the stream goes on; schema and name are unchanged.
 ///
 /// # Errors
 ///
-/// Those of the reader and the writer, and lack of memory for the next read.
+/// - [`StreamFault::NoMemory`] (1): an allocation failed, before anything was read or before the next read.
+/// - [`StreamFault::Read`] (70): the reader failed.
+/// - [`StreamFault::Write`] (71): the writer failed; perhaps a part of the last reply was sent.
+///
+/// All complete requests before the failed call are answered; their changes remain.
 pub fn serve<R: Source, W: Sink>(
     alloc: Global,
     site: &mut Site,
@@ -48,7 +52,7 @@ pub fn serve<R: Source, W: Sink>(
 ) -> Result<(), StreamFault>
     ensures served { IsServed R.left R.failed R.reads R.fails W.holds W.failed W.fails reader.old reader.new writer.old
         writer.new site.old site.new result }
-    // Without a log no line can fail.
+    // Without a log no write of a line can fail.
     ensures unlogged { result ≢ Err StreamFault.Log }
 {
     let mut scratch = Scratch::new(alloc);
@@ -81,8 +85,14 @@ fn serve_borrowed_logged<R: Source, W: Sink, L: Sink>(
 }
 
 /// Serves like [`serve`], with a log: the line of each reply is written to `log` before anything of the reply is sent
-/// (docs/formats.md). If it can't be written whole, nothing of the reply is sent and the stream ends with
-/// [`StreamFault::Log`]; a change that the request made remains.
+/// (docs/formats.md).
+///
+/// # Errors
+///
+/// Those of [`serve`], and before `Write`:
+///
+/// - [`StreamFault::Log`] (76): the line of a reply was not written whole. Nothing of that reply was sent; a change
+///   that its request made remains.
 pub fn serve_logged<R: Source, W: Sink, L: Sink>(
     alloc: Global,
     site: &mut Site,

@@ -16,7 +16,7 @@ use std::marker::Model;
 #[derive(Drop)]
 pub struct SiteService<'a> {
     pub(crate) alloc: Global,
-    // reused for each body that is parsed, since a new one is zeroed whole
+    // memory for parsed bodies, reused because new memory would be zeroed whole
     pub(crate) kept: &'a mut Scratch,
     pub(crate) site: &'a mut Site,
 }
@@ -27,7 +27,8 @@ impl Answers for SiteService<'_> {
     ghost answers = { answers_over };
 }
 
-/// A site as theorems on streams use it: its states are the views of a site in contracts. No value is ever made.
+/// A site as theorems on streams use it: its states are the views of a site in contracts. No value of this type is
+/// made.
 #[derive(Drop)]
 pub struct ViewedSite {
     site: Site,
@@ -94,6 +95,7 @@ impl Service for LoggedService<'_> {
 
     ghost refusal_line = { unread_line };
 
+    // `UNREAD_ROOM`, the most bytes of a line without method and target
     ghost line_room = { 64 };
 
     fn call(

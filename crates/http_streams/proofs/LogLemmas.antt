@@ -11,13 +11,13 @@ use Rattle.http_streams.specs.ReplyText.{ending, error_line, length_lines, phras
 use Rattle.http_streams.specs.Request.{IsRefused}
 use Rattle.http.specs.declared.status.StatusCode.{StatusCode}
 use Rattle.http_streams.specs.Stream.{Exchanges, Halts, Refuses, Serves, Answering}
-use Rattle.http_streams.specs.Logs.{Lining, IsFront, notes, cuts, AreNoted, IsLastNoted, HasLogFailed, IsLogged}
+use Rattle.http_streams.specs.Logs.{LineRelation, IsFront, notes, cuts, AreNoted, IsLastNoted, HasLogFailed, IsLogged}
 use Rattle.http_streams.specs.inner.Sending.{IsSentInPart, fault_of}
 use Rattle.http_streams.specs.declared.serve.Broken.{Broken}
 use Rattle.http_streams.specs.declared.serve.Broken.TheVariants.{Log, Write}
 use Rattle.http_streams.proofs.StreamLemmas.{Serves-then, Serves-none, Serves-append}
 
-module _ {L : Type 0} (lines : Lining) (refusal : StatusCode → List ℕ) (logged : L → Option (List ℕ)) where
+module _ {L : Type 0} (lines : LineRelation) (refusal : StatusCode → List ℕ) (logged : L → Option (List ℕ)) where
   -- the last reply stands at the front
   pub noted_now : (result : Result (Unit {0}) StreamFault) (old new : L) (bytes out : List ℕ)
       → IsLastNoted lines refusal logged result old bytes out new → AreNoted lines refusal logged result old bytes out new
@@ -88,7 +88,7 @@ unfolding reply_text status_line
 reply_some last status body =
     one_some 72 (codes "TTP/1.1 " ++ decimal status ++ codes " " ++ phrase status ++ length_lines (length body) ++ ending last ++ body)
 
-module _ {S L W : Type 0} (answers : Answering S) (lines : Lining) (refusal : StatusCode → List ℕ) (logged : L → Option (List ℕ))
+module _ {S L W : Type 0} (answers : Answering S) (lines : LineRelation) (refusal : StatusCode → List ℕ) (logged : L → Option (List ℕ))
     (holds : W → Option (List ℕ)) where
   -- the reply to a request broke off, or its line did
   pub broken_off : (broken : Broken) (a b : S) (l k : L) (v w : W) (bytes line reply rest : List ℕ) (last : Bool) → 0 < length reply
@@ -139,7 +139,7 @@ at_zero : HasFailed 0 0 → ⊥
 at_zero (inl less) = omega (arith, less)
 at_zero (inr most) = omega (arith, most)
 
-module _ {R W L : Type 0} (lines : Lining) (refusal : StatusCode → List ℕ) (logged : L → Option (List ℕ)) (log_fails : L → L → Type 0)
+module _ {R W L : Type 0} (lines : LineRelation) (refusal : StatusCode → List ℕ) (logged : L → Option (List ℕ)) (log_fails : L → L → Type 0)
     (left : R → Option (List ℕ)) (holds : W → Option (List ℕ)) where
   -- a log whose count of failures stays 0 is not what ended a stream
   pub never_log : (first last : R) (before after : W) (old new : L) (result : Result (Unit {0}) StreamFault)

@@ -1,7 +1,7 @@
 -- Each answer to a stream is one in memory, or has a reply in it that memory was refused.
 use Rattle.std.proofs.Common.{◌≡◌, ◌≢◌, ℕ, zero, suc, ◌⊎◌, inl, inr, Bool, List, [], ◌++◌, refl, sym, ap, ◌∙◌, subst}
 use Rattle.std.proofs.Common.{append_assoc, append-nil}
-use Rattle.http_streams.specs.Laws.{AnswersAll, LacksMemory, StopsIn, in_memory}
+use Rattle.http_streams.specs.Laws.{AnswersAll, HasFirst503, StopsIn, in_memory}
 use Rattle.std.proofs.lemmas.Bool.Decides.{eqb_tells}
 use Rattle.http.specs.declared.status.StatusCode.{StatusCode}
 use Rattle.http_streams.specs.Stream.{Answering, Closes, Ends, Exchanges, Halts, Rests, Serves, Stops}
@@ -27,7 +27,7 @@ module _ {S : Type 0} (answers : Answering S) where
   -- the first request is answered by 503
   first : {old new : S} {bytes rest : List ℕ} {last : Bool} (sent unsent back : List ℕ)
       (e : Exchanges answers old bytes last (sent ++ unsent) new rest) → e.status ≡ 503 → (unsent ≡ []) ⊎ (back ≡ [])
-      → LacksMemory answers old bytes (sent ++ back) unsent
+      → HasFirst503 answers old bytes (sent ++ back) unsent
   first {old} {new} {bytes} {rest} {last} sent unsent back e is all = record {
     count = 0;
     mid = old;
@@ -47,7 +47,7 @@ module _ {S : Type 0} (answers : Answering S) where
 
   -- all of the 503 went out
   first_whole : {old new : S} {bytes reply rest : List ℕ} {last : Bool} (e : Exchanges answers old bytes last reply new rest)
-      → e.status ≡ 503 → (back : List ℕ) → LacksMemory answers old bytes (reply ++ back) []
+      → e.status ≡ 503 → (back : List ℕ) → HasFirst503 answers old bytes (reply ++ back) []
   first_whole {old} {new} {bytes} {reply} {rest} {last} e is back =
       let same : reply ++ [] ≡ reply = append-nil reply in
       first reply [] back (record {
@@ -63,7 +63,7 @@ module _ {S : Type 0} (answers : Answering S) where
 
   -- some requests before it are answered in memory
   behind : (n : ℕ) (old mid : S) (bytes rest before out unsent : List ℕ) → Serves (in_memory answers) n old bytes rest before mid
-      → LacksMemory answers mid rest out unsent → LacksMemory answers old bytes (before ++ out) unsent
+      → HasFirst503 answers mid rest out unsent → HasFirst503 answers old bytes (before ++ out) unsent
   behind n old mid bytes rest before out unsent x l =
       let all = Serves-then (in_memory answers) n l.count old mid l.mid bytes rest l.rest before l.before x l.served in
       record {
@@ -86,7 +86,7 @@ module _ {S : Type 0} (answers : Answering S) where
       }
 
   -- more goes out behind a whole one
-  and_more : (old : S) (bytes out more : List ℕ) → LacksMemory answers old bytes out [] → LacksMemory answers old bytes (out ++ more) []
+  and_more : (old : S) (bytes out more : List ℕ) → HasFirst503 answers old bytes out [] → HasFirst503 answers old bytes (out ++ more) []
   and_more old bytes out more l = record {
     count = l.count;
     mid = l.mid;
@@ -106,8 +106,8 @@ module _ {S : Type 0} (answers : Answering S) where
   }
 
   -- more comes
-  in_front : (old : S) (bytes more out unsent : List ℕ) → LacksMemory answers old bytes out unsent
-      → LacksMemory answers old (bytes ++ more) out unsent
+  in_front : (old : S) (bytes more out unsent : List ℕ) → HasFirst503 answers old bytes out unsent
+      → HasFirst503 answers old (bytes ++ more) out unsent
   in_front old bytes more out unsent l = record {
     count = l.count;
     mid = l.mid;
@@ -125,12 +125,12 @@ module _ {S : Type 0} (answers : Answering S) where
     whole_or_last = l.whole_or_last;
   }
 
-  lacks_at : (old : S) (bytes unsent : List ℕ) {out same : List ℕ} → same ≡ out → LacksMemory answers old bytes out unsent
-      → LacksMemory answers old bytes same unsent
-  lacks_at old bytes unsent e l = subst (λ (t : List ℕ). LacksMemory answers old bytes t unsent) (sym e) l
+  lacks_at : (old : S) (bytes unsent : List ℕ) {out same : List ℕ} → same ≡ out → HasFirst503 answers old bytes out unsent
+      → HasFirst503 answers old bytes same unsent
+  lacks_at old bytes unsent e l = subst (λ (t : List ℕ). HasFirst503 answers old bytes t unsent) (sym e) l
 
   served : (n : ℕ) (old new : S) (bytes rest out : List ℕ) → Serves answers n old bytes rest out new
-      → Serves (in_memory answers) n old bytes rest out new ⊎ LacksMemory answers old bytes out []
+      → Serves (in_memory answers) n old bytes rest out new ⊎ HasFirst503 answers old bytes out []
   served zero old new bytes rest out x = inl x
   served (suc n) old new bytes rest out x =
       elim (decide x.4.status) [
@@ -143,7 +143,7 @@ module _ {S : Type 0} (answers : Answering S) where
       ]
 
   closes : (old new : S) (bytes out : List ℕ) → Closes answers old bytes out new
-      → Closes (in_memory answers) old bytes out new ⊎ LacksMemory answers old bytes out []
+      → Closes (in_memory answers) old bytes out new ⊎ HasFirst503 answers old bytes out []
   closes old new bytes out (inl (rest, e)) =
       elim (decide e.status) [
         | inl is ↦ inr (lacks_at old bytes [] (sym (append-nil out)) (first_whole e is []))
@@ -152,7 +152,7 @@ module _ {S : Type 0} (answers : Answering S) where
   closes old new bytes out (inr refused) = inl (inr refused)
 
   rests : (old new : S) (bytes out : List ℕ) → Rests answers old bytes out new
-      → Rests (in_memory answers) old bytes out new ⊎ LacksMemory answers old bytes out []
+      → Rests (in_memory answers) old bytes out new ⊎ HasFirst503 answers old bytes out []
   rests old new bytes out x =
       elim (served x.count old new bytes x.rest out x.serves) [
         | inl y ↦ inl (record { count = x.count; rest = x.rest; serves = y; unfinished = x.unfinished })
@@ -160,7 +160,7 @@ module _ {S : Type 0} (answers : Answering S) where
       ]
 
   ends : (old new : S) (bytes out : List ℕ) → Ends answers old bytes out new
-      → Ends (in_memory answers) old bytes out new ⊎ LacksMemory answers old bytes out []
+      → Ends (in_memory answers) old bytes out new ⊎ HasFirst503 answers old bytes out []
   ends old new bytes out x =
       elim (served x.count old x.mid bytes x.rest x.before x.serves) [
         | inl y ↦ elim (closes x.mid new x.rest x.last x.closes) [
@@ -170,13 +170,13 @@ module _ {S : Type 0} (answers : Answering S) where
         | inr l ↦ inr (lacks_at old bytes [] x.joined (and_more old bytes x.before x.last l))
       ]
 
-  at_stream : (old : S) (front rest stream out unsent : List ℕ) → stream ≡ front ++ rest → LacksMemory answers old front out unsent
-      → LacksMemory answers old stream out unsent
+  at_stream : (old : S) (front rest stream out unsent : List ℕ) → stream ≡ front ++ rest → HasFirst503 answers old front out unsent
+      → HasFirst503 answers old stream out unsent
   at_stream old front rest stream out unsent is l =
-      subst (λ (t : List ℕ). LacksMemory answers old t out unsent) (sym is) (in_front old front rest out unsent l)
+      subst (λ (t : List ℕ). HasFirst503 answers old t out unsent) (sym is) (in_front old front rest out unsent l)
 
   pub whole : (old new : S) (stream out : List ℕ) → AnswersAll answers old stream out new
-      → AnswersAll (in_memory answers) old stream out new ⊎ LacksMemory answers old stream out []
+      → AnswersAll (in_memory answers) old stream out new ⊎ HasFirst503 answers old stream out []
   whole old new stream out (inl x) =
       elim (rests old new stream out x) [ inl y ↦ inl (inl y) | inr l ↦ inr l ]
   whole old new stream out (inr (front, rest, is, x)) =
@@ -188,12 +188,12 @@ module _ {S : Type 0} (answers : Answering S) where
   -- ---- where it broke off
 
   breaks : (old new : S) (bytes out back rest : List ℕ) (last : Bool) (e : Exchanges answers old bytes last (out ++ back) new rest)
-      → e.status ≡ 503 → LacksMemory answers old bytes out back
+      → e.status ≡ 503 → HasFirst503 answers old bytes out back
   breaks old new bytes out back rest last e is =
       lacks_at old bytes back (sym (append-nil out)) (first out back [] e is (inr refl))
 
   halts : (old new : S) (bytes out : List ℕ) → Halts answers old bytes out new
-      → Halts (in_memory answers) old bytes out new ⊎ ((unsent : List ℕ) × LacksMemory answers old bytes out unsent)
+      → Halts (in_memory answers) old bytes out new ⊎ ((unsent : List ℕ) × HasFirst503 answers old bytes out unsent)
   halts old new bytes out (back, some, inl (rest, last, e)) =
       elim (decide e.status) [
         | inl is ↦ inr (back, breaks old new bytes out back rest last e is)
@@ -202,7 +202,7 @@ module _ {S : Type 0} (answers : Answering S) where
   halts old new bytes out (back, some, inr refused) = inl (back, some, inr refused)
 
   stops : (old new : S) (bytes out : List ℕ) → Stops answers old bytes out new
-      → Stops (in_memory answers) old bytes out new ⊎ ((unsent : List ℕ) × LacksMemory answers old bytes out unsent)
+      → Stops (in_memory answers) old bytes out new ⊎ ((unsent : List ℕ) × HasFirst503 answers old bytes out unsent)
   stops old new bytes out x =
       elim (served x.count old x.mid bytes x.rest x.before x.serves) [
         | inl y ↦ elim (halts x.mid new x.rest x.last x.halts) [
@@ -213,7 +213,7 @@ module _ {S : Type 0} (answers : Answering S) where
       ]
 
   pub broken : (old new : S) (stream out : List ℕ) → StopsIn answers old stream out new
-      → StopsIn (in_memory answers) old stream out new ⊎ ((unsent : List ℕ) × LacksMemory answers old stream out unsent)
+      → StopsIn (in_memory answers) old stream out new ⊎ ((unsent : List ℕ) × HasFirst503 answers old stream out unsent)
   broken old new stream out (front, rest, is, inl x) =
       elim (rests old new front out x) [
         | inl y ↦ inl (front, rest, is, inl y)

@@ -8,13 +8,13 @@ use Rattle.http_streams.specs.Request.{IsRefused, IsUnfinished, framing_of, clos
 use Rattle.http_streams.specs.ReplyText.{reply_text, error_line}
 use Rattle.http.specs.declared.status.StatusCode.{StatusCode}
 use Rattle.http_streams.specs.Stream.{Answering, Closes, Ends, Exchanges, Refuses, Rests, Serves}
-use Rattle.http_streams.specs.Laws.{AgreeOn, AnswersAll, DiffersInCorner, HasOneAnswer, IsCorner}
+use Rattle.http_streams.specs.Laws.{AgreeOn, AnswersAll, DiffersInBadTarget, HasOneAnswer, EndsInBadTarget}
 use Rattle.http_streams.proofs.OneRequest.{admits_unique, refused-append, refused_unique, whole_not_unfinished}
 use Rattle.http_streams.proofs.OneRequest.{whole_or_refused, whole_unique}
 use Rattle.http_streams.proofs.StreamLemmas.{Exchanges-append, Serves-append}
 
 refused_unfinished : (rest : List ℕ) (status : StatusCode) → IsRefused rest status → IsUnfinished rest
-    → IsCorner rest × (status ≡ 400)
+    → EndsInBadTarget rest × (status ≡ 400)
 refused_unfinished rest status (inl head) (inl cut) =
     let same = admits_unique head.admits cut.admits in
     let framed : Refused status ≡ Body cut.size = sym head.framed ∙ ap framing_of same.0 ∙ cut.framed in
@@ -68,7 +68,7 @@ open_not_ended answers {mid = mid} {new2 = new2} {last = last} x y e =
     let a = subst (λ (t : List ℕ). Closes answers mid t last new2) (sym y.0) e in open_not_closed answers x a
 
 corner_now : {S : Type 0} (answers : Answering S) (old new : S) (bytes last : List ℕ) → IsUnfinished bytes → Closes answers old bytes last new
-    → (old ≡ new) × IsCorner bytes × (last ≡ reply_text true 400 (error_line 400))
+    → (old ≡ new) × EndsInBadTarget bytes × (last ≡ reply_text true 400 (error_line 400))
 corner_now answers old new bytes last rest (inl x) = absurd (whole_not_unfinished x.1.reads rest)
 corner_now answers old new bytes last rest (inr (status, refused, is, kept)) =
     let corner = refused_unfinished bytes status refused rest in
@@ -142,7 +142,7 @@ module _ {S : Type 0} (answers : Answering S) (same : S → S → Type 0) (one :
   rests_ends : (n m : ℕ) (old old2 new mid new2 : S) (bytes rest rest2 out out2 last : List ℕ) → same old old2
       → Serves answers n old bytes rest out new → IsUnfinished rest
       → Serves answers m old2 bytes rest2 out2 mid → Closes answers mid rest2 last new2
-      → same new new2 × IsCorner rest × (out2 ++ last ≡ out ++ reply_text true 400 (error_line 400))
+      → same new new2 × EndsInBadTarget rest × (out2 ++ last ≡ out ++ reply_text true 400 (error_line 400))
   rests_ends zero zero old old2 new mid new2 bytes rest rest2 out out2 last s x q y e =
       let b = subst (λ (t : List ℕ). Closes answers mid t last new2) (sym y.0 ∙ x.0) e in
       let found = corner_now answers mid new2 rest last q b in (
@@ -165,7 +165,7 @@ module _ {S : Type 0} (answers : Answering S) (same : S → S → Type 0) (one :
       )
 
   mixed : (old old2 new new2 : S) (stream out more : List ℕ) → same old old2 → Rests answers old stream out new
-      → Ends answers old2 stream more new2 → same new new2 × DiffersInCorner answers old stream out more new
+      → Ends answers old2 stream more new2 → same new new2 × DiffersInBadTarget answers old stream out more new
   mixed old old2 new new2 stream out more s x y =
       let found = rests_ends x.count y.count old old2 new y.mid new2 stream x.rest y.rest out y.before y.last s x.serves x.unfinished y.serves y.closes in
       (found.0, (x.count, x.rest, x.serves, found.1, y.joined ∙ found.2))

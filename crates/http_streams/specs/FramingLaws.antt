@@ -2,18 +2,18 @@
 use Rattle.std.specs.Prelude.{◌≡◌, ℕ, List, ◌++◌}
 use Rattle.http_streams.specs.Reply.{IsBadReply, IsUnfinishedReply, ReadsReply}
 
--- `BeginsWithReply stream status body` holds if some first bytes of `stream` are parsed as this reply.
+-- `BeginsWithReply stream status body` holds if a prefix of `stream` is parsed as a reply with this status and body.
 abbrev pub BeginsWithReply : List ℕ → ℕ → List ℕ → Type 0
 BeginsWithReply stream status body =
     (front : List ℕ) × (after : List ℕ) × (rest : List ℕ) × (stream ≡ front ++ after)
     × ReadsReply front status body rest
 
--- `BeginsBadly stream` holds if some first bytes of `stream` are rejected.
+-- `BeginsBadly stream` holds if a prefix of `stream` is rejected.
 abbrev pub BeginsBadly : List ℕ → Type 0
 BeginsBadly stream = (front : List ℕ) × (after : List ℕ) × (stream ≡ front ++ after) × IsBadReply front
 
--- `HasOneReply stream` holds if `stream` has at most one reply, however it is cut, and is rejected or ends too early
--- only if it has none, and not both.
+-- `HasOneReply stream` holds if prefixes of `stream` are parsed as at most one reply; if no reply is parsed where a
+-- prefix is rejected, or where `stream` ends too early; and if no prefix is rejected where it ends too early.
 pub record HasOneReply (stream : List ℕ) : Type 0 where
   pub replies :
       (s t : ℕ) (a b : List ℕ) → BeginsWithReply stream s a → BeginsWithReply stream t b → (s ≡ t) × (a ≡ b)

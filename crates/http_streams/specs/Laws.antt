@@ -7,9 +7,9 @@ use Rattle.http_streams.specs.Stream.{Answering, Ends, Exchanges, Rests, Serves,
 use Rattle.http_streams.specs.declared.TheConstants.{MAX_HEAD}
 use Rattle.http.specs.declared.status.StatusCode.{StatusCode}
 
--- `IsCorner rest` holds if the bytes `rest` end inside a target that is not UTF-8: depending on how they are split,
--- they are answered by 400 or not at all.
-pub record IsCorner (rest : List ℕ) : Type 0 where
+-- `EndsInBadTarget rest` holds if the bytes `rest` end inside a target that is not UTF-8: depending on how they are
+-- split, they are answered by 400 or not at all.
+pub record EndsInBadTarget (rest : List ℕ) : Type 0 where
   pub target : EndsInTarget rest
   pub never : NeverHasRequest rest
   pub short : length rest ≤ MAX_HEAD
@@ -32,38 +32,38 @@ module _ {S : Type 0} (answers : Answering S) where
       Rests answers old stream out new
       ⊎ ((front : List ℕ) × (rest : List ℕ) × (stream ≡ front ++ rest) × Ends answers old front out new)
 
-  -- `DiffersInCorner old stream out more new` holds if the stream ends in the corner, and `more` is `out` and the reply
-  -- that rejects the rest.
-  abbrev pub DiffersInCorner : S → List ℕ → List ℕ → List ℕ → S → Type 0
-  DiffersInCorner old stream out more new =
-      (n : ℕ) × (rest : List ℕ) × Serves answers n old stream rest out new × IsCorner rest
+  -- `DiffersInBadTarget old stream out more new` holds if the stream ends inside such a target (`EndsInBadTarget`), and
+  -- `more` is `out` followed by the reply that rejects the rest.
+  abbrev pub DiffersInBadTarget : S → List ℕ → List ℕ → List ℕ → S → Type 0
+  DiffersInBadTarget old stream out more new =
+      (n : ℕ) × (rest : List ℕ) × Serves answers n old stream rest out new × EndsInBadTarget rest
       × (more ≡ out ++ reply_text true 400 (error_line 400))
 
-  -- `AgreeOn same old old2 stream out more new new2` holds if two answers to one stream leave the same state, and are
-  -- equal unless the stream ends in the corner.
+  -- `AgreeOn same old old2 stream out more new new2` holds if two answers to one stream, `out` and `more`, lead to
+  -- states that are the same, and are equal unless the stream ends inside such a target.
   abbrev pub AgreeOn : (S → S → Type 0) → S → S → List ℕ → List ℕ → List ℕ → S → S → Type 0
   AgreeOn same old old2 stream out more new new2 =
       same new new2
-      × ((out ≡ more) ⊎ DiffersInCorner old stream out more new ⊎ DiffersInCorner old2 stream more out new2)
+      × ((out ≡ more) ⊎ DiffersInBadTarget old stream out more new ⊎ DiffersInBadTarget old2 stream more out new2)
 
-  -- `StopsIn old stream out new` holds if a device failed after some first bytes of the stream: all of them were
-  -- answered, or a reply was cut.
+  -- `StopsIn old stream out new` holds if a device failed after a prefix of the stream: `out` are all replies to this
+  -- prefix, or the last reply was cut off.
   abbrev pub StopsIn : S → List ℕ → List ℕ → S → Type 0
   StopsIn old stream out new =
       (front : List ℕ) × (rest : List ℕ) × (stream ≡ front ++ rest)
       × (Rests answers old front out new ⊎ Stops answers old front out new)
 
-  -- `BeginsAnswer old stream out more new` holds if `out` is a prefix of `more`, or, in the corner, of `more` and the
-  -- reply that rejects the rest.
+  -- `BeginsAnswer old stream out more new` holds if `out` is a prefix of `more`, or, if the stream ends inside such a
+  -- target, of `more` followed by the reply that rejects the rest.
   abbrev pub BeginsAnswer : S → List ℕ → List ℕ → List ℕ → S → Type 0
   BeginsAnswer old stream out more new =
       ((back : List ℕ) × (more ≡ out ++ back))
-      ⊎ ((n : ℕ) × (rest : List ℕ) × Serves answers n old stream rest more new × IsCorner rest
+      ⊎ ((n : ℕ) × (rest : List ℕ) × Serves answers n old stream rest more new × EndsInBadTarget rest
       × (back : List ℕ) × (out ++ back ≡ more ++ reply_text true 400 (error_line 400)))
 
--- `LacksMemory answers old stream out unsent` holds if `out` are the replies to some requests, none of them 503, then a
+-- `HasFirst503 answers old stream out unsent` holds if `out` are the replies to some requests, none of them 503, then a
 -- 503 to the next, without its last bytes `unsent`, then perhaps more.
-pub record LacksMemory {S : Type 0} (answers : Answering S) (old : S) (stream out unsent : List ℕ) : Type 0 where
+pub record HasFirst503 {S : Type 0} (answers : Answering S) (old : S) (stream out unsent : List ℕ) : Type 0 where
   pub count : ℕ
   pub mid : S
   pub rest : List ℕ

@@ -12,30 +12,31 @@ use Rattle.http_streams.specs.declared.serve.StreamFault.{StreamFault}
 use Rattle.http_streams.specs.declared.serve.StreamFault.TheVariants as fault
 use Rattle.http.specs.declared.status.StatusCode.{StatusCode}
 
--- `Lining`: a relation between a request (method, target, body), its reply (status, body) and the line that the log
--- may get for them.
-abbrev pub Lining : Type 1
-Lining = List ℕ → List ℕ → List ℕ → StatusCode → List ℕ → List ℕ → Type 0
+-- `LineRelation`: a relation between a request (method, target, body), its reply (status, body) and the line that the
+-- log may get for them.
+abbrev pub LineRelation : Type 1
+LineRelation = List ℕ → List ℕ → List ℕ → StatusCode → List ℕ → List ℕ → Type 0
 
--- `IsFront line old new` holds if `new` is `old` followed by a proper prefix of `line`, for the bytes of a device.
+-- `IsFront line old new` holds if the bytes `new` of a device are its bytes `old` followed by a proper prefix of
+-- `line`; bytes that are not known are not compared.
 abbrev pub IsFront : List ℕ → Option (List ℕ) → Option (List ℕ) → Type 0
 IsFront line old new =
     (front : List ℕ) × (back : List ℕ) × (0 < length back) × (line ≡ front ++ back) × Appends old new front
 
--- `lines` relates requests and replies to their lines; `refusal` below gives the line of a rejection by its status;
--- `logged` gives the bytes that a log accepted
-module _ {L : Type 0} (lines : Lining) (logged : L → Option (List ℕ)) where
+-- `lines` relates requests and replies to their lines; `refusal`, in the modules below, gives the line of a rejection
+-- by its status; `logged` gives the bytes that a log accepted, if they are known.
+module _ {L : Type 0} (lines : LineRelation) (logged : L → Option (List ℕ)) where
   -- `notes old m t b status text new` holds if the log got the line for this request and this reply.
   abbrev pub notes : Answering L
   notes old m t b status text new =
       (line : List ℕ) × lines m t b status text line × Appends (logged old) (logged new) line
 
-  -- `cuts old m t b status text new` holds if it got a proper prefix of that line.
+  -- `cuts old m t b status text new` holds if the log got a proper prefix of the line for this request and this reply.
   abbrev pub cuts : Answering L
   cuts old m t b status text new =
       (line : List ℕ) × lines m t b status text line × IsFront line (logged old) (logged new)
 
-module _ {L : Type 0} (lines : Lining) (refusal : StatusCode → List ℕ) (logged : L → Option (List ℕ)) where
+module _ {L : Type 0} (lines : LineRelation) (refusal : StatusCode → List ℕ) (logged : L → Option (List ℕ)) where
   -- `IsRefusalNoted old bytes reply new` holds if `bytes` are rejected by `reply`, and the log got the line for that.
   abbrev pub IsRefusalNoted : L → List ℕ → List ℕ → L → Type 0
   IsRefusalNoted old bytes reply new = (status : StatusCode) × IsRefused bytes status
@@ -53,24 +54,24 @@ module _ {L : Type 0} (lines : Lining) (refusal : StatusCode → List ℕ) (logg
       ((rest : List ℕ) × (last : Bool) × Exchanges (notes lines logged) old bytes last reply new rest)
       ⊎ IsRefusalNoted old bytes reply new
 
-  -- `IsCut old bytes new` holds if `bytes` begin with a request or are rejected, and the log got a proper prefix of the
-  -- line for that.
-  abbrev pub IsCut : L → List ℕ → L → Type 0
-  IsCut old bytes new =
+  -- `IsLineCut old bytes new` holds if `bytes` begin with a request or are rejected, and the log got a proper prefix of
+  -- the line for that.
+  abbrev pub IsLineCut : L → List ℕ → L → Type 0
+  IsLineCut old bytes new =
       ((reply rest : List ℕ) × (last : Bool) × Exchanges (cuts lines logged) old bytes last reply new rest)
       ⊎ IsRefusalCut old bytes new
 
   -- `IsLastNoted result old bytes out new` describes the end of a stream after its whole replies: `out` is what was
-  -- sent of one more reply, by `result`.
-  -- Ok: there is no further reply, or its line was written, all of it was sent, and it ended the stream.
-  -- Write: its line was written, and a proper prefix of it was sent.
-  -- Log: a proper prefix of its line was written, and nothing of it was sent.
-  -- Read, NoMemory: there is no further reply.
+  -- sent of one more reply. By the result:
+  -- - Ok: there is no further reply, or its line was written, all of it was sent, and it ended the stream.
+  -- - Write: its line was written, and a proper prefix of it was sent.
+  -- - Log: a proper prefix of its line was written, and nothing of it was sent.
+  -- - Read, NoMemory: there is no further reply.
   abbrev pub IsLastNoted : Result (Unit {0}) StreamFault → L → List ℕ → List ℕ → L → Type 0
   IsLastNoted (Ok done) old bytes out new = ((out ≡ []) × (new ≡ old)) ⊎ IsNoted old bytes out new
   IsLastNoted (Err fault.Write) old bytes out new =
       (unsent : List ℕ) × (0 < length unsent) × IsNoted old bytes (out ++ unsent) new
-  IsLastNoted (Err fault.Log) old bytes out new = (out ≡ []) × IsCut old bytes new
+  IsLastNoted (Err fault.Log) old bytes out new = (out ≡ []) × IsLineCut old bytes new
   IsLastNoted (Err fault.Read) old bytes out new = (out ≡ []) × (new ≡ old)
   IsLastNoted (Err fault.NoMemory) old bytes out new = (out ≡ []) × (new ≡ old)
 
@@ -86,7 +87,7 @@ module _ {L : Type 0} (lines : Lining) (refusal : StatusCode → List ℕ) (logg
     pub ended : IsLastNoted result mid rest last new
     pub joined : out ≡ before ++ last
 
-module _ {R W L : Type 0} (lines : Lining) (refusal : StatusCode → List ℕ) (logged : L → Option (List ℕ))
+module _ {R W L : Type 0} (lines : LineRelation) (refusal : StatusCode → List ℕ) (logged : L → Option (List ℕ))
     (log_failures : L → ℕ) (log_fails : L → L → Type 0) (left : R → Option (List ℕ)) (holds : W → Option (List ℕ)) where
   -- `HasLogFailed old new result` holds if the log failed if and only if `result` says so, and then at its last call.
   abbrev pub HasLogFailed : L → L → Result (Unit {0}) StreamFault → Type 0
@@ -96,8 +97,9 @@ module _ {R W L : Type 0} (lines : Lining) (refusal : StatusCode → List ℕ) (
   HasLogFailed old new (Err fault.NoMemory) = log_failures new ≡ log_failures old
   HasLogFailed old new (Err fault.Log) = FailsAtLast log_failures log_fails old new
 
-  -- `IsLogged first last before after old new result` relates what one call read, what it wrote, and the lines that the
-  -- log got.
+  -- `IsLogged first last before after old new result` holds if one call led from the reader `first`, the writer
+  -- `before` and the log `old` to `last`, `after` and `new`: it read requests and wrote their replies, the log got the
+  -- line of each, and it ended as `result` says.
   pub record IsLogged (first last : R) (before after : W) (old new : L) (result : Result (Unit {0}) StreamFault)
       : Type 0 where
     pub bytes : List ℕ

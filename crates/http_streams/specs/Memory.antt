@@ -1,10 +1,10 @@
 -- Defines devices over memory, and the plan of each.
--- Rules of this product: what a plan names: the sizes of pieces, and the call that fails.
+-- Rules of this product: a plan has the sizes of pieces, and the call that fails.
 use Rattle.std.specs.Prelude.{◌≡◌, ◌≢◌, ℕ, ◌-◌, ◌^◌, min, max, Option, Some, List, [], ◌∷◌, ◌++◌, length, take}
 use Rattle.http_streams.specs.Devices.{counted}
 
--- A `Planned` is the most bytes that each call moves (the last number applies from then on; none: no limit), the
--- number of the call that fails, from 0, and the number of calls so far.
+-- A `Planned` is the most bytes that each call moves (the last number applies from then on, 0 counts as 1, an empty
+-- list has no limit), the number of the call that fails, from 0, and the number of calls so far.
 pub record Planned : Type 0 where
   pub pieces : List ℕ
   pub fails_at : Option ℕ
@@ -21,39 +21,39 @@ later_pieces [] = []
 later_pieces (n ∷ []) = n ∷ []
 later_pieces (n ∷ m ∷ ns) = m ∷ ns
 
--- `Passes old new` holds if the next call is not the one that fails, and was made.
-abbrev pub Passes : Planned → Planned → Type 0
-Passes old new =
+-- `MakesCall old new` holds if a call that does not fail led from the plan `old` to `new`.
+abbrev pub MakesCall : Planned → Planned → Type 0
+MakesCall old new =
     (old.fails_at ≢ Some old.calls)
     × (new ≡ record { pieces = later_pieces old.pieces; fails_at = old.fails_at; calls = counted old.calls })
 
--- `FailsByPlan old new` holds if the next call is the one that fails, and was made.
+-- `FailsByPlan old new` holds if the call that fails led from the plan `old` to `new`.
 abbrev pub FailsByPlan : Planned → Planned → Type 0
 FailsByPlan old new =
     (old.fails_at ≡ Some old.calls)
     × (new ≡ record { pieces = old.pieces; fails_at = old.fails_at; calls = counted old.calls })
 
--- A `Held` is a device over memory: the unread or accepted bytes, its plan, and the number of its failures.
-pub record Held : Type 0 where
+-- A `DeviceInMemory` is a device over memory: the unread or accepted bytes, its plan, and the number of its failures.
+pub record DeviceInMemory : Type 0 where
   pub bytes : List ℕ
   pub plan : Planned
   pub failures : ℕ
 
 -- `Delivers old room bytes new` holds if a call with a buffer of the length `room` gave `bytes`: as many as the plan,
 -- the unread bytes and the buffer allow.
-abbrev pub Delivers : Held → ℕ → List ℕ → Held → Type 0
+abbrev pub Delivers : DeviceInMemory → ℕ → List ℕ → DeviceInMemory → Type 0
 Delivers old room bytes new =
     (old.bytes ≡ bytes ++ new.bytes)
     × (length bytes ≡ min (min (next_piece old.plan.pieces) (length old.bytes)) room)
-    × Passes old.plan new.plan × (new.failures ≡ old.failures)
+    × MakesCall old.plan new.plan × (new.failures ≡ old.failures)
 
--- `Takes old bytes n new` holds if a call with `bytes` accepted n of them: as many as the plan allows.
-abbrev pub Takes : Held → List ℕ → ℕ → Held → Type 0
-Takes old bytes n new =
+-- `AcceptsByPlan old bytes n new` holds if a call with `bytes` accepted `n` of them: as many as the plan allows.
+abbrev pub AcceptsByPlan : DeviceInMemory → List ℕ → ℕ → DeviceInMemory → Type 0
+AcceptsByPlan old bytes n new =
     (new.bytes ≡ old.bytes ++ take n bytes)
     × (n ≡ min (next_piece old.plan.pieces) (length bytes))
-    × Passes old.plan new.plan × (new.failures ≡ old.failures)
+    × MakesCall old.plan new.plan × (new.failures ≡ old.failures)
 
--- `Breaks old new` holds if a call moved nothing and was counted as a failure.
-abbrev pub Breaks : Held → Held → Type 0
-Breaks old new = (new.bytes ≡ old.bytes) × (new.failures ≡ counted old.failures)
+-- `CountsOneFailure old new` holds if a call moved nothing and was counted as a failure.
+abbrev pub CountsOneFailure : DeviceInMemory → DeviceInMemory → Type 0
+CountsOneFailure old new = (new.bytes ≡ old.bytes) × (new.failures ≡ counted old.failures)

@@ -5,7 +5,9 @@ use Rattle.std.specs.Io.KnownBytes.{Consumes}
 use Rattle.http_streams.specs.declared.TheConstants.{MAX_READ}
 
 -- `EndsByOneRead old new bytes front` holds if the reader went from `old` to `new` by reading `bytes`: `front` first,
--- and the rest by the last call. It had room for a byte, so reading 0 bytes means that the stream is at its end.
+-- and the rest by the last call. The last call had room for a byte, so if it read 0 bytes, the stream is at its end.
+-- `left` gives the bytes left to a reader, `reads` relates the states around a call with its buffer's length and its
+-- bytes.
 module _ {R : Type 0} (left : R → Option (List ℕ)) (reads : R → ℕ → List ℕ → R → Type 0) where
   pub record EndsByOneRead (old new : R) (bytes front : List ℕ) : Type 0 where
     pub between : R

@@ -20,8 +20,8 @@ length_by [] = NoNumber
 length_by (v ∷ []) = announced MAX_REPLY v
 length_by (v ∷ w ∷ vs) = NoNumber
 
--- `reply_length ps` is the length of the body of a reply with the fields `ps`; a transfer coding would define it
--- otherwise.
+-- `reply_length ps` is the length of the body of a reply with the fields `ps`; `NoNumber` if they have a transfer
+-- coding, since that would define the length otherwise.
 abbrev pub reply_length : List Field → Announced
 reply_length ps =
     if list_any (is_named (codes "transfer-encoding")) ps then NoNumber
@@ -57,8 +57,8 @@ pub record HasNoLength (bytes : List ℕ) : Type 0 where
   pub admits : AdmitsReply bytes head rest
   pub framed : (length_of head ≡ NoNumber) ⊎ (length_of head ≡ TooLong)
 
--- `IsTooLargeReply bytes` holds if `bytes` begin with a whole head of too many fields, or are more than a head may
--- be: no admitted head can follow.
+-- `IsTooLargeReply bytes` holds if `bytes` begin with a whole head of too many fields, or are more bytes than a head
+-- may have. If they do not begin with an admitted head, they cannot become one.
 abbrev pub IsTooLargeReply : List ℕ → Type 0
 IsTooLargeReply bytes =
     ((h : ResponseHead) × (rest : List ℕ) × ReadsResponse bytes h rest × (MAX_FIELDS < length h.fields))
@@ -99,15 +99,16 @@ abbrev pub StaysUnfinishedReply : List ℕ → ℕ → Type 0
 StaysUnfinishedReply bytes needed =
     (more : List ℕ) → length (bytes ++ more) < needed → IsUnfinishedReply (bytes ++ more)
 
--- `IsUnfinishedReplyBelow bytes needed` holds if `bytes` are less than a reply, and stay so below `needed`; after a
--- whole head, `needed` bytes are enough.
+-- `IsUnfinishedReplyBelow bytes needed` holds if `bytes` are less than a reply, and stay so below `needed` bytes; if
+-- their head is whole, `needed` bytes are enough.
 pub record IsUnfinishedReplyBelow (bytes : List ℕ) (needed : ℕ) : Type 0 where
   pub unfinished : IsUnfinishedReply bytes
   pub below : StaysUnfinishedReply bytes needed
   pub enough :
       (more : List ℕ) → IsCutOffReply bytes → needed ≤ length (bytes ++ more) → IsUnfinishedReply (bytes ++ more) → ⊥
 
--- `IsReplyCut bytes cut` holds if `cut` is the result of cutting the front of `bytes`.
+-- `IsReplyCut bytes cut` holds if `cut` is right about the front of `bytes`: a reply with its parts, no readable reply,
+-- or less than a reply.
 abbrev pub IsReplyCut : List ℕ → ReplyCut → Type 0
 IsReplyCut bytes (Variants.Whole p) = IsReplyAt bytes p
 IsReplyCut bytes Variants.Bad = IsBadReply bytes

@@ -13,7 +13,7 @@ phrase status = unwrap_or (reason_phrase status) []
 unfoldable pub status_line : StatusCode → List ℕ
 status_line status = codes "HTTP/1.1 " ++ decimal status ++ codes " " ++ phrase status
 
--- `length_lines size` is the fields Content-Type and Content-Length.
+-- `length_lines size` is the fields Content-Type and Content-Length of a body of `size` bytes.
 unfoldable pub length_lines : ℕ → List ℕ
 length_lines size = codes "\r\nContent-Type: application/json\r\nContent-Length: " ++ decimal size
 
@@ -21,7 +21,7 @@ length_lines size = codes "\r\nContent-Type: application/json\r\nContent-Length:
 unfoldable pub ending : Bool → List ℕ
 ending last = if last then codes "\r\nConnection: close\r\n\r\n" else codes "\r\n\r\n"
 
--- `reply_text last status body` is a whole reply.
+-- `reply_text last status body` is a whole reply, where `last` says whether it ends the stream.
 unfoldable pub reply_text : Bool → StatusCode → List ℕ → List ℕ
 reply_text last status body = status_line status ++ length_lines (length body) ++ ending last ++ body
 

@@ -22,19 +22,21 @@ use Rattle.http_streams.specs.declared.TheConstants.{MAX_HEAD, MAX_FIELDS, MAX_B
 abbrev pub needs_length : List ℕ → Bool
 needs_length method = bytes_eq method (codes "PUT") || bytes_eq method (codes "POST")
 
--- `framing_by length` is the framing by one announced length.
+-- `framing_by length` is the framing by one announced length: 413 if it is over the limit, 400 if it is not a number.
 abbrev pub framing_by : Announced → Framing
 framing_by (Size n) = Body n
 framing_by TooLong = Refused 413
 framing_by NoNumber = Refused 400
 
--- `framing_by_lengths method vs` is the framing by the values `vs` of Content-Length.
+-- `framing_by_lengths method vs` is the framing by the values `vs` of Content-Length: 411 if a needed length is
+-- missing, 400 if there are several.
 abbrev pub framing_by_lengths : List ℕ → List (List ℕ) → Framing
 framing_by_lengths method [] = if needs_length method then Refused 411 else Body 0
 framing_by_lengths method (v ∷ []) = framing_by (announced MAX_BODY v)
 framing_by_lengths method (v ∷ w ∷ vs) = Refused 400
 
--- `framing method ps` is the length of the body, or the status with which a head with the fields `ps` is rejected.
+-- `framing method ps` is the length of the body, or the status with which a head with the fields `ps` is rejected: 501
+-- for a transfer coding, else by the announced lengths.
 abbrev pub framing : List ℕ → List Field → Framing
 framing method ps =
     if list_any (is_named (codes "transfer-encoding")) ps then Refused 501
@@ -48,7 +50,7 @@ pairs h = map name_and_value h.fields
 abbrev pub framing_of : RequestHead → Framing
 framing_of h = framing h.method (pairs h)
 
--- `closes minor ps` is whether the connection ends after a request of this version with the fields `ps`.
+-- `closes minor ps` is whether the connection ends after a request of version 1.`minor` with the fields `ps`.
 abbrev pub closes : ℕ → List Field → Bool
 closes minor ps = (minor == 0) || list_any is_close ps
 
@@ -78,8 +80,8 @@ pub record RefusesHead (bytes : List ℕ) (status : StatusCode) : Type 0 where
   pub admits : Admits bytes head rest
   pub framed : framing_of head ≡ Refused status
 
--- `IsTooLarge bytes` holds if `bytes` begin with a whole head of too many fields, or are more than a head may be: no
--- admitted head can follow.
+-- `IsTooLarge bytes` holds if `bytes` begin with a whole head of too many fields, or are more bytes than a head may
+-- have. If they do not begin with an admitted head, they cannot become one.
 abbrev pub IsTooLarge : List ℕ → Type 0
 IsTooLarge bytes =
     ((h : RequestHead) × (rest : List ℕ) × ReadsRequest bytes h rest × (MAX_FIELDS < length h.fields))
@@ -128,14 +130,15 @@ pub record IsWholeAt (bytes : List ℕ) (p : Parts) : Type 0 where
 abbrev pub StaysUnfinished : List ℕ → ℕ → Type 0
 StaysUnfinished bytes needed = (more : List ℕ) → length (bytes ++ more) < needed → IsUnfinished (bytes ++ more)
 
--- `IsUnfinishedBelow bytes needed` holds if `bytes` are less than a request, and stay so below `needed`; after a
--- whole head, `needed` bytes are enough.
+-- `IsUnfinishedBelow bytes needed` holds if `bytes` are less than a request, and stay so below `needed` bytes; if their
+-- head is whole, `needed` bytes are enough.
 pub record IsUnfinishedBelow (bytes : List ℕ) (needed : ℕ) : Type 0 where
   pub unfinished : IsUnfinished bytes
   pub below : StaysUnfinished bytes needed
   pub enough : (more : List ℕ) → IsCutOff bytes → needed ≤ length (bytes ++ more) → IsUnfinished (bytes ++ more) → ⊥
 
--- `IsCut bytes cut` holds if `cut` is the result of cutting the front of `bytes`.
+-- `IsCut bytes cut` holds if `cut` is right about the front of `bytes`: a request with its parts, a rejection, or less
+-- than a request.
 abbrev pub IsCut : List ℕ → Cut → Type 0
 IsCut bytes (Cuts.Whole p) = IsWholeAt bytes p
 IsCut bytes (Cuts.Refused status) = IsRefused bytes status

@@ -13,14 +13,14 @@ use Rattle.http_streams.specs.declared.cut.Cut.{Cut}
 use Rattle.http_streams.specs.declared.cut.Cut.TheVariants as Cuts
 use Rattle.http_streams.specs.declared.TheConstants.{MAX_HEAD, MAX_BODY}
 
--- `FitsLimits ask` holds if head and body of `ask` are within the limits, and it has a body where its method needs one
+-- `FitsLimits ask` holds if head and body of `ask` are within the limits, and it has a body if its method needs one.
 pub record FitsLimits (ask : Ask) : Type 0 where
   pub head : length (request_text ask) ≤ MAX_HEAD + length (body_bytes ask.body)
   pub body : length (body_bytes ask.body) ≤ MAX_BODY
   pub announced : IsTrue (needs_length ask.method.now) → IsSome ask.body
 
--- `AreAsked ask p` holds if the parts `p` of the text of `ask` are its method, target and body, the text ends behind
--- the body, and the connection with it
+-- `AreAsked ask p` holds if the parts `p` of the text of `ask` are its method, target and body, the text ends with the
+-- body, and the connection closes after it.
 pub record AreAsked (ask : Ask) (p : Parts) : Type 0 where
   pub method : span_bytes (request_text ask) p.method ≡ ask.method.now
   pub target : span_bytes (request_text ask) p.target ≡ ask.path.now
@@ -28,14 +28,14 @@ pub record AreAsked (ask : Ask) (p : Parts) : Type 0 where
   pub all : p.end ≡ length (request_text ask)
   pub last : IsTrue p.closes
 
--- `IsAsked ask cut` holds if `cut` is a whole request with the parts of `ask`
+-- `IsAsked ask cut` holds if `cut` is a whole request with the parts of `ask`.
 abbrev pub IsAsked : Ask → Cut → Type 0
 IsAsked ask (Cuts.Whole p) = AreAsked ask p
 IsAsked ask (Cuts.Refused status) = ⊥
 IsAsked ask (Cuts.Unfinished needed) = ⊥
 
 -- `IsReadBack ask` holds if cutting the text of `ask` off a stream gives one request with the parts and the host of
--- `ask`, and cutting any shorter beginning of it gives an unfinished one
+-- `ask`, and cutting any proper prefix of the text gives an unfinished one.
 pub record IsReadBack (ask : Ask) : Type 0 where
   pub whole : (cut : Cut) → IsCut (request_text ask) cut → IsAsked ask cut
   pub host :

@@ -43,7 +43,8 @@ module _ {S : Type 0} (answers : Answering S) where
   abbrev pub Closes : S → List ℕ → List ℕ → S → Type 0
   Closes old bytes out new = ((rest : List ℕ) × Exchanges old bytes true out new rest) ⊎ Refuses old bytes out new
 
-  -- `Rests old bytes out new` holds if `out` are the replies to all requests in `bytes`, and the rest is less than one.
+  -- `Rests old bytes out new` holds if `out` are the replies to all requests in `bytes`, and what follows them is less
+  -- than a request.
   pub record Rests (old : S) (bytes : List ℕ) (out : List ℕ) (new : S) : Type 0 where
     pub count : ℕ
     pub rest : List ℕ
@@ -61,7 +62,7 @@ module _ {S : Type 0} (answers : Answering S) where
     pub closes : Closes mid rest last new
     pub joined : out ≡ before ++ last
 
-  -- `Halts old bytes out new` holds if `out` is the reply to a prefix of `bytes`, without some of its last bytes.
+  -- `Halts old bytes out new` holds if `out` is a proper prefix of the reply to a prefix of `bytes`.
   abbrev pub Halts : S → List ℕ → List ℕ → S → Type 0
   Halts old bytes out new =
       (back : List ℕ) × (0 < length back)

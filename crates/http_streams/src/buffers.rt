@@ -1,4 +1,4 @@
-//! The bytes that are read and not yet answered.
+//! Memory for heads, reads and replies, and the buffer of bytes that are read and not yet answered.
 ghost use Rattle.std.specs.Prelude.{◌≡◌, ◌≤◌, ◌<◌, ◌++◌, ℕ, List, [], Err, drop, length, IfOk, OnOk};
 ghost use Rattle.std.specs.Prelude.{OnErr, IsTrue, IsFalse, vec_len, ◌+◌};
 ghost use Rattle.std.specs.Vec.{vec_capacity};
@@ -6,7 +6,8 @@ ghost use Rattle.std.specs.Io.KnownBytes.{Consumes, IsAtEnd, Keeps};
 ghost use Rattle.http_streams.specs.Devices.{HasFailed};
 
 use crate::devices::Source;
-use crate::{HEAD_ROOM, MAX_HEAD, MAX_READ, REPLY_ROOM};
+use crate::reply::HEAD_ROOM;
+use crate::{MAX_HEAD, MAX_READ, REPLY_ROOM};
 use httparse::spans::{EMPTY_HEADER_SPAN, HeaderSpan};
 use std::alloc::{AllocError, Global};
 
@@ -17,7 +18,7 @@ pub(crate) enum FillFault {
     NoMemory,
 }
 
-/// Returns memory for a header at each byte of a head.
+/// Returns memory for as many headers as a head has bytes, so that a head with too many fields is parsed whole.
 pub(crate) fn room_for_heads(alloc: Global) -> Result<Vec<HeaderSpan>, AllocError>
     ensures { IfOk result (λ room. MAX_HEAD ≤ vec_len room) }
 {
@@ -55,7 +56,8 @@ pub(crate) fn drop_front(bytes: &mut Vec<u8>, count: usize)
     bytes.truncate(left);
 }
 
-/// Reads once, and returns whether bytes were read. Memory for them is allocated first, so that no byte is lost.
+/// Reads once through `chunk`, appends what was read to `buffer`, and returns whether bytes were read; `false` is the
+/// end of the input. Memory for the bytes is allocated before the read, so that none is lost.
 pub(crate) fn read_more<R: Source>(
     reader: &mut R,
     chunk: &mut [u8],

@@ -1,7 +1,7 @@
 //! Finds where the requests of a stream end.
 ghost use Rattle.std.specs.Prelude.{◌≡◌, ◌≤◌, length, map, take, All};
 ghost use Rattle.httparse.specs.Spans.{IsHeaderWithin, IsRequestOf, IsRequestWithin, header_bytes};
-ghost use Rattle.http_streams.specs.Request.{IsCut, closes, framing, framing_by, needs_length};
+ghost use Rattle.http_streams.specs.Request.{IsCut, closes, framing, needs_length};
 
 use crate::fields::{Announced, FieldValue, asks_to_close, has_header, length_of, values_of};
 use crate::limits::{first_bytes, has_too_many, is_cut_off};
@@ -35,20 +35,9 @@ pub struct Parts {
 pub enum Cut {
     Whole(Parts),
     Refused(StatusCode),
-    /// Less than a request, also with more bytes as long as all are fewer than this number: the length that a whole
-    /// head asks for, or 0 if the head is not whole.
+    /// The bytes are less than a request. Whatever follows, they remain so while there are fewer than this number: the
+    /// length of head and body if the head is whole, else 0.
     Unfinished(usize),
-}
-
-/// Returns the framing by one announced length.
-fn framing_by(length: Announced) -> Framing
-    ensures { result ≡ framing_by length }
-{
-    match length {
-        Announced::Size(size) => Framing::Body(size),
-        Announced::TooLong => Framing::Refused(StatusCode::PAYLOAD_TOO_LARGE),
-        Announced::NoNumber => Framing::Refused(StatusCode::BAD_REQUEST),
-    }
 }
 
 /// Returns whether a request with this method must announce its length.
@@ -69,7 +58,11 @@ fn framing_at(buf: &[u8], headers: &[HeaderSpan], method: &[u8]) -> Framing
     match values_of(buf, headers, b"content-length") {
         FieldValue::Absent if needs_length(method) => Framing::Refused(StatusCode::LENGTH_REQUIRED),
         FieldValue::Absent => Framing::Body(0),
-        FieldValue::Once(text) => framing_by(length_of(text, MAX_BODY)),
+        FieldValue::Once(text) => match length_of(text, MAX_BODY) {
+            Announced::Size(size) => Framing::Body(size),
+            Announced::TooLong => Framing::Refused(StatusCode::PAYLOAD_TOO_LARGE),
+            Announced::NoNumber => Framing::Refused(StatusCode::BAD_REQUEST),
+        },
         FieldValue::Many => Framing::Refused(StatusCode::BAD_REQUEST),
     }
 }
@@ -90,7 +83,7 @@ fn closes(buf: &[u8], headers: &[HeaderSpan], minor: u8) -> bool
     false
 }
 
-/// Cuts the front of `buf`, whose first bytes `seen` begin with the head.
+/// Cuts the front of `buf`, whose first bytes `seen` begin with a head; `headers` and `head` are its parsed parts.
 fn cut_body(buf: &[u8], seen: &[u8], headers: &[HeaderSpan], head: &RequestSpans) -> Cut
     requires seen { seen.now ≡ take MAX_HEAD buf.now }
     requires few { length headers.now ≤ MAX_FIELDS }
@@ -119,8 +112,8 @@ fn cut_body(buf: &[u8], seen: &[u8], headers: &[HeaderSpan], head: &RequestSpans
 
 /// Cuts the front of `buf`: a whole request, a rejected one, or less than one.
 ///
-/// `room` has a header for each byte that a head may have, so that a head with too many fields is seen whole. Does
-/// not allocate.
+/// `room` is memory for headers, one for each byte that a head may have, so that a head with too many fields is parsed
+/// whole. Does not allocate.
 pub fn cut_request(buf: &[u8], room: &mut [HeaderSpan]) -> Cut
     requires { MAX_HEAD ≤ length room.old }
     ensures { IsCut buf.now result }

@@ -6,7 +6,7 @@ ghost use Rattle.http_streams.specs.Devices.{CountsFailure, FailsAtLast, counted
 use std::io::{Read, Write};
 use std::marker::Model;
 
-/// The error of a device's failed call, which its count includes.
+/// The error of a device's call. The device has counted the failure.
 #[derive(Clone, Copy)]
 pub struct DeviceFailed;
 
@@ -18,13 +18,18 @@ pub trait Source {
     // The number of failures, at most `u64::MAX`.
     ghost failed: { Self → ℕ };
 
-    // A call of `read` with a buffer of this length led from the first state to the second, and gave these bytes.
+    // `reads old room bytes new` holds if a call of `read` with a buffer of length `room` led from the state `old` to
+    // `new`, and gave `bytes`.
     ghost reads: { Self → ℕ → List ℕ → Self → Type 0 };
 
-    // A call of `read` led from the first state to the second, and failed.
+    // `fails old new` holds if a call of `read` led from the state `old` to `new`, and failed.
     ghost fails: { Self → Self → Type 0 };
 
-    /// Reads once. No bytes into a nonempty buffer mean the end of the input.
+    /// Reads once into `buf`; returns the number of bytes. Zero bytes into a nonempty buffer mean the end of the input.
+    ///
+    /// # Errors
+    ///
+    /// - `DeviceFailed`: the call failed, and was counted.
     fn read(&mut self, buf: &mut [u8]) -> Result<usize, DeviceFailed>
         ensures bound { IfOk result (λ n. n ≤ length buf.new) }
         ensures bytes { ReadConsumes (left self.old) (left self.new) result buf.new }
@@ -45,13 +50,18 @@ pub trait Sink {
     // The number of failures, at most `u64::MAX`.
     ghost failed: { Self → ℕ };
 
-    // A call of `write` with these bytes led from the first state to the second, and accepted this number of them.
+    // `writes old bytes n new` holds if a call of `write` with `bytes` led from the state `old` to `new`, and accepted
+    // the first `n` of them.
     ghost writes: { Self → List ℕ → ℕ → Self → Type 0 };
 
-    // A call of `write` led from the first state to the second, and failed.
+    // `fails old new` holds if a call of `write` led from the state `old` to `new`, and failed.
     ghost fails: { Self → Self → Type 0 };
 
     /// Writes once; returns how many of the bytes were accepted.
+    ///
+    /// # Errors
+    ///
+    /// - `DeviceFailed`: the call failed or accepted no byte, and was counted.
     fn write(&mut self, bytes: &[u8]) -> Result<usize, DeviceFailed>
         requires { 0 < length bytes.now }
         ensures bound { IfOk result (λ n. (0 < n) × (n ≤ length bytes.now)) }
@@ -145,7 +155,8 @@ impl<W: Write> Sink for Counted<W> {
 ///
 /// # Errors
 ///
-/// `DeviceFailed` at the first call that fails: then fewer than all bytes were accepted, the first ones.
+/// - `DeviceFailed`: a call failed, the first that did and the last made. Then the writer accepted a proper prefix of
+///   the bytes.
 pub fn write_all<W: Sink>(writer: &mut W, bytes: &[u8]) -> Result<(), DeviceFailed>
     ensures ok { OnOk result (Appends (W.holds writer.old) (W.holds writer.new) bytes.now) }
     ensures err { OnErr result ((front : List ℕ) × (rest : List ℕ) × (0 < length rest) × (bytes.now ≡ front ++ rest)

@@ -10,7 +10,8 @@ ghost use Rattle.http_streams.specs.Reads.{EndsByOneRead};
 use crate::buffers::{FillFault, drop_front, read_more, room_for_heads, room_for_reads};
 use crate::devices::{Sink, Source, write_all};
 use crate::reply_cut::{ReplyCut, ReplyParts, cut_reply};
-use crate::{Ask, MAX_HEAD, MAX_READ, request_text};
+use crate::request::request_text;
+use crate::{Ask, MAX_HEAD, MAX_READ};
 use httparse::spans::HeaderSpan;
 use std::alloc::{AllocError, Global};
 use thiserror::Error;
@@ -37,8 +38,16 @@ pub enum FetchFault {
 
 /// Writes one request, and reads the reply to it: its status and its body. Bytes after the reply are not checked.
 ///
-/// Within the limits of `cut_request`, the written bytes parse as exactly the request `ask` (`requests_read_back` of
-/// `http_streams`).
+/// Within the limits of `cut_request`, the written bytes parse as exactly the request `ask`
+/// ([`requests_read_back`](crate::framing_laws::requests_read_back)).
+///
+/// # Errors
+///
+/// - [`FetchFault::Write`] (71): the writer failed; nothing was read.
+/// - [`FetchFault::Read`] (70): the reader failed before a reply was complete.
+/// - [`FetchFault::Ended`] (73): the input ended before a reply was complete.
+/// - [`FetchFault::BadReply`] (72): the bytes cannot begin a reply of one length within the limits.
+/// - [`FetchFault::NoMemory`] (1): an allocation failed, at any point.
 pub fn fetch<R: Source, W: Sink>(
     alloc: Global,
     reader: &mut R,
@@ -52,8 +61,8 @@ pub fn fetch<R: Source, W: Sink>(
         × ReadsReply bytes reply.0 reply.1.items rest
         × IsUnfinishedReply front × EndsByOneRead R.left R.reads reader.old reader.new bytes front) }
 
-    // The request was written, and what was read does not begin a readable reply, which was not known before the last
-    // read.
+    // The request was written, and what was read cannot begin a readable reply. Before the last read, it was less than
+    // a reply.
     ensures bad { result ≡ Err FetchFault.BadReply → (bytes : List ℕ) × (front : List ℕ)
         × Consumes (R.left reader.old) (R.left reader.new) bytes
         × Appends (W.holds writer.old) (W.holds writer.new) (request_text ask.now)
@@ -77,7 +86,7 @@ pub fn fetch<R: Source, W: Sink>(
     ensures write { result ≡ Err FetchFault.Write → (reader.new ≡ reader.old)
         × FailsAtLast W.failed W.fails writer.old writer.new }
 
-    // After any error a first part of the request was sent, or all of it.
+    // After any error nothing, a first part of the request, or all of it was sent.
     ensures err { OnErr result ((bytes : List ℕ) × (front : List ℕ) × (back : List ℕ)
         × Consumes (R.left reader.old) (R.left reader.new) bytes
         × (request_text ask.now ≡ front ++ back) × Appends (W.holds writer.old) (W.holds writer.new) front) }
@@ -148,7 +157,8 @@ fn rooms(alloc: Global) -> Result<(Vec<HeaderSpan>, Vec<u8>), AllocError>
     Ok((heads, reads))
 }
 
-/// Reads into given memory until a reply is whole or can't be. `buffer` has all bytes read.
+/// Reads until the bytes are a whole reply, or cannot become one. `room` is memory for headers, `chunk` for one read;
+/// `buffer` gets all bytes that are read.
 fn read_whole<R: Source>(
     reader: &mut R,
     room: &mut [HeaderSpan],

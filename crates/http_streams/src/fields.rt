@@ -1,4 +1,4 @@
-//! The fields of a head.
+//! The fields of a head: the values of a name, the announced length, and whether they ask to close the connection.
 ghost use Rattle.std.specs.Prelude.{◌≡◌, ◌<◌, ◌^◌, length, map, All};
 ghost use Rattle.std.specs.Char.{to_ascii_lowercase};
 ghost use Rattle.std.specs.List.{list_any};
@@ -66,7 +66,7 @@ pub(crate) fn has_header(buf: &[u8], headers: &[HeaderSpan], name: &[u8]) -> boo
     false
 }
 
-/// Returns the decimal number that the text is, up to `most`.
+/// Parses the text as a decimal number of at most `most`.
 pub(crate) fn length_of(text: &[u8], most: usize) -> Announced
     requires { most < 2 ^ 32 }
     ensures { result ≡ announced most text.now }

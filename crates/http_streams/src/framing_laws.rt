@@ -1,4 +1,4 @@
-//! Theorems about the reply at the front of a stream, and about a request that is sent.
+//! Theorems about the reply at the front of a stream, about a request that is sent, and about the limits.
 ghost use Rattle.std.specs.Prelude.{◌≡◌, ℕ, List};
 ghost use Rattle.http_streams.specs.FramingLaws.{HasOneReply};
 ghost use Rattle.http_streams.specs.Sent.{FitsLimits, IsReadBack};
@@ -6,9 +6,9 @@ ghost use Rattle.http_streams.specs.declared.parts.Ask.{Ask};
 
 use crate::{MAX_BODY, MAX_FIELDS, MAX_HEAD, MAX_REPLY};
 
-/// Proves that the reply of a stream does not depend on how the stream is cut into reads: there is at most one reply,
-/// there is none if the stream is rejected or ends too early, and the stream is not rejected if it ends too early.
-/// No-op.
+/// Proves that the reply of a stream does not depend on how the stream is cut into reads. No-op.
+///
+/// A stream has at most one reply. A stream that is rejected, or that ends too early, has none; no stream does both.
 pub fn one_reply()
     ensures { (stream : List ℕ) → HasOneReply stream }
 {}

@@ -1,14 +1,15 @@
 //! Theorems on the replies to a stream.
 ghost use Rattle.std.specs.Prelude.{ℕ, List, ◌⊎◌, []};
 ghost use Rattle.http_streams.specs.Laws.{AgreeOn, AnswersAll, BeginsAnswer, HasOneAnswer};
-ghost use Rattle.http_streams.specs.Laws.{LacksMemory, StopsIn, in_memory};
+ghost use Rattle.http_streams.specs.Laws.{HasFirst503, StopsIn, in_memory};
 
 use crate::service::Answers;
 
-/// Proves that, if states that are the same have one answer to each request, except when out of memory, a stream has
-/// one answer from them, however it is split into reads: the same bytes are sent, and the states afterwards are the
-/// same. One exception: a stream that ends inside a request target that is not UTF-8 may get the reply 400 or nothing.
-/// No-op.
+/// Proves that a stream has one answer, however it is split into reads: equal bytes are sent, and the states afterwards
+/// are the same. No-op.
+///
+/// The premise is that states that are the same (`S.same`) have one answer to each request, except 503 (out of memory).
+/// One exception: a stream that ends inside a request target that is not UTF-8 may get the reply 400 or nothing.
 pub fn one_answer<S: Answers>()
     ensures { HasOneAnswer (in_memory S.answers) S.same → (old old2 new new2 : S) → (stream out more : List ℕ)
         → S.same old old2
@@ -17,7 +18,7 @@ pub fn one_answer<S: Answers>()
 {}
 
 /// Proves that what is sent before an error (a failed read, write or allocation) is a prefix of what is sent without
-/// one, with the same exception. No-op.
+/// one, with the exception of [`one_answer`]. No-op.
 pub fn begins_answer<S: Answers>()
     ensures { HasOneAnswer (in_memory S.answers) S.same → (old old2 new new2 : S) → (stream out more : List ℕ)
         → S.same old old2
@@ -25,12 +26,12 @@ pub fn begins_answer<S: Answers>()
         → BeginsAnswer (in_memory S.answers) old2 stream out more new2 }
 {}
 
-/// Proves that each answer to a stream is one with memory, or contains a reply 503: the first, after replies with
-/// memory. If the answer was cut off, a part of the 503 may have been sent. No-op.
+/// Proves that each answer to a stream has no reply 503, or has a first one after replies of other statuses. If the
+/// answer was cut off, perhaps only a part of this 503 was sent. No-op.
 pub fn in_memory_or_503<S: Answers>()
     ensures whole { (old new : S) → (stream out : List ℕ) → AnswersAll S.answers old stream out new
-        → AnswersAll (in_memory S.answers) old stream out new ⊎ LacksMemory S.answers old stream out [] }
+        → AnswersAll (in_memory S.answers) old stream out new ⊎ HasFirst503 S.answers old stream out [] }
     ensures broken { (old new : S) → (stream out : List ℕ) → StopsIn S.answers old stream out new
         → StopsIn (in_memory S.answers) old stream out new
-        ⊎ ((unsent : List ℕ) × LacksMemory S.answers old stream out unsent) }
+        ⊎ ((unsent : List ℕ) × HasFirst503 S.answers old stream out unsent) }
 {}

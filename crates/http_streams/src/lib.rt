@@ -1,12 +1,12 @@
-//! HTTP/1.1 over bytes: the text of requests and replies, where they end in a stream, answering the requests of a
-//! stream, each before more is read, and fetching a reply.
+//! HTTP/1.1 over bytes: writes requests and replies, finds where they end in a stream, answers the requests of a
+//! stream, and fetches a reply.
 //!
-//! Nothing here opens a socket. Readers, writers and services are any values of the traits `Source`, `Sink` and
-//! `Service`.
+//! A stream's requests are answered in order, each before more is read. Nothing here opens a socket: readers, writers
+//! and services are any values of the traits `Source`, `Sink` and `Service`.
 #![tactic(auto)]
 
 mod buffers;
-pub mod cut;
+mod cut;
 pub mod devices;
 pub mod fetch;
 mod fields;
@@ -16,17 +16,15 @@ mod limits;
 pub mod memory;
 mod nowhere;
 pub mod parts;
-pub mod reply;
-pub mod reply_cut;
-pub mod request;
+mod reply;
+mod reply_cut;
+mod request;
 pub mod serve;
 pub mod service;
 
 pub use devices::{Counted, Sink, Source};
 pub use memory::{Fed, Kept, Plan};
 pub use parts::{Ask, is_host, is_method, is_target};
-pub use reply::{HEAD_ROOM, REFUSAL_ROOM, put_head, put_refusal};
-pub use request::request_text;
 
 /// The most bytes of a head, with its empty line.
 pub const MAX_HEAD: usize = 16_384;

@@ -1,6 +1,7 @@
 //! Devices over memory, which read or accept given pieces and fail at one given call.
 ghost use Rattle.std.specs.Prelude.{◌≡◌, ◌⊎◌, ◌<◌, Some, None, IfSome, []};
-ghost use Rattle.http_streams.specs.Memory.{Breaks, FailsByPlan, Delivers, Passes, Takes, next_piece};
+ghost use Rattle.http_streams.specs.Memory.{AcceptsByPlan, CountsOneFailure, Delivers, FailsByPlan, MakesCall};
+ghost use Rattle.http_streams.specs.Memory.{next_piece};
 
 use crate::devices::{DeviceFailed, Sink, Source};
 use std::alloc::Global;
@@ -23,9 +24,10 @@ impl<'a> Model for Plan<'a> {
 }
 
 impl<'a> Plan<'a> {
-    /// Creates a plan before any call. `pieces` are the most bytes that each call moves: the last one applies from
-    /// then on, an empty list has no limit, and 0 counts as 1. `fails_at` is the number of the call that fails, from
-    /// 0.
+    /// Creates a plan; no call has been made.
+    ///
+    /// `pieces` are the most bytes that each call moves: the last one applies from then on, an empty list has no limit,
+    /// and 0 counts as 1. `fails_at` is the number of the call that fails, from 0.
     pub fn new(pieces: &'a [usize], fails_at: Option<u64>) -> Plan<'a>
         ensures { result ≡ record { pieces = pieces.entry.now; fails_at = fails_at; calls = 0 } }
     {
@@ -36,9 +38,9 @@ impl<'a> Plan<'a> {
         }
     }
 
-    /// Returns the most bytes that the next call moves, at least one; `None` if it fails.
+    /// Counts a call, and returns the most bytes that it moves, at least one; `None` if it fails.
     fn next_call(&mut self) -> Option<usize>
-        ensures moves { IfSome result (λ n. (n ≡ next_piece self.old.pieces) × Passes self.old self.new) }
+        ensures moves { IfSome result (λ n. (n ≡ next_piece self.old.pieces) × MakesCall self.old self.new) }
         ensures some { IfSome result (λ n. 0 < n) }
         ensures fails { result ≡ None → FailsByPlan self.old self.new }
     {
@@ -67,9 +69,9 @@ pub struct Fed<'a> {
 }
 
 impl<'a> Model for Fed<'a> {
-    ghost use Rattle.http_streams.specs.Memory.{Held};
+    ghost use Rattle.http_streams.specs.Memory.{DeviceInMemory};
 
-    ghost Value = { Held };
+    ghost Value = { DeviceInMemory };
 
     ghost view = { λ f. record { bytes = f.rest.now; plan = f.plan; failures = f.failures } };
 }
@@ -101,7 +103,7 @@ impl Source for Fed<'_> {
 
     ghost reads = { Delivers };
 
-    ghost fails = { λ old new. Breaks old new × FailsByPlan old.plan new.plan };
+    ghost fails = { λ old new. CountsOneFailure old new × FailsByPlan old.plan new.plan };
 
     fn read(&mut self, buf: &mut [u8]) -> Result<usize, DeviceFailed> {
         let Some(most) = self.plan.next_call() else {
@@ -120,7 +122,7 @@ impl Source for Fed<'_> {
     }
 }
 
-/// A writer into memory. A failed allocation is a failure.
+/// A writer into memory. A failed allocation counts as a failure.
 #[derive(Drop)]
 pub struct Kept<'a> {
     bytes: Vec<u8>,
@@ -129,9 +131,9 @@ pub struct Kept<'a> {
 }
 
 impl<'a> Model for Kept<'a> {
-    ghost use Rattle.http_streams.specs.Memory.{Held};
+    ghost use Rattle.http_streams.specs.Memory.{DeviceInMemory};
 
-    ghost Value = { Held };
+    ghost Value = { DeviceInMemory };
 
     ghost view = { λ k. record { bytes = k.bytes.items; plan = k.plan; failures = k.failures } };
 }
@@ -161,10 +163,11 @@ impl Sink for Kept<'_> {
 
     ghost failed = { λ s. s.failures };
 
-    ghost writes = { Takes };
+    ghost writes = { AcceptsByPlan };
 
-    // By its plan, or because an allocation failed.
-    ghost fails = { λ old new. Breaks old new × (FailsByPlan old.plan new.plan ⊎ Passes old.plan new.plan) };
+    // A call fails by its plan, or because an allocation failed.
+    ghost fails = { λ old new. CountsOneFailure old new
+        × (FailsByPlan old.plan new.plan ⊎ MakesCall old.plan new.plan) };
 
     fn write(&mut self, bytes: &[u8]) -> Result<usize, DeviceFailed> {
         if let Some(most) = self.plan.next_call() {

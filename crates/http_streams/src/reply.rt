@@ -4,10 +4,11 @@ ghost use Rattle.http_streams.specs.ReplyText.{ending, error_line, length_lines,
 
 use http::StatusCode;
 
-/// The bytes that the head of any reply fits in.
+/// The number of bytes that suffices for the head of any reply: 56 for the status line, 80 for Content-Type and
+/// Content-Length, 24 for the end.
 pub const HEAD_ROOM: usize = 160;
 
-/// The bytes that a whole reply to a rejected head fits in.
+/// The number of bytes that suffices for a whole reply to a rejected head: `HEAD_ROOM`, and 96 for the error line.
 pub const REFUSAL_ROOM: usize = 256;
 
 /// Writes the piece right before `end`; returns where it begins.
@@ -22,7 +23,7 @@ fn put_piece(room: &mut [u8], end: usize, piece: &[u8]) -> usize
     start
 }
 
-/// Writes the number's digits right before `end`; returns where they begin.
+/// Writes the number's digits, at most 20, right before `end`; returns where they begin.
 fn put_number(room: &mut [u8], end: usize, number: usize) -> usize
     requires fits { 20 ≤ end }
     requires inside { end ≤ length room.old }
@@ -115,7 +116,8 @@ fn put_error(room: &mut [u8], end: usize, code: u16) -> usize
     put_piece(room, digits, b"{\"error\":{\"code\":")
 }
 
-/// Writes a whole reply that ends the stream at the end of `room`; returns where it begins.
+/// Writes at the end of `room` a whole reply that ends the stream, with the error line of `status`; returns where the
+/// reply begins.
 pub fn put_refusal(room: &mut [u8], status: StatusCode) -> usize
     requires fits { length room.old ≡ REFUSAL_ROOM }
     ensures order { result ≤ length room.new }

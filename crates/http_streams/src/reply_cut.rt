@@ -26,12 +26,12 @@ pub enum ReplyCut {
     Whole(ReplyParts),
     /// The bytes do not begin with a reply of one length within the limits.
     Bad,
-    /// Less than a reply, also with more bytes as long as all are fewer than this number: the length that a whole
-    /// head asks for, or 0 if the head is not whole.
+    /// The bytes are less than a reply. Whatever follows, they remain so while there are fewer than this number: the
+    /// length of head and body if the head is whole, else 0.
     Unfinished(usize),
 }
 
-/// Returns the length of the body of a reply.
+/// Returns the length of the body of a reply, which must be announced exactly once.
 fn length_at(buf: &[u8], headers: &[HeaderSpan]) -> Announced
     requires { All (IsHeaderWithin (length buf.now)) headers.now }
     ensures { result ≡ reply_length (map (header_bytes buf.now) headers.now) }
@@ -45,7 +45,7 @@ fn length_at(buf: &[u8], headers: &[HeaderSpan]) -> Announced
     }
 }
 
-/// Cuts the front of `buf`, whose first bytes `seen` begin with the head.
+/// Cuts the front of `buf`, whose first bytes `seen` begin with a head; `headers` and `head` are its parsed parts.
 fn cut_reply_body(buf: &[u8], seen: &[u8], headers: &[HeaderSpan], head: &ResponseSpans) -> ReplyCut
     requires seen { seen.now ≡ take MAX_HEAD buf.now }
     requires few { length headers.now ≤ MAX_FIELDS }
@@ -69,8 +69,8 @@ fn cut_reply_body(buf: &[u8], seen: &[u8], headers: &[HeaderSpan], head: &Respon
 
 /// Cuts the front of `buf`: a whole reply, a bad one, or less than one.
 ///
-/// `room` has a header for each byte that a head may have, so that a head with too many fields is seen whole. Does
-/// not allocate.
+/// `room` is memory for headers, one for each byte that a head may have, so that a head with too many fields is parsed
+/// whole. Does not allocate.
 pub fn cut_reply(buf: &[u8], room: &mut [HeaderSpan]) -> ReplyCut
     requires { MAX_HEAD ≤ length room.old }
     ensures { IsReplyCut buf.now result }

@@ -54,7 +54,7 @@ fn push_body(out: &mut Vec<u8>, body: Option<&[u8]>) -> Result<(), AllocError>
 ///
 /// # Errors
 ///
-/// `AllocError` alone.
+/// - `AllocError`: an allocation failed.
 #[tactic(auto, unfolding(crate::specs::RequestText::request_text))]
 pub fn request_text(alloc: Global, ask: &Ask<'_>) -> Result<Vec<u8>, AllocError>
     ensures { IfOk result (λ out. out.items ≡ request_text ask.now) }

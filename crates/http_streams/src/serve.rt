@@ -18,8 +18,9 @@ use crate::buffers::{
 use crate::cut::{Cut, Parts, cut_request};
 use crate::devices::{Sink, Source, write_all};
 use crate::nowhere::Nowhere;
+use crate::reply::{HEAD_ROOM, REFUSAL_ROOM, put_head, put_refusal};
 use crate::service::Service;
-use crate::{HEAD_ROOM, MAX_HEAD, MAX_READ, REFUSAL_ROOM, put_head, put_refusal};
+use crate::{MAX_HEAD, MAX_READ};
 use http::StatusCode;
 use httparse::spans::HeaderSpan;
 use std::alloc::{AllocError, Global};
@@ -28,7 +29,7 @@ use thiserror::Error;
 /// Why a stream was not answered to its end.
 #[derive(Clone, Copy, Debug, Error)]
 pub enum StreamFault {
-    /// The reader failed, or gave `u64::MAX` bytes.
+    /// The reader failed, or gave `u64::MAX` bytes or more.
     #[error("network 70: reading failed")]
     Read,
     /// The writer failed.
@@ -43,11 +44,17 @@ pub enum StreamFault {
     NoMemory,
 }
 
-/// Answers each whole request of the stream in order, before it reads on, and ends at the end of the
-/// input or after a reply that ends the stream.
+/// Answers each whole request of the stream in order, before it reads on, and ends at the end of the input or after a
+/// reply that ends the stream.
 ///
-/// However it ends, what was written is the replies to what was read. Memory is allocated before bytes are read; a
-/// reply allocates only what its service allocates.
+/// However it ends, the written bytes are the replies to what was read, the last perhaps cut off. Memory is allocated
+/// before bytes are read; a reply allocates only what its service allocates.
+///
+/// # Errors
+///
+/// - [`StreamFault::NoMemory`] (1): an allocation failed, before anything was read or before the next read.
+/// - [`StreamFault::Read`] (70): the reader failed; all complete requests are answered.
+/// - [`StreamFault::Write`] (71): the writer failed; perhaps a part of the last reply was sent.
 pub fn serve<S: Service, R: Source, W: Sink>(
     alloc: Global,
     service: &mut S,
@@ -57,16 +64,21 @@ pub fn serve<S: Service, R: Source, W: Sink>(
     requires { S.line_room ≡ 0 }
     ensures answered { IsAnswered S.answers R.left R.failed R.reads R.fails W.holds W.failed W.fails reader.old
         reader.new writer.old writer.new service.old service.new result }
-    // Without a log no line can fail.
+    // Without a log no write of a line can fail.
     ensures unlogged { result ≢ Err StreamFault.Log }
 {
     let mut line = Vec::new(alloc);
     serve_logged(alloc, service, reader, writer, &mut Nowhere, &mut line)
 }
 
-/// Serves a stream like [`serve`], with a log: the line of each reply, also of a rejection, is written to `log` before
-/// anything of the reply is sent. If the line is not written whole, nothing of the reply is sent, and the stream ends
-/// with [`StreamFault::Log`]. `line` is memory for one line.
+/// Answers a stream like [`serve`], with a log: the line of each reply, also of a rejection, is written to `log` before
+/// anything of the reply is sent. `line` is memory for one line.
+///
+/// # Errors
+///
+/// Those of [`serve`], and before `Write`:
+///
+/// - [`StreamFault::Log`] (76): the line of a reply was not written whole; nothing of that reply was sent.
 pub fn serve_logged<S: Service, R: Source, W: Sink, L: Sink>(
     alloc: Global,
     service: &mut S,
@@ -117,11 +129,12 @@ fn rooms(alloc: Global) -> Result<(Vec<HeaderSpan>, Vec<u8>, Vec<u8>), AllocErro
 struct Unanswered {
     /// The index of its first byte.
     at: usize,
-    /// The number of bytes with fewer than which it is less than a request.
+    /// The rest is less than a request while it has fewer bytes than this.
     needed: usize,
 }
 
 /// Reads and answers in turns, in given memory. `buffer` has the bytes that are read and not yet answered.
+/// `room`, `chunk`, `text` and `line` are memory for headers, one read, one reply and one line of the log.
 fn answer_stream<S: Service, R: Source, W: Sink, L: Sink>(
     service: &mut S,
     reader: &mut R,
@@ -179,7 +192,7 @@ enum Broken {
     Log,
 }
 
-/// Puts the head of a reply before the body in `text`, and returns the index of its first byte.
+/// Puts the head of a reply before the body in `text`, and returns the index of the reply's first byte.
 fn finish(text: &mut Vec<u8>, last: bool, status: StatusCode) -> usize
     requires { HEAD_ROOM ≤ vec_len text.old }
     ensures start { result ≤ vec_len text.new }
@@ -217,8 +230,8 @@ fn send<W: Sink, L: Sink>(
     }
 }
 
-/// Answers one request, by one write if the writer accepts it whole. Memory for its head and a short body is given, so
-/// only the service may allocate.
+/// Answers one request, by one write if the writer accepts the whole reply. `text` has memory for the head and a short
+/// body, so only the service may allocate.
 fn answer<S: Service, W: Sink, L: Sink>(
     service: &mut S,
     writer: &mut W,

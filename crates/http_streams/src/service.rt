@@ -6,13 +6,13 @@ ghost use Rattle.http.specs.declared.status.StatusCode.{StatusCode};
 
 use http::StatusCode;
 
-/// States in which requests have answers, as theorems on streams use them. Has no code.
+/// States that relate requests to their answers, as the theorems on streams use them. The trait has no code.
 pub trait Answers {
     // Relates a state, a request (method, target, body), its reply (status, body), and the state afterwards.
     ghost answers: { Self → List ℕ → List ℕ → List ℕ → StatusCode → List ℕ → Self → Type 0 };
 
-    // Which states theorems consider the same: a premise there is that requests do not distinguish them. By default,
-    // equal states.
+    // Relates two states that the theorems consider the same. Their premise is that no request distinguishes such
+    // states. By default, equal states.
     ghost same: { Self → Self → Type 0 } = { λ one other. one ≡ other };
 }
 
@@ -28,10 +28,12 @@ pub trait Service: Answers {
     // The length of the longest line that is made without allocating.
     ghost line_room: { ℕ } = { 0 };
 
-    /// Appends the body of the reply to `text`, and returns its status. `text` has room for a short reply, which is
-    /// made without allocating; if a longer one cannot be allocated, a short reply can still say so. `text` keeps its
-    /// memory for the next reply. Each reply announces a body, so no status is 1xx, 204 or 304 (RFC 9112, section
-    /// 6.3). The line for the log, if there is one, is put into `line`, which has room for a short one.
+    /// Appends the body of the reply to `text`, puts the line for the log, if there is one, into `line`, and returns
+    /// the status.
+    ///
+    /// `text` has room for a short reply, which is made without allocating: if a longer one cannot be allocated, a
+    /// short reply can still report that. `line` has room for a short line. `text` keeps its memory for the next reply.
+    /// Each reply announces a body, so no status is 1xx, 204 or 304 (RFC 9112, section 6.3).
     fn call(
         &mut self,
         method: &[u8],
@@ -49,7 +51,7 @@ pub trait Service: Answers {
         ensures kept { vec_capacity text.old ≤ vec_capacity text.new }
         ensures line_kept { vec_capacity line.old ≤ vec_capacity line.new };
 
-    /// Puts the line for bytes that are not a request, rejected with this status. Does not allocate.
+    /// Puts the line for bytes that are not a request, rejected with this status, into `line`. Does not allocate.
     fn put_refusal_line(status: StatusCode, line: &mut Vec<u8>)
         requires empty { line.old.items ≡ [] }
         requires room { line_room ≤ vec_capacity line.old }

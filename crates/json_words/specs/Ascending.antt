@@ -18,7 +18,8 @@ abbrev pub member_keys : Members → List (List ℕ)
 member_keys no_members = []
 member_keys (member k d ms) = k ∷ member_keys ms
 
--- `DataAscends d` holds if the keys of each object in `d` do, at every depth.
+-- `DataAscends d` holds if the keys of each object in `d` ascend, at every depth; `ItemsAscend` and `MembersAscend` say
+-- so of items and members.
 abbrev mutual
   pub DataAscends : Data → Type 0
   DataAscends null = ⊤
@@ -36,6 +37,6 @@ abbrev mutual
   MembersAscend no_members = ⊤
   MembersAscend (member k d ms) = DataAscends d × MembersAscend ms
 
--- `JsonAscends`: the keys of parsed JSON do.
+-- `JsonAscends` states that the keys of each object in parsed JSON ascend.
 abbrev pub JsonAscends : Type 0
 JsonAscends = (bytes : List ℕ) (d : Data) → json_of bytes ≡ Some d → DataAscends d

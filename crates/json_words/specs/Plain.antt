@@ -1,6 +1,6 @@
--- Defines JSON whose compact text parses as it: its numbers are integers of 64 bits, its strings are UTF-8, and in
--- each object the keys ascend. (RFC 8259, section 8.1, requires UTF-8; a float may be written with other digits than
--- it was parsed from.)
+-- Defines plain JSON, whose compact text parses as the same value: its numbers are integers of 64 bits, its strings are
+-- UTF-8, and in each object the keys ascend. (RFC 8259, section 8.1, requires UTF-8; a float may be written with other
+-- digits than it was parsed from.)
 use Rattle.std.specs.Prelude.{◌≡◌, ℕ, ◌<◌, ◌≤◌, ◌^◌, pos, negsuc, List, ⊤, Some}
 use Rattle.std.specs.Ordering.{nat_cmp}
 use Rattle.std.proofs.Common.{Less}
@@ -11,7 +11,7 @@ use Rattle.serde_json.specs.Data.{Items, no_items, item, Members, no_members, me
 use Rattle.serde_json.specs.Read.{max_depth, read}
 use Rattle.serde_json.specs.Written.{compact_text}
 
--- `IsWhole n` holds if `n` is an integer that fits in 64 bits.
+-- `IsWhole n` holds if `n` is an integer from -2^63 to 2^64 - 1, and only a negative number has the form `negative`.
 abbrev pub IsWhole : Num → Type 0
 IsWhole (unsigned n) = n < 2 ^ 64
 IsWhole (negative (pos n)) = ⊥
@@ -23,7 +23,8 @@ abbrev pub AreAbove : List ℕ → Members → Type 0
 AreAbove k no_members = ⊤
 AreAbove k (member l e ms) = (slice_cmp nat_cmp k l ≡ Less) × AreAbove k ms
 
--- `IsPlain d` holds if `d` is such JSON.
+-- `IsPlain d` holds if `d` is plain JSON; `ArePlain` and `HasPlain` say so of the items of an array and the members of
+-- an object.
 abbrev mutual
   pub IsPlain : Data → Type 0
   IsPlain null = ⊤
@@ -41,11 +42,12 @@ abbrev mutual
   HasPlain no_members = ⊤
   HasPlain (member k d ms) = IsUtf8 k × IsPlain d × AreAbove k ms × HasPlain ms
 
--- `CompactReadsBack`: the compact text parses as the value.
+-- `CompactReadsBack` states that the compact text of plain JSON, nested at most `max_depth` (127) deep, parses as that
+-- JSON.
 abbrev pub CompactReadsBack : Type 0
 CompactReadsBack = (d : Data) → IsPlain d → depth d ≤ max_depth → read (compact_text d) ≡ Some d
 
--- `CompactIsOne`: values with equal compact texts are equal.
+-- `CompactIsOne` states that such values with equal compact texts are equal.
 abbrev pub CompactIsOne : Type 0
 CompactIsOne = (d e : Data) → IsPlain d → IsPlain e → depth d ≤ max_depth → depth e ≤ max_depth
     → compact_text d ≡ compact_text e → d ≡ e

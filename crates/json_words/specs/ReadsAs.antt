@@ -1,8 +1,8 @@
--- Defines reading as a function that gives a value or the first error, and the contract of code that may run out of
--- memory.
+-- Defines reading as a function that gives a value or the first error, and when the result of code that may run out of
+-- memory agrees with such a function.
 use Rattle.std.specs.Prelude.{◌≡◌, ⊤, Bool, true, false, Option, Some, None, Result, Ok, Err}
 
--- `r >>= f` is `f` of the value of `r`, or its error.
+-- `r >>= f` is `f` of the value of `r`, or the error of `r`. The notation `do` uses it.
 infixl 10 ◌>>=◌
 abbrev pub ◌>>=◌ : {A B F : Type 0} → Result A F → (A → Result B F) → Result B F
 (Ok x) >>= f = f x
@@ -13,22 +13,23 @@ abbrev pub or_fault : {A F : Type 0} → F → Option A → Result A F
 or_fault f (Some x) = Ok x
 or_fault f None = Err f
 
--- `demand f test` is the error `f` if `test` fails.
+-- `demand f test` is the error `f` if `test` is false, and else no error.
 abbrev pub demand : {F : Type 0} → F → Bool → Result ⊤ F
 demand f true = Ok tt
 demand f false = Err f
 
--- `Fails memory e read` holds if `e` is the error of `read`, or `memory`: an allocation failed.
+-- `Fails memory e read` holds if `e` is the error of `read`, or is `memory`, that of a failed allocation.
 abbrev pub Fails : {Y F : Type 0} → F → F → Result Y F → Type 0
 Fails memory e read = (e ≡ memory → ⊥) → read ≡ Err e
 
--- `ReadsAs memory view r read` holds if the function's result `r` is that of `read`, with its value seen by `view`,
--- or `memory`.
+-- `ReadsAs memory view r read` holds if the result `r` of a function agrees with `read`: `read` has the value of `r`,
+-- as `view` shows it, or the error of `r`; or that error is `memory`.
 abbrev pub ReadsAs : {X Y F : Type 0} → F → (X → Y) → Result X F → Result Y F → Type 0
 ReadsAs memory view (Ok x) read = read ≡ Ok (view x)
 ReadsAs memory view (Err e) read = Fails memory e read
 
--- `AlwaysReadsAs view r read` holds if the result `r` of a function that does not allocate is exactly that of `read`.
+-- `AlwaysReadsAs view r read` says the same of a function that does not allocate: `read` has the value of `r`, as
+-- `view` shows it, or the error of `r`.
 abbrev pub AlwaysReadsAs : {X Y F : Type 0} → (X → Y) → Result X F → Result Y F → Type 0
 AlwaysReadsAs view (Ok x) read = read ≡ Ok (view x)
 AlwaysReadsAs view (Err e) read = read ≡ Err e

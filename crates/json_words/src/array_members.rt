@@ -1,12 +1,11 @@
-//! The members of an array, one after another: a caller holds one member's value at a time, and not the whole
-//! array's.
+//! The members of an array, read one after another, so that a caller never has the values of the whole array in memory.
 ghost use Rattle.std.specs.Prelude.{◌≡◌, ◌<◌, length, is_some, IfOk, IfSome, MatchOption};
 ghost use Rattle.std.specs.Str.{IsUtf8};
 ghost use Rattle.json.specs.Lex.{tokens};
 ghost use Rattle.json_words.specs.Arrays.{array_of, to_come, Tells, IsFewer};
 
 use crate::reading::{opens_array, value_in};
-use crate::with_scratch::{MOST_DEPTH, text_of};
+use crate::with_scratch::MOST_DEPTH;
 use json::{Reader, Scratch};
 use plain::NoMemory;
 use serde_json::Value;
@@ -21,7 +20,7 @@ pub struct Members<'a> {
 /// The next member of an array, or its end.
 #[derive(Drop)]
 pub enum Member {
-    /// The next member, if the text is JSON. If it turns out not to be JSON, this value means nothing.
+    /// The next member, if the text is JSON. If a later call finds that it is not, this value means nothing.
     Value(Value),
     /// The array ends, and the text with it.
     End,
@@ -29,13 +28,12 @@ pub enum Member {
     NotJson,
 }
 
-/// Returns the members of the array that bytes begin with, or `None` if the bytes are not a JSON array. If they are
-/// not JSON, members may be returned nevertheless, and end in [`Member::NotJson`].
+/// Returns the members of the array that `bytes` begin with, or `None` if they are not UTF-8 or begin with no array.
 ///
-/// Whether the bytes are JSON shows as the members are read: [`Member::NotJson`] then takes the place of
-/// [`Member::End`]. The last value of a duplicate key counts, and arrays and objects nest at most 127 deep, including
-/// the array itself. The scratch grows to the longest string; its earlier content does not matter. The only error is
-/// `NoMemory`.
+/// Whether the bytes are JSON is found out as the members are read: if they are not, the last call of [`Members::next`]
+/// returns [`Member::NotJson`] in place of [`Member::End`]. The last value of a duplicate key counts, and arrays and
+/// objects nest at most 127 deep, including the array itself. The scratch grows to the longest string; its earlier
+/// content does not matter. The only error is `NoMemory`.
 pub fn members_of<'a>(
     scratch: &'a mut Scratch,
     bytes: &'a [u8],
@@ -44,13 +42,13 @@ pub fn members_of<'a>(
         (λ members. array_of bytes.now ≡ to_come members)) }
     ensures fewer { IfOk result (λ o. IfSome o (λ members. length members.reader < length bytes.now)) }
 {
-    match text_of(bytes) {
-        Some(text) => members_in(scratch, text),
-        None => Ok(None),
+    match str::from_utf8(bytes) {
+        Ok(text) => members_in(scratch, text),
+        Err(_) => Ok(None),
     }
 }
 
-/// Returns the members of the array that a text begins with.
+/// Returns the members of the array that a text begins with, or `None` if it begins with no array.
 fn members_in<'a>(scratch: &'a mut Scratch, text: &'a str) -> Result<Option<Members<'a>>, NoMemory>
     requires { IsUtf8 text.now }
     ensures begun { IfOk result (λ o. MatchOption o (array_of text.now ≡ None)
@@ -70,9 +68,9 @@ fn members_in<'a>(scratch: &'a mut Scratch, text: &'a str) -> Result<Option<Memb
 }
 
 impl<'a> Members<'a> {
-    /// Returns the next member, or that the array and the text end, or that the text is not JSON.
+    /// Returns the next member; or `End`, if the array and the text end; or `NotJson`.
     ///
-    /// The only error is `NoMemory`. After an error, the end, or text that is not JSON, further results say nothing.
+    /// The only error is `NoMemory`. After an error, `End` or `NotJson`, the results of further calls mean nothing.
     pub fn next(&mut self, alloc: Global) -> Result<Member, NoMemory>
         ensures told { IfOk result (λ member. Tells member (to_come self.old) (to_come self.new)) }
         ensures fewer { IfOk result (λ member. IsFewer member (length self.old.reader) (length self.new.reader)) }
@@ -91,7 +89,8 @@ impl<'a> Members<'a> {
 
     /// Returns whether the rest is JSON, to the end of the text. Each member is dropped as soon as it is read.
     ///
-    /// So an error of one member can be reported only for text that is JSON. The only error is `NoMemory`.
+    /// A caller that rejects a member calls this first, so that it reports the member's error only for text that is
+    /// JSON. The only error is `NoMemory`.
     pub fn rest_is_json(&mut self, alloc: Global) -> Result<bool, NoMemory>
         ensures { IfOk result (λ b. b ≡ is_some (to_come self.old)) }
     {

@@ -9,7 +9,7 @@ pub fn json_keys_ascend()
 {}
 
 /// Proves that the compact text of JSON without floats, whose strings are UTF-8 and whose keys ascend, nested at most
-/// 127 deep, parses as that JSON; so equal texts have equal JSON. No-op.
+/// 127 deep, parses as that JSON; so values with equal texts are equal. No-op.
 pub fn compact_texts_read_back()
     ensures back { CompactReadsBack }
     ensures one { CompactIsOne }

@@ -1,8 +1,8 @@
-//! What all readers and writers of JSON share: the value of bytes, also in reused memory, the members of an array one
-//! by one, an object's keys, the compact text, and reading as a function with its first error.
+//! What all readers and writers of JSON share: parsing, also in reused memory; the members of an array, one by one; the
+//! keys of an object; and the compact text.
 //!
-//! The definitions `each`, `Gives`, `demand` and `or_fault` of `specs/` are for the contracts of readers in other
-//! crates, and the lemmas of `proofs/` for their loops.
+//! Contracts of readers in other crates state reading as a function that gives a value or the first error, by the
+//! definitions `ReadsAs`, `each`, `demand` and `or_fault` of `specs/`; the lemmas of `proofs/` are for their loops.
 #![tactic(auto)]
 
 ghost use Rattle.std.specs.Prelude.{◌≡◌, ◌≤◌, Some, false, option_map, IfOk, IfSome, map, string_bytes};
@@ -30,7 +30,8 @@ use serde_json::{Map, Value};
 use std::alloc::Global;
 pub use with_scratch::read_json_by;
 
-/// Parses JSON. Returns `None` if the bytes are not UTF-8 or not JSON, or nest deeper than 127.
+/// Parses JSON. Returns `None` if the bytes are not UTF-8 or not JSON, nest deeper than 127, or have half of a
+/// surrogate pair in an escape or a number beyond a double.
 ///
 /// The last value of a duplicate key counts. The only error is `NoMemory`.
 pub fn read_json(alloc: Global, bytes: &[u8]) -> Result<Option<Value>, NoMemory>
@@ -48,7 +49,7 @@ pub fn read_json(alloc: Global, bytes: &[u8]) -> Result<Option<Value>, NoMemory>
     }
 }
 
-/// Returns the compact text of a value: no whitespace, and in each object the keys ascending by bytes.
+/// Returns the compact text of a value, without whitespace and, in each object, with the keys ascending by bytes.
 ///
 /// The text of a float is not specified, except that it parses as that float. The only error is `NoMemory`.
 pub fn write_json(alloc: Global, value: &Value) -> Result<Vec<u8>, NoMemory>
@@ -69,7 +70,7 @@ pub fn text_at<'v>(value: &'v Value, key: &str) -> Option<&'v str>
     }
 }
 
-/// Returns whether a value is an object with no other keys than these.
+/// Returns whether a value is an object with no other keys than `allowed`.
 #[tactic(auto, using(crate::proofs::KeysLemmas::keys_within_view))]
 pub fn only_keys(value: &Value, allowed: &[&str]) -> bool
     ensures { result ≡ has_only (map (λ k. k.now) allowed.now) (view value.now) }
@@ -83,11 +84,5 @@ pub fn only_keys(value: &Value, allowed: &[&str]) -> bool
 fn all_among(object: &Map<String, Value>, allowed: &[&str]) -> bool
     ensures { result ≡ list_all (λ k. list_any (λ a. bytes_eq a.now (string_bytes k)) allowed.now) (keys object.now) }
 {
-    object.keys().all(|key| is_among(key.as_str(), allowed))
-}
-
-fn is_among(name: &str, names: &[&str]) -> bool
-    ensures { result ≡ list_any (λ a. bytes_eq a.now name.now) names.now }
-{
-    names.contains(&name)
+    object.keys().all(|key| allowed.contains(&key.as_str()))
 }

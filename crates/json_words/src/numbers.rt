@@ -1,4 +1,4 @@
-//! Parses the text of a JSON number.
+//! The number that the text of a JSON number denotes.
 ghost use Rattle.std.specs.Prelude.{◌≡◌, ◌<◌, ◌==◌, length, slice_index, option_map, IsTrue, true, false};
 ghost use Rattle.fast_float.specs.Text.{minus};
 ghost use Rattle.serde_json.specs.Read.{number_of, number_from, float_of};
@@ -7,7 +7,7 @@ ghost use Rattle.serde_json.specs.View.{number_view};
 use fast_float::Numeral;
 use serde_json::Number;
 
-/// Returns the number that a text denotes, or `None` if it is too large for a float.
+/// Returns the number that the text of a JSON number denotes, or `None` if it is too large for a float.
 ///
 /// An integer that fits in 64 bits stays an integer, except `-0`, which is a float like all other numbers.
 pub(crate) fn number_in(text: &str) -> Option<Number>
@@ -32,7 +32,7 @@ fn is_signed(bytes: &[u8]) -> bool
     }
 }
 
-/// Returns the number that digits without a sign denote.
+/// Returns the number that a numeral without a sign denotes.
 fn from_zero(digits: &Numeral<'_>) -> Option<Number>
     ensures { option_map number_view result ≡ number_from false digits.now }
 {
@@ -42,7 +42,7 @@ fn from_zero(digits: &Numeral<'_>) -> Option<Number>
     }
 }
 
-/// Returns the number that digits after a minus denote.
+/// Returns the number that a numeral after a minus denotes.
 fn below_zero(digits: &Numeral<'_>) -> Option<Number>
     ensures { option_map number_view result ≡ number_from true digits.now }
 {
@@ -52,7 +52,8 @@ fn below_zero(digits: &Numeral<'_>) -> Option<Number>
     }
 }
 
-/// Returns the float nearest to the number that digits denote, after a minus if `negative`; `None` if it is not finite.
+/// Returns the float nearest to the number that a numeral denotes, after a minus if `negative`; `None` if that float is
+/// not finite.
 fn nearest(digits: &Numeral<'_>, negative: bool) -> Option<Number>
     ensures { option_map number_view result ≡ float_of negative digits.now }
 {

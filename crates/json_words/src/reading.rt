@@ -1,4 +1,4 @@
-//! Values from a reader's tokens.
+//! JSON values from the tokens of a reader. Each function returns `None` if the tokens are not such a value.
 ghost use Rattle.std.specs.Prelude.{◌≡◌, ◌<◌, length, option_map, IfOk, IfSome};
 ghost use Rattle.json.specs.Reads.{token_of};
 ghost use Rattle.serde_json.specs.View.{view};
@@ -12,7 +12,7 @@ use plain::NoMemory;
 use serde_json::{Map, Value};
 use std::alloc::Global;
 
-/// Returns the next value of the reader, or `None`. Arrays and objects may nest `deep` levels.
+/// Returns the next value of the reader, or `None`, also if arrays and objects nest more than `deep` levels.
 #[cycle(value_in)]
 pub(crate) fn value_in(
     alloc: Global,
@@ -53,7 +53,7 @@ fn opens_object(token: &Token<'_>) -> bool
     matches!(token, Token::BeginObject)
 }
 
-/// Returns the value of one token.
+/// Returns the value that a token alone denotes, or `None`.
 fn scalar_in(alloc: Global, token: Token<'_>) -> Result<Option<Value>, NoMemory>
     ensures { IfOk result (λ o. option_map view o ≡ scalar (token_of token.entry)) }
 {
@@ -66,7 +66,7 @@ fn scalar_in(alloc: Global, token: Token<'_>) -> Result<Option<Value>, NoMemory>
     }
 }
 
-/// Returns the array whose opening bracket was read.
+/// Returns the array whose opening bracket was read; its members may nest `deep` levels.
 #[cycle(value_in)]
 fn array_in(alloc: Global, reader: &mut Reader<'_>, deep: usize) -> Result<Option<Value>, NoMemory>
     ensures given { IfOk result (λ o. IsGiven (array_at deep reader.old) o reader.new) }
@@ -83,7 +83,8 @@ fn array_in(alloc: Global, reader: &mut Reader<'_>, deep: usize) -> Result<Optio
     Ok(Some(Value::Array(found)))
 }
 
-/// Returns the object whose opening brace was read. The last value of a duplicate key stays.
+/// Returns the object whose opening brace was read; its members may nest `deep` levels. The last value of a duplicate
+/// key counts.
 #[cycle(value_in)]
 fn object_in(alloc: Global, reader: &mut Reader<'_>, deep: usize) -> Result<Option<Value>, NoMemory>
     ensures given { IfOk result (λ o. IsGiven (object_at deep reader.old) o reader.new) }

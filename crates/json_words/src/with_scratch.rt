@@ -2,8 +2,7 @@
 //!
 //! `serde_json::Value::from_slice` allocates 16 KiB for each text, and sets each byte of them to zero. A caller that
 //! parses many texts keeps one [`Scratch`] and passes it here.
-ghost use Rattle.std.specs.Prelude.{◌≡◌, ◌≤◌, option_map, IfOk, IfSome, MatchOption};
-ghost use Rattle.std.specs.Str.{IsUtf8};
+ghost use Rattle.std.specs.Prelude.{◌≡◌, ◌≤◌, option_map, IfOk, IfSome};
 ghost use Rattle.serde_json.specs.Data.{depth};
 ghost use Rattle.serde_json.specs.Read.{max_depth, read};
 ghost use Rattle.serde_json.specs.View.{view};
@@ -15,6 +14,7 @@ use plain::NoMemory;
 use serde_json::Value;
 use std::alloc::Global;
 
+/// Arrays and objects may nest at most this deep, as in `serde_json`.
 pub(crate) const MOST_DEPTH: usize = 127;
 
 /// Parses JSON. Returns `None` if the bytes are not UTF-8 or not JSON, nest deeper than 127, or have half of a
@@ -30,19 +30,9 @@ pub fn read_json_by(
     ensures value { IfOk result (λ o. option_map view o ≡ json_of bytes.now) }
     ensures nests { IfOk result (λ o. IfSome o (λ v. depth (view v) ≤ max_depth)) }
 {
-    match text_of(bytes) {
-        Some(text) => read_text(scratch, alloc, text),
-        None => Ok(None),
-    }
-}
-
-/// Returns the bytes as a string, if they are UTF-8.
-pub(crate) fn text_of(bytes: &[u8]) -> Option<&str>
-    ensures { MatchOption result (¬ IsUtf8 bytes.now) (λ t. IsUtf8 bytes.now × (t.now ≡ bytes.now)) }
-{
     match str::from_utf8(bytes) {
-        Ok(text) => Some(text),
-        Err(_) => None,
+        Ok(text) => read_text(scratch, alloc, text),
+        Err(_) => Ok(None),
     }
 }
 

@@ -14,7 +14,7 @@ fn number(alloc: Global, number: i64) -> Result<Shared<Expr>, NoMemory> {
     Shared::new(alloc, Expr::Literal(Literal::Long(number)))
 }
 
-// `1 < 2`
+// Returns the expression `1 < 2`.
 fn comparison(alloc: Global) -> Result<Expr, NoMemory> {
     let (one, two) = both(number(alloc, 1), number(alloc, 2))?;
     Ok(Expr::Binary(Binary::Less, one, two))

@@ -36,7 +36,7 @@ fn shown<T: Written>(rt: &impl Abort, alloc: Global, value: T) -> Result<String,
     finished(out, done)
 }
 
-// After a failed allocation tries once more.
+// Returns the canonical text; after a failed allocation tries once more.
 fn shown_at_last<T: Written>(rt: &impl Abort, alloc: Global, value: T) -> Result<String, NoMemory> {
     match shown(rt, alloc, value) {
         Ok(shown) => Ok(shown),
@@ -54,7 +54,7 @@ fn is_text(
     Ok(())
 }
 
-// The parsed value is written as this text.
+// Fails the test unless the parsed value is written as this text.
 fn is_shown<T: Written>(
     rt: &impl Abort,
     alloc: Global,

@@ -1,4 +1,15 @@
 //! Hierarchies: queries, changes, cycles, and failed allocations. Each test applies to any type of hierarchy.
+//!
+//! A test is a text of rows, which `/` separates. A row is a change or, with a colon, an expectation:
+//!
+//! - `CHILD in PARENT ..` sets the parents of an entity; a word alone deletes its entity; `new` empties the hierarchy.
+//! - `ID: ANCESTORS | CYCLIC | CYCLE` expects the ancestors of the entity, the cyclic entities, and the least cycle.
+//! - `ID OTHER ..:` expects ` above` if the entity is an ancestor of the first of the others, and ` cycle` if it would
+//!   be cyclic with them as parents.
+//! - `: CYCLE` expects the least cycle.
+//! - `touched:COUNT` expects that the last change rewrote so many lists of ancestors, if there is a cache.
+//!
+//! In tests with failed allocations `/` separates steps: `CHANGE; ROW; ROW ..`, a change and the expectations after it.
 use crate::shared::{ended, finished, holds, uid_of};
 use ancestor_closure::{Ancestry, Closed, Hierarchy, Searched};
 use plain::{NoMemory, both};
@@ -8,10 +19,10 @@ use values::EntityUid;
 
 // A hierarchy under test.
 trait Tried: Hierarchy + Drop {
-    // A hierarchy without edges.
+    // Creates a hierarchy without edges.
     fn begun(alloc: Global) -> Self;
 
-    // Whether the last change rewrote this many lists of ancestors, if there is a cache.
+    // Returns whether the last change rewrote this many lists of ancestors; true if there is no cache.
     fn has_touched(&self, count: usize) -> bool;
 }
 
@@ -35,7 +46,8 @@ impl Tried for Closed {
     }
 }
 
-// Returns the type and the id of an entity: User u or v, a User with the id before a prime, or a Group with this id.
+// Returns the type and the id of an entity: `u` and `v` are of the type User, and so is an id before a prime; any other
+// id is of the type Group.
 fn named(word: &str) -> (&str, &str) {
     match word.split_once('\'') {
         Some((id, _)) => ("User", id),
@@ -56,7 +68,7 @@ fn push_entities(alloc: Global, list: &mut Vec<EntityUid>, ids: &str) -> Result<
     Ok(())
 }
 
-// The entities of these ids, which are separated by blanks.
+// Returns the entities of these ids, which are separated by blanks.
 fn entities(alloc: Global, ids: &str) -> Result<Vec<EntityUid>, NoMemory> {
     let mut list = Vec::new(alloc);
     let done = push_entities(alloc, &mut list, ids);
@@ -80,7 +92,7 @@ fn take_away<H: Hierarchy>(alloc: Global, hierarchy: &mut H, id: &str) -> Result
     ended(uid, done)
 }
 
-// `CHILD in PARENT ..` sets the parents; a word alone deletes its entity.
+// Makes a change other than `new`.
 fn apply<H: Hierarchy>(alloc: Global, hierarchy: &mut H, change: &str) -> Result<(), NoMemory> {
     match change.split_once(" in") {
         Some((child, parents)) => put(alloc, hierarchy, child, parents),
@@ -93,7 +105,7 @@ fn is_named(uid: &EntityUid, word: &str) -> bool {
     uid.type_name.as_str() == type_name && uid.id.as_str() == id
 }
 
-// These are the entities of these ids, in this order.
+// Returns whether these are the entities of these ids, in this order.
 fn are(found: &[&EntityUid], ids: &str) -> bool {
     let mut ids = ids.split_whitespace();
     for uid in found {
@@ -124,14 +136,14 @@ fn told<'a, H: Ancestry>(hierarchy: &'a H, uid: &EntityUid) -> Result<Told<'a>, 
     )
 }
 
-fn is_as_told(told: &Told<'_>, above: &str, cycles: &str) -> bool {
+fn is_as_expected(told: &Told<'_>, above: &str, cycles: &str) -> bool {
     let Some((cyclic, walk)) = cycles.split_once('|') else {
         return false;
     };
     are(told.0.as_slice(), above) && are(told.1.0.as_slice(), cyclic) && is_walk(&told.1.1, walk)
 }
 
-// The ancestors of an entity, after a bar the cyclic entities, and after another the least cycle.
+// Returns whether `above` are the ancestors of an entity, and `cycles` the cyclic entities, a bar, and the least cycle.
 fn shows<H: Ancestry>(
     hierarchy: &H,
     uid: &EntityUid,
@@ -139,7 +151,7 @@ fn shows<H: Ancestry>(
     cycles: &str,
 ) -> Result<bool, NoMemory> {
     let told = told(hierarchy, uid)?;
-    let truth = is_as_told(&told, above, cycles);
+    let truth = is_as_expected(&told, above, cycles);
     Ok(ended(told, truth))
 }
 
@@ -160,7 +172,8 @@ fn is_above_the_first<H: Ancestry>(
     }
 }
 
-// Whether an entity is an ancestor of the first of some others, and whether it would be cyclic with them as parents.
+// Returns whether an entity is an ancestor of the first of some others, and whether it would be cyclic with them as
+// parents.
 fn answered<H: Hierarchy>(
     hierarchy: &H,
     uid: &EntityUid,
@@ -181,8 +194,9 @@ fn words_of(answer: (bool, bool)) -> &'static str {
     }
 }
 
-// With a bar, the ancestors of the entity; without, how the first is related to the others.
-fn is_told_of<H: Hierarchy>(
+// Returns whether an expectation on an entity holds: with a bar, on its ancestors and the cycles; without a bar, on how
+// the entity is related to the others.
+fn meets_expectation_of<H: Hierarchy>(
     hierarchy: &H,
     uid: &EntityUid,
     others: &[EntityUid],
@@ -194,19 +208,19 @@ fn is_told_of<H: Hierarchy>(
     }
 }
 
-// Without an entity, the least cycle is expected.
-fn is_told_of_all<H: Hierarchy>(
+// Returns whether an expectation holds; without an entity, it is the least cycle.
+fn meets_expectation_of_all<H: Hierarchy>(
     hierarchy: &H,
     asked: &[EntityUid],
     expected: &str,
 ) -> Result<bool, NoMemory> {
     match asked.split_first() {
-        Some((uid, others)) => is_told_of(hierarchy, uid, others, expected),
+        Some((uid, others)) => meets_expectation_of(hierarchy, uid, others, expected),
         None => walks(hierarchy, expected),
     }
 }
 
-fn is_told<H: Tried>(
+fn meets_expectation<H: Tried>(
     alloc: Global,
     hierarchy: &H,
     asked: &str,
@@ -216,16 +230,16 @@ fn is_told<H: Tried>(
         return Ok(hierarchy.has_touched(expected.parse::<usize>().unwrap_or(usize::MAX)));
     }
     let asked = entities(alloc, asked)?;
-    let truth = is_told_of_all(hierarchy, &asked, expected);
+    let truth = meets_expectation_of_all(hierarchy, &asked, expected);
     ended(asked, truth)
 }
 
-// `IDS: EXPECTED`, or `touched:COUNT`. After a failed allocation tries once more.
+// Returns whether the expectation of a row holds; after a failed allocation tries once more.
 fn is_row<H: Tried>(alloc: Global, hierarchy: &H, row: &str) -> Result<bool, NoMemory> {
     let (asked, expected) = row.split_once(':').unwrap_or((row, ""));
-    match is_told(alloc, hierarchy, asked, expected) {
+    match meets_expectation(alloc, hierarchy, asked, expected) {
         Ok(truth) => Ok(truth),
-        Err(_) => is_told(alloc, hierarchy, asked, expected),
+        Err(_) => meets_expectation(alloc, hierarchy, asked, expected),
     }
 }
 
@@ -239,7 +253,7 @@ fn row_holds<H: Tried>(
     Ok(())
 }
 
-// A change, or `new`, which empties the hierarchy.
+// Makes a change.
 fn change<H: Tried>(alloc: Global, hierarchy: &mut H, change: &str) -> Result<(), NoMemory> {
     if change == "new" {
         *hierarchy = H::begun(alloc);
@@ -248,7 +262,7 @@ fn change<H: Tried>(alloc: Global, hierarchy: &mut H, change: &str) -> Result<()
     apply(alloc, hierarchy, change)
 }
 
-// With a colon an expectation, else a change.
+// Makes the change of a row, or fails the test unless its expectation holds.
 fn row<H: Tried>(
     rt: &impl Abort,
     alloc: Global,
@@ -273,7 +287,7 @@ fn rows_hold<H: Tried>(
     Ok(())
 }
 
-// From an empty hierarchy.
+// Executes rows from an empty hierarchy.
 fn table<H: Tried>(rt: &impl Abort, alloc: Global, rows: &str) -> Result<(), NoMemory> {
     let mut hierarchy = H::begun(alloc);
     rows_hold(rt, alloc, &mut hierarchy, rows)
@@ -291,7 +305,7 @@ fn all_hold<H: Tried>(
     Ok(())
 }
 
-// A failed change has changed nothing, and can be made again.
+// Makes a change again that failed. Fails the test unless the expectations `before` it still hold.
 fn change_again<H: Tried>(
     rt: &impl Abort,
     alloc: Global,
@@ -316,7 +330,7 @@ fn change_at_last<H: Tried>(
     }
 }
 
-// `CHANGE; ROW; ROW ..`: the expectations after the change. Returns these rows.
+// Makes a step: its change, and then its expectations. Returns these rows.
 fn step<'a, H: Tried>(
     rt: &impl Abort,
     alloc: Global,
@@ -345,16 +359,16 @@ fn steps_hold<H: Tried>(
     Ok(())
 }
 
-// From an empty hierarchy.
+// Makes steps from an empty hierarchy.
 fn steps<H: Tried>(rt: &impl Abort, alloc: Global, steps: &str) -> Result<(), NoMemory> {
     let mut hierarchy = H::begun(alloc);
     steps_hold(rt, alloc, &mut hierarchy, steps)
 }
 
-// Closes a cycle and breaks it. Then two cycles that share an entity; entities that lead to a cycle, and those that it
-// leads to, are not cyclic. Then parents that repeat, or are not stored. Then, from the least cyclic entity, a shortest
-// cycle, and of these the least, item by item. Then queries on u below g1, g1 below g2. At the end entities with one
-// id and two types, which are different, also if one of the two is deleted or added.
+// These rows test, in this order: a cycle that is closed and broken; two cycles that share an entity, where entities
+// that lead to a cycle, and those that it leads to, are not cyclic; parents that repeat, or are not stored; from the
+// least cyclic entity, a shortest cycle, and of these the least, item by item; queries on u below g1, g1 below g2;
+// entities with one id and two types, which are different, also if one of the two is deleted or added.
 const ROWS: &str = "\
     u in g1/u: g1 | |/\
     g1 in g2/u: g1 g2 | |/\
@@ -421,8 +435,9 @@ const ROWS: &str = "\
     a in b/b in a'/a' in a/: a b a'/\
     a in a' b/: a a'";
 
-// A path that grows, is cut by a deletion, and is closed to a cycle by a parent that is not the first; an entity that
-// is its own parent; the cycles broken in turn. After each change come the ancestors of each entity that it affects.
+// These steps test a path that grows, is cut by a deletion, and is closed to a cycle by a parent that is not the first;
+// an entity that is its own parent; the cycles broken in turn. After each change come the ancestors of each entity that
+// it affects.
 const SURVIVED: &str = "\
     u in g1; u: g1 | |; v: | |; g1: | |; touched:1/\
     g1 in g2; u: g1 g2 | |; g1: g2 | |; g2: | |; touched:2/\
@@ -440,7 +455,7 @@ const SURVIVED: &str = "\
     g3 in; u: | |; v: g2 g3 u | |; g1: g2 g3 u | |; g2: g3 u | |; g3: | |; touched:4/\
     v; v: | |; g1: g2 g3 u | |; g2: g3 u | |; touched:1";
 
-// The lists of its entity and of all descendants, and no other.
+// A change rewrites the lists of its entity and of all descendants, and no other.
 const TOUCHED: &str = "\
     u in g1/g1 in g2/g2 in g3/v in g3/touched:1/g2 in/touched:3/\
     new/u in g1/g1 in g2/g2 in g3/v in g3/g2/touched:3/\

@@ -51,7 +51,7 @@ fn put(alloc: Global, fields: &mut Record, name: &str, number: i64) -> Result<()
     fields.insert(Text::from_str(alloc, name)?, Value::long(number))
 }
 
-// The fields `b` and `a`; `b` is set twice.
+// Sets the fields `b` and `a`, where `b` is set twice.
 fn put_both(alloc: Global, fields: &mut Record) -> Result<(), NoMemory> {
     put(alloc, fields, "b", 7)?;
     put(alloc, fields, "a", 1)?;
@@ -108,7 +108,7 @@ fn both_truths(alloc: Global) -> Result<Value, NoMemory> {
     Value::set(Vec::from_array(alloc, [Value::boolean(true), Value::boolean(false)])?)
 }
 
-// The first of the ascending values: two of each kind.
+// Returns the value at an index below 8 of the ascending values, of which there are two of each kind.
 fn first_at(alloc: Global, place: u8) -> Result<Value, NoMemory> {
     match place {
         0 => Ok(Value::boolean(false)),
@@ -122,7 +122,7 @@ fn first_at(alloc: Global, place: u8) -> Result<Value, NoMemory> {
     }
 }
 
-// The value at an index of the ascending ones.
+// Returns the value at an index of the ascending values.
 fn value_at(alloc: Global, place: u8) -> Result<Value, NoMemory> {
     match place {
         8 => Value::set(Vec::new(alloc)),
@@ -137,7 +137,7 @@ fn value_at(alloc: Global, place: u8) -> Result<Value, NoMemory> {
     }
 }
 
-// After a failed allocation tries once more.
+// Returns the value at an index; after a failed allocation tries once more.
 fn value_had(alloc: Global, place: u8) -> Result<Value, NoMemory> {
     match value_at(alloc, place) {
         Ok(value) => Ok(value),
@@ -145,14 +145,14 @@ fn value_had(alloc: Global, place: u8) -> Result<Value, NoMemory> {
     }
 }
 
-// The greater of two.
+// Returns the second of two values; fails the test unless it is greater than the first.
 fn above<T: Ord + Drop>(rt: &impl Abort, pair: Result<(T, T), NoMemory>) -> Result<T, NoMemory> {
     let (value, next) = pair?;
     holds(rt, value < next && value != next, "they ascend");
     Ok(next)
 }
 
-// A value is less than the next one, which is equal to its copy.
+// Fails the test unless a value is less than the next one, and that is equal to its copy.
 fn is_below_the_next(rt: &impl Abort, alloc: Global, place: u8) -> Result<(), NoMemory> {
     let pair = both(
         value_had(alloc, place),
@@ -161,7 +161,8 @@ fn is_below_the_next(rt: &impl Abort, alloc: Global, place: u8) -> Result<(), No
     is_copied(rt, alloc, above(rt, pair))
 }
 
-// Whichever allocation fails, once: each value is unchanged, and the second try copies it.
+// In each run of tools/faults/refused_tests.py another allocation fails: then each value is unchanged, and the second
+// try copies it.
 #[test]
 fn values_ascend_and_are_copied_under_refused_memory(rt: HostRuntime) -> Result<(), NoMemory> {
     let alloc = rt.alloc();

@@ -1,4 +1,4 @@
-//! Each call once with ample memory, at concrete types.
+//! Tests of the containers: each call once with ample memory, at concrete types.
 use crate::shared::{Copied, ascend, finished, holds, is_copied};
 use plain::*;
 use std::alloc::Global;
@@ -49,7 +49,7 @@ fn push_two(items: &mut Items<u8>, last: u8) -> Result<(), NoMemory> {
     items.push(last)
 }
 
-// Of 7 and another.
+// Returns the list of 7 and another number.
 fn two(alloc: Global, last: u8) -> Result<Items<u8>, NoMemory> {
     let mut items = Items::<u8>::new(alloc);
     let done = push_two(&mut items, last);
@@ -114,7 +114,7 @@ fn shares(rt: HostRuntime) -> Result<(), NoMemory> {
     Ok(())
 }
 
-// Texts and lists.
+// Compares texts, and lists.
 fn compares_lists(rt: &impl Abort, alloc: Global) -> Result<(), NoMemory> {
     ascend(
         rt,
@@ -124,7 +124,7 @@ fn compares_lists(rt: &impl Abort, alloc: Global) -> Result<(), NoMemory> {
     ascend(rt, both(one(alloc), two(alloc, 1)), "lists")
 }
 
-// Containers of one value.
+// Compares containers of one value.
 fn compares_values(rt: &impl Abort, alloc: Global) -> Result<(), NoMemory> {
     ascend(
         rt,

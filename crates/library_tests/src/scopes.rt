@@ -1,4 +1,14 @@
 //! The index of policies by their scopes: the candidates of a request, and failed changes.
+//!
+//! A test is a text of rows, which `/` separates. A row is a change or, with a colon, an expectation:
+//!
+//! - `POLICY == ID` and `POLICY in ID` add a policy that constrains the principal, `POLICY on ID` and `POLICY within
+//!   ID` one that constrains the resource, by `==` and `in`; `POLICY any` adds one that constrains neither.
+//! - `POLICY gone` removes a policy; `CHILD below PARENT` sets the parent of an entity.
+//! - `PRINCIPAL: POLICY ..` expects the candidates of a request of this principal on Doc x.
+//!
+//! In the test with failed allocations `/` separates steps: `CHANGE; ROW; ROW ..`, a change and the expectations after
+//! it.
 use crate::shared::{ended, holds, uid_of};
 use ancestor_closure::{Closed, Hierarchy};
 use plain::{NoMemory, Shared, both};
@@ -16,7 +26,7 @@ struct Tried {
     hierarchy: Closed,
 }
 
-// Without policies and edges.
+// Returns an index without policies, and a hierarchy without edges.
 fn begun(alloc: Global) -> Tried {
     Tried {
         index: ScopeIndex::new(alloc),
@@ -24,7 +34,7 @@ fn begun(alloc: Global) -> Tried {
     }
 }
 
-// Group g, Doc x, y or z, or a User of that id.
+// Returns the entity of an id: Group g, Doc x, y or z, or a User.
 fn entity(alloc: Global, id: &str) -> Result<EntityUid, NoMemory> {
     match id {
         "g" => uid_of(alloc, "Group", id),
@@ -41,7 +51,7 @@ fn of_parts(principal: EntityScope, resource: EntityScope) -> Scope {
     }
 }
 
-// `== ID` and `in ID` constrain the principal, `on ID` and `within ID` the resource, and `any` neither.
+// Returns the scope of a row.
 fn scope(alloc: Global, how: &str, id: &str) -> Result<Scope, NoMemory> {
     if how == "any" {
         return Ok(of_parts(EntityScope::Any, EntityScope::Any));
@@ -55,7 +65,7 @@ fn scope(alloc: Global, how: &str, id: &str) -> Result<Scope, NoMemory> {
     })
 }
 
-// A request of this principal on Doc x.
+// Returns a request of this principal on Doc x.
 fn request(alloc: Global, principal: &str) -> Result<Request, NoMemory> {
     let (principal, (action, resource)) = both(
         entity(alloc, principal),
@@ -69,7 +79,7 @@ fn request(alloc: Global, principal: &str) -> Result<Request, NoMemory> {
     })
 }
 
-// A policy of this scope, without a condition.
+// Returns a policy of this scope, without a condition.
 fn policy_of(alloc: Global, scope: Scope) -> Result<Policy, NoMemory> {
     let asks_nothing = Expr::Literal(Literal::Boolean(true));
     let (scope, condition) = both(Shared::new(alloc, scope), Shared::new(alloc, asks_nothing))?;
@@ -84,7 +94,7 @@ fn policy(alloc: Global, how: &str, id: &str) -> Result<Policy, NoMemory> {
     policy_of(alloc, scope(alloc, how, id)?)
 }
 
-// After a failed allocation tries once more: so a failure after that is the index's own.
+// Returns a policy; after a failed allocation tries once more, so that a failure after that is the index's own.
 fn policy_at_last(alloc: Global, how: &str, id: &str) -> Result<Policy, NoMemory> {
     match policy(alloc, how, id) {
         Ok(policy) => Ok(policy),
@@ -114,7 +124,7 @@ fn put_below(
     hierarchy.set_parents(child, vec![in alloc; parent]?)
 }
 
-// `POLICY gone`, `CHILD below PARENT`, or `POLICY` and its scope.
+// Makes the change of a row.
 fn change(alloc: Global, tried: &mut Tried, row: &str) -> Result<(), NoMemory> {
     let mut words = row.split_whitespace();
     let name = words.next().unwrap_or("");
@@ -130,7 +140,7 @@ fn change(alloc: Global, tried: &mut Tried, row: &str) -> Result<(), NoMemory> {
     }
 }
 
-// The next id, without one of them.
+// Returns the next id other than `but`.
 fn next_but<'a>(ids: &mut SplitWhitespace<'a>, but: &str) -> Option<&'a str> {
     let next = ids.next();
     if next == Some(but) {
@@ -139,7 +149,7 @@ fn next_but<'a>(ids: &mut SplitWhitespace<'a>, but: &str) -> Option<&'a str> {
     next
 }
 
-// These have these ids, without one of them, in this order.
+// Returns whether the policies found have these ids without `but`, in this order.
 fn are(found: &[(&str, &Policy)], ids: &str, but: &str) -> bool {
     let mut ids = ids.split_whitespace();
     for offer in found {
@@ -156,7 +166,7 @@ fn finds(tried: &Tried, request: &Request, ids: &str, but: &str) -> Result<bool,
     Ok(ended(found, truth))
 }
 
-// `PRINCIPAL: IDS`.
+// Returns whether the expectation of a row holds, without the policy `but`.
 fn is_offered(alloc: Global, tried: &Tried, row: &str, but: &str) -> Result<bool, NoMemory> {
     let (principal, ids) = row.split_once(':').unwrap_or((row, ""));
     let request = request(alloc, principal)?;
@@ -164,7 +174,7 @@ fn is_offered(alloc: Global, tried: &Tried, row: &str, but: &str) -> Result<bool
     ended(request, truth)
 }
 
-// After a failed allocation tries once more.
+// Does as [`is_offered`]; after a failed allocation tries once more.
 fn is_row(alloc: Global, tried: &Tried, row: &str, but: &str) -> Result<bool, NoMemory> {
     match is_offered(alloc, tried, row, but) {
         Ok(truth) => Ok(truth),
@@ -183,7 +193,7 @@ fn row_holds(
     Ok(())
 }
 
-// With a colon the candidates, else a change.
+// Makes the change of a row, or fails the test unless its expectation holds.
 fn row(rt: &impl Abort, alloc: Global, tried: &mut Tried, row: &str) -> Result<(), NoMemory> {
     if row.contains(':') {
         return row_holds(rt, alloc, tried, row, "");
@@ -216,7 +226,7 @@ fn all_hold(
     Ok(())
 }
 
-// The policy that a failed change removes: the one that was to be added.
+// Returns the policy that a failed change removes from the index: the one that was to be added.
 fn lost_by(change: &str) -> &str {
     if change.contains(" below ") {
         return "";
@@ -227,7 +237,8 @@ fn lost_by(change: &str) -> &str {
     }
 }
 
-// A failed change can be made again.
+// Makes a change again that failed. Fails the test unless the expectations `before` it still hold, apart from the
+// removed policy.
 fn change_again(
     rt: &impl Abort,
     alloc: Global,
@@ -252,7 +263,7 @@ fn change_at_last(
     }
 }
 
-// `CHANGE; ROW; ROW ..`: the candidates after the change. Returns these rows.
+// Makes a step: its change, and then its expectations. Returns these rows.
 fn step<'a>(
     rt: &impl Abort,
     alloc: Global,
@@ -279,15 +290,15 @@ fn steps_hold(
     Ok(())
 }
 
-// From an empty index.
+// Executes rows from an empty index.
 fn table(rt: &impl Abort, alloc: Global, rows: &str) -> Result<(), NoMemory> {
     let mut tried = begun(alloc);
     rows_hold(rt, alloc, &mut tried, rows)
 }
 
-// For a principal that is not stored, then for one below a group; then a policy whose constraint is removed, and one
-// that is removed; then those constrained by the resource, Doc x: each that names x or an ancestor is a candidate; then
-// a new constraint, and a cyclic entity, for which each policy is a candidate once.
+// These rows test, in this order: a principal that is not stored, then one below a group; a policy whose constraint is
+// removed, and one that is removed; policies constrained by the resource, Doc x, where each that names x or an ancestor
+// is a candidate; a new constraint, and a cyclic entity, for which each policy is a candidate once.
 const ROWS: &str = "\
     a:/\
     a == a/b == b/c any/d in g/e in a/\
@@ -302,9 +313,9 @@ const ROWS: &str = "\
     f == b/a: d e h i/b: f h i/\
     g below a/a: d e h i";
 
-// Steps, each from the end of the one before. If a change fails, the candidates are those of before, without the policy
-// that was to be added; a second try succeeds. A new policy, and one whose key changes; changes of the hierarchy;
-// removed policies; then more policies than a node of a map holds.
+// Each step begins at the end of the one before. If a change fails, the candidates are those of before, without the
+// policy that was to be added; a second try succeeds. The steps test a new policy, and one whose key changes; changes
+// of the hierarchy; removed policies; then more policies than a node of a map holds.
 const SURVIVED: &str = "\
     c any; u: c; v: c/\
     a == u; u: a c; v: c/\

@@ -30,7 +30,7 @@ fn is_less<T: Ord>(less: &T, greater: &T) -> bool {
         && greater.partial_cmp(less) == Some(Ordering::Greater)
 }
 
-/// Returns whether the first of two is less, by each comparison.
+/// Fails the test unless the first of two values is less than the second, by each comparison.
 pub(crate) fn ascend<T: Ord + Drop>(
     rt: &impl Abort,
     pair: Result<(T, T), NoMemory>,
@@ -46,7 +46,7 @@ pub(crate) trait Copied: Sized {
     fn copied(&self, alloc: Global) -> Result<Self, NoMemory>;
 }
 
-// After a failed allocation tries once more.
+// Copies a value; after a failed allocation tries once more.
 fn copy_of<T: Copied>(alloc: Global, value: &T) -> Result<T, NoMemory> {
     match value.copied(alloc) {
         Ok(copy) => Ok(copy),
@@ -63,7 +63,7 @@ fn is_same<T: PartialEq + Drop>(
     Ok(())
 }
 
-/// Returns whether a copy is equal to its original, which a failed allocation leaves unchanged.
+/// Fails the test unless a copy is equal to its original, which a failed allocation leaves unchanged.
 pub(crate) fn is_copied<T: Copied + PartialEq + Drop>(
     rt: &impl Abort,
     alloc: Global,
@@ -74,7 +74,7 @@ pub(crate) fn is_copied<T: Copied + PartialEq + Drop>(
     is_same(rt, both(Ok(value), copy))
 }
 
-// A value, or `NoMemory`.
+// Returns the value, or `NoMemory` otherwise.
 fn some<T: Drop>(found: Result<Option<T>, NoMemory>) -> Result<T, NoMemory> {
     match found? {
         Some(value) => Ok(value),

@@ -13,14 +13,14 @@ const PERMIT: &str = "permit (principal, action, resource);";
 
 const FORBID: &str = "forbid (principal, action, resource);";
 
-// A count, a site's name and a text.
+// The count of a stamp, the name of its site, and a text.
 type Row<'a> = (u64, &'a str, &'a str);
 
 // The name of an entry.
 trait Named {
     fn id(&self) -> &str;
 
-    // A name with `@` before it is an entity's, any other a policy's.
+    // Returns whether this is the entry's name, where a name after `@` is an entity's, and any other a policy's.
     fn is_called(&self, name: &str) -> bool;
 }
 
@@ -44,7 +44,7 @@ impl Named for EntityUid {
     }
 }
 
-// The text of an entry, parsed as its length; an empty text is a tombstone.
+// Returns the body of an entry: the text, parsed as its length; an empty text is a tombstone.
 fn body(alloc: Global, text: &str) -> Result<Option<ReadText<usize>>, NoMemory> {
     if text.is_empty() {
         return Ok(None);
@@ -54,7 +54,7 @@ fn body(alloc: Global, text: &str) -> Result<Option<ReadText<usize>>, NoMemory> 
     Ok(Some(ReadText { text, read }))
 }
 
-// The site of this name; for a text that is not a site name, that of number 0.
+// Returns the site of this name; for a text that is not a site name, that of number 0.
 fn site(name: &str) -> SiteName {
     match SiteName::parse(name) {
         Some(site) => site,
@@ -75,7 +75,7 @@ fn entry(alloc: Global, row: Row<'_>) -> Result<Entry<usize>, NoMemory> {
     Ok(Entry { stamp, body })
 }
 
-// The text of an entry; `None` for a tombstone.
+// Returns the text of an entry, which is empty for a tombstone.
 fn text_of(entry: &Entry<usize>) -> &str {
     match &entry.body {
         Some(read) => read.text.as_str(),
@@ -94,7 +94,7 @@ fn uid(alloc: Global, id: &str) -> Result<EntityUid, NoMemory> {
     uid_of(alloc, "User", id)
 }
 
-// The result, or `NoMemory`.
+// Returns the result, or `NoMemory` for an error.
 fn done<T: Drop, E: Drop>(tried: Result<T, E>) -> Result<T, NoMemory> {
     match tried {
         Ok(value) => Ok(value),
@@ -112,7 +112,7 @@ fn put_entity(alloc: Global, store: &mut Store, id: &str, row: Row<'_>) -> Resul
     done(store.take_entity(uid, entry))
 }
 
-// A name with `@` before it is an entity's, any other a policy's.
+// Puts an entry under a name, where a name after `@` is an entity's, and any other a policy's.
 fn put(alloc: Global, store: &mut Store, name: &str, row: Row<'_>) -> Result<(), NoMemory> {
     match name.strip_prefix('@') {
         Some(id) => put_entity(alloc, store, id, row),
@@ -127,7 +127,7 @@ fn fill(alloc: Global, store: &mut Store, row: Row<'_>, names: &str) -> Result<(
     Ok(())
 }
 
-// A store with an entry of this stamp and text at each of these names.
+// Returns a store with an entry of this stamp and text at each of these names.
 fn filled(alloc: Global, row: Row<'_>, names: &str) -> Result<Store, NoMemory> {
     let mut store = StampedStore::new(alloc);
     let done = fill(alloc, &mut store, row, names);
@@ -150,7 +150,7 @@ struct Merge<'a> {
     other: &'a str,
 }
 
-// Whether a key is one of the first `count` of these names.
+// Returns whether a key is one of the first `count` of these names.
 fn is_among<K: Named>(names: &str, count: usize, key: &K) -> bool {
     let mut left = count;
     for name in names.split(' ') {
@@ -165,7 +165,7 @@ fn is_among<K: Named>(names: &str, count: usize, key: &K) -> bool {
     false
 }
 
-// Whether a key has its entry after a join with exactly the first `taken` names of the other store.
+// Returns whether a key has its entry after a join with exactly the first `taken` names of the other store.
 fn is_joined<K: Named>(merge: Merge<'_>, taken: usize, key: &K, entry: &Entry<usize>) -> bool {
     if is_among(merge.other, taken, key) {
         return entry.stamp == stamp((9, "2", "")) && text_of(entry) == FORBID;
@@ -197,7 +197,7 @@ fn has_name(names: &str, name: &str) -> bool {
     false
 }
 
-// The number of names in the first list, or among the first `taken` of the second.
+// Returns the number of names in the first list, or among the first `taken` of the second.
 fn count_joined(merge: Merge<'_>, taken: usize) -> usize {
     let mut count = merge.own.split(' ').count();
     for name in merge.other.split(' ').take(taken) {
@@ -206,7 +206,7 @@ fn count_joined(merge: Merge<'_>, taken: usize) -> usize {
     count
 }
 
-// Exactly the first `taken` names of the other store are joined.
+// Returns whether exactly the first `taken` names of the other store are joined.
 fn is_joined_up_to(store: &Store, merge: Merge<'_>, taken: usize) -> bool {
     let count = store
         .policies()
@@ -222,7 +222,8 @@ fn merge_again(alloc: Global, store: &mut Store, other: &str) -> Result<(), NoMe
     done(store.merge(filled_at_last(alloc, (9, "2", FORBID), other)?))
 }
 
-// If an allocation fails in a merge, exactly the entries of the first names are joined; a second try joins the rest.
+// Merges; if an allocation fails, tries once more. Fails the test unless the failed merge joined exactly the first
+// names.
 fn merge_at_last(
     rt: &impl Abort,
     alloc: Global,
@@ -244,7 +245,7 @@ fn merge_at_last(
     }
 }
 
-// Merges into a store that stays in use.
+// Merges into a store that stays in use. Fails the test unless all names are joined.
 fn merge_into(
     rt: &impl Abort,
     alloc: Global,
@@ -266,8 +267,8 @@ fn merged(rt: &impl Abort, alloc: Global, own: &str, other: &str) -> Result<(), 
     ended(store, came)
 }
 
-// Five names each. A map allocates with its first name and its sixteenth, so that a merge may fail after three names,
-// before the first, or nowhere; in the last case after one.
+// The merged store has five names. A map allocates with its first name and its sixteenth, so that a merge may fail
+// after three names, before the first, or nowhere; in the last case also after one.
 #[test]
 fn a_refused_merge_joins_the_first_names(rt: HostRuntime) -> Result<(), NoMemory> {
     let alloc = rt.alloc();
@@ -284,7 +285,7 @@ fn is_looked_up(store: &Store, uid: &EntityUid) -> bool {
         && is_text_of(store.get_entity(uid), PERMIT)
 }
 
-// The entries have these ids, in this order.
+// Returns whether the entries have these ids, in this order.
 fn stand_at<K: Named>(entries: Iter<'_, K, Entry<usize>>, ids: &str) -> bool {
     let mut ids = ids.split(' ');
     for (name, _) in entries {
@@ -295,7 +296,7 @@ fn stand_at<K: Named>(entries: Iter<'_, K, Entry<usize>>, ids: &str) -> bool {
     ids.next().is_none()
 }
 
-// The names of both kinds, in order.
+// Returns whether the names of both kinds are in order.
 fn is_gone_over(store: &Store) -> bool {
     stand_at(store.policies(), "a b") && stand_at(store.entities(), "x y")
 }
@@ -336,7 +337,7 @@ fn put_single(alloc: Global, map: &mut Entries, key: &str, row: Row<'_>) -> Resu
     done(map.take(key, entry))
 }
 
-// A map of one value.
+// Returns a map of one value.
 fn single(alloc: Global, key: &str, row: Row<'_>) -> Result<Entries, NoMemory> {
     let mut map = Stamped::new(alloc);
     let done = put_single(alloc, &mut map, key, row);
@@ -385,6 +386,6 @@ fn laws_are_called() {
     laws::updates_have_one_store();
     laws::stores_are_joined();
     laws::stamps_are_issued();
-    laws::site_names_are_told();
+    laws::site_names_are_recognized();
     laws::stores_are_raised();
 }

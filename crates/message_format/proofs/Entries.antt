@@ -12,7 +12,7 @@ use Rattle.message_format.specs.Summaries.{name_json}
 use Rattle.entity_uids.specs.Tokens.{Adds, IsReadAgain, AppendsValue, AppendsMember, AppendsAll}
 use Rattle.entity_uids.proofs.Appending.{and_then, member_again, object_again, none_written, one_written}
 use Rattle.message_format.specs.Messages.{body_json, entry_json, message_json}
-use Rattle.message_format.specs.inner.Writing.{news_by}
+use Rattle.message_format.specs.inner.Writing.{missing_json_by}
 
 -- ---- an entry
 entry_again : (u : Update) → IsReadAgain (body_json u.1.body) → IsReadAgain (number (unsigned u.1.count)) → IsReadAgain (name_json u.0) → IsReadAgain (entry_json u)
@@ -38,10 +38,10 @@ entry_written {e = e} {f = f} u site same first body count name told last =
     }
 
 -- ---- if it is news
-pub no_news : (known : Option Stamp) (u : Update) (b : Bool) (w : Written) → b ≡ is_unseen known (Some u.1) → b ≡ false → AppendsAll w w (news_by known u)
+pub no_news : (known : Option Stamp) (u : Update) (b : Bool) (w : Written) → b ≡ is_unseen known (Some u.1) → b ≡ false → AppendsAll w w (missing_json_by known u)
 no_news known u b w is told = subst (λ (x : Bool). AppendsAll w w (if x then entry_json u ∷ [] else [])) (sym told ∙ is) (none_written w)
 
-pub one_news : {v w : Written} (known : Option Stamp) (u : Update) (b : Bool) → b ≡ is_unseen known (Some u.1) → b ≡ true → AppendsValue v w (entry_json u) → AppendsAll v w (news_by known u)
+pub one_news : {v w : Written} (known : Option Stamp) (u : Update) (b : Bool) → b ≡ is_unseen known (Some u.1) → b ≡ true → AppendsValue v w (entry_json u) → AppendsAll v w (missing_json_by known u)
 one_news {v} {w} known u b is told h = subst (λ (x : Bool). AppendsAll v w (if x then entry_json u ∷ [] else [])) (sym told ∙ is) (one_written h)
 
 -- ---- a message

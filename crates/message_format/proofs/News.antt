@@ -21,13 +21,13 @@ use Rattle.stamped_store.specs.Store.{Store, Update, updates, StoreEntries, abst
 use Rattle.stamped_store.specs.Store.{abstract_updates, id_name, entity_name}
 use Rattle.stamped_store.specs.Stored.{value_at}
 use Rattle.message_format.specs.Messages.{entry_json, message_json, state_json}
-use Rattle.message_format.specs.inner.Writing.{is_new, news_json, all_news_json}
+use Rattle.message_format.specs.inner.Writing.{is_new, missing_json, all_missing_json}
 
 -- ---- the JSON of those that are news
-pub news_are : (m : Summary) (us : List Update) → flat_map (news_json m) us ≡ map entry_json (filter (is_new m) us)
+pub news_are : (m : Summary) (us : List Update) → flat_map (missing_json m) us ≡ map entry_json (filter (is_new m) us)
 news_are m [] = refl
 news_are m (u ∷ us) =
-    elim (is_new m u) as (λ b. (if b then entry_json u ∷ [] else []) ++ flat_map (news_json m) us ≡ map entry_json (cond b (u ∷ filter (is_new m) us) (filter (is_new m) us))) [
+    elim (is_new m u) as (λ b. (if b then entry_json u ∷ [] else []) ++ flat_map (missing_json m) us ≡ map entry_json (cond b (u ∷ filter (is_new m) us) (filter (is_new m) us))) [
       | true ↦ ap (λ (ds : List Data). entry_json u ∷ ds) (news_are m us)
       | false ↦ news_are m us
     ]
@@ -96,10 +96,10 @@ delta_news s m =
 
 -- ---- what the code writes, policies and then entities
 pub store_news : {P E : Type 0} (k : StoreEntries P E) (m : Summary) → updates (abstract_store k) ≡ abstract_updates k
-    → all_news_json id_name m k.policies ++ all_news_json entity_name m k.entities ≡ map entry_json (updates (delta (abstract_store k) m))
+    → all_missing_json id_name m k.policies ++ all_missing_json entity_name m k.entities ≡ map entry_json (updates (delta (abstract_store k) m))
 store_news k m order =
-    sym (flat_map-append (news_json m) (abstract_entries id_name k.policies) (abstract_entries entity_name k.entities))
-    ∙ ap (flat_map (news_json m)) (sym order)
+    sym (flat_map-append (missing_json m) (abstract_entries id_name k.policies) (abstract_entries entity_name k.entities))
+    ∙ ap (flat_map (missing_json m)) (sym order)
     ∙ news_are m (updates (abstract_store k))
     ∙ ap (map entry_json) (sym (delta_news (abstract_store k) m))
 

@@ -20,7 +20,7 @@ use Rattle.message_format.specs.declared.bodies.BodyFault.{BodyFault}
 use Rattle.message_format.specs.declared.bodies.BodyFault.TheVariants as body
 use Rattle.message_format.specs.declared.update.Update.{Update}
 use Rattle.message_format.specs.declared.update.Update.TheVariants.{Policy, Entity}
-use Rattle.message_format.specs.Bodies.{HasOneOutcome, HasOutcome}
+use Rattle.message_format.specs.Bodies.{HasAtMostOneOutcome, HasOutcome}
 use Rattle.message_format.specs.Messages.{updates_stated}
 use Rattle.message_format.specs.Updates.{plain_update, plain_updates, stamped, fault_at, AreInRange, IsBodyRefused}
 use Rattle.message_format.specs.Updates.{IsUpdateRead, IsReadable, IsValid, AreValid, IsMessage, IsUnreadable}
@@ -94,8 +94,8 @@ module _ {P E : Type 0} (Policies : List ℕ → List ℕ → P → Type 0) (Ent
 
 module _ {P E : Type 0} (Policies : List ℕ → List ℕ → P → Type 0) (Entities : EntityUid → List ℕ → E → Type 0)
     (NoPolicies : List ℕ → List ℕ → BodyFault → Type 0) (NoEntities : EntityUid → List ℕ → BodyFault → Type 0)
-    (policies : (id text : List ℕ) → HasOneOutcome (Policies id text) (NoPolicies id text))
-    (entities : (uid : EntityUid) (text : List ℕ) → HasOneOutcome (Entities uid text) (NoEntities uid text)) where
+    (policies : (id text : List ℕ) → HasAtMostOneOutcome (Policies id text) (NoPolicies id text))
+    (entities : (uid : EntityUid) (text : List ℕ) → HasAtMostOneOutcome (Entities uid text) (NoEntities uid text)) where
   -- ---- one list of updates
   one_update : (r s : Update P E) → plain_update r ≡ plain_update s → IsUpdateRead Policies Entities r → IsUpdateRead Policies Entities s → r ≡ s
   one_update (Policy id e) (Policy other f) same h k =

@@ -31,7 +31,7 @@ use Rattle.entity_uids.specs.Tokens.{AppendsAll}
 use Rattle.entity_uids.proofs.Appending.{none_written, both_written}
 use Rattle.message_format.specs.Messages.{entry_json}
 use Rattle.message_format.specs.inner.Walking.{IsFrom, IsAhead, IsWalked}
-use Rattle.message_format.specs.inner.Writing.{news_by, news_json, all_news_json}
+use Rattle.message_format.specs.inner.Writing.{missing_json_by, missing_json, all_missing_json}
 use Rattle.message_format.proofs.News.{store_news}
 
 left_of : (a b : Bool) → T (a && b) → T a
@@ -156,14 +156,14 @@ pub ahead_alone : (left known : Summary) (us : List Update) → IsAhead left kno
 ahead_alone left known us h = record { ascending = h.ascending; sorted = h.sorted; same = all_same left us }
 
 -- what the rest of the stamps lacks, all of them lack
-pub news_left : (left known : Summary) (us : List Update) → IsAhead left known us → flat_map (news_json left) us ≡ flat_map (news_json known) us
+pub news_left : (left known : Summary) (us : List Update) → IsAhead left known us → flat_map (missing_json left) us ≡ flat_map (missing_json known) us
 news_left left known us h = by_each us h.same
   where
-    by_each : (vs : List Update) → AllByRecursion (λ u. value_at name_cmp left u.0 ≡ value_at name_cmp known u.0) vs → flat_map (news_json left) vs ≡ flat_map (news_json known) vs
+    by_each : (vs : List Update) → AllByRecursion (λ u. value_at name_cmp left u.0 ≡ value_at name_cmp known u.0) vs → flat_map (missing_json left) vs ≡ flat_map (missing_json known) vs
     by_each [] k = refl
     by_each (v ∷ vs) k =
-        ap (λ (o : Option Stamp). news_by o v ++ flat_map (news_json left) vs) k.0
-        ∙ ap (λ (ds : List Data). news_json known v ++ ds) (by_each vs k.1)
+        ap (λ (o : Option Stamp). missing_json_by o v ++ flat_map (missing_json left) vs) k.0
+        ∙ ap (λ (ds : List Data). missing_json known v ++ ds) (by_each vs k.1)
 
 -- ---- the walk over entries
 module _ {N P : Type 0} (name : N → Name) where
@@ -171,23 +171,23 @@ module _ {N P : Type 0} (name : N → Name) where
   walk_starts known before all next ahead = (none_written before, ahead)
 
   one_more : (known : Summary) (done : List (N × Entry P)) (e : N × Entry P)
-      → all_news_json name known done ++ news_json known (name e.0, plain_entry e.1) ≡ all_news_json name known (done ++ e ∷ [])
+      → all_missing_json name known done ++ missing_json known (name e.0, plain_entry e.1) ≡ all_missing_json name known (done ++ e ∷ [])
   one_more known done e =
       let one : Update = (name e.0, plain_entry e.1) in
       let shown = abstract_entries name done in
-      ap (λ (ds : List Data). flat_map (news_json known) shown ++ ds) (sym (append-nil (news_json known one)))
-      ∙ sym (flat_map-append (news_json known) shown (one ∷ []))
-      ∙ ap (flat_map (news_json known)) (sym (map-append (abstract_entry name) done (e ∷ [])))
+      ap (λ (ds : List Data). flat_map (missing_json known) shown ++ ds) (sym (append-nil (missing_json known one)))
+      ∙ sym (flat_map-append (missing_json known) shown (one ∷ []))
+      ∙ ap (flat_map (missing_json known)) (sym (map-append (abstract_entry name) done (e ∷ [])))
 
   pub walk_goes_on : (known left from : Summary) (before here after : Written) (all done iter n : List (N × Entry P)) (e : N × Entry P) (stamp : Option Stamp)
       → IsWalked name known left before here all done iter → iter ≡ e ∷ n → IsFrom (name e.0) left from → stamp ≡ value_at name_cmp left (name e.0)
-      → AppendsAll here after (news_by stamp (name e.0, plain_entry e.1))
+      → AppendsAll here after (missing_json_by stamp (name e.0, plain_entry e.1))
       → IsWalked name known from before after all (done ++ e ∷ []) n
   walk_goes_on known left from before here after all done iter n e stamp walked step is found pushed next ahead =
       let one : Update = (name e.0, plain_entry e.1) in
       let so = walked next ahead in
       let at : IsAhead left known (one ∷ (abstract_entries name n ++ next)) = subst (λ (es : List (N × Entry P)). IsAhead left known (abstract_entries name es ++ next)) step so.1 in
-      let more : AppendsAll here after (news_json known one) = subst (λ (o : Option Stamp). AppendsAll here after (news_by o one)) (found ∙ at.same.0) pushed in (
+      let more : AppendsAll here after (missing_json known one) = subst (λ (o : Option Stamp). AppendsAll here after (missing_json_by o one)) (found ∙ at.same.0) pushed in (
         subst (AppendsAll before after) (one_more known done e) (both_written so.0 more),
         ahead_next left known from one (abstract_entries name n ++ next) at is,
       )

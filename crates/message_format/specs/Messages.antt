@@ -1,8 +1,8 @@
 -- Defines states and deltas as messages, written and read.
 -- Rules of this product: a message is {"entries":[{"body":text or null,"count":n,"name":N,"site":text},
 -- ..],"kind":K,"schema":label,"version":2}, with "state" or "delta" for K, and {"entity":{"id":..,"type":..}} or
--- {"policy":id} for N. Each key is required, `body` with null for nothing, and no others are allowed. Messages are
--- written compact, keys and names ascending. They are read in any spelling of JSON, with entries in any order and
+-- {"policy":id} for N. Each key is required, no others are allowed, and the `body` of a tombstone is null. Messages
+-- are written compact, keys and names ascending. They are read in any spelling of JSON, with entries in any order and
 -- names any number of times. Version 1, with numbers of sites, is read and never written.
 use Rattle.std.specs.Prelude.{◌||◌, Bool, ℕ, List, [], ◌∷◌, map, codes, is_some, Option, Some, None}
 use Rattle.std.specs.Prelude.{Result, Ok, if◌then◌else◌}
@@ -24,7 +24,7 @@ use Rattle.message_format.specs.Summaries.{name_json, version_in, stamped_in}
 
 -- ---- written
 
--- `body_json body` is the JSON of `body`: a string, or null for nothing.
+-- `body_json body` is the JSON of `body`: a string, or null for a tombstone.
 abbrev pub body_json : Option (List ℕ) → Data
 body_json None = null
 body_json (Some text) = string text
@@ -36,7 +36,8 @@ entry_json u = object (member (codes "body") (body_json u.1.body)
     (member (codes "name") (name_json u.0)
     (member (codes "site") (string u.1.site) no_members))))
 
--- `message_json kind label us` is the JSON of the updates `us` as a message of this kind for the schema `label`.
+-- `message_json kind label us` is the JSON of the updates `us` as a message of this kind for the schema with this
+-- label.
 abbrev pub message_json : List ℕ → List ℕ → List Update → Data
 message_json kind label us = object (member (codes "entries") (array (items_of (map entry_json us)))
     (member (codes "kind") (string kind)
@@ -51,28 +52,28 @@ state_json label s = message_json (codes "state") label (updates s)
 abbrev pub delta_json : List ℕ → Store → Data
 delta_json label s = message_json (codes "delta") label (updates s)
 
--- `state_text label s` is the text of the state of `s`: compact, keys ascending.
+-- `state_text label s` is the text of the store `s` as a state: compact, keys ascending.
 unfoldable pub state_text : List ℕ → Store → List ℕ
 state_text label s = compact_text (state_json label s)
 
--- `delta_text label s` is the text of the delta of `s`: compact, keys ascending.
+-- `delta_text label s` is the text of a part `s` of a store as a delta: compact, keys ascending.
 unfoldable pub delta_text : List ℕ → Store → List ℕ
 delta_text label s = compact_text (delta_json label s)
 
 -- ---- read
 
--- `text_in d` is the body that the string `d` states, or `BadShape`.
+-- `text_in d` is the body that is the string `d`, or `BadShape` if `d` is not a string.
 unfoldable pub text_in : Data → Result (Option (List ℕ)) MessageFault
 text_in d = do
   text ← or_fault BadShape (as_str d)
   Ok (Some text)
 
--- `body_in d` is the body that `d` states: nothing if it is null.
+-- `body_in d` is the body that `d` describes: that of a tombstone for null, else a string.
 unfoldable pub body_in : Data → Result (Option (List ℕ)) MessageFault
 body_in d = if is_some (as_null d) then Ok None else text_in d
 
--- `entry_by stamped_of entry_of d` is the update that the object `d` states, before its text is parsed: `stamped_of`
--- reads its name and stamp, and `entry_of` joins the stamp and the body.
+-- `entry_by stamped_of entry_of d` is the update that the object `d` describes, before its text is parsed, or its
+-- error: `stamped_of` reads its name and stamp, and `entry_of` joins the stamp and the body.
 unfoldable pub entry_by : {S E : Type 0} → (Data → Result (Name × S) MessageFault) → (S → Option (List ℕ) → E) → Data
     → Result (Name × E) MessageFault
 entry_by stamped_of entry_of d = do
@@ -82,31 +83,32 @@ entry_by stamped_of entry_of d = do
   u ← stamped_of d
   Ok (u.0, entry_of u.1 body)
 
--- `entry_in version d` is the update that the object `d` states in the form of `version`.
+-- `entry_in version d` is the update that the object `d` describes in the form of `version`, or its error.
 unfoldable pub entry_in : MessageVersion → Data → Result Update MessageFault
 entry_in version d = entry_by (stamped_in version) issued d
 
--- `entries_of entry_of ds` is the list of the updates that `ds` state, each read by `entry_of`, or the first error.
+-- `entries_of entry_of ds` is the list of the updates that the objects `ds` describe, each read by `entry_of`, or the
+-- first error.
 unfoldable pub entries_of : {U : Type 0} → (Data → Result U MessageFault) → Items → Result (List U) MessageFault
 entries_of entry_of ds = each (λ i d. entry_of d) 0 (list_of ds)
 
--- `entries_by entry_of d` is the list of the updates of the message `d`, each read by `entry_of`.
+-- `entries_by entry_of d` is the list of the updates of the message `d`, each read by `entry_of`, or the first error.
 unfoldable pub entries_by : {U : Type 0} → (Data → Result U MessageFault) → Data → Result (List U) MessageFault
 entries_by entry_of d = do
   found ← or_fault BadShape (get (codes "entries") d)
   ds ← or_fault BadShape (as_array found)
   entries_of entry_of ds
 
--- `entries_in version d` is the list of the updates of the message `d` in the form of `version`.
+-- `entries_in version d` is the list of the updates of the message `d` in the form of `version`, or the first error.
 unfoldable pub entries_in : MessageVersion → Data → Result (List Update) MessageFault
 entries_in version d = entries_by (entry_in version) d
 
--- `is_kind kind` is whether a message of this kind has entries: a state or a delta.
+-- `is_kind kind` is whether a message of this kind has entries: whether it is a state or a delta.
 abbrev pub is_kind : List ℕ → Bool
 is_kind kind = bytes_eq kind (codes "state") || bytes_eq kind (codes "delta")
 
--- `updates_by entries label d` is the updates of the message `d`, whose version is known. The whole shape, all
--- entries included, is checked before the schema.
+-- `updates_by entries label d` is the list of the updates of the message `d` for the schema with this label, which
+-- `entries` reads, or the first error. The whole shape, all entries included, is checked before the label.
 unfoldable pub updates_by : {U : Type 0} → (Data → Result (List U) MessageFault) → List ℕ → Data
     → Result (List U) MessageFault
 updates_by entries label d = do
@@ -118,14 +120,15 @@ updates_by entries label d = do
   same ← demand OtherSchema (bytes_eq schema label)
   Ok us
 
--- `updates_in label d` is the updates of the message `d`. The version is checked before the rest of the shape.
+-- `updates_in label d` is the list of the updates of the message `d` for the schema with this label, or the first
+-- error. The version is checked before the rest of the shape.
 unfoldable pub updates_in : List ℕ → Data → Result (List Update) MessageFault
 updates_in label d = do
   version ← version_in d
   updates_by (entries_in version) label d
 
--- `updates_stated label bytes` is the updates that `bytes` state for the schema `label`, in their order; or the first
--- error before the checks of entries.
+-- `updates_stated label bytes` is the list of the updates that `bytes` describe for the schema with this label, in
+-- order, or the first error of JSON, version, shape or label. Ranges and texts of entries are checked later.
 unfoldable pub updates_stated : List ℕ → List ℕ → Result (List Update) MessageFault
 updates_stated label bytes = do
   d ← or_fault NotJson (json_of bytes)

@@ -21,7 +21,7 @@ NumberedStamp = Name × StampAt ℕ
 abbrev pub HaveNumbers : List NumberedStamp → Type 0
 HaveNumbers ns = AllByRecursion (λ n. IsSiteNumber n.1.site) ns
 
--- `raise_stamp n` is `n` with the site's number replaced by its five digits.
+-- `raise_stamp n` is the name and stamp `n` with the site's number replaced by its five digits.
 abbrev pub raise_stamp : NumberedStamp → Name × Stamp
 raise_stamp n = (n.0, record { count = n.1.count; site = five_digits n.1.site })
 
@@ -29,7 +29,7 @@ raise_stamp n = (n.0, record { count = n.1.count; site = five_digits n.1.site })
 abbrev pub raise_stamps : List NumberedStamp → Summary
 raise_stamps ns = map raise_stamp ns
 
--- `numbered_stamp_json n` is the JSON of `n` in version 1.
+-- `numbered_stamp_json n` is the JSON of the name and stamp `n` in version 1.
 abbrev pub numbered_stamp_json : NumberedStamp → Data
 numbered_stamp_json n = object (member (codes "count") (number (unsigned n.1.count))
     (member (codes "name") (name_json n.0)

@@ -37,12 +37,13 @@ ascend [] = true
 ascend (a ∷ []) = true
 ascend (a ∷ b ∷ m) = is_lt (name_cmp a.0 b.0) && ascend (b ∷ m)
 
--- `IsName n` holds if `n` is a policy's id of 1 to 256 bytes, or an entity's uid whose type is a Path.
+-- `IsName n` holds if the name `n` is in its range: a policy's id of 1 to 256 bytes, or an entity's uid whose type is a
+-- Path.
 abbrev pub IsName : Name → Type 0
 IsName (Policy id) = (1 ≤ length id) × (length id ≤ 256)
 IsName (Entity uid) = IsPath uid.type_name
 
--- `IsStamped u` holds if `u` is a name in its range with a stamp: a count from 1 to 10^18, and a site's name.
+-- `IsStamped u` holds if `u` is a name in its range with a stamp in its range: a count from 1 to 10^18 and a site name.
 pub record IsStamped (u : Name × Stamp) : Type 0 where
   pub name : IsName u.0
   pub counted : 1 ≤ u.1.count
@@ -88,13 +89,13 @@ summary_json label m = object (member (codes "kind") (string (codes "summary"))
     (member (codes "stamps") (array (items_of (map stamp_json m)))
     (member (codes "version") (number (unsigned 2)) no_members))))
 
--- `summary_text label m` is the text of that JSON: compact, keys ascending.
+-- `summary_text label m` is the text of the summary `m` under the schema with this label: compact, keys ascending.
 unfoldable pub summary_text : List ℕ → Summary → List ℕ
 summary_text label m = compact_text (summary_json label m)
 
 -- ---- read
 
--- A `StampAt Site` is a stamp whose site has the form `Site` of a version.
+-- A `StampAt Site` is a stamp whose site is a `Site`: a number in version 1, a name in version 2.
 pub record StampAt (Site : Type 0) : Type 0 where
   pub count : ℕ
   pub site : Site
@@ -105,13 +106,13 @@ number_at k d = do
   found ← or_fault BadShape (get k d)
   or_fault BadShape (option_and_then as_u64 (as_number found))
 
--- `policy_in d` is the name of a policy that the object `d` states, or `BadShape`.
+-- `policy_in d` is the name of a policy that the object `d` describes, or `BadShape`.
 unfoldable pub policy_in : Data → Result Name MessageFault
 policy_in d = do
   id ← or_fault BadShape (text_at (codes "policy") d)
   Ok (Policy id)
 
--- `entity_name_in d` is the name of an entity that the object `d` states, or `BadShape`. Of the two spellings of a
+-- `entity_name_in d` is the name of an entity that the object `d` describes, or `BadShape`. Of the two spellings of a
 -- uid only {"id":..,"type":..} is allowed.
 unfoldable pub entity_name_in : Data → Result Name MessageFault
 entity_name_in d = do
@@ -121,7 +122,7 @@ entity_name_in d = do
   uid ← or_fault BadShape (uid_in found)
   Ok (Entity uid)
 
--- `name_in d` is the name that the object `d` states, or `BadShape`.
+-- `name_in d` is the name that the object `d` describes, or `BadShape`.
 unfoldable pub name_in : Data → Result Name MessageFault
 name_in d = if has_only (codes "policy" ∷ []) d then policy_in d else entity_name_in d
 
@@ -131,33 +132,33 @@ version_in d = do
   version ← number_at (codes "version") d
   if version == 1 then Ok One else (if version == 2 then Ok Two else Err Version)
 
--- `numbered_in d` is the number of the site that `d` states, or `BadShape`.
+-- `numbered_in d` is the number of a site at the key `site` of `d`, or `BadShape`.
 unfoldable pub numbered_in : Data → Result ℕ MessageFault
 numbered_in d = do
   site ← number_at (codes "site") d
   numbered ← demand BadShape (nat_le 1 site && nat_le site 65535)
   Ok site
 
--- `named_in d` is the name of the site that `d` states, or `BadShape`.
+-- `named_in d` is the name of a site at the key `site` of `d`, or `BadShape`.
 unfoldable pub named_in : Data → Result (List ℕ) MessageFault
 named_in d = do
   site ← or_fault BadShape (text_at (codes "site") d)
   named ← demand BadShape (is_site_name site)
   Ok site
 
--- `raised_in d` is the five digits of the number of the site that `d` states, or `BadShape`.
+-- `raised_in d` is the five digits of the number of a site at the key `site` of `d`, or `BadShape`.
 unfoldable pub raised_in : Data → Result (List ℕ) MessageFault
 raised_in d = do
   site ← numbered_in d
   Ok (five_digits site)
 
--- `site_in version d` is the name of the site that `d` states in the form of `version`, or `BadShape`.
+-- `site_in version d` is the name of the site at the key `site` of `d` in the form of `version`, or `BadShape`.
 abbrev pub site_in : MessageVersion → Data → Result (List ℕ) MessageFault
 site_in One d = raised_in d
 site_in Two d = named_in d
 
--- `stamped_by site_of d` is the name and stamp that the object `d` states, its site as `site_of` reads it; other keys
--- are ignored.
+-- `stamped_by site_of d` is the name and stamp that the object `d` describes, or the error: `site_of` reads the site,
+-- and other keys are ignored.
 unfoldable pub stamped_by : {Site : Type 0} → (Data → Result Site MessageFault) → Data
     → Result (Name × StampAt Site) MessageFault
 stamped_by site_of d = do
@@ -167,23 +168,26 @@ stamped_by site_of d = do
   name ← name_in found
   Ok (name, record { count = count; site = site })
 
--- `stamped_in version d` is the name and stamp that the object `d` states in the form of `version`.
+-- `stamped_in version d` is the name and stamp that the object `d` describes in the form of `version`, or the error;
+-- other keys are ignored.
 unfoldable pub stamped_in : MessageVersion → Data → Result (Name × Stamp) MessageFault
 stamped_in version d = do
   u ← stamped_by (site_in version) d
   Ok (u.0, record { count = u.1.count; site = u.1.site })
 
--- `stamp_in version d` is the name and stamp that the object `d` states, if it has no other keys.
+-- `stamp_in version d` is the name and stamp that the object `d` describes in the form of `version`, or the error;
+-- other keys are an error.
 unfoldable pub stamp_in : MessageVersion → Data → Result (Name × Stamp) MessageFault
 stamp_in version d = do
   shape ← demand BadShape (has_only (codes "count" ∷ codes "name" ∷ codes "site" ∷ []) d)
   stamped_in version d
 
--- `stamps_of version ds` is the list of the names and stamps that `ds` state, or the first error.
+-- `stamps_of version ds` is the list of the names and stamps that the objects `ds` describe, or the first error.
 unfoldable pub stamps_of : MessageVersion → Items → Result Summary MessageFault
 stamps_of version ds = each (λ i d. stamp_in version d) 0 (list_of ds)
 
--- `stamps_in version d` is the stamps of the summary `d`, if their names ascend.
+-- `stamps_in version d` is the list of the names and stamps of the summary `d`, or the first error; names that do not
+-- ascend strictly are an error.
 unfoldable pub stamps_in : MessageVersion → Data → Result Summary MessageFault
 stamps_in version d = do
   found ← or_fault BadShape (get (codes "stamps") d)
@@ -197,20 +201,20 @@ abbrev pub is_name_in_range : Name → Bool
 is_name_in_range (Policy id) = nat_le 1 (length id) && nat_le (length id) 256
 is_name_in_range (Entity uid) = true
 
--- `bad_id` is the code of the error of an id.
+-- `bad_id` is the code of the error of an id of 0 or over 256 bytes.
 abbrev pub bad_id : ℕ
 bad_id = 19
 
--- `judged place u` is `u` if its count and its name are in their ranges, else the error of the first that is not, at
--- the index `place`.
+-- `judged place u` is the name and stamp `u`, at the index `place`, if the count and then the id of a policy are in
+-- their ranges, else the error of the first that is not.
 unfoldable pub judged : ℕ → Name × Stamp → Result (Name × Stamp) MessageFault
 judged place u = do
   counted ← demand (CountRange place) (nat_le 1 u.1.count && nat_le u.1.count 1_000_000_000_000_000_000)
   named ← demand (BadEntry place bad_id) (is_name_in_range u.0)
   Ok u
 
--- `summary_in label d` is the summary that `d` states. The version is checked before the rest of the shape, the whole
--- shape before the schema, and this before each stamp.
+-- `summary_in label d` is the summary that `d` describes under the schema with this label, or the first error. The
+-- version is checked before the rest of the shape, the whole shape before the label, and the label before the ranges.
 unfoldable pub summary_in : List ℕ → Data → Result Summary MessageFault
 summary_in label d = do
   version ← version_in d
@@ -222,7 +226,7 @@ summary_in label d = do
   same ← demand OtherSchema (bytes_eq schema label)
   each judged 0 stamps
 
--- `summary_stated label bytes` is the summary that `bytes` state under the schema with this label, or the first
+-- `summary_stated label bytes` is the summary that `bytes` describe under the schema with this label, or the first
 -- error.
 unfoldable pub summary_stated : List ℕ → List ℕ → Result Summary MessageFault
 summary_stated label bytes = do

@@ -1,12 +1,13 @@
--- Defines updates whose strings are UTF-8, as all strings in the code are. A message can have no others, since JSON
--- is UTF-8 (RFC 8259, section 8.1).
+-- Defines updates whose strings are UTF-8, as all strings in the code are. Each update of a message is one, since JSON
+-- is UTF-8.
+-- Source: RFC 8259, section 8.1.
 use Rattle.std.specs.Prelude.{ℕ, List, Option, Some, None}
 use Rattle.std.specs.List.{AllByRecursion}
 use Rattle.std.specs.Str.{IsUtf8}
 use Rattle.stamped_store.specs.Store.{Update}
 use Rattle.message_format.specs.Summaries.{HasTexts}
 
--- `IsBodyText body` holds if `body` is nothing, or a text in UTF-8.
+-- `IsBodyText body` holds if `body` is that of a tombstone (`None`), or a text in UTF-8.
 abbrev pub IsBodyText : Option (List ℕ) → Type 0
 IsBodyText None = Unit {0}
 IsBodyText (Some text) = IsUtf8 text

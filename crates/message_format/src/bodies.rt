@@ -1,4 +1,4 @@
-//! Parsing of the bodies of updates: texts of policies and of entities.
+//! The parsing of the bodies of updates: texts of policies and of entities.
 ghost use Rattle.std.specs.Prelude.{◌≡◌, List, ℕ, IfOk, IfErr};
 ghost use Rattle.values.specs.declared.entity_uid.EntityUid.{EntityUid};
 ghost use Rattle.message_format.specs.declared.bodies.BodyFault.{BodyFault};
@@ -14,13 +14,13 @@ use values::EntityUid;
 /// The error of a body's text.
 #[derive(Clone, Copy, Debug, Error)]
 pub enum BodyFault {
-    /// An allocation failed.
+    /// Code 1: an allocation failed.
     #[error("message 1: out of memory")]
     NoMemory,
-    /// The text is rejected with this code.
+    /// Code 55: the text is rejected, with this code within.
     #[error("message 55: body refused with code {0}")]
     Refused(u8),
-    /// The text is that of an entity with another uid. (Never of a policy.)
+    /// Code 56: the text is that of an entity with another uid. Does not occur for a policy.
     #[error("message 56: body of another entity")]
     OtherName,
 }
@@ -35,31 +35,34 @@ impl From<plain::NoMemory> for BodyFault {
 
 /// A parser of bodies: texts of policies, by id, into `P`, and texts of entities, by uid, into `E`.
 ///
-/// An implementation states what a text is parsed as (the members of [`Readings`]), and with which errors it is
-/// rejected. If each text is parsed as one value or rejected with one error, and never both, then messages have one
-/// outcome too: [`crate::messages_have_one_outcome`], which has this as its premise.
+/// An implementation specifies what a text is parsed as, by the members of [`Readings`], and with which errors it is
+/// rejected. If each text is parsed as one value or rejected with one error, and never both, then a message has one
+/// outcome too: this is the premise of [`crate::messages_have_one_outcome`].
 pub trait Bodies<P, E>: Readings<P, E> {
-    /// The errors of the text (the second) of the policy with this id (the first).
+    /// The errors of a text as the policy with an id: the id, the text, the error.
     ghost refuses_policy: { Self → List ℕ → List ℕ → BodyFault → Type 0 };
 
-    /// The errors of the text of the entity with this uid.
+    /// The errors of a text as the entity with a uid: the uid, the text, the error.
     ghost refuses_entity: { Self → EntityUid → List ℕ → BodyFault → Type 0 };
 
     /// Parses the text of the policy with this id.
     ///
     /// # Errors
     ///
-    /// An error of the text by `refuses_policy`, or `NoMemory`.
+    /// - An error of the text by `refuses_policy`.
+    /// - `NoMemory`: an allocation failed; possible at any point.
     fn read_policy(&self, alloc: Global, id: &str, text: &str) -> Result<P, BodyFault>
         ensures read { IfOk result (Self.reads_policy self.now id.now text.now) }
         ensures refused { IfErr result (OrNoMemory BodyFault.NoMemory (refuses_policy self.now id.now text.now)) };
 
-    /// Parses the text of the entity with this uid. `scratch` is reused from text to text; its content does not
-    /// matter.
+    /// Parses the text of the entity with this uid.
+    ///
+    /// `scratch` is memory that is reused from text to text; its content does not matter.
     ///
     /// # Errors
     ///
-    /// An error of the text by `refuses_entity`, or `NoMemory`.
+    /// - An error of the text by `refuses_entity`.
+    /// - `NoMemory`: an allocation failed; possible at any point.
     fn read_entity(
         &self,
         alloc: Global,

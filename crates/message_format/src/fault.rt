@@ -9,28 +9,28 @@ use thiserror::Error;
 /// The first error of a message. An index is that of an entry, or of a summary's stamp, from 0.
 #[derive(Clone, Copy, PartialEq, Eq, Debug, Error)]
 pub enum MessageFault {
-    /// An allocation failed.
+    /// Code 1: an allocation failed.
     #[error("message 1: out of memory")]
     NoMemory,
-    /// The bytes are not JSON.
+    /// Code 50: the bytes are not JSON.
     #[error("message 50: not JSON")]
     NotJson,
-    /// The JSON does not have the form of the expected message.
+    /// Code 51: the JSON does not have the shape of the expected message.
     #[error("message 51: JSON without the form of such a message")]
     BadShape,
-    /// The message is of another schema.
+    /// Code 52: the message has the label of another schema.
     #[error("message 52: schema label of another schema")]
     OtherSchema,
-    /// The version is neither 1 nor 2.
+    /// Code 53: the version is neither 1 nor 2.
     #[error("message 53: version other than 1 and 2")]
     Version,
-    /// The count of the entry at this index is 0, or over 10^18.
+    /// Code 54: the count of the entry or stamp at this index is 0 or over 10^18.
     #[error("message 54: count of 0, or over 10^18, at entry {0}")]
     CountRange(usize),
-    /// The name or the body of the entry at this index is rejected, with this code.
+    /// Code 55: the name of the entry or stamp at this index, or the body of this entry, is rejected with this code.
     #[error("message 55: entry {0} refused with code {1}")]
     BadEntry(usize, u8),
-    /// The entry at this index is of an entity, and its body states another uid.
+    /// Code 56: the entry at this index is of an entity, and its body has another uid.
     #[error("message 56: body of another entity at entry {0}")]
     BodyOfOtherName(usize),
 }
@@ -52,7 +52,7 @@ impl MessageFault {
         }
     }
 
-    /// Returns the index of the entry or stamp in error; `None` if the message as a whole is rejected.
+    /// Returns the index of the entry or stamp that has the error, or `None` for an error of the message as a whole.
     pub fn place(self) -> Option<usize>
         ensures { result ≡ place_of self }
     {
@@ -64,7 +64,7 @@ impl MessageFault {
         }
     }
 
-    /// Returns the code of the inner error, if there is one.
+    /// Returns the code of the inner error, or `None` otherwise.
     pub fn within(self) -> Option<u8>
         ensures { result ≡ within_of self }
     {

@@ -1,4 +1,4 @@
-//! Theorems about messages; their functions do nothing.
+//! Theorems about states and deltas as messages. The functions are no-ops.
 ghost use Rattle.std.specs.Prelude.{◌≡◌, ◌⊎◌, true, Ok, Some, List, ℕ, codes};
 ghost use Rattle.std.specs.Str.{IsUtf8};
 ghost use Rattle.json_words.specs.Json.{json_of};
@@ -23,13 +23,13 @@ ghost use Rattle.message_format.specs.Updates.{IsMessage, IsFaultAt, IsMessageFa
 use crate::Bodies;
 use crate::summary_laws::stamps_read_back;
 use json_words::compact_texts_read_back;
-use stamped_store::laws::site_names_are_told;
+use stamped_store::laws::site_names_are_recognized;
 
-/// Proves the round trip of states and deltas.
+/// Proves the round trip of states and deltas. No-op.
 ///
 /// If the names and stamps of the updates are in their ranges, the JSON of a state or delta is parsed as the updates
-/// that it was written from; and so is its text, if its texts are UTF-8. No bytes are the state of two stores, or the
-/// delta of two contents. No-op.
+/// that it was written from. If also the label and the strings of the updates are UTF-8, the text is parsed as these
+/// updates. No bytes are the state of two stores, or the delta of two contents.
 pub fn messages_read_back()
     ensures states { (label : List ℕ) (s : Store) → AreInRange (updates s)
         → updates_in label (state_json label s) ≡ Ok (updates s) }
@@ -44,16 +44,16 @@ pub fn messages_read_back()
     ensures one_delta { (label bytes : List ℕ) (s t : Store) → json_of bytes ≡ Some (delta_json label s)
         → json_of bytes ≡ Some (delta_json label t) → s ≡ t }
 {
-    site_names_are_told();
+    site_names_are_recognized();
     stamps_read_back();
     compact_texts_read_back();
 }
 
-/// Proves that bytes have one outcome as a message.
+/// Proves that bytes have one outcome as a message. No-op.
 ///
-/// If each text has at most one outcome, bytes are a message of at most one list of updates, or have at most one
-/// error, and never both. If each text is also parsed or rejected, bytes are a message or have an error. If no
-/// policy's text is rejected as of another name, no policy's entry is. No-op.
+/// If each text of a body has at most one outcome, bytes are a message of at most one list of updates, or have at most
+/// one error, and never both. If each text is also parsed or rejected, bytes are a message or have an error. If no text
+/// of a policy is rejected with `OtherName`, no entry of a policy is rejected with `BodyOfOtherName`.
 pub fn messages_have_one_outcome<P: Drop, E: Drop, B: Bodies<P, E>>()
     ensures updates { (b : B)
         → TextsHaveOneOutcome (B.reads_policy b) (B.refuses_policy b) (B.reads_entity b) (B.refuses_entity b)
@@ -88,10 +88,10 @@ pub fn messages_have_one_outcome<P: Drop, E: Drop, B: Bodies<P, E>>()
 }
 
 /// Proves that a message of version 1 is parsed as the raise of its updates: each site's number, from 1 to 65,535, is
-/// replaced by its five digits.
+/// replaced by its five digits. No-op.
 ///
-/// Bytes of version 1 that are parsed as updates are such a message; the version 1 JSON of numbered updates in their
-/// ranges is parsed as their raise. No-op.
+/// Bytes of version 1 that are parsed as updates are such a message. The JSON of version 1 of numbered updates in their
+/// ranges is parsed as their raise.
 pub fn messages_are_raised()
     ensures raised { (label bytes : List ℕ) (ns : List NumberedUpdate) → IsVersion1Message label bytes ns
         → updates_stated label bytes ≡ Ok (raise ns) }
@@ -106,7 +106,7 @@ pub fn messages_are_raised()
     stamps_read_back();
 }
 
-/// Proves that bytes that state updates in their ranges are a message of these if and only if each of them is valid.
+/// Proves that bytes that describe updates in their ranges are a message of these if and only if each of them is valid.
 /// No-op.
 pub fn valid_messages_are_read<P: Drop, E: Drop, B: Bodies<P, E>>()
     ensures read { (b : B) (label bytes : List ℕ) (us : List PlainUpdate) → updates_stated label bytes ≡ Ok us

@@ -3,7 +3,7 @@
 //! A summary has the names of a store with the stamps of their entries. A state is a whole store. A delta holds the
 //! entries whose names a summary lacks or has with a smaller stamp.
 //!
-//! This crate does not know the texts in a message: a type that implements [`Bodies`] parses them, and states their
+//! This crate is generic in the texts of a message: a type that implements [`Bodies`] parses them, and specifies their
 //! values and errors.
 #![tactic(auto)]
 

@@ -1,6 +1,5 @@
-//! Members of objects, written token by token after what was written before: no value is built, and no string copied.
-//!
-//! The caller writes the brackets around them. RFC 8259, section 4, defines the members of an object.
+//! The writing of members of JSON objects (RFC 8259, section 4), token by token: no JSON value is built, and no string
+//! copied. The caller writes the brackets around the members.
 ghost use Rattle.std.specs.Prelude.{◌≡◌, OnOk, codes};
 ghost use Rattle.std.specs.declared.cmp.Ordering.{Ordering};
 ghost use Rattle.serde_json.specs.Data.{number, unsigned, string};
@@ -20,7 +19,7 @@ use values::{EntityUid, Name};
 ///
 /// # Errors
 ///
-/// `NoMemory`; the partial output must then be discarded.
+/// - `NoMemory`: an allocation failed; the partial output must then be discarded.
 pub fn write_text(out: &mut Writer, key: &str, text: &str) -> Result<(), NoMemory>
     ensures { OnOk result (AppendsMember out.old out.new key.now (string text.now)) }
 {
@@ -28,11 +27,11 @@ pub fn write_text(out: &mut Writer, key: &str, text: &str) -> Result<(), NoMemor
     out.string(text)
 }
 
-/// Writes a member of an object whose value is a whole number, in decimal.
+/// Writes a member of an object whose value is a number, in decimal.
 ///
 /// # Errors
 ///
-/// `NoMemory`; the partial output must then be discarded.
+/// - `NoMemory`: an allocation failed; the partial output must then be discarded.
 pub fn write_number(out: &mut Writer, key: &str, value: u64) -> Result<(), NoMemory>
     ensures { OnOk result (AppendsMember out.old out.new key.now (number (unsigned value))) }
 {
@@ -40,13 +39,13 @@ pub fn write_number(out: &mut Writer, key: &str, value: u64) -> Result<(), NoMem
     out.u64(value)
 }
 
-/// A name borrowed from a store: a policy's id or an entity's uid. It is compared and written as that name, without
-/// making a [`Name`] from it.
+/// A name borrowed from a store: a policy's id or an entity's uid. It is compared and written like the [`Name`] that it
+/// represents, without creating that.
 pub trait Lent {
-    /// The name.
+    /// The name that this value represents.
     ghost named: { Self → Name };
 
-    /// Returns how `other` compares with this name. Does not allocate.
+    /// Compares `other` with this name: returns `Less` if `other` is less. Does not allocate.
     fn compare(&self, other: &Name) -> Ordering
         ensures { result ≡ name_cmp other.now (named self.now) };
 
@@ -54,7 +53,7 @@ pub trait Lent {
     ///
     /// # Errors
     ///
-    /// `NoMemory`; the partial output must then be discarded.
+    /// - `NoMemory`: an allocation failed; the partial output must then be discarded.
     fn write(&self, out: &mut Writer) -> Result<(), NoMemory>
         ensures { OnOk result (AppendsMember out.old out.new (codes "name") (name_json (named self.now))) };
 }

@@ -1,4 +1,4 @@
-//! Reads a state or a delta; the first error is returned.
+//! The parsing of a state or a delta, with the texts of its bodies.
 ghost use Rattle.std.specs.Prelude.{◌≡◌, List, IfOk, IfErr, map};
 ghost use Rattle.stamped_store.specs.Store.{issued, policy_name, entity_name};
 ghost use Rattle.stamped_store.specs.Raised.{NumberedUpdate, raise};
@@ -23,7 +23,7 @@ use std::alloc::Global;
 use std::collections::VecDeque;
 use values::{EntityUid, Name};
 
-/// Returns the body of a policy: nothing, or a parsed text.
+/// Returns the body of a policy: that of a tombstone, or the text with its parsed value.
 fn policy_body<P: Drop, E: Drop, B: Bodies<P, E>>(
     alloc: Global,
     bodies: &B,
@@ -41,7 +41,7 @@ fn policy_body<P: Drop, E: Drop, B: Bodies<P, E>>(
     Ok(Some(ReadText { text, read }))
 }
 
-/// Returns the body of an entity: nothing, or a parsed text.
+/// Returns the body of an entity: that of a tombstone, or the text with its parsed value.
 fn entity_body<P: Drop, E: Drop, B: Bodies<P, E>>(
     alloc: Global,
     bodies: &B,
@@ -60,6 +60,7 @@ fn entity_body<P: Drop, E: Drop, B: Bodies<P, E>>(
     Ok(Some(ReadText { text, read }))
 }
 
+/// Returns the update of a policy, its text parsed.
 fn read_policy<P: Drop, E: Drop, B: Bodies<P, E>>(
     alloc: Global,
     bodies: &B,
@@ -77,6 +78,7 @@ fn read_policy<P: Drop, E: Drop, B: Bodies<P, E>>(
     Ok(Update::Policy { id, entry })
 }
 
+/// Returns the update of an entity, its text parsed.
 fn read_entity<P: Drop, E: Drop, B: Bodies<P, E>>(
     alloc: Global,
     bodies: &B,
@@ -95,7 +97,7 @@ fn read_entity<P: Drop, E: Drop, B: Bodies<P, E>>(
     Ok(Update::Entity { uid, entry })
 }
 
-/// Returns an update, its text parsed.
+/// Returns the update that an entry describes, its text parsed.
 fn read_update<P: Drop, E: Drop, B: Bodies<P, E>>(
     alloc: Global,
     bodies: &B,
@@ -115,7 +117,7 @@ fn read_update<P: Drop, E: Drop, B: Bodies<P, E>>(
     }
 }
 
-/// Returns the message's error for the body's error at an index.
+/// Returns the message's error for the error of the body of the entry at the index `place`.
 fn fault_at(place: usize, fault: BodyFault) -> MessageFault
     ensures { result ≡ message_fault place fault }
 {
@@ -126,7 +128,7 @@ fn fault_at(place: usize, fault: BodyFault) -> MessageFault
     }
 }
 
-/// Returns the update at an index: its ranges are checked, then its text is parsed.
+/// Returns the update of the entry at the index `place`: checks its ranges, then parses its text.
 fn read_at<P: Drop, E: Drop, B: Bodies<P, E>>(
     alloc: Global,
     bodies: &B,
@@ -147,7 +149,7 @@ fn read_at<P: Drop, E: Drop, B: Bodies<P, E>>(
     }
 }
 
-/// Returns the updates, parsed in turn, or the first error.
+/// Returns the updates of the entries, checked and parsed in turn, or the first error.
 fn read_all<P: Drop, E: Drop, B: Bodies<P, E>>(
     alloc: Global,
     bodies: &B,
@@ -173,23 +175,23 @@ fn read_all<P: Drop, E: Drop, B: Bodies<P, E>>(
     Ok(updates)
 }
 
-/// Reads a state or a delta of the schema with this label; returns its updates in their order, each text parsed.
+/// Parses a state or a delta of the schema with this label.
 ///
-/// Names may be in any order, and more than once. In version 1, each site's number is parsed as the site whose name is
-/// its five digits.
+/// Returns its updates in their order, each text parsed. Names may be in any order, and more than once. In version 1,
+/// each site's number is parsed as the site whose name is its five digits.
 ///
 /// # Errors
 ///
 /// The first of these, in this order; the message is then rejected whole:
 ///
 /// - `NotJson` (50): the bytes are not JSON.
-/// - `BadShape` (51): not an object with a whole-number `version`.
+/// - `BadShape` (51): there is no `version` that is an integer in unsigned 64 bits.
 /// - `Version` (53): the version is neither 1 nor 2.
-/// - `BadShape` (51): the rest of the shape, all entries included.
-/// - `OtherSchema` (52): the label is another one.
-/// - Then entry by entry: `CountRange` (54), the count is out of range; `BadEntry` (55), a policy's id does not have
-///   1 to 256 bytes, or the body is rejected, with the code of the inner error; `BodyOfOtherName` (56), the body is
-///   of another entity.
+/// - `BadShape` (51): the rest has another shape, entries included.
+/// - `OtherSchema` (52): the label is that of another schema.
+/// - Then entry by entry: `CountRange` (54), the count is 0 or over 10^18; `BadEntry` (55), a policy's id does not have
+///   1 to 256 bytes (19), or the body is rejected, with the code of the inner error; `BodyOfOtherName` (56), the body
+///   is of another entity.
 /// - `NoMemory` (1): an allocation failed; possible at any point.
 pub fn read_message<P: Drop, E: Drop, B: Bodies<P, E>>(
     alloc: Global,

@@ -1,4 +1,4 @@
-//! Reads the entries of a message; their ranges and texts are checked later.
+//! The parsing of a message's entries from JSON, before their ranges and texts are checked.
 ghost use Rattle.std.specs.Prelude.{◌≡◌, ◌||◌, map};
 ghost use Rattle.serde_json.specs.View.{view, items_view};
 ghost use Rattle.json_words.specs.ReadsAs.{ReadsAs};
@@ -17,14 +17,14 @@ use stamped_store::Stamp;
 use std::alloc::Global;
 use values::Name;
 
-/// An entry as stated: a name with a stamp, and a body that is nothing or a text.
+/// An entry as a message describes it: a name with a stamp, and a body that is a text, or `None` for a tombstone.
 #[derive(Drop)]
 pub struct ReadEntry {
     pub(crate) stamped: (Name, Stamp),
     pub(crate) body: Option<Text>,
 }
 
-/// Returns a body: a string, or nothing for null.
+/// Returns the body of an entry: a string, or `None` for null.
 #[tactic(auto, unfolding(crate::specs::Messages::body_in, crate::specs::Messages::text_in))]
 fn read_body(alloc: Global, value: &Value) -> Result<Option<Text>, MessageFault>
     ensures { ReadsAs MessageFault.NoMemory (λ b. b) result (body_in (view value.now)) }
@@ -38,6 +38,7 @@ fn read_body(alloc: Global, value: &Value) -> Result<Option<Text>, MessageFault>
     Ok(Some(Text::from_str(alloc, text)?))
 }
 
+/// Returns the entry that an object describes.
 #[tactic(auto, unfolding(crate::specs::Messages::entry_in, crate::specs::Messages::entry_by))]
 fn read_entry(
     alloc: Global,
@@ -57,6 +58,7 @@ fn read_entry(
     Ok(ReadEntry { stamped, body })
 }
 
+/// Returns the entries that the values describe, or the first error.
 fn read_each(
     alloc: Global,
     version: MessageVersion,
@@ -73,6 +75,7 @@ fn read_each(
     Ok(entries)
 }
 
+/// Returns the entries at the key `entries` of a message, or the first error.
 #[tactic(auto, unfolding(crate::specs::Messages::entries_in, crate::specs::Messages::entries_by))]
 fn read_entries(
     alloc: Global,
@@ -91,14 +94,14 @@ fn read_entries(
     read_each(alloc, version, list)
 }
 
-/// Returns whether a message of this kind has entries.
+/// Returns whether a message of this kind has entries: whether it is a state or a delta.
 fn is_kind(kind: &str) -> bool
     ensures { result ≡ names_kind kind.now }
 {
     kind == "state" || kind == "delta"
 }
 
-/// Returns the updates that a value states.
+/// Returns the entries of the message that a JSON value describes, or the first error.
 #[tactic(auto, unfolding(crate::specs::Messages::updates_in, crate::specs::Messages::updates_by))]
 fn read_value(alloc: Global, label: &str, value: &Value) -> Result<Vec<ReadEntry>, MessageFault>
     ensures { ReadsAs MessageFault.NoMemory (λ es. map stated_update es.items) result
@@ -124,8 +127,8 @@ fn read_value(alloc: Global, label: &str, value: &Value) -> Result<Vec<ReadEntry
     Ok(entries)
 }
 
-/// Returns the updates that bytes state under the schema with this label, in their order; or the first error before
-/// the checks of entries. The JSON is dropped before any text is parsed.
+/// Returns the entries that `bytes` describe for the schema with this label, in their order, or the first error of
+/// JSON, version, shape or label. The JSON value is dropped before any text is parsed.
 #[tactic(auto, unfolding(crate::specs::Messages::updates_stated))]
 pub(crate) fn read_stated(
     alloc: Global,

@@ -1,4 +1,4 @@
-//! Summaries: a per-name version vector of a store.
+//! Summaries: the version vector of a store, with a stamp for each name.
 ghost use Rattle.std.specs.Prelude.{◌≡◌, true};
 ghost use Rattle.message_format.specs.Summaries.{ascend};
 

@@ -1,4 +1,4 @@
-//! Theorems about summaries; their functions do nothing.
+//! Theorems about summaries as messages. The functions are no-ops.
 ghost use Rattle.std.specs.Prelude.{◌≡◌, true, Ok, List, ℕ};
 ghost use Rattle.std.specs.Str.{IsUtf8};
 ghost use Rattle.serde_json.specs.Data.{Data};
@@ -15,16 +15,16 @@ ghost use Rattle.message_format.specs.Summaries.{name_json, name_in, stamped_in,
 
 use entity_uids::names_read_back;
 use json_words::compact_texts_read_back;
-use stamped_store::laws::site_names_are_told;
+use stamped_store::laws::site_names_are_recognized;
 use values::paths_are_told;
 
-/// Proves the round trip of summaries.
+/// Proves the round trip of summaries. No-op.
 ///
 /// If the names and stamps of a summary are in their ranges and its names ascend, its JSON is parsed as that summary.
 /// The JSON of such a summary of version 1 is parsed as the summary in which five digits replace each site's number.
-/// A parsed summary has names and stamps in their ranges, and its names ascend. So do the names of a store's summary.
+/// A parsed summary has names and stamps in their ranges, and its names ascend. The names of a store's summary ascend.
 /// For a label in UTF-8, the text of a summary that may be written is parsed as that summary, and two such summaries
-/// with one text are equal. No-op.
+/// with one text are equal.
 pub fn summaries_read_back()
     ensures back { (label : List ℕ) (m : Summary) → AreStamped m → ascend m ≡ true
         → summary_in label (summary_json label m) ≡ Ok m }
@@ -40,15 +40,15 @@ pub fn summaries_read_back()
         → summary_text label m ≡ summary_text label n → m ≡ n }
 {
     paths_are_told();
-    site_names_are_told();
+    site_names_are_recognized();
     compact_texts_read_back();
     names_read_back();
 }
 
-/// Proves the round trip of names and stamps.
+/// Proves the round trip of names and stamps. No-op.
 ///
 /// The JSON of a name in its range is parsed as that name. A name and a stamp in their ranges pass [`judge_stamp`]'s
-/// checks; a name and a stamp that are parsed and pass them are in their ranges. No-op.
+/// checks. A name and a stamp that are parsed and pass these checks are in their ranges.
 pub fn stamps_read_back()
     ensures names { (n : Name) → IsName n → name_in (name_json n) ≡ Ok n }
     ensures judged { (place : ℕ) (u : Name × Stamp) → IsStamped u → judged place u ≡ Ok u }
@@ -56,6 +56,6 @@ pub fn stamps_read_back()
         → stamped_in version d ≡ Ok u → judged place u ≡ Ok v → IsStamped u }
 {
     paths_are_told();
-    site_names_are_told();
+    site_names_are_recognized();
     names_read_back();
 }

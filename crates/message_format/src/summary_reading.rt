@@ -1,4 +1,4 @@
-//! Reads a summary; the first error is returned.
+//! The parsing of a summary, and of the names and stamps in all messages.
 ghost use Rattle.std.specs.Prelude.{◌≡◌, true, IfOk};
 ghost use Rattle.std.specs.Ordering.{is_lt};
 ghost use Rattle.serde_json.specs.View.{view, items_view};
@@ -21,8 +21,7 @@ use stamped_store::{COUNT_MAX, SiteName, Stamp, is_site_name};
 use std::alloc::Global;
 use values::Name;
 
-/// Returns the whole number that an object has at a key, if it is an unsigned 64-bit number; else `BadShape`. Does
-/// not allocate.
+/// Returns the integer in unsigned 64 bits that an object has at a key; `BadShape` otherwise. Does not allocate.
 fn number_at(value: &Value, key: &str) -> Result<u64, MessageFault>
     ensures { AlwaysReadsAs (λ n. n) result (number_of key.now (view value.now)) }
 {
@@ -35,6 +34,7 @@ fn number_at(value: &Value, key: &str) -> Result<u64, MessageFault>
     }
 }
 
+/// Returns the name of a policy that an object describes.
 #[tactic(auto, unfolding(crate::specs::Summaries::policy_in))]
 fn read_policy(alloc: Global, value: &Value) -> Result<Name, MessageFault>
     ensures { ReadsAs MessageFault.NoMemory (λ n. n) result (policy_in (view value.now)) }
@@ -45,6 +45,7 @@ fn read_policy(alloc: Global, value: &Value) -> Result<Name, MessageFault>
     Ok(Name::Policy(Text::from_str(alloc, id)?))
 }
 
+/// Returns the name of an entity that an object describes.
 #[tactic(auto, unfolding(crate::specs::Summaries::entity_name_in))]
 fn read_entity(alloc: Global, value: &Value) -> Result<Name, MessageFault>
     ensures { ReadsAs MessageFault.NoMemory (λ n. n) result (entity_name_in (view value.now)) }
@@ -64,7 +65,7 @@ fn read_entity(alloc: Global, value: &Value) -> Result<Name, MessageFault>
     }
 }
 
-/// Returns the name that an object states.
+/// Returns the name that an object describes.
 #[tactic(auto, unfolding(crate::specs::Summaries::name_in))]
 fn read_name(alloc: Global, value: &Value) -> Result<Name, MessageFault>
     ensures { ReadsAs MessageFault.NoMemory (λ n. n) result (name_in (view value.now)) }
@@ -79,7 +80,7 @@ fn read_name(alloc: Global, value: &Value) -> Result<Name, MessageFault>
 ///
 /// # Errors
 ///
-/// - `BadShape` (51): there is no `version`, or it is not a whole number.
+/// - `BadShape` (51): there is no `version` that is an integer in unsigned 64 bits.
 /// - `Version` (53): it is neither 1 nor 2.
 #[tactic(auto, unfolding(crate::specs::Summaries::version_in))]
 pub fn read_version(value: &Value) -> Result<MessageVersion, MessageFault>
@@ -95,7 +96,7 @@ pub fn read_version(value: &Value) -> Result<MessageVersion, MessageFault>
     Err(MessageFault::Version)
 }
 
-/// Returns the number of a site, from 1 to 65,535.
+/// Returns the number of a site that an object has, from 1 to 65,535.
 #[tactic(auto, unfolding(crate::specs::Summaries::numbered_in))]
 fn read_number(value: &Value) -> Result<u16, MessageFault>
     ensures { AlwaysReadsAs (λ n. n) result (numbered_in (view value.now)) }
@@ -107,7 +108,7 @@ fn read_number(value: &Value) -> Result<u16, MessageFault>
     Ok(site as u16)
 }
 
-/// Returns the site whose number an object states.
+/// Returns the site whose number an object has: its name is the five digits of the number.
 #[tactic(auto, unfolding(crate::specs::Summaries::raised_in))]
 fn read_numbered(value: &Value) -> Result<SiteName, MessageFault>
     ensures { AlwaysReadsAs (λ n. n) result (raised_in (view value.now)) }
@@ -116,7 +117,7 @@ fn read_numbered(value: &Value) -> Result<SiteName, MessageFault>
     Ok(SiteName::from_number(number))
 }
 
-/// Returns the site whose name an object states.
+/// Returns the site whose name an object has.
 #[tactic(auto, unfolding(crate::specs::Summaries::named_in))]
 fn read_named(value: &Value) -> Result<SiteName, MessageFault>
     ensures { AlwaysReadsAs (λ n. n) result (named_in (view value.now)) }
@@ -130,7 +131,7 @@ fn read_named(value: &Value) -> Result<SiteName, MessageFault>
     Ok(SiteName::new(site))
 }
 
-/// Returns the site that an object states, in the form of the message's version.
+/// Returns the site that an object has, in the form of the message's version.
 fn read_site(version: MessageVersion, value: &Value) -> Result<SiteName, MessageFault>
     ensures { AlwaysReadsAs (λ n. n) result (site_in version (view value.now)) }
 {
@@ -140,15 +141,15 @@ fn read_site(version: MessageVersion, value: &Value) -> Result<SiteName, Message
     }
 }
 
-/// Returns the name and the stamp that an object states at its keys `count`, `name` and `site`; other keys are
-/// ignored.
+/// Returns the name and the stamp that an object has at its keys `count`, `name` and `site`, and ignores other keys.
 ///
-/// A count is an unsigned 64-bit number, a name a policy's id or an entity's uid. In version 1 a site is a number
+/// A count is an integer in unsigned 64 bits, a name a policy's id or an entity's uid. In version 1 a site is a number
 /// from 1 to 65,535, whose five digits are the site's name; in version 2 it is its name.
 ///
 /// # Errors
 ///
-/// `BadShape` (51) for any other value, or `NoMemory` (1).
+/// - `BadShape` (51): a key is missing, or has another value.
+/// - `NoMemory` (1): an allocation failed; possible at any point.
 #[tactic(auto, unfolding(crate::specs::Summaries::stamped_in, crate::specs::Summaries::stamped_by))]
 pub fn read_stamped(
     alloc: Global,
@@ -167,7 +168,7 @@ pub fn read_stamped(
     Ok((name, stamp))
 }
 
-/// Returns a name with its stamp, of an object with no other keys.
+/// Returns the name and the stamp that an object has; other keys are an error.
 #[tactic(auto, unfolding(crate::specs::Summaries::stamp_in))]
 fn read_stamp(
     alloc: Global,
@@ -182,6 +183,7 @@ fn read_stamp(
     read_stamped(alloc, version, value)
 }
 
+/// Returns the names and stamps that the values describe, or the first error.
 fn read_each(
     alloc: Global,
     version: MessageVersion,
@@ -204,7 +206,7 @@ fn comes_before(first: &Name, second: &Name) -> bool
     first.cmp(second).is_lt()
 }
 
-/// Returns whether the names ascend strictly.
+/// Returns whether the names of the stamps ascend strictly.
 fn ascend(stamps: &[(Name, Stamp)]) -> bool
     ensures { result ≡ ascends stamps.now }
 {
@@ -216,7 +218,7 @@ fn ascend(stamps: &[(Name, Stamp)]) -> bool
     true
 }
 
-/// Returns the stamps of a summary, whose names ascend.
+/// Returns the names and stamps of a summary; names that do not ascend strictly are an error.
 #[tactic(auto, unfolding(crate::specs::Summaries::stamps_in))]
 fn read_stamps(
     alloc: Global,
@@ -239,7 +241,7 @@ fn read_stamps(
     Ok(stamps)
 }
 
-/// Returns whether a policy's id has 1 to 256 bytes.
+/// Returns whether a name is an entity's uid, or a policy's id of 1 to 256 bytes.
 fn has_id(name: &Name) -> bool
     ensures { result ≡ has_id name.now }
 {
@@ -249,12 +251,14 @@ fn has_id(name: &Name) -> bool
     }
 }
 
-/// Checks the ranges of the name and the stamp at an index. Does not allocate.
+/// Checks the ranges of the name and the stamp at the index `place`. Does not allocate.
 ///
 /// # Errors
 ///
+/// In this order:
+///
 /// - `CountRange` (54): the count is not from 1 to 10^18.
-/// - `BadEntry` (55), with code 19: a policy's id does not have 1 to 256 bytes.
+/// - `BadEntry` (55), with code 19 within: a policy's id does not have 1 to 256 bytes.
 #[tactic(auto, unfolding(crate::specs::Summaries::judged))]
 pub fn judge_stamp(place: usize, stamp: &(Name, Stamp)) -> Result<(), MessageFault>
     ensures { AlwaysReadsAs (λ u. stamp.now) result (judged place stamp.now) }
@@ -268,6 +272,7 @@ pub fn judge_stamp(place: usize, stamp: &(Name, Stamp)) -> Result<(), MessageFau
     Ok(())
 }
 
+/// Checks the ranges of each name and stamp in turn. Returns the first error.
 fn judge_all(stamps: &[(Name, Stamp)]) -> Result<(), MessageFault>
     ensures { ReadsAs MessageFault.NoMemory (λ u. stamps.now) result (each judged 0 stamps.now) }
 {
@@ -277,7 +282,7 @@ fn judge_all(stamps: &[(Name, Stamp)]) -> Result<(), MessageFault>
     Ok(())
 }
 
-/// Returns the summary that a value states.
+/// Returns the summary that a JSON value describes, or the first error.
 #[tactic(auto, unfolding(crate::specs::Summaries::summary_in))]
 fn read_summary_value(alloc: Global, label: &str, value: &Value) -> Result<Summary, MessageFault>
     ensures { ReadsAs MessageFault.NoMemory (λ m. m) result (summary_in label.now (view value.now)) }
@@ -303,20 +308,21 @@ fn read_summary_value(alloc: Global, label: &str, value: &Value) -> Result<Summa
     Ok(Summary { stamps })
 }
 
-/// Reads a summary of the schema with this label. In version 1, each site's number is parsed as the site whose name is
-/// its five digits.
+/// Parses a summary of the schema with this label.
+///
+/// In version 1, each site's number is parsed as the site whose name is its five digits.
 ///
 /// # Errors
 ///
 /// The first of these, in this order:
 ///
 /// - `NotJson` (50): the bytes are not JSON.
-/// - `BadShape` (51): not an object with a whole-number `version`.
+/// - `BadShape` (51): there is no `version` that is an integer in unsigned 64 bits.
 /// - `Version` (53): the version is neither 1 nor 2.
-/// - `BadShape` (51): the rest of the shape, all stamps and the order of their names included.
-/// - `OtherSchema` (52): the label is another one.
-/// - Then stamp by stamp: `CountRange` (54), the count is out of range; `BadEntry` (55), with code 19, a policy's id
-///   does not have 1 to 256 bytes.
+/// - `BadShape` (51): the rest has another shape, stamps included, or the names do not ascend strictly.
+/// - `OtherSchema` (52): the label is that of another schema.
+/// - Then stamp by stamp: `CountRange` (54), the count is 0 or over 10^18; `BadEntry` (55), with code 19 within, a
+///   policy's id does not have 1 to 256 bytes.
 /// - `NoMemory` (1): an allocation failed; possible at any point.
 #[tactic(auto, unfolding(crate::specs::Summaries::summary_stated))]
 pub fn read_summary(alloc: Global, label: &str, bytes: &[u8]) -> Result<Summary, MessageFault>

@@ -1,4 +1,4 @@
-//! Writes a summary.
+//! The writing of a summary.
 ghost use Rattle.std.specs.Prelude.{◌≡◌, IfOk, OnOk, Ok, map};
 ghost use Rattle.serde_json.specs.Data.{array};
 ghost use Rattle.serde_json.specs.View.{items_of};
@@ -16,6 +16,7 @@ use stamped_store::{Entry, Stamp, StampedStore};
 use std::alloc::Global;
 use std::collections::btree_map::Iter;
 
+/// Writes a name with its stamp.
 fn write_stamp<N: Lent>(out: &mut Writer, name: &N, stamp: Stamp) -> Result<(), NoMemory>
     ensures { OnOk result (AppendsValue out.old out.new (stamp_json (N.named name.now, stamp))) }
 {
@@ -26,7 +27,7 @@ fn write_stamp<N: Lent>(out: &mut Writer, name: &N, stamp: Stamp) -> Result<(), 
     out.end_object()
 }
 
-/// Writes the stamps of these entries, in their order.
+/// Writes the names and stamps of these entries, in their order.
 fn write_each<N: Lent + Drop, P: Drop>(
     out: &mut Writer,
     entries: Iter<'_, N, Entry<P>>,
@@ -39,7 +40,7 @@ fn write_each<N: Lent + Drop, P: Drop>(
     Ok(())
 }
 
-/// Writes the stamps of a store in the order of the names: policies, then entities.
+/// Writes the names and stamps of a store as an array, in the order of the names: policies, then entities.
 fn write_stamps<P: Drop, E: Drop>(
     out: &mut Writer,
     store: &StampedStore<P, E>,
@@ -53,6 +54,7 @@ fn write_stamps<P: Drop, E: Drop>(
     out.end_array()
 }
 
+/// Writes the summary of a store as an object.
 fn write_whole<P: Drop, E: Drop>(
     out: &mut Writer,
     label: &str,
@@ -72,12 +74,12 @@ fn write_whole<P: Drop, E: Drop>(
 
 /// Returns the summary of a store, as a message of the schema with this label: compact, keys and names ascending.
 ///
-/// If each name and stamp is in its range, the message is read back as the summary that it was written from.
-/// Allocates only the bytes returned: they are written directly from the store.
+/// If each name and stamp is in its range, the message is parsed as the summary that it was written from. Allocates
+/// only the returned bytes.
 ///
 /// # Errors
 ///
-/// `NoMemory` alone.
+/// - `NoMemory`: an allocation failed.
 pub fn write_summary<P: Drop, E: Drop>(
     alloc: Global,
     label: &str,

@@ -3,9 +3,9 @@ use plain::Text;
 use stamped_store::Entry;
 use values::EntityUid;
 
-/// An update that was read from a message: a name with an entry, whose body holds the text and its parsed form.
+/// An update that was parsed from a message: a name with an entry, whose body holds the text and its parsed value.
 ///
-/// A store applies it without parsing the text again; the id of a policy gives its `String` without an allocation.
+/// A store applies it without parsing the text again, and converts a policy's id to a `String` without an allocation.
 #[derive(Drop)]
 pub enum Update<P, E> {
     /// An update of a policy.

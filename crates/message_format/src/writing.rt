@@ -1,4 +1,4 @@
-//! Writes a state or a delta.
+//! The writing of states and deltas.
 ghost use Rattle.std.specs.Prelude.{◌≡◌, [], true, Some, Ok, IfOk, OnOk, codes, map};
 ghost use Rattle.serde_json.specs.Data.{array};
 ghost use Rattle.serde_json.specs.View.{items_of};
@@ -15,7 +15,7 @@ ghost use Rattle.message_format.specs.Messages.{body_json, entry_json, message_j
 ghost use Rattle.message_format.specs.Messages.{delta_json, delta_text, updates_stated};
 ghost use Rattle.message_format.specs.Updates.{AreInRange};
 ghost use Rattle.message_format.specs.inner.Walking.{IsFrom, IsWalked};
-ghost use Rattle.message_format.specs.inner.Writing.{news_by};
+ghost use Rattle.message_format.specs.inner.Writing.{missing_json_by};
 
 use crate::laws::messages_read_back;
 use crate::members::{Lent, write_number, write_text};
@@ -28,7 +28,7 @@ use std::cmp::Ordering;
 use std::collections::btree_map::Iter;
 use values::Name;
 
-/// Writes the member `body`: a string, or null.
+/// Writes the member `body` of an entry: a string, or null for a tombstone.
 fn write_body<P>(out: &mut Writer, body: &Option<ReadText<P>>) -> Result<(), NoMemory>
     ensures { OnOk result (AppendsMember out.old out.new (codes "body") (body_json (body_bytes body.now))) }
 {
@@ -41,6 +41,7 @@ fn write_body<P>(out: &mut Writer, body: &Option<ReadText<P>>) -> Result<(), NoM
     }
 }
 
+/// Writes an entry with its name as an object.
 fn write_entry<N: Lent, P>(out: &mut Writer, name: &N, entry: &Entry<P>) -> Result<(), NoMemory>
     ensures { OnOk result (AppendsValue out.old out.new (entry_json (N.named name.now, plain_entry entry.now))) }
 {
@@ -52,7 +53,7 @@ fn write_entry<N: Lent, P>(out: &mut Writer, name: &N, entry: &Entry<P>) -> Resu
     out.end_object()
 }
 
-/// Returns the rest of ascending stamps from a name on, and the stamp of this name.
+/// Returns the stamps of `known`, whose names ascend, from `name` on, and the stamp of `name` if it has one.
 fn from_name<'a, N: Lent>(
     known: &'a [(Name, Stamp)],
     name: &N,
@@ -82,14 +83,15 @@ fn is_unseen<P>(known: Option<Stamp>, entry: &Entry<P>) -> bool
     }
 }
 
-/// Writes an entry if it is missing where this stamp is known.
-fn push_news<N: Lent, P>(
+/// Writes an entry if a summary lacks its name or has it with a smaller stamp; `known` is its stamp there.
+fn push_missing<N: Lent, P>(
     out: &mut Writer,
     known: Option<Stamp>,
     name: &N,
     entry: &Entry<P>,
 ) -> Result<(), NoMemory>
-    ensures { OnOk result (AppendsAll out.old out.new (news_by known (N.named name.now, plain_entry entry.now))) }
+    ensures { OnOk result
+        (AppendsAll out.old out.new (missing_json_by known (N.named name.now, plain_entry entry.now))) }
 {
     if !is_unseen(known, entry) {
         return Ok(());
@@ -97,8 +99,8 @@ fn push_news<N: Lent, P>(
     write_entry(out, name, entry)
 }
 
-/// Writes those of ascending entries that the stamps lack or have smaller; returns the rest of the stamps after their
-/// names.
+/// Writes those of the entries, whose names ascend, whose names `known` lacks or has with a smaller stamp. Returns the
+/// stamps of `known` from the last name on.
 fn push_all<'a, N: Lent + Drop, P: Drop>(
     out: &mut Writer,
     entries: Iter<'_, N, Entry<P>>,
@@ -113,13 +115,13 @@ fn push_all<'a, N: Lent + Drop, P: Drop>(
     for (name, entry) in entries {
         let (from, stamp) = from_name(left, name);
         left = from;
-        push_news(out, stamp, name, entry)?;
+        push_missing(out, stamp, name, entry)?;
     }
     Ok(left)
 }
 
-/// Writes the entries of a store that the stamps lack or have smaller, in the order of the names: one walk over the
-/// names of both.
+/// Writes the entries of a store whose names `known` lacks or has with a smaller stamp as an array, in the order of the
+/// names. Takes one walk over the names of both.
 fn write_entries<P: Drop, E: Drop>(
     out: &mut Writer,
     store: &StampedStore<P, E>,
@@ -135,6 +137,7 @@ fn write_entries<P: Drop, E: Drop>(
     out.end_array()
 }
 
+/// Writes the state or delta as an object.
 fn write_whole<P: Drop, E: Drop>(
     out: &mut Writer,
     kind: &str,
@@ -155,7 +158,7 @@ fn write_whole<P: Drop, E: Drop>(
     out.end_object()
 }
 
-/// Returns the message as bytes.
+/// Returns the state or delta as bytes: the entries of the store whose names `known` lacks or has with a smaller stamp.
 fn write_message<P: Drop, E: Drop>(
     alloc: Global,
     kind: &str,
@@ -176,12 +179,12 @@ fn write_message<P: Drop, E: Drop>(
 
 /// Returns a whole store, as a state of the schema with this label: compact, keys and names ascending.
 ///
-/// If each name and stamp is in its range, the message is read back as the updates that it was written from.
-/// Allocates only the bytes returned: they are written directly from the store.
+/// If each name and stamp is in its range, the message is parsed as the updates that it was written from. Allocates
+/// only the returned bytes.
 ///
 /// # Errors
 ///
-/// `NoMemory` alone.
+/// - `NoMemory`: an allocation failed.
 pub fn write_state<P: Drop, E: Drop>(
     alloc: Global,
     label: &str,
@@ -198,12 +201,12 @@ pub fn write_state<P: Drop, E: Drop>(
 
 /// Returns a delta of the schema with this label: the entries whose names `since` lacks or has with a smaller stamp.
 ///
-/// It is written, and read back, as [`write_state`] does. One walk over the names of both; allocates only the bytes
-/// returned.
+/// The text has the form of [`write_state`]'s, and is parsed likewise. Takes one walk over the names of both. Allocates
+/// only the returned bytes.
 ///
 /// # Errors
 ///
-/// `NoMemory` alone.
+/// - `NoMemory`: an allocation failed.
 pub fn write_delta<P: Drop, E: Drop>(
     alloc: Global,
     label: &str,

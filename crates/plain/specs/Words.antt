@@ -5,13 +5,14 @@ use Prim.Native.Char.{code}
 use Rattle.std.specs.Prelude.{◌≡◌, ℕ, suc, Bool, true, ◌&&◌, ◌||◌, ◌==◌, nat_le, if◌then◌else◌, List, [], ◌∷◌, ◌++◌}
 use Rattle.std.specs.Prelude.{Contains, codes}
 
--- `is_letter c` tests for `_` or an ASCII letter.
+-- `is_letter c` tests whether the byte `c` is `_` or an ASCII letter.
 unfoldable pub is_letter : ℕ → Bool
 is_letter c =
     (c == code "_") || ((nat_le (code "a") c && nat_le c (code "z"))
     || (nat_le (code "A") c && nat_le c (code "Z")))
 
--- `is_digit c` tests for an ASCII digit, and `is_word_byte c` for a letter or a digit.
+-- `is_digit c` tests whether the byte `c` is an ASCII digit, and `is_word_byte c` whether it is `_`, an ASCII letter or
+-- an ASCII digit.
 unfoldable pub is_digit : ℕ → Bool
 is_digit c = nat_le (code "0") c && nat_le c (code "9")
 
@@ -28,12 +29,12 @@ abbrev pub run : (ℕ → Bool) → List ℕ → ℕ
 run p [] = 0
 run p (c ∷ cs) = if p c then suc (run p cs) else 0
 
--- `IsWord cs` holds if `cs` is a letter, followed by letters and digits.
+-- `IsWord cs` holds if `cs` is a letter or `_`, followed by letters, `_` and digits.
 abbrev pub IsWord : List ℕ → Type 0
 IsWord [] = ⊥
 IsWord (c ∷ cs) = (is_letter c ≡ true) × AllAre is_word_byte cs
 
--- `reserved_words` are the words that are not identifiers.
+-- `reserved_words` lists the words that are not identifiers.
 abbrev pub reserved_words : List (List ℕ)
 reserved_words = codes "true" ∷ codes "false" ∷ codes "if" ∷ codes "then" ∷ codes "else" ∷ codes "in" ∷ codes "is"
     ∷ codes "like" ∷ codes "has" ∷ codes "__cedar" ∷ []

@@ -1,4 +1,4 @@
-//! Values in a box.
+//! Values in a `Box`.
 ghost use Rattle.std.specs.Prelude.{◌≡◌, IfOk};
 
 use crate::NoMemory;
@@ -6,7 +6,7 @@ use std::alloc::Global;
 use std::cmp::Ordering;
 use std::marker::Model;
 
-/// A value in a box, which contracts see as the value.
+/// A value in a `Box`, which contracts see as the value itself.
 #[derive(Drop)]
 pub struct Boxed<T> {
     owner: Box<T>,

@@ -1,9 +1,10 @@
-//! A value held across a call that may fail.
+//! Functions that keep a value while another is computed, which may fail.
 ghost use Rattle.std.specs.Prelude.{◌≡◌, IfOk, IfErr, Ok, Err};
 
-/// Returns a value together with a result that was computed while it was held; or the error, and drops the value.
+/// Returns `kept` with the value of `made`, or drops `kept` and returns the error of `made`.
 ///
-/// Generic, so that the drop is one step of a caller's proof, and not one for each variant of the value.
+/// The function is generic, so that dropping `kept` is one step of the caller's proof, and not one for each variant of
+/// its type.
 pub fn beside<T: Drop, U, E>(kept: T, made: Result<U, E>) -> Result<(T, U), E>
     ensures made { IfOk result (λ both. made ≡ Ok both.1) }
     ensures kept { IfOk result (λ both. both.0 ≡ kept) }
@@ -15,9 +16,9 @@ pub fn beside<T: Drop, U, E>(kept: T, made: Result<U, E>) -> Result<(T, U), E>
     }
 }
 
-/// Returns both values, or the first error.
+/// Returns the values of two results; or the error of `first`, if it has one, else that of `second`.
 ///
-/// Generic for the same reason as [`beside`].
+/// The function is generic for the same reason as [`beside`].
 pub fn both<A: Drop, B: Drop, E: Drop>(
     first: Result<A, E>,
     second: Result<B, E>,

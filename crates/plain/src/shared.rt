@@ -1,4 +1,4 @@
-//! Shared values.
+//! Values that several owners share.
 ghost use Rattle.std.specs.Prelude.{◌≡◌, IfOk};
 
 use crate::NoMemory;
@@ -41,8 +41,11 @@ impl<T: Drop> Shared<T> {
         Ok(Shared { owner })
     }
 
-    /// Returns one more reference to the value, without allocating. `NoMemory` only if the count of references would
-    /// exceed 2^64 - 1.
+    /// Returns one more reference to the value. Does not allocate.
+    ///
+    /// # Errors
+    ///
+    /// - `NoMemory`: the count of references would exceed 2^64 - 1.
     pub fn share(&self) -> Result<Shared<T>, NoMemory>
         ensures { IfOk result (λ s. s ≡ self.now) }
     {

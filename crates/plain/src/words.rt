@@ -1,4 +1,5 @@
-//! The bytes of words and numbers of the policy language, and the lengths of prefixes made of them.
+//! Tests of the bytes of words and numbers of the policy language, and lengths of the runs of such bytes that texts
+//! begin with.
 ghost use Rattle.std.specs.Prelude.{◌≡◌, ◌≤◌, length};
 ghost use Rattle.plain.specs.Words.{is_letter, is_digit, is_word_byte, run};
 
@@ -29,14 +30,14 @@ static WORD_BYTES: [u8; 256] = *b"\
     ::::::::::::::::::::::::::::::::\
     ::::::::::::::::::::::::::::::::";
 
-/// Returns whether a word may contain this byte. One look-up in a table, since most bytes of a text are tested.
+/// Returns whether a word may contain this byte. This is one look-up in a table, since most bytes of a text are tested.
 fn word_byte(byte: u8) -> bool
     ensures { result ≡ is_word_byte byte }
 {
     WORD_BYTES[byte as usize] != b':'
 }
 
-/// Returns the number of leading bytes of a word.
+/// Returns the number of bytes at the beginning of `text` that a word may contain. The first of them may be a digit.
 pub fn word_len(text: &[u8]) -> usize
     ensures is { result ≡ run is_word_byte text.now }
     ensures within { result ≤ length text.now }
@@ -51,7 +52,7 @@ pub fn word_len(text: &[u8]) -> usize
     len
 }
 
-/// Returns the number of leading digits.
+/// Returns the number of ASCII digits at the beginning of `text`.
 pub fn digits_len(text: &[u8]) -> usize
     ensures is { result ≡ run is_digit text.now }
     ensures within { result ≤ length text.now }

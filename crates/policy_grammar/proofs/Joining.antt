@@ -4,30 +4,21 @@ use Rattle.std.proofs.Common.{arith}
 use Rattle.std.proofs.lemmas.List.{append-nil, length-drop}
 use Rattle.std.specs.List.{AllByRecursion, flat_map}
 use Rattle.grammar_core.specs.declared.leaf.Literal.TheVariants as literal
-use Rattle.grammar_core.specs.declared.operator.Unary.TheVariants.{Not}
 use Rattle.grammar_core.specs.declared.expr.Expr.{Expr}
 use Rattle.grammar_core.specs.declared.expr.Expr.TheVariants as core
 use Rattle.grammar_policies.specs.declared.tree.Condition.{Condition}
-use Rattle.grammar_policies.specs.declared.tree.ConditionWord.{ConditionWord}
-use Rattle.grammar_policies.specs.declared.tree.ConditionWord.TheVariants as word
 use Rattle.grammar_policies.specs.declared.tree.PolicyTree.{PolicyTree}
 use Rattle.grammar_policies.specs.WellFormed.{WellFormedCondition}
-use Rattle.grammar_desugaring.specs.declared.fault.DesugarFault.{DesugarFault}
 use Rattle.grammar_desugaring.specs.declared.measure.Measure.{Measure}
 use Rattle.grammar_desugaring.specs.Faults.{faults_of}
 use Rattle.grammar_desugaring.specs.Measured.{of}
 use Rattle.grammar_desugaring.specs.BuiltFrom.{IsBuiltFrom}
-use Rattle.grammar_desugaring.specs.Sums.{leaf, paired, LiteralIsLeaf, UnaryIsAbove, AndIsPaired}
+use Rattle.grammar_desugaring.specs.Sums.{leaf, paired, LiteralIsLeaf, AndIsPaired}
 use Rattle.policy_grammar.proofs.Lists.{all-at, next, none-left, none-right}
 use Rattle.policy_grammar.specs.Whole.{truth}
-use Rattle.policy_grammar.specs.Conditions.{asked_by, condition_of, conditions_of, condition_faults}
+use Rattle.policy_grammar.specs.Conditions.{condition_of, conditions_of, condition_faults}
 use Rattle.policy_grammar.specs.PolicyText.{tree_faults}
-use Rattle.policy_grammar.specs.inner.Parts.{judged_by, AreSound}
-
--- what is told of an expression behind a word
-pub judged-asked : UnaryIsAbove → (w : ConditionWord) (e : Expr) (fs : List DesugarFault) → of (asked_by w e) fs ≡ judged_by w (of e fs)
-judged-asked unary word.When e fs = refl
-judged-asked unary word.Unless e fs = unary Not e fs
+use Rattle.policy_grammar.specs.inner.Parts.{AreSound}
 
 -- what is told of conditions
 abbrev pub judged_from : List ℕ → List Condition → Measure

@@ -12,6 +12,7 @@ pub mod Cores
 pub mod Readings
 pub mod Differing
 pub mod Answering
+mod Unescaped
 -- crates below, passed on to those above
 pub use Rattle.grammar_desugaring.proofs as of_grammar_desugaring
 pub use Rattle.grammar_desugaring.proofs.of_grammar_tokens

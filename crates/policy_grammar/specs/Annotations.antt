@@ -6,7 +6,7 @@ use Rattle.grammar_policies.specs.declared.tree.Annotation.{Annotation}
 use Rattle.grammar_policies.specs.declared.tree.PolicyTree.{PolicyTree}
 use Rattle.grammar_desugaring.specs.Repeats.{NameAt}
 
--- `key_at text annotation` is the key of `annotation`, at the byte of its `@`.
+-- `key_at text annotation` is the key of `annotation`, with the offset of its `@`.
 abbrev pub key_at : List ℕ → Annotation → NameAt
 key_at text annotation = record { name = spelling_of text annotation.key; at = annotation.at.start }
 

@@ -1,7 +1,8 @@
 -- Defines the core expression of a policy's conditions, and their errors.
 -- Source: Cedar reference guide 4.0, "Basic policy construction" (conditions); cedar-spec,
 -- cedar-lean/Cedar/Spec/Policy.lean (`Condition.toExpr`).
--- Rules of this product: conditions are joined to the right, and no conditions are `true`.
+-- Rules of this product: conditions are joined by `&&`, grouped to the right; without conditions the expression is
+-- `true`.
 use Rattle.std.specs.Prelude.{ℕ, List, [], ◌∷◌, map}
 use Rattle.std.specs.List.{flat_map}
 use Rattle.grammar_core.specs.declared.operator.Unary.TheVariants.{Not}
@@ -15,7 +16,8 @@ use Rattle.grammar_desugaring.specs.Core.{core_of}
 use Rattle.grammar_desugaring.specs.Faults.{faults_of}
 use Rattle.policy_grammar.specs.Whole.{truth}
 
--- `asked_by word e` is `e` for `when { e }`, and `!e` for `unless { e }`.
+-- `asked_by word e` is the expression that the keyword `word` makes of `e`: `e` for `when { e }`, and `!e` for `unless
+-- { e }`.
 abbrev pub asked_by : ConditionWord → Expr → Expr
 asked_by word.When e = e
 asked_by word.Unless e = core.Unary Not e
@@ -24,7 +26,7 @@ asked_by word.Unless e = core.Unary Not e
 abbrev pub condition_of : List ℕ → Condition → Expr
 condition_of text c = asked_by c.word (core_of text c.expression)
 
--- `joined es` is the conjunction of `es`, to the right: `e && (f && ..)`.
+-- `joined es` is the conjunction of `es`, grouped to the right: `e && (f && ..)`; it is `true` if `es` is empty.
 abbrev pub joined : List Expr → Expr
 joined [] = truth
 joined (e ∷ []) = e
@@ -34,6 +36,6 @@ joined (e ∷ (f ∷ es)) = core.And e (joined (f ∷ es))
 abbrev pub conditions_of : List ℕ → List Condition → Expr
 conditions_of text conditions = joined (map (condition_of text) conditions)
 
--- `condition_faults text conditions` are the errors of a policy's conditions.
+-- `condition_faults text conditions` are the errors of a policy's conditions, in order.
 abbrev pub condition_faults : List ℕ → List Condition → List DesugarFault
 condition_faults text = flat_map (λ c. faults_of text c.expression)

@@ -1,7 +1,7 @@
--- Defines the policy of a syntax tree, with the text that has its tokens.
+-- Defines the policy of a syntax tree, and its name, over the text that the tree's tokens are in.
 -- Source: Cedar reference guide 4.0, "Basic policy construction": effect, scope, conditions and annotations; "Grammar
--- specification for Cedar policy syntax". That a policy is named by its `@id` follows the Cedar command line; the
--- names of the others are a rule of this product.
+-- specification for Cedar policy syntax". That a policy is named by its `@id` follows the Cedar command line; the names
+-- of policies without one are a rule of this product.
 use Rattle.std.specs.Prelude.{◌≡◌, ℕ, Bool, List, [], ◌++◌, Option, Some, None, codes, find}
 use Rattle.std.specs.List.{AllZip, enumerate_from}
 use Rattle.std.specs.Fmt.{decimal}
@@ -37,7 +37,7 @@ IsUidOf text tree uid = uid ≡ uid_of text tree
 abbrev pub AreUidsOf : List ℕ → List UidTree → List EntityUid → Type 0
 AreUidsOf text = AllZip (IsUidOf text)
 
--- `IsEntityScopeOf text part scope` holds if `scope` is the condition of the tree `part` on the principal or the
+-- `IsEntityScopeOf text part scope` holds if `scope` is the condition that the tree `part` sets on the principal or the
 -- resource.
 abbrev pub IsEntityScopeOf : List ℕ → PartTree → EntityScope → Type 0
 IsEntityScopeOf text part.Any entity.Any = Unit {0}
@@ -47,7 +47,7 @@ IsEntityScopeOf text (part.Is path) (entity.Is name) = name ≡ path_name text p
 IsEntityScopeOf text (part.IsIn path tree) (entity.IsIn name uid) = (name ≡ path_name text path) × IsUidOf text tree uid
 IsEntityScopeOf text _ _ = ⊥
 
--- `IsActionScopeOf text tree scope` holds if `scope` is the condition of `tree` on the action.
+-- `IsActionScopeOf text tree scope` holds if `scope` is the condition that `tree` sets on the action.
 abbrev pub IsActionScopeOf : List ℕ → ActionTree → ActionScope → Type 0
 IsActionScopeOf text action.Any actions.Any = Unit {0}
 IsActionScopeOf text (action.Equal tree) (actions.Equal uid) = IsUidOf text tree uid
@@ -60,7 +60,7 @@ abbrev pub effect_word : Effect → TokenKind
 effect_word Permit = k.Permit
 effect_word Forbid = k.Forbid
 
--- `IsCoreOf text tree policy` holds if `policy` is the policy of `tree`; annotations do not matter.
+-- `IsCoreOf text tree policy` holds if `policy` is the policy of `tree`, whose annotations do not matter.
 pub record IsCoreOf (text : List ℕ) (tree : PolicyTree) (policy : Policy) : Type 0 where
   pub effect : tree.effect.kind ≡ effect_word policy.effect
   pub principal : IsEntityScopeOf text tree.principal policy.scope.principal
@@ -68,8 +68,8 @@ pub record IsCoreOf (text : List ℕ) (tree : PolicyTree) (policy : Policy) : Ty
   pub resource : IsEntityScopeOf text tree.resource policy.scope.resource
   pub condition : policy.condition ≡ conditions_of text tree.conditions
 
--- `IsValueOf text token value` holds if `value` is the decoded string `token` of an annotation, empty if there is
--- none.
+-- `IsValueOf text token value` holds if `value` is the value of an annotation: that of the string `token`, or the empty
+-- string without a token.
 abbrev pub IsValueOf : List ℕ → Option Token → List ℕ → Type 0
 IsValueOf text None value = value ≡ []
 IsValueOf text (Some token) value = IsStringOf value (spelling_of text token)
@@ -78,14 +78,14 @@ IsValueOf text (Some token) value = IsStringOf value (spelling_of text token)
 abbrev pub is_id : List ℕ → Annotation → Bool
 is_id text annotation = bytes_eq (spelling_of text annotation.key) (codes "id")
 
--- `IsNameBy text place id name` holds if `name` is the value of the annotation `id`, or for `None` `policy` with the
--- index `place`, counted from 0.
+-- `IsNameBy text place id name` holds if `name` is the value of the annotation `id`; or, where `id` is `None`, if
+-- `name` is `policy` followed by the index `place` in decimal.
 abbrev pub IsNameBy : List ℕ → ℕ → Option Annotation → List ℕ → Type 0
 IsNameBy text place None name = name ≡ codes "policy" ++ decimal place
 IsNameBy text place (Some annotation) name = IsValueOf text annotation.value name
 
--- `IsNameOf text place tree name` holds if `name` is the name of the policy `tree` at index `place`: by its first
--- `@id`, else by index.
+-- `IsNameOf text place tree name` holds if `name` is the name of the policy `tree` at the index `place`, counted from
+-- 0: by its first `@id`, or by its index if it has none.
 abbrev pub IsNameOf : List ℕ → ℕ → PolicyTree → List ℕ → Type 0
 IsNameOf text place tree name = IsNameBy text place (find (is_id text) tree.annotations) name
 

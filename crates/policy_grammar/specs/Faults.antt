@@ -43,7 +43,7 @@ abbrev pub of_lexing : LexFault → ReadFault
 of_lexing lex.NoMemory = NoMemory
 of_lexing (lex.BadToken at) = BadToken at
 
--- `of_desugaring f` is the parser's error for the error `f` of a condition, or of a duplicate.
+-- `of_desugaring f` is the parser's error for `f`, an error of a condition or of a repeated name.
 abbrev pub of_desugaring : DesugarFault → ReadFault
 of_desugaring (desugar.NumberRange at) = NumberRange at
 of_desugaring (desugar.UnknownCall at) = UnknownCall at

@@ -1,6 +1,6 @@
 -- Defines the limits on the size of a policy.
--- Rules of this product: the core expression of a policy is at most 1,000 high and has at most 1,000,000 nodes, a
--- policy's id has 1 to 256 bytes, a policy text at most 262,144 bytes, a file 8,388,608.
+-- Rules of this product: the core expression of a policy is at most 1,000 high and has at most 1,000,000 nodes; a
+-- policy's id has 1 to 256 bytes, the text of a policy at most 262,144, and a file at most 8,388,608.
 use Rattle.std.specs.Prelude.{◌≡◌, ℕ, suc, ◌+◌, ◌≤◌, max, List, [], ◌∷◌, length}
 use Rattle.grammar_desugaring.specs.grammar_tokens.declared.tree.UidTree.{UidTree}
 use Rattle.grammar_policies.specs.declared.tree.PartTree.{PartTree}
@@ -16,8 +16,8 @@ use Rattle.policy_grammar.specs.Whole.{expression_of}
 use Rattle.policy_grammar.specs.Conditions.{conditions_of}
 use Rattle.policy_grammar.specs.CoreOf.{IsCoreOf}
 
--- A `Shape` is a core expression reduced to its size: a leaf (a literal or a variable), a node over one or over two
--- operands, a set of a number of literals, or any expression by its height and its nodes.
+-- A `Shape` is what matters of a core expression for its size: it is a leaf (a literal or a variable), a node over one
+-- operand or over two, a set of one or more literals, or any expression of a given height and number of nodes.
 pub data Shape : Type 0 where
   leaf : Shape
   over : Shape → Shape
@@ -25,7 +25,7 @@ pub data Shape : Type 0 where
   literals : ℕ → Shape
   sized : ℕ → ℕ → Shape
 
--- `forms s` is the number of nodes of `s`; a shared node counts at each occurrence.
+-- `forms s` is the number of nodes of the shape `s`; a shared node counts at each occurrence.
 abbrev pub forms : Shape → ℕ
 forms leaf = 1
 forms (over a) = forms a + 1
@@ -33,7 +33,7 @@ forms (both a b) = forms a + forms b + 1
 forms (literals n) = n + 1
 forms (sized high many) = many
 
--- `height s` is the height of `s`; a leaf has height 1.
+-- `height s` is the height of the shape `s`; a leaf has height 1.
 abbrev pub height : Shape → ℕ
 height leaf = 1
 height (over a) = height a + 1
@@ -41,8 +41,8 @@ height (both a b) = max (height a) (height b) + 1
 height (literals n) = 2
 height (sized high many) = high
 
--- `part_shape part` is the shape of a scope's part: `principal` alone is `true`, and `e is T in f` is
--- `(e is T) && (e in f)`.
+-- `part_shape part` is the shape of a scope's part on the principal or the resource: without a constraint it is `true`,
+-- and `e is T in f` is `(e is T) && (e in f)`.
 abbrev pub part_shape : PartTree → Shape
 part_shape part.Any = leaf
 part_shape (part.Equal uid) = both leaf leaf
@@ -50,8 +50,8 @@ part_shape (part.In uid) = both leaf leaf
 part_shape (part.Is name) = over leaf
 part_shape (part.IsIn name uid) = both (over leaf) (both leaf leaf)
 
--- `action_shape action` is the shape of a scope's action: `action in []` is `false`, and `action in [E, ..]` is
--- `action in` that set.
+-- `action_shape action` is the shape of a scope's part on the action: `action in []` is `false`, and `action in [E,
+-- ..]` is `action in` that set.
 abbrev pub action_shape : ActionTree → Shape
 action_shape action.Any = leaf
 action_shape (action.Equal uid) = both leaf leaf
@@ -64,7 +64,7 @@ abbrev pub shape_over : PolicyTree → Shape → Shape
 shape_over tree conditions =
     both (part_shape tree.principal) (both (action_shape tree.action) (both (part_shape tree.resource) conditions))
 
--- `shape_of text tree` is the shape of the whole policy, found without building its expression.
+-- `shape_of text tree` is the shape of the whole expression of the policy `tree`.
 abbrev pub shape_of : List ℕ → PolicyTree → Shape
 shape_of text tree =
     let e = conditions_of text tree.conditions in
@@ -78,8 +78,8 @@ most_id_bytes = 256
 abbrev pub IsSmallShape : Shape → Type 0
 IsSmallShape shape = (height shape ≤ most_height) × (forms shape ≤ most_forms)
 
--- `IsSmallOver tree high many` holds if the policy `tree` is within the limits, given the height and nodes of its
--- conditions.
+-- `IsSmallOver tree high many` holds if the policy `tree` is within the limits, where its conditions have the height
+-- `high` and `many` nodes.
 abbrev pub IsSmallOver : PolicyTree → ℕ → ℕ → Type 0
 IsSmallOver tree high many = IsSmallShape (shape_over tree (sized high many))
 
@@ -103,13 +103,14 @@ ShapesAreSizes = (text : List ℕ) (tree : PolicyTree) (policy : Policy) → IsC
     (height (shape_of text tree) ≡ size.height (expression_of policy))
     × (forms (shape_of text tree) ≡ size.forms (expression_of policy))
 
--- `NineFormsMore`: a policy that only lists some actions has nine nodes more than it lists actions.
+-- `NineFormsMore`: a policy without conditions, whose only constraint is a list of actions, has nine nodes more than
+-- the list has actions.
 abbrev pub NineFormsMore : Type 0
 NineFormsMore = (text : List ℕ) (tree : PolicyTree) (uid : UidTree) (uids : List UidTree) →
     tree.principal ≡ part.Any → tree.action ≡ action.InList (uid ∷ uids) →
     tree.resource ≡ part.Any → tree.conditions ≡ [] → forms (shape_of text tree) ≡ length (uid ∷ uids) + 9
 
--- `HeadsAreLow`: a policy is at most three higher than its conditions, or at most 6 high.
+-- `HeadsAreLow`: a policy is at most three higher than its conditions, or at most 6 high, whichever is greater.
 abbrev pub HeadsAreLow : Type 0
 HeadsAreLow = (tree : PolicyTree) (conditions : Shape) →
     height (shape_over tree conditions) ≤ max 6 (height conditions + 3)

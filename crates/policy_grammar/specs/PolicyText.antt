@@ -1,4 +1,5 @@
--- Defines what a text is parsed as, and its error: by tokens, then the grammar, then the core, within the limits.
+-- Defines what a text is parsed as, a uid, a policy or a file of policies, or the error of a rejected text: by its
+-- tokens, then the grammar, then the core expression, then the limits.
 -- Source: Cedar reference guide 4.0, "Grammar specification for Cedar policy syntax". The errors and their order are
 -- rules of this product.
 use Rattle.std.specs.Prelude.{◌≡◌, ◌⊎◌, ℕ, List, [], Some, All, ◌++◌}
@@ -22,11 +23,13 @@ use Rattle.policy_grammar.specs.Faults.{of_desugaring}
 use Rattle.policy_grammar.specs.Limits.{IsSmallTree, IsSmallPolicy, IsId, most_policy_bytes, most_file_bytes}
 use Rattle.policy_grammar.specs.Repeats.{annotation_keys, policy_names}
 
--- `tree_faults text tree` are the errors of a policy's tree: duplicate annotations, then those of its conditions.
+-- `tree_faults text tree` are the errors of a policy's tree: those of repeated annotations, then those of its
+-- conditions.
 abbrev pub tree_faults : List ℕ → PolicyTree → List DesugarFault
 tree_faults text tree = repeat_faults (annotation_keys text tree) ++ condition_faults text tree.conditions
 
--- `file_faults text trees names` are the errors of a file's trees: duplicate policy names, then those of each tree.
+-- `file_faults text trees names` are the errors of a file's trees with these names: those of repeated names, then those
+-- of each tree.
 abbrev pub file_faults : List ℕ → List PolicyTree → List (List ℕ) → List DesugarFault
 file_faults text trees names = repeat_faults (policy_names names trees) ++ flat_map (tree_faults text) trees
 
@@ -37,8 +40,8 @@ pub record IsPolicyOf (text : List ℕ) (tree : PolicyTree) (policy : Policy) : 
   pub core : IsCoreOf text tree policy
   pub small : IsSmallPolicy policy
 
--- `ArePoliciesOf text trees names policies` holds if a file's `trees` have these names and policies, no errors, and
--- are within the limits.
+-- `ArePoliciesOf text trees names policies` holds if `trees`, those of a file, have the names `names` and the policies
+-- `policies`, have no errors, and are within the limits, and each name is an id.
 pub record ArePoliciesOf (text : List ℕ) (trees : List PolicyTree) (names : List (List ℕ)) (policies : List Policy) :
     Type 0 where
   pub named : AreNamesOf text trees names
@@ -59,16 +62,17 @@ pub record IsPolicyText (text : List ℕ) (policy : Policy) : Type 0 where
   pub derives : Derives (grammar.policy nesting_limit) most_policy_bytes text tree
   pub is : IsPolicyOf text tree policy
 
--- `IsPolicyFile text names policies` holds if `text` is parsed as a file of these policies, with these names.
+-- `IsPolicyFile text names policies` holds if `text` is parsed as a file of `policies` with the names `names`.
 pub record IsPolicyFile (text : List ℕ) (names : List (List ℕ)) (policies : List Policy) : Type 0 where
   pub trees : List PolicyTree
   pub derives : Derives (grammar.policies nesting_limit) most_file_bytes text trees
   pub are : ArePoliciesOf text trees names policies
 
--- The errors, in their order: each excludes the earlier ones. `NoMemory` is not among them, as it depends on no text.
+-- The following definitions have the errors in their order: each is reported only if the text has none of the earlier
+-- ones. `NoMemory` is not among them, since it does not depend on the text.
 
--- `IsReportedOf faults why` holds if `why` is the reported one of `faults`: at the least offset, and of those the
--- first in the list.
+-- `IsReportedOf faults why` holds if `why` is the error that is reported of `faults`: the first in the list of those at
+-- the least offset.
 pub record IsReportedOf (faults : List DesugarFault) (why : ReadFault) : Type 0 where
   pub fault : DesugarFault
   pub first : least faults ≡ Some fault
@@ -80,21 +84,21 @@ abbrev pub IsOverLimit : List ℕ → PolicyTree → ReadFault → Type 0
 IsOverLimit text tree (fault.TooDeep at) = (IsSmallTree text tree → ⊥) × (at ≡ 0)
 IsOverLimit text tree _ = ⊥
 
--- `AreOverLimits text trees names why` holds if some policy of `trees` is over the limits; or none is, and some name
--- is not an id.
+-- `AreOverLimits text trees names why` holds if some policy of `trees` is over these limits, and `why` is `TooDeep` at
+-- byte 0; or none is, some name is not an id, and `why` is `BadId`.
 abbrev pub AreOverLimits : List ℕ → List PolicyTree → List (List ℕ) → ReadFault → Type 0
 AreOverLimits text trees names (fault.TooDeep at) = (AllByRecursion (IsSmallTree text) trees → ⊥) × (at ≡ 0)
 AreOverLimits text trees names fault.BadId = AllByRecursion (IsSmallTree text) trees × (All IsId names → ⊥)
 AreOverLimits text trees names _ = ⊥
 
--- `HasNoPolicy text tree why` holds if `tree` has an error, reported as `why`; or none, and its core expression is
--- over the limits.
+-- `HasNoPolicy text tree why` holds if `why` is the reported error of `tree`; or if `tree` has no error, but is over
+-- the limits, which `why` reports.
 abbrev pub HasNoPolicy : List ℕ → PolicyTree → ReadFault → Type 0
 HasNoPolicy text tree why =
     IsReportedOf (tree_faults text tree) why ⊎ ((tree_faults text tree ≡ []) × IsOverLimit text tree why)
 
--- `HaveNoPolicies text trees names why` holds if `why` is the error of a file's trees: of a tree or a duplicate name;
--- else of a size; else of a name.
+-- `HaveNoPolicies text trees names why` holds if `why` is the error of a file's trees with these names: the reported
+-- error of a tree or of a repeated name; else that of a size; else that of a name that is not an id.
 abbrev pub HaveNoPolicies : List ℕ → List PolicyTree → List (List ℕ) → ReadFault → Type 0
 HaveNoPolicies text trees names why =
     IsReportedOf (file_faults text trees names) why

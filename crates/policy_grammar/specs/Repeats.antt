@@ -9,8 +9,8 @@ use Rattle.grammar_policies.specs.declared.tree.PolicyTree.{PolicyTree}
 use Rattle.grammar_desugaring.specs.Repeats.{NameAt}
 pub use Rattle.policy_grammar.specs.Annotations.{key_at, annotation_keys}
 
--- `start_behind annotations effect` is the byte at which a policy with these annotations and this effect token
--- starts.
+-- `start_behind annotations effect` is the byte at which a policy with the annotations `annotations` and the effect
+-- token `effect` starts.
 abbrev pub start_behind : List Annotation → Token → ℕ
 start_behind [] effect = effect.start
 start_behind (annotation ∷ more) effect = annotation.at.start
@@ -19,6 +19,6 @@ start_behind (annotation ∷ more) effect = annotation.at.start
 abbrev pub start_of : PolicyTree → ℕ
 start_of tree = start_behind tree.annotations tree.effect
 
--- `policy_names names trees` are the names of a file's policies, each at the byte of its policy's first token.
+-- `policy_names names trees` are the names of a file's policies, each with the offset of its policy's first token.
 abbrev pub policy_names : List (List ℕ) → List PolicyTree → List NameAt
 policy_names names trees = map (λ named. record { name = named.0; at = start_of named.1 }) (zip names trees)

@@ -1,5 +1,5 @@
--- Defines the tree that a text is parsed into, or the error of a text without a tree: of length, of a token, or of the
--- grammar.
+-- Defines the tree that a text is parsed into, or the error of a text without a tree: of its length, of its tokens, or
+-- of the grammar.
 -- Source: Cedar reference guide 4.0, "Grammar specification for Cedar policy syntax". The limits, the errors and
 -- their order are rules of this product.
 use Rattle.std.specs.Prelude.{◌≡◌, ℕ, ◌≤◌, ◌<◌, List, length, Option, Some, None, slice_get}
@@ -12,7 +12,7 @@ use Rattle.grammar_desugaring.specs.grammar_tokens.Reads.{IsRefusedWithin}
 use Rattle.policy_grammar.specs.declared.fault.ReadFault.{ReadFault}
 use Rattle.policy_grammar.specs.declared.fault.ReadFault.TheVariants as fault
 
--- `most_policy_bytes` and `most_file_bytes` are the greatest lengths of a policy text (or a uid) and of a file.
+-- `most_policy_bytes` and `most_file_bytes` are the greatest lengths of the text of a policy (or a uid) and of a file.
 abbrev pub most_policy_bytes : ℕ
 most_policy_bytes = 262_144
 
@@ -27,17 +27,18 @@ pub record Derives {A : Type 0} (L : Lang A) (most : ℕ) (text : List ℕ) (tre
   pub lexed : IsLexed text tokens
   pub derived : L tokens tree
 
--- The errors, in their order: each excludes the earlier ones. `NoMemory` is not among them, as it depends on no text.
+-- The following definitions have the errors in their order: each is reported only if the text has none of the earlier
+-- ones. `NoMemory` is not among them, since it does not depend on the text.
 
 -- `byte_of text token` is the byte at which `token` starts, or the text's length if `token` is `None`.
 abbrev pub byte_of : List ℕ → Option Token → ℕ
 byte_of text None = length text
 byte_of text (Some token) = token.start
 
--- `StopsAt L K most text why at` holds if the tokens of `text` leave the language at the byte `at`: the tokens before
--- it begin some text of the language, and with the token at it (or the text's end) they do not. Those of
--- `permit(principal, action);` leave it at `)`, byte 24. `K` is the language without the limit of 64 levels of
--- nesting.
+-- `StopsAt L K most text why at` holds if the tokens of `text` leave the language `L` at the byte `at`, with the error
+-- `why`: the tokens before that byte begin something in `L`, and with the token at it (or the text's end) they do not.
+-- For example, the tokens of `permit(principal, action);` leave the language of policies at `)`, byte 24. `K` is the
+-- language `L` without the limit of 64 levels of nesting.
 pub record StopsAt {A : Type 0} (L K : Lang A) (most : ℕ) (text : List ℕ) (why : ℕ → SyntaxFault) (at : ℕ) :
     Type 0 where
   pub short : length text ≤ most
@@ -47,8 +48,8 @@ pub record StopsAt {A : Type 0} (L K : Lang A) (most : ℕ) (text : List ℕ) (w
   pub refused : IsRefusedWithin L K tokens (why place)
   pub byte : at ≡ byte_of text (slice_get tokens place)
 
--- `IsUnread L K most text why` holds if `why` is the error of `text`: too long; else a byte at which no token starts;
--- else the first token that leaves the language or nests too deep.
+-- `IsUnread L K most text why` holds if `why` is the error of `text`, which has no tree in `L`: it is too long; else no
+-- token starts at some byte; else a token leaves the language, or nests too deep.
 abbrev pub IsUnread : {A : Type 0} → Lang A → Lang A → ℕ → List ℕ → ReadFault → Type 0
 IsUnread L K most text fault.TooLong = most < length text
 IsUnread L K most text (fault.BadToken at) = (length text ≤ most) × IsBadAt text at

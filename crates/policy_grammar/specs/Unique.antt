@@ -1,5 +1,5 @@
--- Defines the theorems that a text has one reading, that the reported error is the least, and that a file's names
--- differ.
+-- Defines the theorems that each text has exactly one value or error, that the reported error is at the least offset,
+-- and that the names of a file's policies are distinct.
 use Rattle.std.specs.Prelude.{◌≡◌, ◌⊎◌, ℕ, List, length, Some}
 use Rattle.std.specs.List.{IsDistinct}
 use Rattle.std.specs.Str.{bytes_eq}
@@ -10,8 +10,8 @@ use Rattle.grammar_desugaring.specs.Refused.{at, IsLeastOf}
 use Rattle.policy_grammar.specs.Faults.{place_of}
 use Rattle.policy_grammar.specs.PolicyText.{IsPolicyFile, IsReportedOf}
 
--- `HasOneReading Holds Refused` holds if each text has exactly one outcome: one value that `Holds`, or one error that
--- `Refused` gives it.
+-- `HasOneReading Holds Refused` holds if each text has exactly one outcome: a value that `Holds` relates to it, or an
+-- error that `Refused` relates to it.
 pub record HasOneReading {A : Type 0} (Holds : List ℕ → A → Type 0) (Refused : List ℕ → ReadFault → Type 0) :
     Type 0 where
   pub one_value : (text : List ℕ) (x y : A) → Holds text x → Holds text y → x ≡ y
@@ -19,11 +19,11 @@ pub record HasOneReading {A : Type 0} (Holds : List ℕ → A → Type 0) (Refus
   pub one_refusal : (text : List ℕ) (why other : ReadFault) → Refused text why → Refused text other → why ≡ other
   pub some : (text : List ℕ) → ((x : A) × Holds text x) ⊎ ((why : ReadFault) × Refused text why)
 
--- `IsFileOf text file` holds if `text` is a file with these names and policies, as a pair.
+-- `IsFileOf text file` holds if `text` is parsed as a file, where `file` is the pair of the names and the policies.
 abbrev pub IsFileOf : List ℕ → (List (List ℕ) × List Policy) → Type 0
 IsFileOf text file = IsPolicyFile text file.0 file.1
 
--- `ReportedIsLeast`: the reported error is one of the errors, at its own offset, and no other has a lesser offset.
+-- `ReportedIsLeast`: the reported error is one of the errors, with its offset, and no other has a lesser offset.
 abbrev pub ReportedIsLeast : Type 0
 ReportedIsLeast = (faults : List DesugarFault) (why : ReadFault) → IsReportedOf faults why →
     (fault : DesugarFault) × IsLeastOf faults fault × (place_of why ≡ Some (at fault))

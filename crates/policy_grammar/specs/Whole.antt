@@ -1,4 +1,5 @@
--- Defines the expression of a policy: its scope's three parts and its conditions, joined to the right.
+-- Defines the expression of a policy: the three parts of its scope and its conditions, joined by `&&` and grouped to
+-- the right.
 -- Source: Cedar reference guide 4.0, "Basic policy construction" (scope, conditions); cedar-spec,
 -- cedar-lean/Cedar/Spec/Policy.lean (`Policy.toExpr`).
 -- Rules of this product: a part without a condition is `true`, and `action in []` is `false`.
@@ -35,7 +36,7 @@ is_equal x uid = core.Binary Equal (core.Variable x) (entity_literal uid)
 abbrev pub is_in : Variable → EntityUid → Expr
 is_in x uid = core.Binary In (core.Variable x) (entity_literal uid)
 
--- `entity_part x scope` is the expression of a scope's condition on the principal or the resource.
+-- `entity_part x scope` is the expression of the condition `scope` on the variable `x`, the principal or the resource.
 abbrev pub entity_part : Variable → EntityScope → Expr
 entity_part x entity.Any = truth
 entity_part x (entity.Equal uid) = is_equal x uid
@@ -43,7 +44,7 @@ entity_part x (entity.In uid) = is_in x uid
 entity_part x (entity.Is name) = core.Unary (Is name) (core.Variable x)
 entity_part x (entity.IsIn name uid) = core.And (core.Unary (Is name) (core.Variable x)) (is_in x uid)
 
--- `action_part scope` is the expression of a scope's condition on the action.
+-- `action_part scope` is the expression of the condition `scope` on the action.
 abbrev pub action_part : ActionScope → Expr
 action_part action.Any = truth
 action_part (action.Equal uid) = is_equal Action uid

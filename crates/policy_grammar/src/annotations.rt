@@ -1,4 +1,4 @@
-//! Duplicate annotations of a policy.
+//! The errors of annotations that repeat an earlier key.
 ghost use Rattle.std.specs.Prelude.{◌≡◌, IfOk};
 ghost use Rattle.grammar_policies.specs.WellFormed.{WellFormedPolicy};
 ghost use Rattle.grammar_desugaring.specs.Refused.{least};
@@ -11,7 +11,7 @@ use grammar_policies::PolicyTree;
 use plain::NoMemory;
 use std::alloc::Global;
 
-/// Returns the keys of a policy's annotations, each at the offset of its `@`.
+/// Returns the keys of a policy's annotations, each with the offset of its `@`.
 fn names_of_annotations<'a>(
     alloc: Global,
     text: &'a str,
@@ -30,9 +30,9 @@ fn names_of_annotations<'a>(
     Ok(marks)
 }
 
-/// Returns the error of a duplicate annotation of a policy, the one at the least offset.
+/// Returns the error of the repeated annotation of a policy at the least offset, or `None` if all keys are distinct.
 ///
-/// Fails only with `NoMemory`.
+/// The only error is `NoMemory`.
 pub fn repeated_annotation(
     alloc: Global,
     text: &str,

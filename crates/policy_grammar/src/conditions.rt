@@ -1,30 +1,23 @@
-//! Conditions of a policy, from the last to the first: measured before anything is built, then built.
-ghost use Rattle.std.specs.Prelude.{◌≡◌, [], IfOk};
+//! The conditions of a policy: their measure, and their core expression. Both are composed from the last condition to
+//! the first, since the conditions are grouped to the right.
+ghost use Rattle.std.specs.Prelude.{◌≡◌, [], IfOk, IsTrue};
 ghost use Rattle.std.specs.List.{AllByRecursion};
 ghost use Rattle.grammar_core.specs.declared.expr.Expr.TheVariants as core;
 ghost use Rattle.grammar_desugaring.specs.Faults.{faults_of};
 ghost use Rattle.grammar_desugaring.specs.Measured.{of};
 ghost use Rattle.grammar_policies.specs.WellFormed.{WellFormedCondition};
-ghost use Rattle.policy_grammar.specs.Conditions.{asked_by, condition_of, conditions_of, condition_faults};
+ghost use Rattle.policy_grammar.specs.Conditions.{condition_of, conditions_of, condition_faults};
 ghost use Rattle.grammar_desugaring.specs.BuiltFrom.{IsBuiltFrom};
-ghost use Rattle.policy_grammar.specs.inner.Parts.{AreSound, judged_by};
+ghost use Rattle.policy_grammar.specs.inner.Parts.{AreSound};
+ghost use Rattle.policy_grammar.specs.Whole.{truth};
 
 use grammar_core::{Expr, Literal, Unary};
 use grammar_desugaring::{Measure, build_expr, measure_expr, measures_add_up};
 use grammar_policies::{Condition, ConditionWord};
-use plain::{NoMemory, beside};
+use plain::{NoMemory, Shared, beside};
 use std::alloc::Global;
 
-/// Returns the measure of a condition, from the measure of its expression.
-fn judge_asked(word: ConditionWord, measure: Measure) -> Measure
-    ensures { result ≡ judged_by word measure }
-{
-    match word {
-        ConditionWord::When => measure,
-        ConditionWord::Unless => measure.above(),
-    }
-}
-
+/// Returns the measure of a condition: `unless { e }` is `!e`.
 fn judge_condition(alloc: Global, text: &str, condition: &Condition) -> Result<Measure, NoMemory>
     requires { IsBuiltFrom text.now (λ tokens. WellFormedCondition tokens condition.now) }
     ensures { IfOk result (λ j. j ≡ of (condition_of text.now condition.now)
@@ -32,11 +25,14 @@ fn judge_condition(alloc: Global, text: &str, condition: &Condition) -> Result<M
 {
     measures_add_up();
     let measure = measure_expr(alloc, text, &condition.expression)?;
-    Ok(judge_asked(condition.word, measure))
+    match condition.word {
+        ConditionWord::When => Ok(measure),
+        ConditionWord::Unless => Ok(measure.above()),
+    }
 }
 
-/// Measures the core expression of the conditions: its height, its nodes, and its error at the least offset.
-/// Allocates only for the keys of records.
+/// Returns the measure of the conditions: the height and the number of nodes of their core expression, and their error
+/// at the least offset. Allocates only for the keys of records.
 pub(crate) fn judge_conditions(
     alloc: Global,
     text: &str,
@@ -65,26 +61,20 @@ pub(crate) fn judge_conditions(
     Ok(joined)
 }
 
-/// Returns the core expression of a condition, from that of its expression.
-fn asked(alloc: Global, word: ConditionWord, expr: Expr) -> Result<Expr, NoMemory>
-    ensures { IfOk result (λ e. e ≡ asked_by word expr) }
-{
-    match word {
-        ConditionWord::When => Ok(expr),
-        ConditionWord::Unless => Expr::unary(alloc, Unary::Not, expr),
-    }
-}
-
+/// Builds the core expression of a condition, which has no errors.
 fn build_condition(alloc: Global, text: &str, condition: &Condition) -> Result<Expr, NoMemory>
     requires stands { IsBuiltFrom text.now (λ tokens. WellFormedCondition tokens condition.now) }
     requires sound { faults_of text.now condition.now.expression ≡ [] }
     ensures { IfOk result (λ e. e ≡ condition_of text.now condition.now) }
 {
     let expr = build_expr(alloc, text, &condition.expression)?;
-    asked(alloc, condition.word, expr)
+    match condition.word {
+        ConditionWord::When => Ok(expr),
+        ConditionWord::Unless => Expr::unary(alloc, Unary::Not, expr),
+    }
 }
 
-/// Joins one more condition in front of the joined ones.
+/// Joins one more condition in front of those that are joined.
 fn join_before(
     alloc: Global,
     text: &str,
@@ -120,4 +110,40 @@ pub(crate) fn build_conditions(
         joined = join_before(alloc, text, &conditions[left], joined)?;
     }
     Ok(joined)
+}
+
+/// Returns whether a core expression is `true`.
+fn is_truth(expr: &Expr) -> bool
+    ensures { IsTrue result → expr.now ≡ truth }
+{
+    matches!(expr, Expr::Literal(Literal::Boolean(true)))
+}
+
+/// Returns the core expression `true`. Shares `known` if that is it, and then does not allocate.
+fn shared_truth(alloc: Global, known: Option<&Shared<Expr>>) -> Result<Shared<Expr>, NoMemory>
+    ensures { IfOk result (λ e. e ≡ truth) }
+{
+    match known {
+        Some(expr) if is_truth(expr.get()) => expr.share(),
+        _ => Shared::new(alloc, Expr::Literal(Literal::Boolean(true))),
+    }
+}
+
+/// Returns the core expression of the conditions, which have no errors. Shares `known`, as the previous policy's, if
+/// both are `true`, as without conditions.
+pub(crate) fn conditions_like(
+    alloc: Global,
+    text: &str,
+    conditions: &[Condition],
+    known: Option<&Shared<Expr>>,
+) -> Result<Shared<Expr>, NoMemory>
+    requires stands { IsBuiltFrom text.now (λ tokens. AllByRecursion (WellFormedCondition tokens) conditions.now) }
+    requires sound { AreSound text.now conditions.now }
+    ensures { IfOk result (λ e. e ≡ conditions_of text.now conditions.now) }
+{
+    if conditions.is_empty() {
+        return shared_truth(alloc, known);
+    }
+    let built = build_conditions(alloc, text, conditions)?;
+    Shared::new(alloc, built)
 }

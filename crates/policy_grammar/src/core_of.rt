@@ -1,4 +1,4 @@
-//! The translation of a syntax tree into a policy.
+//! Translation of the syntax tree of a policy, without errors, into the policy.
 ghost use Rattle.std.specs.Prelude.{◌≡◌, [], true, IfOk};
 ghost use Rattle.std.specs.List.{AllByRecursion};
 ghost use Rattle.grammar_policies.specs.Grammar.{effects};
@@ -8,18 +8,17 @@ ghost use Rattle.policy_grammar.specs.CoreOf.{IsUidOf, AreUidsOf, IsEntityScopeO
 ghost use Rattle.policy_grammar.specs.CoreOf.{IsCoreOf};
 ghost use Rattle.grammar_desugaring.specs.BuiltFrom.{IsBuiltFrom};
 
-use crate::conditions::build_conditions;
-use crate::known_names::{
-    action_in, id_like, id_of, principal_in, resource_in, type_in, type_name_like, type_of, uid_in,
-};
+use crate::conditions::conditions_like;
+use crate::known_names::{action_in, id_like, type_in, type_name_like, uid_in};
 use crate::policy::{ActionScope, Effect, EntityScope, Policy, Scope};
-use grammar_desugaring::{TokenKind, decode_string, strings_are_read};
+use grammar_desugaring::{TokenKind, strings_are_read};
 use grammar_policies::{ActionTree, PartTree, PolicyTree, UidTree};
 use plain::{Items, NoMemory, Shared, beside};
 use std::alloc::Global;
 use values::EntityUid;
 
-/// Returns the uid of a tree, or `NoMemory`. Strings that are equal in `known` are shared with it.
+/// Returns the uid of a tree, or `NoMemory`. The uid shares with `known` a type name of one word, and an id without
+/// escapes, that are equal there.
 fn uid_like(
     alloc: Global,
     text: &str,
@@ -30,9 +29,12 @@ fn uid_like(
     ensures { IfOk result (IsUidOf text.now tree.now) }
 {
     strings_are_read();
-    let type_name = type_name_like(alloc, text, &tree.path, type_of(known))?;
-    let decoded = decode_string(alloc, text, tree.id)?;
-    let id = id_like(alloc, decoded, id_of(known))?;
+    let (known_type, known_id) = match known {
+        Some(uid) => (Some(&uid.type_name), Some(&uid.id)),
+        None => (None, None),
+    };
+    let type_name = type_name_like(alloc, text, &tree.path, known_type)?;
+    let id = id_like(alloc, text, tree.id, known_id)?;
     Ok(EntityUid { type_name, id })
 }
 
@@ -44,6 +46,7 @@ pub(crate) fn uid_of(alloc: Global, text: &str, tree: &UidTree) -> Result<Entity
     uid_like(alloc, text, tree, None)
 }
 
+/// Returns the uids of some trees, in order, or `NoMemory`.
 fn uids_of(alloc: Global, text: &str, trees: &Items<UidTree>) -> Result<Items<EntityUid>, NoMemory>
     requires { IsBuiltFrom text.now (λ tokens. AllByRecursion (WellFormedUid tokens) trees.now) }
     ensures { IfOk result (AreUidsOf text.now trees.now) }
@@ -56,6 +59,8 @@ fn uids_of(alloc: Global, text: &str, trees: &Items<UidTree>) -> Result<Items<En
     Ok(Items::from_vec(uids))
 }
 
+/// Returns the condition on the principal or the resource, or `NoMemory`. Names are shared with `known` as by
+/// `uid_like`.
 fn entity_scope_of(
     alloc: Global,
     text: &str,
@@ -87,6 +92,8 @@ fn entity_scope_of(
     }
 }
 
+/// Returns the condition on the action, or `NoMemory`. The names of a single uid are shared with `known` as by
+/// `uid_like`.
 fn action_scope_of(
     alloc: Global,
     text: &str,
@@ -125,7 +132,7 @@ fn effect_of(kind: TokenKind) -> Effect
     }
 }
 
-/// Returns the scope of a tree, or `NoMemory`. Names that are equal in `known` are shared with it.
+/// Returns the scope of a tree, or `NoMemory`. Names are shared with the same part of `known` as by `uid_like`.
 fn scope_of(
     alloc: Global,
     text: &str,
@@ -137,14 +144,18 @@ fn scope_of(
     ensures action { IfOk result (λ scope. IsActionScopeOf text.now tree.now.action scope.action) }
     ensures resource { IfOk result (λ scope. IsEntityScopeOf text.now tree.now.resource scope.resource) }
 {
-    let principal = entity_scope_of(alloc, text, &tree.principal, principal_in(known))?;
+    let (known_principal, known_resource) = match known {
+        Some(scope) => (Some(&scope.principal), Some(&scope.resource)),
+        None => (None, None),
+    };
+    let principal = entity_scope_of(alloc, text, &tree.principal, known_principal)?;
     let (principal, action) = beside(
         principal,
         action_scope_of(alloc, text, &tree.action, action_in(known)),
     )?;
     let (first, resource) = beside(
         (principal, action),
-        entity_scope_of(alloc, text, &tree.resource, resource_in(known)),
+        entity_scope_of(alloc, text, &tree.resource, known_resource),
     )?;
     let (principal, action) = first;
     Ok(Scope {
@@ -154,37 +165,31 @@ fn scope_of(
     })
 }
 
-/// Returns the policy of a tree, or `NoMemory`. Names that are equal in `known`, as the scope of the previous policy,
-/// are shared with it.
+/// Returns the policy of a tree, or `NoMemory`. Names of its scope are shared with the scope of `known`, such as the
+/// previous policy, as by `scope_of`, and so is its condition if neither policy has conditions.
 pub(crate) fn core_like(
     alloc: Global,
     text: &str,
     tree: &PolicyTree,
-    known: Option<&Scope>,
+    known: Option<&Policy>,
 ) -> Result<Policy, NoMemory>
     requires stands { IsBuiltFrom text.now (λ tokens. WellFormedPolicy tokens tree.now) }
     requires sound { condition_faults text.now tree.now.conditions ≡ [] }
     ensures { IfOk result (IsCoreOf text.now tree.now) }
 {
     let effect = effect_of(tree.effect.kind);
-    let scope = Shared::new(alloc, scope_of(alloc, text, tree, known)?)?;
+    let (known_scope, known_condition) = match known {
+        Some(policy) => (Some(policy.scope.get()), Some(&policy.condition)),
+        None => (None, None),
+    };
+    let scope = Shared::new(alloc, scope_of(alloc, text, tree, known_scope)?)?;
     let (scope, condition) = beside(
         scope,
-        build_conditions(alloc, text, tree.conditions.as_slice()),
+        conditions_like(alloc, text, tree.conditions.as_slice(), known_condition),
     )?;
-    let (scope, condition) = beside(scope, Shared::new(alloc, condition))?;
     Ok(Policy {
         effect,
         scope,
         condition,
     })
-}
-
-/// Returns the policy of a tree, or `NoMemory`.
-pub(crate) fn core_of(alloc: Global, text: &str, tree: &PolicyTree) -> Result<Policy, NoMemory>
-    requires stands { IsBuiltFrom text.now (λ tokens. WellFormedPolicy tokens tree.now) }
-    requires sound { condition_faults text.now tree.now.conditions ≡ [] }
-    ensures { IfOk result (IsCoreOf text.now tree.now) }
-{
-    core_like(alloc, text, tree, None)
 }

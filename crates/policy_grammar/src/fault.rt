@@ -13,37 +13,37 @@ pub enum ReadFault {
     /// An allocation failed.
     #[error("policy 1: out of memory")]
     NoMemory,
-    /// No whitespace, comment or token starts at this byte: for instance a string that is not closed, or has a bad
-    /// escape.
+    /// Neither whitespace nor a comment nor a token starts at this byte: for example, a string begins here that is not
+    /// closed, or has a bad escape.
     #[error("policy 10: invalid token at byte {0}")]
     BadToken(usize),
-    /// The first token with which no text of the grammar goes on, or the text's length if it ends too early.
+    /// The first token that cannot follow those before it, or the text's length if it ends too early.
     #[error("policy 11: unexpected token at byte {0}")]
     Unexpected(usize),
-    /// A number outside signed 64 bits. A minus before it belongs to it.
+    /// A number outside signed 64 bits, at its first digit. A minus before it belongs to it.
     #[error("policy 12: number outside signed 64 bits at byte {0}")]
     NumberRange(usize),
-    /// The name of a call that is not the name of a function, or of a method.
+    /// A call of a name that no function, or no method, has; at the name.
     #[error("policy 13: unknown function or method at byte {0}")]
     UnknownCall(usize),
-    /// The name of a known function or method with a wrong number of arguments.
+    /// A call of a known function or method with a wrong number of arguments; at the name.
     #[error("policy 14: wrong number of arguments at byte {0}")]
     Arity(usize),
-    /// A duplicate: a key of a record, an annotation (its `@`), or a policy's name in a file (the policy's first
-    /// token).
+    /// A name that occurs earlier: a key of a record, an annotation (at its `@`), or a policy's name in a file (at the
+    /// policy's first token).
     #[error("policy 15: repeated key, annotation or policy id at byte {0}")]
     RepeatedKey(usize),
-    /// Instead of `Unexpected` if that token is `?principal` or `?resource`.
+    /// In place of `Unexpected`, if the token is `?principal` or `?resource`.
     #[error("policy 16: template slot at byte {0}; templates are not supported")]
     Slot(usize),
     /// The token that would open level 65 of nesting; or, at offset 0, a policy whose core expression is higher than
     /// 1,000 or has over 1,000,000 nodes.
     #[error("policy 17: nested too deeply, or too large, at byte {0}")]
     TooDeep(usize),
-    /// A text of over 262,144 bytes; a file of over 8,388,608.
+    /// A policy or a uid of over 262,144 bytes, or a file of over 8,388,608.
     #[error("policy 18: text longer than 262,144 bytes, or file longer than 8,388,608")]
     TooLong,
-    /// In a file: an empty policy name, or one of over 256 bytes.
+    /// The name of a policy in a file is empty, or has over 256 bytes.
     #[error("policy 19: policy id of 0 bytes, or of over 256")]
     BadId,
 }

@@ -1,18 +1,21 @@
-//! Known names: equal names share one string.
-ghost use Rattle.std.specs.Prelude.{◌≡◌, IsTrue, IfOk};
+//! Sharing of strings with known names, so that equal names are stored once.
+ghost use Rattle.std.specs.Prelude.{◌≡◌, IsTrue, IfOk, IfSome};
+ghost use Rattle.grammar_desugaring.specs.grammar_tokens.Lexing.{IsSpelledIn, spelling_of};
+ghost use Rattle.grammar_desugaring.specs.grammar_tokens.Strings.{IsStringOf};
+ghost use Rattle.grammar_desugaring.specs.grammar_tokens.declared.token.TokenKind.TheVariants as k;
 ghost use Rattle.grammar_policies.specs.WellFormed.{WellFormedPath};
 ghost use Rattle.grammar_desugaring.specs.BuiltFrom.{IsBuiltFrom};
 ghost use Rattle.grammar_desugaring.specs.Meaning.{path_name};
 
 use crate::policy::{ActionScope, EntityScope, Scope};
-use grammar_desugaring::{spelling, type_name};
+use grammar_desugaring::{Token, decode_string, spelling, type_name};
 use grammar_policies::PathTree;
-use plain::{NoMemory, Text};
+use plain::NoMemory;
 use std::alloc::Global;
 use values::{EntityUid, SharedText, TypeName};
 
-/// Returns whether a path is one word, equal to this name. Returns `false` for a longer path, which may have
-/// whitespace between its words.
+/// Returns whether a Path is one word, equal to this name. Returns `false` for a longer Path, which may have whitespace
+/// between its words.
 fn is_written(text: &str, path: &PathTree, name: &TypeName) -> bool
     requires { IsBuiltFrom text.now (λ tokens. WellFormedPath tokens path.now) }
     ensures { IsTrue result → name.now ≡ path_name text.now path.now }
@@ -23,7 +26,8 @@ fn is_written(text: &str, path: &PathTree, name: &TypeName) -> bool
     false
 }
 
-/// Returns the type name of a path, or `NoMemory`. It shares the string of `known` if that is written alike.
+/// Returns the type name that a Path denotes, or `NoMemory`. It shares the string of `known` if the Path is one word,
+/// equal to that name.
 pub(crate) fn type_name_like(
     alloc: Global,
     text: &str,
@@ -39,38 +43,45 @@ pub(crate) fn type_name_like(
     }
 }
 
+/// Returns the value of a string, between its quotes, if it has no escapes. Does not allocate.
+fn unescaped(text: &str, token: Token) -> Option<&str>
+    requires spelled { IsSpelledIn text.now token }
+    requires string { token.kind ≡ k.Text }
+    ensures { IfSome result (λ value. IsStringOf value.now (spelling_of text.entry.now token)) }
+{
+    let value = spelling(text, token).strip_prefix('"')?.strip_suffix('"')?;
+    if value.as_bytes().contains(&b'\\') {
+        return None;
+    }
+    Some(value)
+}
+
 /// Returns an id of this text, or `NoMemory`. It shares the string of `known` if that is equal.
-pub(crate) fn id_like(
-    alloc: Global,
-    text: Text,
-    known: Option<&SharedText>,
-) -> Result<SharedText, NoMemory>
-    ensures { IfOk result (λ id. id ≡ text) }
+fn text_like(alloc: Global, text: &str, known: Option<&SharedText>) -> Result<SharedText, NoMemory>
+    ensures { IfOk result (λ id. id ≡ text.now) }
 {
     match known {
-        Some(id) if id.as_str() == text.as_str() => id.copy(),
-        _ => SharedText::from_text(alloc, text),
+        Some(id) if id.as_str() == text => id.copy(),
+        _ => SharedText::from_str(alloc, text),
     }
 }
 
-/// Returns the type of a known uid.
-pub(crate) fn type_of(uid: Option<&EntityUid>) -> Option<&TypeName> {
-    Some(&uid?.type_name)
-}
-
-/// Returns the id of a known uid.
-pub(crate) fn id_of(uid: Option<&EntityUid>) -> Option<&SharedText> {
-    Some(&uid?.id)
-}
-
-/// Returns the principal part of a known scope.
-pub(crate) fn principal_in(scope: Option<&Scope>) -> Option<&EntityScope> {
-    Some(&scope?.principal)
-}
-
-/// Returns the resource part of a known scope.
-pub(crate) fn resource_in(scope: Option<&Scope>) -> Option<&EntityScope> {
-    Some(&scope?.resource)
+/// Returns the id that a string states, or `NoMemory`. It shares the string of `known` if that is equal, and the
+/// string has no escapes.
+pub(crate) fn id_like(
+    alloc: Global,
+    text: &str,
+    token: Token,
+    known: Option<&SharedText>,
+) -> Result<SharedText, NoMemory>
+    requires spelled { IsSpelledIn text.now token }
+    requires string { token.kind ≡ k.Text }
+    ensures { IfOk result (λ id. IsStringOf id (spelling_of text.now token)) }
+{
+    match unescaped(text, token) {
+        Some(value) => text_like(alloc, value, known),
+        None => SharedText::from_text(alloc, decode_string(alloc, text, token)?),
+    }
 }
 
 /// Returns the uid that a known scope names for the action, if it names one.

@@ -1,12 +1,12 @@
-//! Theorems about the definitions.
+//! Theorems about parsed texts and their errors. The functions are no-ops.
 ghost use Rattle.policy_grammar.specs.PolicyText.{IsUidText, IsUidRefused, IsPolicyText, IsPolicyRefused};
 ghost use Rattle.policy_grammar.specs.PolicyText.{IsFileRefused};
 ghost use Rattle.policy_grammar.specs.Unique.{HasOneReading, IsFileOf, ReportedIsLeast, EachIsNamed, NamesDiffer};
 
-use grammar_desugaring::{least_fault_is_told, lexing_is_unique, strings_have_one_meaning};
-use grammar_policies::{reading_is_unique, trees_stand_in_tokens};
+use grammar_desugaring::{least_fault_is_reported, lexing_is_unique, strings_have_one_meaning};
+use grammar_policies::{reading_is_unique, trees_are_made_of_tokens};
 
-/// Proves that each text has exactly one reading, a value or an error: as a uid, as a policy and as a file. No-op.
+/// Proves that each text has exactly one outcome, a value or an error, as a uid, as a policy and as a file. No-op.
 pub fn texts_have_one_reading()
     ensures uid { HasOneReading IsUidText IsUidRefused }
     ensures policy { HasOneReading IsPolicyText IsPolicyRefused }
@@ -15,15 +15,16 @@ pub fn texts_have_one_reading()
     lexing_is_unique();
     strings_have_one_meaning();
     reading_is_unique();
-    trees_stand_in_tokens();
-    least_fault_is_told();
+    trees_are_made_of_tokens();
+    least_fault_is_reported();
 }
 
-/// Proves that the reported error of a tree or a file is one of its errors at the least offset. No-op.
-pub fn told_fault_is_least()
+/// Proves that the reported error of a policy's tree, or of a file's trees, is one of their errors at the least offset.
+/// No-op.
+pub fn reported_fault_is_least()
     ensures { ReportedIsLeast }
 {
-    least_fault_is_told();
+    least_fault_is_reported();
 }
 
 /// Proves that each policy of a file has a name, and that these names are distinct. No-op.

@@ -1,4 +1,4 @@
-//! Policies of the Cedar language, parsed from text into trees and then into core expressions.
+//! The parser of policies, files of policies and uids, from a text to a tree and then to core expressions.
 #![tactic(auto)]
 
 mod annotations;
@@ -23,7 +23,7 @@ pub use grammar_core::{
     Binary, BinaryCall, Expr, Literal, Named, Pattern, Unary, UnaryCall, Variable,
 };
 pub use grammar_desugaring::{LexFault, Token, TokenKind, tokens};
-pub use laws::{file_names_differ, texts_have_one_reading, told_fault_is_least};
+pub use laws::{file_names_differ, reported_fault_is_least, texts_have_one_reading};
 pub use limits::{MOST_ID_BYTES, heads_are_small};
 pub use policy::{ActionScope, Effect, EntityScope, Policy, Scope};
 pub use texts::{parse_policies, parse_policy, parse_uid};

@@ -7,15 +7,17 @@ use grammar_core::{FORMS_MAX, HEIGHT_MAX};
 use grammar_policies::{ActionTree, PartTree, PolicyTree};
 use plain::Text;
 
-/// The greatest height of the conditions' core expression: three `&&` are above it, and no scope alone is too high.
+/// The greatest height of the conditions' core expression: the policy's expression has three `&&` above it, and no
+/// scope alone is too high.
 const MOST_CONDITION_HEIGHT: u32 = HEIGHT_MAX - 3;
 
-/// The most nodes of a policy's core expression.
+/// The greatest number of nodes of a policy's core expression.
 const MOST_FORMS: usize = FORMS_MAX as usize;
 
-/// The most bytes of a policy's id.
+/// The greatest number of bytes of a policy's id.
 pub const MOST_ID_BYTES: usize = 256;
 
+/// Returns the number of nodes of a scope's part on the principal or the resource.
 fn part_forms(part: &PartTree) -> usize
     ensures is { result ≡ spec.forms (spec.part_shape part.now) }
     ensures few { result < 7 }
@@ -28,6 +30,7 @@ fn part_forms(part: &PartTree) -> usize
     }
 }
 
+/// Returns the number of nodes of a scope's part on the action.
 fn action_forms(action: &ActionTree) -> usize
     ensures is { result ≡ spec.forms (spec.action_shape action.now) }
     ensures fits { result < 2 ^ 63 }
@@ -61,14 +64,16 @@ pub(crate) fn is_id(name: &Text) -> bool
     1 <= len && len <= MOST_ID_BYTES
 }
 
+/// Returns whether each string may be a policy's name in a file.
 pub(crate) fn are_ids(names: &[Text]) -> bool
     ensures { IsTrue result ↔ All IsId names.now }
 {
     names.iter().all(|name| is_id(name))
 }
 
-/// Proves that the size computed from a policy's tree is that of its core expression, and two facts about the size of
-/// a scope. No-op.
+/// Proves that the size of a policy's core expression is the one computed of its tree; that a policy with only a list
+/// of actions has nine nodes more than that list has actions; and that a scope adds at most three to the height of the
+/// conditions, unless the whole is at most 6 high. No-op.
 pub fn heads_are_small()
     ensures sizes { ShapesAreSizes }
     ensures list { NineFormsMore }

@@ -10,7 +10,7 @@ ghost use Rattle.policy_grammar.specs.inner.Parts.{has_id};
 
 use crate::core_of::core_like;
 use crate::held::after;
-use crate::policy::{Policy, Scope};
+use crate::policy::Policy;
 use grammar_desugaring::{decode_string, spelling};
 use grammar_policies::{Annotation, PolicyTree};
 use itoa::Buffer;
@@ -18,7 +18,7 @@ use plain::{NoMemory, Text};
 use std::alloc::Global;
 use std::collections::VecDeque;
 
-/// The bytes of the longest name by index: `policy` and twenty digits.
+/// The number of bytes of the longest name by index: `policy` and twenty digits.
 const MOST_PLACED_BYTES: usize = 26;
 
 /// Returns the first annotation with the key `id`.
@@ -43,7 +43,7 @@ pub(crate) fn has_id(text: &str, tree: &PolicyTree) -> bool
     id_of(text, tree.annotations.as_slice()).is_some()
 }
 
-/// Returns the decoded value of an annotation.
+/// Returns the value of an annotation, which is empty if none is written.
 fn value_of(alloc: Global, text: &str, annotation: &Annotation) -> Result<Text, NoMemory>
     requires { IsBuiltFrom text.now (λ tokens. WellFormedAnnotation tokens annotation.now) }
     ensures { IfOk result (IsValueOf text.now annotation.now.value) }
@@ -55,7 +55,7 @@ fn value_of(alloc: Global, text: &str, annotation: &Annotation) -> Result<Text, 
 }
 
 /// Returns the name of a policy by its index: `policy` and the index in decimal. Allocates once.
-fn placed_name(alloc: Global, place: usize) -> Result<Text, NoMemory>
+fn index_name(alloc: Global, place: usize) -> Result<Text, NoMemory>
     ensures { IfOk result (λ name. name ≡ codes "policy" ++ decimal place) }
 {
     let mut digits = Buffer::new();
@@ -72,11 +72,11 @@ fn name_of(alloc: Global, text: &str, place: usize, tree: &PolicyTree) -> Result
 {
     match id_of(text, tree.annotations.as_slice()) {
         Some(id) => value_of(alloc, text, id),
-        None => placed_name(alloc, place),
+        None => index_name(alloc, place),
     }
 }
 
-/// Returns the names of a file's policies.
+/// Returns the names of a file's policies, in order.
 pub(crate) fn names_of(
     alloc: Global,
     text: &str,
@@ -93,18 +93,18 @@ pub(crate) fn names_of(
     Ok(names)
 }
 
-/// Returns the scope of the last of these policies.
-fn last_scope(named: &[(String, Policy)]) -> Option<&Scope> {
+/// Returns the last of these policies.
+fn last_policy(named: &[(String, Policy)]) -> Option<&Policy> {
     match named {
-        [.., (_, policy)] => Some(policy.scope.get()),
+        [.., (_, policy)] => Some(policy),
         [] => None,
     }
 }
 
-/// Returns the policies of a file's trees, each with its name, or `NoMemory`. Each shares the type names and the
-/// action's id that are equal in the policy before it.
+/// Returns the policies of a file's trees, each with its name, or `NoMemory`. Each policy shares names of its scope,
+/// and its condition if neither has one, with the policy before it, as by `core_like`.
 ///
-/// Each tree is dropped before the next policy is built, which uses its memory again.
+/// Each tree is dropped before the next policy is built, so that the policy may use the tree's memory again.
 pub(crate) fn named_of(
     alloc: Global,
     text: &str,
@@ -120,7 +120,7 @@ pub(crate) fn named_of(
     let mut named = Vec::with_capacity(alloc, trees.len())?;
     let mut rest = VecDeque::from_vec(names);
     for tree in trees {
-        let made = core_like(alloc, text, &tree, last_scope(&named));
+        let made = core_like(alloc, text, &tree, last_policy(&named));
         let policy = after(tree, made)?;
         let Some(name) = rest.pop_front() else {
             unreachable!();

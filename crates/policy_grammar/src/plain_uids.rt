@@ -11,7 +11,7 @@ use std::alloc::Global;
 use values::{EntityUid, SharedText, TypeName};
 
 /// Returns the part before `::"` and the part between the quotes, if the second quote ends the text and no escape is
-/// between them.
+/// between the quotes.
 fn plain_parts(text: &str) -> Option<(&str, &str)>
     ensures { IfSome result (λ parts. IsWrittenPlainly text.now parts.0.now parts.1.now) }
 {
@@ -24,7 +24,7 @@ fn plain_parts(text: &str) -> Option<(&str, &str)>
     Some((name, id))
 }
 
-/// Returns the uid of a text in the usual form; `None` for other texts. Fails only with `NoMemory`.
+/// Returns the uid of a text in the usual form; `None` for other texts. The only error is `NoMemory`.
 pub(crate) fn plain_uid(alloc: Global, text: &str) -> Result<Option<EntityUid>, NoMemory>
     ensures { IfOk result (λ found. IfSome found (IsUidText text.now)) }
 {

@@ -8,7 +8,9 @@ use values::{EntityUid, TypeName};
 /// The effect of a policy on a request that satisfies it.
 #[derive(Clone, Copy, PartialEq, Eq)]
 pub enum Effect {
+    /// The policy permits the request.
     Permit,
+    /// The policy forbids the request.
     Forbid,
 }
 
@@ -23,7 +25,7 @@ pub enum EntityScope {
     In(EntityUid),
     /// The entity has this type.
     Is(TypeName),
-    /// The entity has this type, and is this one or a descendant of it.
+    /// The entity has this type, and is the given entity or a descendant of it.
     IsIn(TypeName, EntityUid),
 }
 
@@ -48,19 +50,23 @@ pub struct Scope {
     pub resource: EntityScope,
 }
 
-/// A policy: its effect, its scope and its condition. Scope and condition are shared, so that an index may hold them
-/// too.
+/// A policy: its effect, its scope and its condition. Scope and condition are shared, so that an index can have them
+/// too without a copy.
 #[derive(Drop)]
 pub struct Policy {
     pub effect: Effect,
     pub scope: Shared<Scope>,
-    /// The policy's conditions, joined to the right by `&&`: `unless { e }` is `!e`, and no conditions are `true`.
+    /// The policy's conditions, joined by `&&` and grouped to the right, where `unless { e }` is `!e`; `true` if the
+    /// policy has none.
     pub condition: Shared<Expr>,
 }
 
 impl Policy {
-    /// Returns another reference to the policy, without copying or allocating. `NoMemory` only if the count of
-    /// references would overflow.
+    /// Returns another reference to the policy. Does not copy or allocate.
+    ///
+    /// # Errors
+    ///
+    /// - `NoMemory`: a count of references would exceed 2^64 - 1.
     pub fn share(&self) -> Result<Policy, NoMemory>
         ensures { IfOk result (λ policy. policy ≡ self.now) }
     {

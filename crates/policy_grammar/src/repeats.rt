@@ -1,4 +1,4 @@
-//! Duplicate policy names in a file.
+//! The errors of policies whose name occurs earlier in their file.
 ghost use Rattle.std.specs.Prelude.{◌≡◌, ◌||◌, IfOk, length};
 ghost use Rattle.std.specs.List.{AllByRecursion};
 ghost use Rattle.grammar_policies.specs.WellFormed.{WellFormedPolicy};
@@ -7,10 +7,10 @@ ghost use Rattle.grammar_desugaring.specs.Refused.{least};
 ghost use Rattle.grammar_desugaring.specs.Repeats.{repeat_faults, abstract_names};
 ghost use Rattle.grammar_desugaring.specs.BuiltFrom.{IsBuiltFrom};
 ghost use Rattle.policy_grammar.specs.Repeats.{policy_names, start_of};
-ghost use Rattle.policy_grammar.specs.inner.Parts.{has_id, looks_placed, meets_place, doubtful_marks};
+ghost use Rattle.policy_grammar.specs.inner.Parts.{has_id, has_index_prefix, some_index_name, names_to_compare};
 
 use crate::names::has_id;
-use grammar_desugaring::{DesugarFault, NameAt, first_duplicate, repeats_stand_again};
+use grammar_desugaring::{DesugarFault, NameAt, first_duplicate, repeats_are_exact};
 use grammar_policies::PolicyTree;
 use plain::{NoMemory, Text};
 use std::alloc::Global;
@@ -25,29 +25,29 @@ fn start(tree: &PolicyTree) -> usize
     }
 }
 
-/// Returns whether a policy is named by an `@id` that begins with `policy`, as the names by index do.
-fn looks_placed(text: &str, name: &Text, tree: &PolicyTree) -> bool
+/// Returns whether a policy is named by an `@id` that begins with `policy`, as names by index do.
+fn has_index_prefix(text: &str, name: &Text, tree: &PolicyTree) -> bool
     requires { IsBuiltFrom text.now (λ tokens. WellFormedPolicy tokens tree.now) }
-    ensures { result ≡ looks_placed text.now name.now tree.now }
+    ensures { result ≡ has_index_prefix text.now name.now tree.now }
 {
     has_id(text, tree) && name.as_str().as_bytes().starts_with(b"policy")
 }
 
 /// Returns whether some `@id` of a file may equal a policy's name by index.
-fn meets_place(text: &str, names: &[Text], trees: &[PolicyTree]) -> bool
+fn some_index_name(text: &str, names: &[Text], trees: &[PolicyTree]) -> bool
     requires same { length names.now ≡ length trees.now }
     requires stands { IsBuiltFrom text.now (λ tokens. AllByRecursion (WellFormedPolicy tokens) trees.now) }
-    ensures { result ≡ meets_place text.now names.now trees.now }
+    ensures { result ≡ some_index_name text.now names.now trees.now }
 {
     for (i, tree) in trees.iter().enumerate() {
-        if looks_placed(text, &names[i], tree) {
+        if has_index_prefix(text, &names[i], tree) {
             return true;
         }
     }
     false
 }
 
-/// Returns whether the name of a policy may be a duplicate.
+/// Returns whether the name of a policy may repeat another: if `wide` any may, else that of an `@id`.
 fn is_doubtful(text: &str, wide: bool, tree: &PolicyTree) -> bool
     requires { IsBuiltFrom text.now (λ tokens. WellFormedPolicy tokens tree.now) }
     ensures { result ≡ (wide || has_id text.now tree.now) }
@@ -55,9 +55,9 @@ fn is_doubtful(text: &str, wide: bool, tree: &PolicyTree) -> bool
     wide || has_id(text, tree)
 }
 
-/// Returns the policies whose names may be duplicates, each at its first token: those with an `@id`, or all if
-/// `wide`.
-fn doubtful_marks<'a>(
+/// Returns the names that may repeat another, each with the offset of its policy's first token: those of an `@id`, or
+/// all if `wide`.
+fn names_to_compare<'a>(
     alloc: Global,
     text: &str,
     wide: bool,
@@ -67,7 +67,7 @@ fn doubtful_marks<'a>(
     requires same { length names.now ≡ length trees.now }
     requires stands { IsBuiltFrom text.now (λ tokens. AllByRecursion (WellFormedPolicy tokens) trees.now) }
     ensures { IfOk result
-        (λ marks. abstract_names marks.items ≡ doubtful_marks text.now wide names.entry.now trees.now) }
+        (λ marks. abstract_names marks.items ≡ names_to_compare text.now wide names.entry.now trees.now) }
 {
     let mut marks = Vec::new(alloc);
     for (i, tree) in trees.iter().enumerate() {
@@ -82,7 +82,9 @@ fn doubtful_marks<'a>(
     Ok(marks)
 }
 
-/// Returns the error of a duplicate policy name in a file, the one at the least offset. Names by index are distinct.
+/// Returns the error of the repeated policy name in a file at the least offset, or `None` if all names are distinct.
+///
+/// Names by index are distinct, so they are compared only if some `@id` may equal one.
 pub(crate) fn repeated_name(
     alloc: Global,
     text: &str,
@@ -93,8 +95,8 @@ pub(crate) fn repeated_name(
     requires stands { IsBuiltFrom text.now (λ tokens. AllByRecursion (WellFormedPolicy tokens) trees.now) }
     ensures { IfOk result (λ fault. fault ≡ least (repeat_faults (policy_names names.now trees.now))) }
 {
-    repeats_stand_again();
-    let wide = meets_place(text, names, trees);
-    let marks = doubtful_marks(alloc, text, wide, names, trees)?;
+    repeats_are_exact();
+    let wide = some_index_name(text, names, trees);
+    let marks = names_to_compare(alloc, text, wide, names, trees)?;
     first_duplicate(alloc, &marks)
 }

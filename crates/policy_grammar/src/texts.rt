@@ -1,4 +1,4 @@
-//! Parsers of whole texts: a uid, a policy, a file of policies.
+//! Parsers of a whole text: a uid, a policy, or a file of policies.
 ghost use Rattle.std.specs.Prelude.{IfOk, IfErr, map, string_bytes};
 ghost use Rattle.std.specs.List.{AllByRecursion};
 ghost use Rattle.grammar_policies.specs.WellFormed.{WellFormedPolicy};
@@ -10,7 +10,7 @@ ghost use Rattle.plain.specs.Refused.{OrNoMemory};
 ghost use Rattle.policy_grammar.specs.PolicyText.{IsPolicyRefused, IsFileRefused};
 ghost use Rattle.grammar_desugaring.specs.BuiltFrom.{IsBuiltFrom};
 
-use crate::core_of::{core_of, uid_of};
+use crate::core_of::{core_like, uid_of};
 use crate::fault::ReadFault;
 use crate::held::after;
 use crate::limits::are_ids;
@@ -20,7 +20,7 @@ use crate::policy::Policy;
 use crate::repeats::repeated_name;
 use crate::trees::{policy_tree, policy_trees, uid_tree};
 use crate::verdict::{judge_policies, judge_policy};
-use grammar_desugaring::{earlier_of, least_fault_is_told};
+use grammar_desugaring::{earlier_of, least_fault_is_reported};
 use grammar_policies::PolicyTree;
 use plain::{NoMemory, Text};
 use std::alloc::Global;
@@ -35,7 +35,7 @@ fn uid_by_tree(alloc: Global, text: &str) -> Result<EntityUid, ReadFault>
     Ok(uid_of(alloc, text, &tree)?)
 }
 
-/// Parses a uid, as `User::"alice"`. Whitespace and comments may be between its tokens.
+/// Parses a uid, such as `User::"alice"`. Whitespace and comments may be between its tokens.
 ///
 /// # Errors
 ///
@@ -43,7 +43,7 @@ fn uid_by_tree(alloc: Global, text: &str) -> Result<EntityUid, ReadFault>
 ///
 /// - `TooLong` (18): over 262,144 bytes.
 /// - `BadToken` (10): the first byte at which no token starts, anywhere in the text.
-/// - `Unexpected` (11), `Slot` (16): the first token with which no uid goes on.
+/// - `Unexpected` (11), `Slot` (16): the first token that cannot follow those before it in a uid.
 /// - `NoMemory` (1): an allocation failed; possible at any point.
 pub fn parse_uid(alloc: Global, text: &str) -> Result<EntityUid, ReadFault>
     ensures read { IfOk result (IsUidText text.now) }
@@ -55,13 +55,13 @@ pub fn parse_uid(alloc: Global, text: &str) -> Result<EntityUid, ReadFault>
     }
 }
 
-/// Returns the policy of a tree, within the limits.
+/// Returns the policy of a tree, or its error, such as that it is over the limits.
 fn policy_of(alloc: Global, text: &str, tree: &PolicyTree) -> Result<Policy, ReadFault>
     requires { IsBuiltFrom text.now (λ tokens. WellFormedPolicy tokens tree.now) }
     ensures read { IfOk result (IsPolicyOf text.now tree.now) }
     ensures refused { IfErr result (OrNoMemory ReadFault.NoMemory (HasNoPolicy text.now tree.now)) }
 {
-    least_fault_is_told();
+    least_fault_is_reported();
     let verdict = judge_policy(alloc, text, tree)?;
     if let Some(fault) = verdict.fault {
         return Err(ReadFault::from(fault));
@@ -69,7 +69,7 @@ fn policy_of(alloc: Global, text: &str, tree: &PolicyTree) -> Result<Policy, Rea
     if !verdict.small {
         return Err(ReadFault::TooDeep(0));
     }
-    Ok(core_of(alloc, text, tree)?)
+    Ok(core_like(alloc, text, tree, None)?)
 }
 
 /// Parses a policy. Its annotations are not kept, and the length of an `@id` is not checked.
@@ -80,8 +80,8 @@ fn policy_of(alloc: Global, text: &str, tree: &PolicyTree) -> Result<Policy, Rea
 ///
 /// - `TooLong` (18): over 262,144 bytes.
 /// - `BadToken` (10): the first byte at which no token starts, anywhere in the text.
-/// - `Unexpected` (11), `Slot` (16), `TooDeep` (17): the first token with which no policy goes on, or that would open
-///   level 65 of an expression.
+/// - `Unexpected` (11), `Slot` (16), `TooDeep` (17): the first token that cannot follow those before it in a policy, or
+///   that would open level 65 of an expression.
 /// - `RepeatedKey` (15) of an annotation or of a record, `NumberRange` (12), `UnknownCall` (13), `Arity` (14): the
 ///   error at the least offset.
 /// - `TooDeep` (17) at offset 0: the core expression is higher than 1,000 or has over 1,000,000 nodes.
@@ -98,7 +98,7 @@ pub fn parse_policy(alloc: Global, text: &str) -> Result<Policy, ReadFault>
     after(tree, made)
 }
 
-/// Returns the policies of a file's trees, each with its name, within the limits.
+/// Returns the policies of a file's trees, each with its name, or their error, such as that one is over the limits.
 fn policies_of(
     alloc: Global,
     text: &str,
@@ -112,7 +112,7 @@ fn policies_of(
         (map (λ p. string_bytes p.0) named.items) (map (λ p. p.1) named.items)) }
     ensures refused { IfErr result (OrNoMemory ReadFault.NoMemory (HaveNoPolicies text.now trees.items names.items)) }
 {
-    least_fault_is_told();
+    least_fault_is_reported();
     let repeat = repeated_name(alloc, text, &names, &trees)?;
     let verdict = judge_policies(alloc, text, &trees)?;
     if let Some(fault) = earlier_of(repeat, verdict.fault) {
@@ -136,8 +136,8 @@ fn policies_of(
 ///
 /// - `TooLong` (18): over 8,388,608 bytes.
 /// - `BadToken` (10): the first byte at which no token starts, anywhere in the file.
-/// - `Unexpected` (11), `Slot` (16), `TooDeep` (17): the first token with which no file goes on, or that would open
-///   level 65 of an expression.
+/// - `Unexpected` (11), `Slot` (16), `TooDeep` (17): the first token that cannot follow those before it in a file, or
+///   that would open level 65 of an expression.
 /// - `RepeatedKey` (15) of an annotation, of a record or of a policy's name, `NumberRange` (12), `UnknownCall` (13),
 ///   `Arity` (14): the error at the least offset of the whole file.
 /// - `TooDeep` (17) at offset 0: the core expression of some policy is higher than 1,000 or has over 1,000,000 nodes.

@@ -1,4 +1,4 @@
-//! Syntax trees of whole texts: a uid, a policy, a file of policies.
+//! Parsers of a whole text into syntax trees: of a uid, of a policy, or of a file of policies.
 ghost use Rattle.std.specs.Prelude.{◌≡◌, IfOk, IfErr, slice_get};
 ghost use Rattle.std.specs.List.{AllByRecursion};
 ghost use Rattle.grammar_policies.specs.grammar_expressions.Expressions.{nesting_limit};
@@ -16,16 +16,16 @@ use grammar_desugaring::{Token, tokens};
 use grammar_policies::{PolicyTree, SyntaxFault, UidTree, read_policies, read_policy, read_uid};
 use std::alloc::Global;
 
-/// The most bytes of a policy text, or of one uid.
+/// The greatest number of bytes of the text of a policy, or of a uid.
 pub const MOST_POLICY_BYTES: usize = 262_144;
 
-/// The most bytes of a file of policies.
+/// The greatest number of bytes of a file of policies.
 pub const MOST_FILE_BYTES: usize = 8_388_608;
 
-/// The most bytes of a uid's text.
+/// The greatest number of bytes of a uid's text.
 const MOST_UID_BYTES: usize = MOST_POLICY_BYTES;
 
-/// Returns the tokens of a text that is not too long.
+/// Returns the tokens of a text of at most `most` bytes.
 fn tokens_of(alloc: Global, text: &str, most: usize) -> Result<Vec<Token>, ReadFault>
     ensures ok { IfOk result (λ tokens. LexedIn most text.now tokens.items) }
     ensures err { IfErr result (OrNoMemory ReadFault.NoMemory (IsUnlexed most text.now)) }
@@ -47,7 +47,7 @@ fn byte(text: &str, tokens: &[Token], place: usize) -> usize
     }
 }
 
-/// Returns an error at a token as the error at its byte.
+/// Returns an error with the byte offset of its token in place of the token's index.
 fn refusal(text: &str, tokens: &[Token], fault: SyntaxFault) -> ReadFault
     ensures { result ≡ refusal_of text.now tokens.now fault }
 {
@@ -100,7 +100,11 @@ pub fn policy_tree(alloc: Global, text: &str) -> Result<PolicyTree, ReadFault>
     }
 }
 
-/// Parses the trees of a file's policies. Errors are those of [`policy_tree`], with the length limit of a file.
+/// Parses the trees of a file's policies.
+///
+/// # Errors
+///
+/// Those of [`policy_tree`], where `TooLong` (18) is for a file of over 8,388,608 bytes.
 pub fn policy_trees(alloc: Global, text: &str) -> Result<Vec<PolicyTree>, ReadFault>
     ensures derives { IfOk result
         (λ trees. Derives (grammar.policies nesting_limit) most_file_bytes text.now trees.items) }

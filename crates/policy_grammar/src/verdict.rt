@@ -1,4 +1,4 @@
-//! Checks of policies before any of their expressions is built: the error at the least offset, and whether they are
+//! Checks of policies before any of their expressions is built: their error at the least offset, and whether they are
 //! within the limits.
 ghost use Rattle.std.specs.Prelude.{◌≡◌, ◌↔◌, IsTrue, IfOk};
 ghost use Rattle.std.specs.List.{AllByRecursion};
@@ -10,7 +10,7 @@ ghost use Rattle.policy_grammar.specs.inner.Parts.{ReportsPolicy, ReportsFile};
 use crate::annotations::repeated_annotation;
 use crate::conditions::judge_conditions;
 use crate::limits::is_small;
-use grammar_desugaring::{DesugarFault, earlier_of, least_fault_is_told};
+use grammar_desugaring::{DesugarFault, earlier_of, least_fault_is_reported};
 use grammar_policies::PolicyTree;
 use plain::NoMemory;
 use std::alloc::Global;
@@ -18,13 +18,13 @@ use std::alloc::Global;
 /// The result of checking one policy, or several.
 #[derive(Clone, Copy)]
 pub(crate) struct Verdict {
-    /// The error at the least offset, of duplicate annotations and of conditions.
+    /// The error at the least offset, of a repeated annotation or of a condition.
     pub(crate) fault: Option<DesugarFault>,
     /// Whether each core expression is within the limits of height and nodes.
     pub(crate) small: bool,
 }
 
-/// Returns the verdict of two verdicts together.
+/// Returns the verdict on all policies of two verdicts.
 fn both(one: Verdict, other: Verdict) -> Verdict
     ensures fault { result.fault ≡ spec.earlier_of one.fault other.fault }
     ensures small { IsTrue result.small ↔ (IsTrue one.small × IsTrue other.small) }
@@ -35,7 +35,7 @@ fn both(one: Verdict, other: Verdict) -> Verdict
     }
 }
 
-/// Checks a policy. Allocates only for the keys of annotations and of records.
+/// Returns the verdict on a policy. Allocates only for the keys of annotations and of records.
 pub(crate) fn judge_policy(
     alloc: Global,
     text: &str,
@@ -44,7 +44,7 @@ pub(crate) fn judge_policy(
     requires { IsBuiltFrom text.now (λ tokens. WellFormedPolicy tokens tree.now) }
     ensures { IfOk result (ReportsPolicy text.now tree.now) }
 {
-    least_fault_is_told();
+    least_fault_is_reported();
     let repeat = repeated_annotation(alloc, text, tree)?;
     let measure = judge_conditions(alloc, text, tree.conditions.as_slice())?;
     let small = is_small(tree, measure.height, measure.forms);
@@ -54,7 +54,7 @@ pub(crate) fn judge_policy(
     })
 }
 
-/// Checks the policies of a file.
+/// Returns the verdict on the policies of a file.
 pub(crate) fn judge_policies(
     alloc: Global,
     text: &str,
@@ -63,7 +63,7 @@ pub(crate) fn judge_policies(
     requires { IsBuiltFrom text.now (λ tokens. AllByRecursion (WellFormedPolicy tokens) trees.now) }
     ensures { IfOk result (ReportsFile text.now trees.now) }
 {
-    least_fault_is_told();
+    least_fault_is_reported();
     let mut verdict = Verdict {
         fault: None,
         small: true,

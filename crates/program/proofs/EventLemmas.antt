@@ -9,7 +9,7 @@ use Rattle.program.specs.Events.{Event, read, stored, wrote, printed, connected,
 use Rattle.program.specs.Reports.{ended, status_after, IsReported, IsFileReported, IsFailureReported, IsPrinted}
 use Rattle.program.specs.Courses.{Course, Reads, ReadsIfNamed, ReadsIfThere, GoesOnIfThere, Stores, Connects, Listens, OpensIfNamed, Announces, WarnsIf}
 use Rattle.program.specs.inner.Served.{IsWarned}
-use Rattle.program.specs.inner.Ways.{IsFound, IsUnread, IsUnreadIfNamed, IsUnreadThere, found_as}
+use Rattle.program.specs.inner.FileReads.{IsFound, IsUnread, IsUnreadIfNamed, IsUnreadThere, found_as}
 
 pub failed_there : Failed ≡ Missing → ⊥
 failed_there e = absurd cc

@@ -6,7 +6,7 @@ use Rattle.program_drills.specs.http_service.answer_lines.declared.refusal.Refus
 use Rattle.program_drills.specs.http_service.answer_lines.Refusals.{no_memory}
 use Rattle.state_exchanges.specs.http_streams.declared.devices.Source.{Ghosts as Source}
 use Rattle.state_exchanges.specs.http_streams.declared.devices.Sink.{Ghosts as Sink}
-use Rattle.state_exchanges.specs.declared.asking.Call.TheVariants as call
+use Rattle.state_exchanges.specs.declared.asking.ExchangeCall.TheVariants as call
 use Rattle.state_exchanges.specs.declared.fault.NetworkFault.{NetworkFault}
 use Rattle.state_exchanges.specs.declared.fault.NetworkFault.TheVariants as network
 use Rattle.state_exchanges.specs.declared.fault.PullFault.{PullFault}
@@ -14,7 +14,7 @@ use Rattle.state_exchanges.specs.declared.fault.PullFault.TheVariants.{Network, 
 use Rattle.state_exchanges.specs.Counts.{IsTakenLine}
 use Rattle.state_exchanges.specs.http_streams.declared.TheConstants.{MAX_BODY}
 use Rattle.state_exchanges.specs.Requests.{call_request, call_size}
-use Rattle.state_exchanges.specs.Exchanges.{IsAnswered, IsRequestBegun, IsUnanswered, TellsOfHost, TellsOfSize}
+use Rattle.state_exchanges.specs.Exchanges.{IsAnswered, IsRequestBegun, IsUnanswered, ReportsNoHost, ReportsTooLarge}
 use Rattle.program.specs.declared.device.Link.{Link}
 use Rattle.program.specs.declared.device.Stream.TheVariants.{Answers}
 use Rattle.program.specs.declared.exchanging.CallFault.TheVariants as cause
@@ -23,7 +23,7 @@ use Rattle.program.specs.Events.{Event, closed, connected, wrote, Does, Runs}
 use Rattle.program.specs.Reports.{ended}
 use Rattle.program.specs.Courses.{Course, GoesOnAnnounced}
 use Rattle.program.specs.Pulling.{NoReadFailed, NoWriteFailed}
-use Rattle.program.specs.Exchanging.{Calls, CallsIfReached, CallsOver, Direction, IsCallFaultTold, IsCallReported, IsNotCalled, TellsTaken}
+use Rattle.program.specs.Exchanging.{Calls, CallsIfReached, CallsOver, Direction, IsCallErrorReported, IsCallReported, IsNotCalled, WritesTaken}
 use Rattle.program.specs.inner.Exchanged.{IsReplied, IsRepliedOver, Never, NoCourse, WasExchanged}
 
 module _ {L H : Type 0} (does : H → Event L → H → Type 0) where
@@ -56,8 +56,8 @@ module _ {R W : Type 0} (reader : Source R) (writer : Sink W) (at : RoundCall) (
       → ((f : NetworkFault) → fault ≡ Network f → IsUnanswered reader.left reader.reads reader.failed reader.fails writer.holds writer.failed writer.fails
       request link.reader left.reader link.writer left.writer f)
       → IsRequestBegun reader.left writer.holds request link.reader left.reader link.writer left.writer
-      → ((f : NetworkFault) → fault ≡ Network f → TellsOfHost at.address.now f)
-      → ((f : NetworkFault) → fault ≡ Network f → TellsOfSize at.address.now (call_size at.call body) f)
+      → ((f : NetworkFault) → fault ≡ Network f → ReportsNoHost at.address.now f)
+      → ((f : NetworkFault) → fault ≡ Network f → ReportsTooLarge at.address.now (call_size at.call body) f)
       → (fault ≢ Network network.Read → NoReadFailed reader writer link left)
       → (fault ≢ Network network.Write → NoWriteFailed reader writer link left)
       → IsNotCalled reader writer at body link fault left
@@ -74,15 +74,15 @@ module _ {R W : Type 0} (reader : Source R) (writer : Sink W) (at : RoundCall) (
         → ((f : NetworkFault) → came ≡ Err (Network f) → IsUnanswered reader.left reader.reads reader.failed reader.fails writer.holds writer.failed writer.fails
         request link.reader left.reader link.writer left.writer f)
         → OnErr came (IsRequestBegun reader.left writer.holds request link.reader left.reader link.writer left.writer)
-        → ((f : NetworkFault) → came ≡ Err (Network f) → TellsOfHost at.address.now f)
+        → ((f : NetworkFault) → came ≡ Err (Network f) → ReportsNoHost at.address.now f)
         → IfOk came (λ v. call_size at.call body ≤ MAX_BODY)
-        → ((f : NetworkFault) → came ≡ Err (Network f) → TellsOfSize at.address.now (call_size at.call body) f)
+        → ((f : NetworkFault) → came ≡ Err (Network f) → ReportsTooLarge at.address.now (call_size at.call body) f)
         → (came ≢ Err (Network network.Read) → NoReadFailed reader writer link left)
         → (came ≢ Err (Network network.Write) → NoWriteFailed reader writer link left)
         → does old (closed left) next
         → IfOk result (λ v. came ≡ Ok v)
         → OnOk result (new ≡ next)
-        → IfErr result (λ e. (fault : PullFault) × (came ≡ Err fault) × Runs does next new (λ events. IsCallFaultTold at fault events (status e)))
+        → IfErr result (λ e. (fault : PullFault) × (came ≡ Err fault) × Runs does next new (λ events. IsCallErrorReported at fault events (status e)))
         → MatchResult result (λ v. Runs does old new (IsRepliedOver reader writer at body link (items v)))
         (λ e. Runs does old new (λ events. CallsOver reader writer at body Never link events (status e)))
     called_over (Ok u) (Ok v) answered refused unanswered begun host fits size reads writes gone same still told =
@@ -194,7 +194,7 @@ module _ {R W : Type 0} (reader : Source R) (writer : Sink W) (first : ℕ) (to 
   merge_call = record { number = first + 2; call = call.Merge; address = to }
 
   abbrev pub after_merge : Course (Link R W) → List ℕ → Course (Link R W)
-  after_merge goes_on line = TellsTaken merge_call line goes_on
+  after_merge goes_on line = WritesTaken merge_call line goes_on
 
   abbrev pub after_delta : Course (Link R W) → List ℕ → Course (Link R W)
   after_delta goes_on delta = Calls reader writer merge_call delta (after_merge goes_on)
@@ -276,7 +276,7 @@ module _ {R W : Type 0} (reader : Source R) (writer : Sink W) (first : ℕ) (to 
       → Runs does h0 h1 (IsReplied reader writer summary_call [] summary) → Runs does h1 h2 (IsReplied reader writer delta_call summary delta)
       → Runs does h2 h3 (IsReplied reader writer merge_call delta line)
       → MatchResult result (λ u. IsTakenLine line × does h3 (wrote Answers (ended line) true) h4)
-      (λ e. Runs does h3 h4 (λ events. TellsTaken merge_call line NoCourse events (status e)))
+      (λ e. Runs does h3 h4 (λ events. WritesTaken merge_call line NoCourse events (status e)))
       → MatchResult result (λ u. Runs does h0 h4 (WasExchanged reader writer first to from))
       (λ e. Runs does h0 h4 (λ events. Direction reader writer first to from NoCourse events (status e)))
   told_or_ended does h0 h1 h2 h3 h4 summary delta line status (Ok u) a b c told =

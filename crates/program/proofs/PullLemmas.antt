@@ -15,11 +15,11 @@ use Rattle.state_exchanges.specs.declared.fault.PullFault.TheVariants.{Network, 
 use Rattle.state_exchanges.specs.declared.pulling.Pulled.{Pulled}
 use Rattle.state_exchanges.specs.Requests.{IsReady, request_for}
 use Rattle.state_exchanges.specs.Exchanges.{IsRequestBegun, IsUnanswered}
-use Rattle.state_exchanges.specs.Pulls.{IsPulled, IsRefusedFirst}
+use Rattle.state_exchanges.specs.Pulls.{IsPulled, IsFirstError}
 use Rattle.program.specs.declared.device.Link.{Link}
 use Rattle.program.specs.Events.{Event, closed, Runs}
 use Rattle.program.specs.Pulling.{NoReadFailed, NoWriteFailed, IsAsked, IsNotMoreThanAsked, IsPullRefused, IsPull}
-use Rattle.program.specs.Pulling.{IsPulledOver, IsPullTold}
+use Rattle.program.specs.Pulling.{IsPulledOver, IsPullReported}
 
 same_link : {R W : Type 0} (a b : Link R W) → a.reader ≡ b.reader → a.writer ≡ b.writer → a ≡ b
 same_link a b r w = λ i. record { reader = r i; writer = w i }
@@ -33,7 +33,7 @@ module _ {R W : Type 0} (reader : Source R) (writer : Sink W) (schema : List ℕ
   asked_at_most (inl same) = inl (same_link left link same.0 same.1)
   asked_at_most (inr begun) = inr begun
 
-  refused_as : (r : Refusal) → (IsRefusedFirst schema state r × (left.reader ≡ link.reader) × (left.writer ≡ link.writer))
+  refused_as : (r : Refusal) → (IsFirstError schema state r × (left.reader ≡ link.reader) × (left.writer ≡ link.writer))
       ⊎ ((s : StatedSchema) × (m : Store) × (body : List ℕ) × IsReady schema state s m
       × IsAsked reader writer (request_for address s m) link body left × IsMessageRefused s body r)
       → IsPullRefused reader writer schema state address r link left
@@ -45,7 +45,7 @@ module _ {R W : Type 0} (reader : Source R) (writer : Sink W) (schema : List ℕ
       → IfOk came (λ p. (s : StatedSchema) × (m : Store) × (body : List ℕ) × IsReady schema state s m
       × IsAsked reader writer (request_for address s m) link body left × IsPulled s m body p.state.items p.taken)
       → ((r : Refusal) → came ≡ Err (Refused r) → r ≢ no_memory
-      → (IsRefusedFirst schema state r × (left.reader ≡ link.reader) × (left.writer ≡ link.writer))
+      → (IsFirstError schema state r × (left.reader ≡ link.reader) × (left.writer ≡ link.writer))
       ⊎ ((s : StatedSchema) × (m : Store) × (body : List ℕ) × IsReady schema state s m
       × IsAsked reader writer (request_for address s m) link body left × IsMessageRefused s body r))
       → ((f : NetworkFault) → came ≡ Err (Network f) → (s : StatedSchema) × (m : Store) × IsReady schema state s m
@@ -81,7 +81,7 @@ module _ {R W : Type 0} (reader : Source R) (writer : Sink W) (schema : List ℕ
 pub pulled_over : {R W H : Type 0} (reader : Source R) (writer : Sink W) (options : PullOptions) (schema : List ℕ) (state : Option (List ℕ))
     (link left : Link R W) (does : H → Event (Link R W) → H → Type 0) (old next new : H) (came : Result Pulled PullFault) (end : ℕ)
     → IsPull reader writer schema state options.from.now link came left → does old (closed left) next
-    → Runs does next new (λ events. IsPullTold options came events end)
+    → Runs does next new (λ events. IsPullReported options came events end)
     → Runs does old new (λ events. IsPulledOver reader writer options schema state link events end)
 pulled_over reader writer options schema state link left does old next new came end pull gone told =
     (closed left ∷ told.0, (next, gone, told.1), (came, left, pull, (told.0, refl, told.2)))

@@ -23,19 +23,21 @@ use Rattle.program_drills.specs.http_service.site_steps.sync_messages.Messages.{
 abbrev pub site_refusal : SiteFault → Refusal
 site_refusal f = record { code = code_of f; place = place_of f; within = within_of f }
 
--- `BeginsWith s o m` holds if `m` is the store of the updates of the message `o`, or the empty store if `o` is absent.
+-- `BeginsWith s o m` holds if `m` is the store of the updates of `o`, a message of the schema `s`, or the empty store
+-- if `o` is absent.
 abbrev pub BeginsWith : StatedSchema → Option (List ℕ) → Store → Type 0
 BeginsWith s None m = m ≡ store_of []
 BeginsWith s (Some bytes) m = (us : List (SentUpdate Policy Entity)) × IsMessageOf s bytes us
     × (m ≡ store_of (plain_updates us))
 
--- `IsInitialSite schema name state site` holds if `site` has this schema, this name and the updates of `state`.
+-- `IsInitialSite schema name state site` holds if `site` has the schema that `schema` states, the name `name`, and the
+-- updates of `state`.
 pub record IsInitialSite (schema : List ℕ) (name : List ℕ) (state : Option (List ℕ)) (site : SiteView) : Type 0 where
   pub schema_is : IsSchemaOf schema (schema_of site)
   pub name_is : site.name ≡ name
   pub begins : BeginsWith (schema_of site) state (store_in site)
 
--- `IsStateRefused s o r` holds if a state is given, and `r` is its first error as a message of `s`.
+-- `IsStateRefused s o r` holds if the state `o` is present, and `r` is its first error as a message of the schema `s`.
 abbrev pub IsStateRefused : StatedSchema → Option (List ℕ) → Refusal → Type 0
 IsStateRefused s None r = ⊥
 IsStateRefused s (Some bytes) r =

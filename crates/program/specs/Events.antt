@@ -40,14 +40,15 @@ module _ {L H : Type 0} (does : H → Event L → H → Type 0) where
   Does [] old new = new ≡ old
   Does (event ∷ events) old new = (next : H) × does old event next × Does events next new
 
-  -- `Runs old new described` holds if some events with `described` lead from `old` to `new`.
+  -- `Runs old new described` holds if some events for which `described` holds lead from `old` to `new`.
   abbrev pub Runs : H → H → (List (Event L) → Type 0) → Type 0
   Runs old new described = (events : List (Event L)) × Does events old new × described events
 
 -- `Changes held told out err event new_out new_err` holds if `event` may lead the two standard streams from `out` and
--- `err` to `new_out` and `new_err`: a line is written to one, and the other stays. `Changes` does not constrain the
--- content of a file, the text of an error, how much a stream took before it failed, or what is read from a connection;
--- nor of the lines of a log on standard output, which has its own writer: they occur among what the first stream got.
+-- `err` to `new_out` and `new_err`: a line is written to one, and the other is unchanged. `held` and `told` give the
+-- bytes that the streams accepted, if they are known. `Changes` does not constrain the content of a file, the text of
+-- an error, how much a stream accepted before it failed, or what is read from a connection; nor the lines of a log on
+-- standard output, which has its own writer: they occur among what the first stream got.
 abbrev pub Changes : {L O E : Type 0} → (O → Option (List ℕ)) → (E → Option (List ℕ)) → O → E → Event L → O → E
     → Type 0
 Changes held told out err (read name bytes) new_out new_err = (new_out ≡ out) × (new_err ≡ err)

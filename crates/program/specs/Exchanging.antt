@@ -1,6 +1,6 @@
 -- Defines a run of `exchange`, which brings two running sites up to date: six calls, three for each site, and two
 -- lines.
--- Source: docs/operating.md, "Exchange".
+-- Source: docs/operating.md, "Exchange updates between sites".
 -- Rules of this product: the schema is checked before anything is sent; each call opens its own connection and sends
 -- the body of the previous reply; the count in the reply to a merge is printed as received; the first call that fails
 -- ends the run, and its line reports the address, the number and the request of the call, and the cause.
@@ -13,15 +13,15 @@ use Rattle.program_drills.specs.http_service.answer_lines.Refusals.{no_memory}
 use Rattle.program_lines.specs.declared.line.ExchangeOptions.{ExchangeOptions}
 use Rattle.state_exchanges.specs.http_streams.declared.devices.Source.{Ghosts as Source}
 use Rattle.state_exchanges.specs.http_streams.declared.devices.Sink.{Ghosts as Sink}
-use Rattle.state_exchanges.specs.declared.asking.Call.{Call}
-use Rattle.state_exchanges.specs.declared.asking.Call.TheVariants as call
+use Rattle.state_exchanges.specs.declared.asking.ExchangeCall.{ExchangeCall}
+use Rattle.state_exchanges.specs.declared.asking.ExchangeCall.TheVariants as call
 use Rattle.state_exchanges.specs.declared.fault.NetworkFault.TheVariants as network
 use Rattle.state_exchanges.specs.declared.fault.PullFault.{PullFault}
 use Rattle.state_exchanges.specs.declared.fault.PullFault.TheVariants.{Network, Refused}
 use Rattle.state_exchanges.specs.http_streams.declared.TheConstants.{MAX_BODY}
 use Rattle.state_exchanges.specs.Requests.{call_request, call_size}
 use Rattle.state_exchanges.specs.Counts.{IsTakenLine}
-use Rattle.state_exchanges.specs.Exchanges.{IsRequestBegun, IsUnanswered, TellsOfHost, TellsOfSize}
+use Rattle.state_exchanges.specs.Exchanges.{IsRequestBegun, IsUnanswered, ReportsNoHost, ReportsTooLarge}
 use Rattle.program.specs.declared.device.Link.{Link}
 use Rattle.program.specs.declared.exchanging.CallFault.{CallFault}
 use Rattle.program.specs.declared.exchanging.CallFault.TheVariants as cause
@@ -34,17 +34,17 @@ use Rattle.program.specs.Pulling.{IsAsked, NoReadFailed, NoWriteFailed}
 -- ---- lines
 
 -- `call_text call` is the method and the path of `call`.
-abbrev pub call_text : Call → List ℕ
+abbrev pub call_text : ExchangeCall → List ℕ
 call_text call.Summary = codes "GET /v1/summary"
 call_text call.Delta = codes "POST /v1/delta"
 call_text call.Merge = codes "POST /v1/merge"
 
--- `status_text status` reports a reply with `status`; for a request that is too large it says what to do instead.
+-- `status_text status` reports a reply with `status`; for 413, a request that is too large, it says what to do instead.
 unfoldable pub status_text : ℕ → List ℕ
 status_text status = if nat_eq status 413 then codes "status 413, larger than a site takes: merge the two as files"
     else codes "status " ++ decimal status
 
--- `fault_text fault` says why a call failed.
+-- `fault_text fault` is the cause, as it is reported, of a failed call with the error `fault`.
 abbrev pub fault_text : CallFault → List ℕ
 fault_text cause.NotReached = codes "no connection"
 fault_text cause.NoCount = codes "no count of updates"
@@ -56,26 +56,29 @@ fault_text (cause.Network network.NoHost) = codes "no host"
 fault_text (cause.Network network.TooLarge) = codes "larger than a site takes: merge the two as files"
 fault_text (cause.Network (network.OtherStatus status)) = status_text status
 
--- `call_report at why` is the address of the call `at`, its number and its request, and `why`.
+-- `call_report at why` is the report of the call `at` with the cause `why`: its address, number and request, and the
+-- cause.
 unfoldable pub call_report : RoundCall → List ℕ → List ℕ
 call_report at why = at.address.now ++ codes ": call " ++ decimal at.number ++ codes " of 6, " ++ call_text at.call
     ++ codes ": " ++ why
 
 module _ {L : Type 0} where
-  -- `IsCallReported at fault`: the error `fault` of the call `at` is reported, and the run ends with status 3.
+  -- `IsCallReported at fault`: the error `fault` of the call `at` is reported, and the run ends with status 3; or out
+  -- of memory is reported.
   abbrev pub IsCallReported : RoundCall → CallFault → Course L
   IsCallReported at fault events end = IsFailureReported (call_report at (fault_text fault)) events end
       ⊎ IsMemoryReported events end
 
-  -- `IsCallFaultTold at fault`: the same of what was received in place of a reply.
-  abbrev pub IsCallFaultTold : RoundCall → PullFault → Course L
-  IsCallFaultTold at (Network fault) = IsCallReported at (cause.Network fault)
-  IsCallFaultTold at (Refused refusal) = IsMemoryReported
+  -- `IsCallErrorReported at fault`: the error `fault`, which came in place of a reply to the call `at`, is reported;
+  -- `Refused` is out of memory.
+  abbrev pub IsCallErrorReported : RoundCall → PullFault → Course L
+  IsCallErrorReported at (Network fault) = IsCallReported at (cause.Network fault)
+  IsCallErrorReported at (Refused refusal) = IsMemoryReported
 
-  -- `TellsTaken at line goes_on`: the count `line` is written to standard output, and the run goes on; or it is
-  -- reported that the reply to the call `at` is not a count.
-  abbrev pub TellsTaken : RoundCall → List ℕ → Course L → Course L
-  TellsTaken at line goes_on events end = (IsTakenLine line × Announces line goes_on events end)
+  -- `WritesTaken at line goes_on`: the count `line` is written to standard output, and the run goes on; or it is
+  -- reported that `line`, the reply to the call `at`, is not a count.
+  abbrev pub WritesTaken : RoundCall → List ℕ → Course L → Course L
+  WritesTaken at line goes_on events end = (IsTakenLine line × Announces line goes_on events end)
       ⊎ ((IsTakenLine line → ⊥) × IsCallReported at cause.NoCount events end)
 
   -- `IsOver`: the run ends with status 0.
@@ -87,20 +90,20 @@ module _ {L : Type 0} where
 module _ {R W : Type 0} (reader : Source R) (writer : Sink W) where
   -- `IsCalled at body link reply left` holds if the request of the call `at` with `body`, of a size that a site
   -- accepts, was written over `link`, and what was read begins with a reply of status 200 and the body `reply`; no
-  -- device failed.
+  -- device failed. `left` is the connection afterwards.
   abbrev pub IsCalled : RoundCall → List ℕ → Link R W → List ℕ → Link R W → Type 0
   IsCalled at body link reply left =
       IsAsked reader writer (call_request at.call at.address.now body) link reply left
       × NoReadFailed reader writer link left × NoWriteFailed reader writer link left
       × (call_size at.call body ≤ MAX_BODY)
 
-  -- `IsNotCalled at body link fault left` holds if `fault` is why there is no such reply; a first part of the request
-  -- was written, or all of it.
+  -- `IsNotCalled at body link fault left` holds if `fault` is why there is no such reply; nothing of the request was
+  -- written, a first part, or all of it.
   abbrev pub IsNotCalled : RoundCall → List ℕ → Link R W → PullFault → Link R W → Type 0
   IsNotCalled at body link (Network fault) left =
       IsUnanswered reader.left reader.reads reader.failed reader.fails writer.holds writer.failed writer.fails
       (call_request at.call at.address.now body) link.reader left.reader link.writer left.writer fault
-      × TellsOfHost at.address.now fault × TellsOfSize at.address.now (call_size at.call body) fault
+      × ReportsNoHost at.address.now fault × ReportsTooLarge at.address.now (call_size at.call body) fault
       × (fault ≢ network.Read → NoReadFailed reader writer link left)
       × (fault ≢ network.Write → NoWriteFailed reader writer link left)
   IsNotCalled at body link (Refused refusal) left = (refusal ≡ no_memory)
@@ -115,14 +118,16 @@ module _ {R W : Type 0} (reader : Source R) (writer : Sink W) where
       ((reply : List ℕ) × (left : Link R W) × (rest : List (Event (Link R W)))
       × IsCalled at body link reply left × (events ≡ closed left ∷ rest) × goes_on reply rest end)
       ⊎ ((fault : PullFault) × (left : Link R W) × (rest : List (Event (Link R W)))
-      × IsNotCalled at body link fault left × (events ≡ closed left ∷ rest) × IsCallFaultTold at fault rest end)
+      × IsNotCalled at body link fault left × (events ≡ closed left ∷ rest) × IsCallErrorReported at fault rest end)
 
-  -- `Calls at body goes_on`: the same over a connection that the run opens; or it is reported that it cannot be opened.
+  -- `CallsIfReached at body goes_on came`: the same over the connection `came`; without one, this is reported.
   abbrev pub CallsIfReached : RoundCall → List ℕ → (List ℕ → Course (Link R W)) → Option (Link R W)
       → Course (Link R W)
   CallsIfReached at body goes_on (Some link) = CallsOver at body goes_on link
   CallsIfReached at body goes_on None = IsCallReported at cause.NotReached
 
+  -- `Calls at body goes_on`: the call is made over a connection that the run opens, and the run goes on with the reply,
+  -- or reports the error and ends.
   abbrev pub Calls : RoundCall → List ℕ → (List ℕ → Course (Link R W)) → Course (Link R W)
   Calls at body goes_on events end = (came : Option (Link R W)) × (rest : List (Event (Link R W)))
       × (events ≡ connected at.address.now came ∷ rest) × CallsIfReached at body goes_on came rest end
@@ -137,7 +142,7 @@ module _ {R W : Type 0} (reader : Source R) (writer : Sink W) where
       Calls (record { number = first; call = call.Summary; address = to }) [] (λ summary.
       Calls (record { number = first + 1; call = call.Delta; address = from }) summary (λ delta.
       Calls (record { number = first + 2; call = call.Merge; address = to }) delta (λ line.
-      TellsTaken (record { number = first + 2; call = call.Merge; address = to }) line goes_on)))
+      WritesTaken (record { number = first + 2; call = call.Merge; address = to }) line goes_on)))
 
   -- `IsRound between and`: first the site at `between` is brought up to date, then the one at `and`.
   abbrev pub IsRound : Bor (List ℕ) → Bor (List ℕ) → Course (Link R W)
@@ -150,6 +155,6 @@ module _ {R W : Type 0} (reader : Source R) (writer : Sink W) where
       ((s : StatedSchema) × IsSchemaOf schema s × IsRound options.between options.and events end)
       ⊎ IsRefusedFor (IsSchemaRefused schema) events end
 
-  -- `IsExchangeRun options`: first the schema's file is read.
+  -- `IsExchangeRun options`: the schema's file is read, and then the exchange is made.
   abbrev pub IsExchangeRun : ExchangeOptions → Course (Link R W)
   IsExchangeRun options = Reads options.schema.now (IsExchanged options)

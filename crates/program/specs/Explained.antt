@@ -1,5 +1,5 @@
--- Defines what a command with the option `--explain` does: it runs as without it and, where texts are rejected, then
--- explains them on standard error.
+-- Defines what a command with the option `--explain` does: it runs as without the option and then, if texts are
+-- rejected, explains them on standard error.
 -- Source: docs/operating.md, "Find out why a text is rejected".
 -- Rules of this product: the command's own report comes first, and its status is unchanged; then come the lines that
 -- `explain` prints for the same files or, if `explain` rejects nothing in them, the text on the reported code. If
@@ -43,67 +43,72 @@ abbrev pub IsCodeText : ℕ → List ℕ → Type 0
 IsCodeText code text = ((words : Texts) × (words_on code ≡ Some words) × (text ≡ code_text words))
     ⊎ ((is_code code ≡ false) × (text ≡ []))
 
--- `IsThatOr Other first text` holds if `text` is `first`, which is not empty; or `first` is empty, and `Other text`
--- holds.
+-- `IsThatOr Other first text` holds if `text` is `first`, which is not empty; or if `first` is empty, and `Other` holds
+-- for `text`.
 abbrev pub IsThatOr : (List ℕ → Type 0) → List ℕ → List ℕ → Type 0
 IsThatOr Other [] text = Other text
 IsThatOr Other (byte ∷ bytes) text = text ≡ byte ∷ bytes
 
--- `IsRefusalText files code text` holds if `text` explains what is rejected in `files`; if nothing is, `code`.
+-- `IsRefusalText files code text` holds if `text` explains what is rejected in `files`, or `code` if nothing is.
 abbrev pub IsRefusalText : Files → ℕ → List ℕ → Type 0
 IsRefusalText files code text = (first : List ℕ) × IsExplained files first × IsThatOr (IsCodeText code) first text
 
 -- ---- what a run does
 
 module _ {L : Type 0} where
-  -- `IsTold line events` writes a line on standard error, whether or not the stream takes it.
-  abbrev pub IsTold : List ℕ → List (Event L) → Type 0
-  IsTold line events = (done : Bool) × (events ≡ wrote Faults (ended line) done ∷ [])
+  -- `IsLineWritten line events` holds if `events` are that a line is written to standard error, whether or not the
+  -- stream accepts it.
+  abbrev pub IsLineWritten : List ℕ → List (Event L) → Type 0
+  IsLineWritten line events = (done : Bool) × (events ≡ wrote Faults (ended line) done ∷ [])
 
-  -- `AreLinesTold lines events` writes lines, if there are any.
-  abbrev pub AreLinesTold : List ℕ → List (Event L) → Type 0
-  AreLinesTold [] events = events ≡ []
-  AreLinesTold (byte ∷ lines) events = IsTold (byte ∷ lines) events
+  -- `AreLinesWritten lines events` holds if `events` are that lines are written there, if there are any.
+  abbrev pub AreLinesWritten : List ℕ → List (Event L) → Type 0
+  AreLinesWritten [] events = events ≡ []
+  AreLinesWritten (byte ∷ lines) events = IsLineWritten (byte ∷ lines) events
 
-  -- `IsTextTold text events` writes the lines of a text.
-  abbrev pub IsTextTold : List ℕ → List (Event L) → Type 0
-  IsTextTold text events = (lines : List ℕ) × IsWithoutEnd text lines × AreLinesTold lines events
+  -- `IsTextWritten text events` holds if `events` are that the lines of a text are written there.
+  abbrev pub IsTextWritten : List ℕ → List (Event L) → Type 0
+  IsTextWritten text events = (lines : List ℕ) × IsWithoutEnd text lines × AreLinesWritten lines events
 
-  -- `IsExplanationTold Is events` writes a text for which `Is` holds, or that it cannot be allocated.
-  abbrev pub IsExplanationTold : (List ℕ → Type 0) → List (Event L) → Type 0
-  IsExplanationTold Is events =
-      ((text : List ℕ) × Is text × IsTextTold text events) ⊎ IsTold (codes "explanation: out of memory") events
+  -- `IsExplanationWritten Is events` holds if `events` are that a text for which `Is` holds is written there, or that
+  -- it cannot be allocated.
+  abbrev pub IsExplanationWritten : (List ℕ → Type 0) → List (Event L) → Type 0
+  IsExplanationWritten Is events =
+      ((text : List ℕ) × Is text × IsTextWritten text events)
+      ⊎ IsLineWritten (codes "explanation: out of memory") events
 
   -- `Explains wanted Is course` is `course`, followed, if `wanted`, by a text for which `Is` holds. The status is that
   -- of `course`.
   abbrev pub Explains : Bool → (List ℕ → Type 0) → Course L → Course L
   Explains false Is course events end = course events end
   Explains true Is course events end = (first behind : List (Event L)) × course first end
-      × IsExplanationTold Is behind × (events ≡ first ++ behind)
+      × IsExplanationWritten Is behind × (events ≡ first ++ behind)
 
-  -- `IsRefusalTold refusal` reports an error, or lack of memory.
-  abbrev pub IsRefusalTold : Refusal → Course L
-  IsRefusalTold refusal events end = IsRefusalReported refusal events end ⊎ IsMemoryReported events end
+  -- `IsErrorReported refusal`: the error `refusal`, or out of memory, is reported.
+  abbrev pub IsErrorReported : Refusal → Course L
+  IsErrorReported refusal events end = IsRefusalReported refusal events end ⊎ IsMemoryReported events end
 
-  -- `IsRefusedAnd wanted Is Refused` reports the error for which `Refused` holds and, if `wanted`, then a text for
-  -- which `Is` holds with its code.
+  -- `IsRefusedAnd wanted Is Refused`: an error for which `Refused` holds, or out of memory, is reported and, if
+  -- `wanted`, then a text for which `Is` holds with the error's code.
   abbrev pub IsRefusedAnd : Bool → (ℕ → List ℕ → Type 0) → (Refusal → Type 0) → Course L
   IsRefusedAnd false Is Refused events end = IsRefusedFor Refused events end
   IsRefusedAnd true Is Refused events end = (refusal : Refusal) × ((refusal ≡ no_memory) ⊎ Refused refusal)
-      × Explains true (Is refusal.code) (IsRefusalTold refusal) events end
+      × Explains true (Is refusal.code) (IsErrorReported refusal) events end
 
-  -- `IsLineOrRefusedAnd wanted Is Decided Refused` reports a line for which `Decided` holds, or else the refusal.
+  -- `IsLineOrRefusedAnd wanted Is Decided Refused`: a line for which `Decided` holds is printed, or an error is
+  -- reported as by `IsRefusedAnd`.
   abbrev pub IsLineOrRefusedAnd : Bool → (ℕ → List ℕ → Type 0) → (List ℕ → Type 0) → (Refusal → Type 0) → Course L
   IsLineOrRefusedAnd wanted Is Decided Refused events end =
       ((line : List ℕ) × Decided line × IsAnswerReported line events end)
       ⊎ IsRefusedAnd wanted Is Refused events end
 
-  -- `IsRefusedWith wanted files Refused` reports the error for which `Refused` holds and, if `wanted`, then explains
-  -- what is rejected in `files`, or the code of the error.
+  -- `IsRefusedWith wanted files Refused`: an error for which `Refused` holds, or out of memory, is reported and, if
+  -- `wanted`, then what is rejected in `files` is explained, or the code of the error.
   abbrev pub IsRefusedWith : Bool → Files → (Refusal → Type 0) → Course L
   IsRefusedWith wanted files Refused = IsRefusedAnd wanted (IsRefusalText files) Refused
 
-  -- `IsLineOrRefusedWith wanted files Decided Refused` reports a line for which `Decided` holds, or else the refusal.
+  -- `IsLineOrRefusedWith wanted files Decided Refused`: a line for which `Decided` holds is printed, or an error is
+  -- reported as by `IsRefusedWith`.
   abbrev pub IsLineOrRefusedWith : Bool → Files → (List ℕ → Type 0) → (Refusal → Type 0) → Course L
   IsLineOrRefusedWith wanted files Decided Refused =
       IsLineOrRefusedAnd wanted (IsRefusalText files) Decided Refused

@@ -19,17 +19,19 @@ use Rattle.program.specs.Courses.{Course, Reads, ReadsIfNamed}
 abbrev pub is_some_text : List ℕ → Bool
 is_some_text text = not (length text == 0)
 
--- `is_decimal c` tests for an ASCII digit, and `is_number word` for one or more of them.
+-- `is_decimal c` tests for an ASCII digit (48 to 57).
 abbrev pub is_decimal : ℕ → Bool
 is_decimal c = nat_le 48 c && nat_le c 57
 
+-- `is_number word` tests for one or more ASCII digits.
 abbrev pub is_number : List ℕ → Bool
 is_number word = is_some_text word && list_all is_decimal word
 
--- `IsSmallNumeral word` holds if `word` is a number below 2^16, and `IsSmallNumber word n` if it is `n`.
+-- `IsSmallNumeral word` holds if `word` is a number below 2^16, perhaps after a plus.
 abbrev pub IsSmallNumeral : List ℕ → Type 0
 IsSmallNumeral word = IsNumeral 10 (without_leading_plus word) × (digits_value 10 (without_leading_plus word) < 2 ^ 16)
 
+-- `IsSmallNumber word n` holds if this number is `n`.
 abbrev pub IsSmallNumber : List ℕ → ℕ → Type 0
 IsSmallNumber word n = IsSmallNumeral word × (n ≡ digits_value 10 (without_leading_plus word))
 
@@ -61,22 +63,23 @@ abbrev pub IsWithoutEnd : List ℕ → List ℕ → Type 0
 IsWithoutEnd text line = (text ≡ ended line) ⊎ ((text ≡ line) × ((front : List ℕ) → text ≡ ended front → ⊥))
 
 module _ {L : Type 0} where
-  -- `IsCodeExplained word` reports the text on the code, or that there is no such code.
+  -- `IsCodeExplained word`: the text on the code `word` is printed, or it is reported that there is no such code
+  -- (status 2).
   abbrev pub IsCodeExplained : List ℕ → Course L
   IsCodeExplained word events end =
       ((words : Texts) × AreWordsOn word words × IsAnswerReported (code_text words) events end)
       ⊎ (IsNoCode word × IsReported Faults (codes "error: no code is " ++ word) 2 events end)
       ⊎ IsMemoryReported events end
 
-  -- `AreTextsExplained files` reports what is rejected in `files`; the run ends with 1 if anything is.
+  -- `AreTextsExplained files`: what is rejected in `files` is printed; the run ends with 1 if anything is, else with 0.
   abbrev pub AreTextsExplained : Files → Course L
   AreTextsExplained files events end =
       ((text : List ℕ) × (line : List ℕ) × IsExplained files text × IsWithoutEnd text line
       × AreLinesReported line (is_some_text text) events end)
       ⊎ IsMemoryReported events end
 
-  -- `AreFilesExplained options` reads the named files in the order schema, policies, entities, request, and reports
-  -- what is rejected in them.
+  -- `AreFilesExplained options`: the named files are read in the order schema, policies, entities, request, and what is
+  -- rejected in them is printed.
   abbrev pub AreFilesExplained : ExplainOptions → Course L
   AreFilesExplained options =
       ReadsIfNamed (option_map (λ s. s.now) options.schema) (λ schema.
@@ -85,11 +88,11 @@ module _ {L : Type 0} where
       ReadsIfNamed (option_map (λ s. s.now) options.request) (λ request.
       AreTextsExplained (files_named options schema policies entities request)))))
 
-  -- `IsExplainedAs is_number options` explains a code if `is_number`, else files.
+  -- `IsExplainedAs is_number options`: a code is explained if `is_number`, else files.
   abbrev pub IsExplainedAs : Bool → ExplainOptions → Course L
   IsExplainedAs true options = IsCodeExplained options.what.now
   IsExplainedAs false options = AreFilesExplained options
 
-  -- `IsExplainRun options` explains a code if its argument is a number, else files.
+  -- `IsExplainRun options`: a code is explained if the argument is a number, else files.
   abbrev pub IsExplainRun : ExplainOptions → Course L
   IsExplainRun options = IsExplainedAs (is_number options.what.now) options

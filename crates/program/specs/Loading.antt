@@ -13,7 +13,7 @@ use Rattle.program.specs.Courses.{Course, Reads, ReadsIfNamed}
 use Rattle.program.specs.Explained.{file_held, policies_of, schema_files, IsRefusedWith, IsLineOrRefusedWith}
 use Rattle.program.specs.Explaining.{file_named}
 
--- `load_files ..` are the files that a run explains if the site began.
+-- `load_files ..` are the files that a run explains if its initial site exists, and then a file or a put is rejected.
 abbrev pub load_files : LoadOptions → List ℕ → Option (List ℕ) → Option (List ℕ) → Files
 load_files options schema policies entities = record {
   schema = Some (file_held options.schema.now schema);
@@ -24,15 +24,15 @@ load_files options schema policies entities = record {
 
 module _ {L : Type 0} where
   -- `IsPutOrRefused options site schema policies entities`: the state of `site` after the puts is printed, or the error
-  -- of one of the files or of the puts reported and, with `--explain`, explained.
+  -- of one of the files or of a put is reported and, with `--explain`, explained.
   abbrev pub IsPutOrRefused : LoadOptions → SiteView → List ℕ → Option (List ℕ) → Option (List ℕ) → Course L
   IsPutOrRefused options site schema policies entities =
       IsLineOrRefusedWith options.explain (load_files options schema policies entities)
       (loads.IsLoadedState (schema_of site) site.name (store_in site) policies entities)
       (loads.IsRefused (schema_of site) site.name (store_in site) policies entities)
 
-  -- `IsLoadedOrRefused options schema state policies entities`: the initial site takes the files, or the error of the
-  -- schema or of the state is reported and, with `--explain`, explained; the files to put are then not parsed.
+  -- `IsLoadedOrRefused options schema state policies entities`: the files are put into the initial site. Or the error
+  -- of the schema or of the state is reported and, with `--explain`, explained; the files to put are then not parsed.
   abbrev pub IsLoadedOrRefused : LoadOptions → List ℕ → Option (List ℕ) → Option (List ℕ) → Option (List ℕ) → Course L
   IsLoadedOrRefused options schema state policies entities events end =
       ((site : SiteView) × IsInitialSite schema options.site state site

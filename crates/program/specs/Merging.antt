@@ -24,7 +24,8 @@ abbrev pub IsMessageText : Files → List ℕ → ℕ → List ℕ → Type 0
 IsMessageText files name code text =
     (first : List ℕ) × IsExplained files first × IsThatOr (IsMessageExplained name code) first text
 
--- `IsMergeText files options schema first code text` holds if `text` explains so the message at fault.
+-- `IsMergeText files options schema first code text` holds if `text` explains a rejected merge: what is rejected in
+-- `files` or, if nothing is, the error with this code of the message at fault.
 abbrev pub IsMergeText : Files → MergeOptions → List ℕ → List ℕ → ℕ → List ℕ → Type 0
 IsMergeText files options schema first code text =
     (name : List ℕ) × IsAtFault options schema first name × IsMessageText files name code text

@@ -17,30 +17,30 @@ use Rattle.state_exchanges.specs.declared.pulling.Pulled.{Pulled}
 use Rattle.state_exchanges.specs.Messages.{IsMessageRefused}
 use Rattle.state_exchanges.specs.Requests.{IsReady, request_for}
 use Rattle.state_exchanges.specs.Exchanges.{IsAnswered, IsRequestBegun, IsUnanswered}
-use Rattle.state_exchanges.specs.Pulls.{IsPulled, IsRefusedFirst}
+use Rattle.state_exchanges.specs.Pulls.{IsPulled, IsFirstError}
 use Rattle.program.specs.declared.device.Link.{Link}
 use Rattle.program.specs.Events.{Event, closed}
 use Rattle.program.specs.Reports.{IsAnswerReported, IsFailureReported, IsMemoryReported, IsRefusalReported}
 use Rattle.program.specs.Reports.{taken_report_line}
 use Rattle.program.specs.Courses.{Course, Reads, ReadsIfThere, Connects, Stores}
 
--- `IsPullTold options r` is the course after a pull with the result `r`. If it succeeded, the new state is written, and
--- then the number of updates printed. If the network failed, the address is reported. Otherwise the error of a text or
--- of the message is reported. Unless the network failed, out of memory may be reported instead of all this.
-abbrev pub IsPullTold : {L : Type 0} → PullOptions → Result Pulled PullFault → Course L
-IsPullTold options (Ok pulled) events end =
+-- `IsPullReported options r` is the course after a pull with the result `r`. If it succeeded, the new state is written,
+-- and then the number of updates printed. If the network failed, the address is reported. Otherwise the error of a text
+-- or of the message is reported. Unless the network failed, out of memory may be reported instead of all this.
+abbrev pub IsPullReported : {L : Type 0} → PullOptions → Result Pulled PullFault → Course L
+IsPullReported options (Ok pulled) events end =
     Stores options.state.now pulled.state.items (IsAnswerReported (taken_report_line pulled.taken)) events end
     ⊎ IsMemoryReported events end
-IsPullTold options (Err (Network fault)) events end = IsFailureReported options.from.now events end
-IsPullTold options (Err (Refused refusal)) events end = IsRefusalReported refusal events end
+IsPullReported options (Err (Network fault)) events end = IsFailureReported options.from.now events end
+IsPullReported options (Err (Refused refusal)) events end = IsRefusalReported refusal events end
     ⊎ IsMemoryReported events end
 
 module _ {R W : Type 0} (reader : Source R) (writer : Sink W) where
-  -- `NoReadFailed link left` holds if no read failed between the states `link` and `left` of a connection.
+  -- `NoReadFailed link left` holds if no read failed while a connection went from the state `link` to `left`.
   abbrev pub NoReadFailed : Link R W → Link R W → Type 0
   NoReadFailed link left = reader.failed left.reader ≡ reader.failed link.reader
 
-  -- `NoWriteFailed link left` holds if no write failed.
+  -- `NoWriteFailed link left` holds if no write failed meanwhile.
   abbrev pub NoWriteFailed : Link R W → Link R W → Type 0
   NoWriteFailed link left = writer.failed left.writer ≡ writer.failed link.writer
 
@@ -58,10 +58,10 @@ module _ {R W : Type 0} (reader : Source R) (writer : Sink W) where
       × IsRequestBegun reader.left writer.holds (request_for address s m) link.reader left.reader link.writer
       left.writer)
 
-  -- `IsPullRefused schema state address refusal link left` holds if `refusal` rejects the texts, and nothing was read
-  -- or written; or the request was written, and `refusal` rejects the message received.
+  -- `IsPullRefused schema state address refusal link left` holds if `refusal` is the error of the schema or the state,
+  -- and nothing was read or written; or if the request was written, and `refusal` is the error of the received message.
   abbrev pub IsPullRefused : List ℕ → Option (List ℕ) → List ℕ → Refusal → Link R W → Link R W → Type 0
-  IsPullRefused schema state address refusal link left = (IsRefusedFirst schema state refusal × (left ≡ link))
+  IsPullRefused schema state address refusal link left = (IsFirstError schema state refusal × (left ≡ link))
       ⊎ ((s : StatedSchema) × (m : Store) × (body : List ℕ) × IsReady schema state s m
       × IsAsked (request_for address s m) link body left × IsMessageRefused s body refusal)
 
@@ -89,7 +89,7 @@ module _ {R W : Type 0} (reader : Source R) (writer : Sink W) where
   abbrev pub IsPulledOver : PullOptions → List ℕ → Option (List ℕ) → Link R W → Course (Link R W)
   IsPulledOver options schema state link events end = (came : Result Pulled PullFault) × (left : Link R W)
       × IsPull schema state options.from.now link came left
-      × ((rest : List (Event (Link R W))) × (events ≡ closed left ∷ rest) × IsPullTold options came rest end)
+      × ((rest : List (Event (Link R W))) × (events ≡ closed left ∷ rest) × IsPullReported options came rest end)
 
   -- `IsPullRun options` is a run of `pull`: it reads the schema and then the state, if the file exists, and then opens
   -- the connection. The site's name makes no difference.

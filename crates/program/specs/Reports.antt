@@ -1,6 +1,6 @@
 -- Defines what a run writes to which stream, and its status. The lines of answers and errors are defined in
 -- answer_lines.
--- Source: docs/codes.md, of statuses.
+-- Source: docs/codes.md, "Statuses of the program".
 use Prim.Native.Char.{code}
 use Rattle.std.specs.Prelude.{◌≡◌, ◌⊎◌, ℕ, Bool, List, [], ◌∷◌, ◌++◌, if◌then◌else◌, codes, decimal}
 use Rattle.program_drills.specs.http_service.answer_lines.declared.refusal.Refusal.{Refusal}
@@ -51,16 +51,17 @@ module _ {L : Type 0} where
   abbrev pub IsRefusalReported : Refusal → List (Event L) → ℕ → Type 0
   IsRefusalReported refusal = IsReported Faults (error_line refusal) 1
 
-  -- `IsMemoryReported`: lack of memory is reported by its error line or, if that cannot be allocated, the constant one.
+  -- `IsMemoryReported`: out of memory is reported by its error line or, if that cannot be allocated, by the constant
+  -- one.
   abbrev pub IsMemoryReported : List (Event L) → ℕ → Type 0
   IsMemoryReported events end = IsRefusalReported no_memory events end ⊎ IsReported Faults no_memory_line 1 events end
 
-  -- `IsFailureReported name`: the name of a file that cannot be read or written, or the address at which the network
+  -- `IsFailureReported name`: `name`, of a file that cannot be read or written, or the address at which the network
   -- failed, is written to standard error, and the run ends with 3.
   abbrev pub IsFailureReported : List ℕ → List (Event L) → ℕ → Type 0
   IsFailureReported name = IsReported Faults (codes "fault: " ++ name) 3
 
-  -- `IsFileReported name fault`: why the file was not read or written is reported.
+  -- `IsFileReported name fault`: the error `fault` of reading or writing the file `name` is reported.
   abbrev pub IsFileReported : List ℕ → FileFault → List (Event L) → ℕ → Type 0
   IsFileReported name file.Missing events end = IsFailureReported name events end
   IsFileReported name file.Failed events end = IsFailureReported name events end
@@ -74,7 +75,7 @@ module _ {L : Type 0} where
       × (end ≡ status_after done status)
 
   -- `IsFaultReported fault`: help is written to standard output, and the run ends with 0; any other error of the
-  -- command line to standard error, and the run ends with 2; lack of memory is reported as everywhere.
+  -- command line is written to standard error, and the run ends with 2; out of memory is reported as by every command.
   abbrev pub IsFaultReported : LineFault → List (Event L) → ℕ → Type 0
   IsFaultReported (Help error) events end = IsPrinted Answers (Help error) 0 events end
   IsFaultReported (Words error) events end = IsPrinted Faults (Words error) 2 events end

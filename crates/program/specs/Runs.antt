@@ -20,7 +20,7 @@ use Rattle.program_lines.specs.declared.line.MergeOptions.{MergeOptions}
 use Rattle.program_lines.specs.declared.fault.LineFault.{LineFault}
 use Rattle.program_lines.specs.Apps.{site_app}
 use Rattle.program_lines.specs.Faults.{IsFaultOf}
-use Rattle.program_lines.specs.Lines.{Says}
+use Rattle.program_lines.specs.Lines.{IsCommandOf}
 use Rattle.state_exchanges.specs.http_streams.declared.devices.Source.{Ghosts as Source}
 use Rattle.state_exchanges.specs.http_streams.declared.devices.Sink.{Ghosts as Sink}
 use Rattle.program.specs.declared.device.Link.{Link}
@@ -43,12 +43,12 @@ abbrev pub IsDecided : Option (List ℕ) → List ℕ → List ℕ → List ℕ 
 IsDecided None = bare.IsDecided bare_reading
 IsDecided (Some schema) = typed.IsDecided schema
 
--- `IsNotDecided schema policies entities request refusal` holds if `refusal` is their error.
+-- `IsNotDecided schema policies entities request refusal` holds if `refusal` is the error of these texts.
 abbrev pub IsNotDecided : Option (List ℕ) → List ℕ → List ℕ → List ℕ → Refusal → Type 0
 IsNotDecided None = bare.IsDecisionRefused bare_reading
 IsNotDecided (Some schema) = typed.IsSchemaDecisionRefused schema
 
--- `decide_files ..` and `check_files ..` are the files that a run explains.
+-- `decide_files ..` are the files that a run of `decide` explains.
 abbrev pub decide_files : DecideOptions → Option (List ℕ) → List ℕ → List ℕ → List ℕ → Files
 decide_files options schema policies entities request = record {
   schema = file_named (option_map (λ s. s.now) options.schema) schema;
@@ -57,6 +57,7 @@ decide_files options schema policies entities request = record {
   request = Some (file_held options.request.now request);
 }
 
+-- `check_files ..` are the files that a run of `check` explains.
 abbrev pub check_files : CheckOptions → List ℕ → List ℕ → Files
 check_files options schema policies = record {
   schema = Some (file_held options.schema.now schema);
@@ -66,14 +67,14 @@ check_files options schema policies = record {
 }
 
 module _ {L : Type 0} where
-  -- `IsDecidedOrRefused`: the answer line is printed, or the error reported and, with `--explain`, explained.
+  -- `IsDecidedOrRefused ..`: the answer line is printed, or the error is reported and, with `--explain`, explained.
   abbrev pub IsDecidedOrRefused : DecideOptions → Option (List ℕ) → List ℕ → List ℕ → List ℕ → Course L
   IsDecidedOrRefused options schema policies entities request =
       IsLineOrRefusedWith options.explain (decide_files options schema policies entities request)
       (IsDecided schema policies entities request) (IsNotDecided schema policies entities request)
 
-  -- `AreChecked`: the lines of policies under a schema are printed, or the error reported; with `--explain`, what is
-  -- rejected is explained.
+  -- `AreChecked ..`: the lines of policies under a schema are printed, or the error is reported; with `--explain`, what
+  -- is rejected is explained.
   abbrev pub AreChecked : CheckOptions → List ℕ → List ℕ → Course L
   AreChecked options schema policies events end =
       ((text : List ℕ) × (some_refused : Bool) × checks.IsChecked schema policies text some_refused
@@ -82,20 +83,20 @@ module _ {L : Type 0} where
       ⊎ IsRefusedWith options.explain (check_files options schema policies) (checks.AreChecksRefused schema policies)
       events end
 
-  -- `AreMerged`: the state with the updates of both messages is printed, or the error reported and, with `--explain`,
-  -- explained, with the message at fault.
+  -- `AreMerged ..`: the state with the updates of both messages is printed, or the error is reported and, with
+  -- `--explain`, explained, with the name of the message at fault.
   abbrev pub AreMerged : MergeOptions → List ℕ → List ℕ → List ℕ → Course L
   AreMerged options schema first second = IsLineOrRefusedAnd options.explain
       (IsMergeText (schema_files options.schema.now schema) options schema first)
       (merges.IsMerged schema first second) (merges.AreRefused schema first second)
 
-  -- `IsDrilledOrRefused`: the lines of a script are printed, or the error reported.
+  -- `IsDrilledOrRefused ..`: the lines of a script are printed, or the error is reported.
   abbrev pub IsDrilledOrRefused : ℕ → List ℕ → List ℕ → Course L
   IsDrilledOrRefused sites schema script =
       IsLineOrRefusal (drills.IsDrilled sites schema script) (drills.IsDrillRefused sites schema script)
 
-  -- `IsDecideRun options`: the files are read, first the schema, if one is named, then policies, entities and request,
-  -- and then decided.
+  -- `IsDecideRun options`: the files are read, first the schema, if one is named, then policies, entities and request;
+  -- then the request is decided.
   abbrev pub IsDecideRun : DecideOptions → Course L
   IsDecideRun options =
       ReadsIfNamed (option_map (λ s. s.now) options.schema) (λ schema.
@@ -104,12 +105,12 @@ module _ {L : Type 0} where
       Reads options.request.now (λ request.
       IsDecidedOrRefused options schema policies entities request))))
 
-  -- `IsCheckRun options`: first the schema, then the policies.
+  -- `IsCheckRun options`: the schema is read, then the policies, which are then checked.
   abbrev pub IsCheckRun : CheckOptions → Course L
   IsCheckRun options =
       Reads options.schema.now (λ schema. Reads options.policies.now (λ policies. AreChecked options schema policies))
 
-  -- `IsMergeRun options`: first the schema, then the two states.
+  -- `IsMergeRun options`: the schema is read, then the two states, which are then merged.
   abbrev pub IsMergeRun : MergeOptions → Course L
   IsMergeRun options =
       Reads options.schema.now (λ schema.
@@ -117,7 +118,7 @@ module _ {L : Type 0} where
       Reads options.second.now (λ second.
       AreMerged options schema first second)))
 
-  -- `IsDrillRun options`: first the schema, then the script.
+  -- `IsDrillRun options`: the schema is read, then the script, which is then executed.
   abbrev pub IsDrillRun : DrillOptions → Course L
   IsDrillRun options =
       Reads options.schema.now (λ schema.
@@ -125,7 +126,7 @@ module _ {L : Type 0} where
       IsDrilledOrRefused options.sites schema script))
 
 module _ {R W G : Type 0} (reader : Source R) (writer : Sink W) (log : Sink G) where
-  -- `IsLineRun line` is a run of this command.
+  -- `IsLineRun line`: the command `line` is run.
   abbrev pub IsLineRun : Line → Course (Link R W)
   IsLineRun (Check options) = IsCheckRun options
   IsLineRun (Decide options) = IsDecideRun options
@@ -140,5 +141,5 @@ module _ {R W G : Type 0} (reader : Source R) (writer : Sink W) (log : Sink G) w
   -- `IsRun words`: if the arguments are a command, it is run; else their error is reported.
   abbrev pub IsRun : List Text → Course (Link R W)
   IsRun words events end =
-      ((line : Line) × Says words line × (fault_of site_app words ≡ []) × IsLineRun line events end)
+      ((line : Line) × IsCommandOf words line × (fault_of site_app words ≡ []) × IsLineRun line events end)
       ⊎ ((fault : LineFault) × IsFaultOf words fault × IsFaultReported fault events end)

@@ -55,8 +55,8 @@ module _ {L : Type 0} where
   AreFailures address (suc before) events = (first last : List (Event L)) × AreFailures address before first
       × IsFailure address before last × (events ≡ first ++ last)
 
-  -- `IsGivenUp address events` holds of 2^64 - 1 failures, after which the run ends: with their pauses more than 10^11
-  -- years.
+  -- `IsGivenUp address events` holds if `events` are 2^64 - 1 failures, after which the run ends: with their pauses
+  -- more than 10^11 years.
   abbrev pub IsGivenUp : List ℕ → List (Event L) → Type 0
   IsGivenUp address events = (number : ℕ) × (number ≡ 18446744073709551615) × AreFailures address number events
 
@@ -129,7 +129,7 @@ module _ {R W G : Type 0} (reader : Source R) (writer : Sink W) (log : Sink G) w
       ((site : SiteView) × IsInitialSite schema options.site state site × IsServedAt options site events end)
       ⊎ IsRefusedWith options.explain (schema_files options.schema.now schema) (IsNotBegun schema state) events end
 
-  -- `IsServeRun options`: first the schema, then the state, if one is named.
+  -- `IsServeRun options`: the schema is read, then the state, if one is named; then the site is served.
   abbrev pub IsServeRun : ServeOptions → Course (Link R W)
   IsServeRun options =
       Reads options.schema.now (λ schema.

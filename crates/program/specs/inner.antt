@@ -1,5 +1,5 @@
 pub mod Begun
 pub mod Exchanged
 pub mod Served
-pub mod Telling
-pub mod Ways
+pub mod WrittenTexts
+pub mod FileReads

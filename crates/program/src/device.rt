@@ -11,7 +11,7 @@ pub enum Stream {
     Faults,
 }
 
-/// A stream did not accept all bytes.
+/// The error of a stream that did not accept all bytes.
 #[derive(Clone, Copy, Debug, Error)]
 #[error("stream did not take all that was written")]
 pub struct StreamFailed;
@@ -30,7 +30,7 @@ pub enum FileFault {
     NoMemory,
 }
 
-/// An address can't be listened at or reached, or accepting a connection failed.
+/// The error of the network: an address can't be listened at or reached, or accepting a connection failed.
 #[derive(Clone, Copy)]
 pub struct NetworkFailed;
 

@@ -5,8 +5,9 @@ ghost use Rattle.state_exchanges.specs.Counts.{IsTakenLine};
 ghost use Rattle.state_exchanges.specs.declared.fault.PullFault.{PullFault};
 ghost use Rattle.program.specs.declared.device.Stream.TheVariants.{Answers};
 ghost use Rattle.program.specs.Events.{Runs, wrote};
-ghost use Rattle.program.specs.Exchanging.{CallsOver, Calls, Direction, IsCallFaultTold, IsCallReported, IsExchanged};
-ghost use Rattle.program.specs.Exchanging.{IsExchangeRun, IsRound, TellsTaken, call_report, call_text, fault_text};
+ghost use Rattle.program.specs.Exchanging.{CallsOver, Calls, Direction, IsCallErrorReported, IsCallReported};
+ghost use Rattle.program.specs.Exchanging.{IsExchanged, IsExchangeRun, IsRound, WritesTaken, call_report, call_text};
+ghost use Rattle.program.specs.Exchanging.{fault_text};
 ghost use Rattle.program.specs.Exchanging.{status_text};
 ghost use Rattle.program.specs.Reports.{ended};
 ghost use Rattle.program.specs.inner.Exchanged.{IsReplied, IsRepliedOver, Never, NoCourse, WasExchanged};
@@ -18,7 +19,7 @@ use crate::report::{ANSWERED, FAILED, report_failure, report_memory, report_refu
 use plain::NoMemory;
 use program_lines::ExchangeOptions;
 use site_loading::schema_in;
-use state_exchanges::{Call, NetworkFault, PullFault, ask, is_taken_line};
+use state_exchanges::{ExchangeCall, NetworkFault, PullFault, ask, is_taken_line};
 use std::alloc::Global;
 use std::process::ExitCode;
 
@@ -28,7 +29,7 @@ pub(crate) struct RoundCall<'a> {
     /// Its number, 1 to 6.
     pub(crate) number: u8,
     /// Its method and path.
-    pub(crate) call: Call,
+    pub(crate) call: ExchangeCall,
     /// The address of the called site.
     pub(crate) address: &'a str,
 }
@@ -48,13 +49,13 @@ pub(crate) enum CallFault {
 const TOO_LARGE: u16 = 413;
 
 /// Returns the method and the path of a call.
-fn call_text(call: Call) -> &'static str
+fn call_text(call: ExchangeCall) -> &'static str
     ensures { result.now ≡ call_text call }
 {
     match call {
-        Call::Summary => "GET /v1/summary",
-        Call::Delta => "POST /v1/delta",
-        Call::Merge => "POST /v1/merge",
+        ExchangeCall::Summary => "GET /v1/summary",
+        ExchangeCall::Delta => "POST /v1/delta",
+        ExchangeCall::Merge => "POST /v1/merge",
     }
 }
 
@@ -127,7 +128,8 @@ fn report_call<H: Host>(
     }
 }
 
-/// Returns the body of the reply to a call; without a reply reports the error, and returns the status of the run.
+/// Returns the body of the reply to a call; without a reply reports the error, and returns the status of the run as the
+/// error.
 fn reply_or_end<H: Host>(
     alloc: Global,
     host: &mut H,
@@ -137,7 +139,7 @@ fn reply_or_end<H: Host>(
     ensures reply { IfOk result (λ reply. came ≡ Ok reply) }
     ensures same { OnOk result (host.new ≡ host.old) }
     ensures told { IfErr result (λ end. (fault : PullFault) × (came ≡ Err fault)
-        × Runs H.does host.old host.new (λ events. IsCallFaultTold at.now fault events (exit_status end))) }
+        × Runs H.does host.old host.new (λ events. IsCallErrorReported at.now fault events (exit_status end))) }
 {
     match came {
         Ok(reply) => Ok(reply),
@@ -175,8 +177,8 @@ fn call_over<H: Host>(
     reply_or_end(alloc, host, at, came)
 }
 
-/// Makes a call over a new connection, and returns the body of the reply; on failure reports the error, and returns the
-/// status of the run.
+/// Makes a call over a new connection, and returns the body of the reply. Without a reply reports the error, and
+/// returns the status of the run as the error.
 fn call_at<H: Host>(
     alloc: Global,
     host: &mut H,
@@ -195,8 +197,9 @@ fn call_at<H: Host>(
     }
 }
 
-/// Writes the received count; if it is not a count, reports that, and returns the status of the run.
-fn tell_taken<H: Host>(
+/// Writes the received count. If `line` is not a count, reports that. In this case, and if the stream fails, returns
+/// the status of the run as the error.
+fn write_taken<H: Host>(
     alloc: Global,
     host: &mut H,
     at: &RoundCall<'_>,
@@ -205,7 +208,7 @@ fn tell_taken<H: Host>(
     ensures { MatchResult result
         (λ _. IsTakenLine line.now × H.does host.old (wrote Answers (ended line.now) true) host.new)
         (λ end. Runs H.does host.old host.new (λ events.
-        TellsTaken at.now line.now NoCourse events (exit_status end))) }
+        WritesTaken at.now line.now NoCourse events (exit_status end))) }
 {
     if !is_taken_line(line) {
         return Err(report_call(alloc, host, at, CallFault::NoCount));
@@ -233,7 +236,7 @@ fn exchange<H: Host>(
 {
     let summary_call = RoundCall {
         number: first,
-        call: Call::Summary,
+        call: ExchangeCall::Summary,
         address: to,
     };
     let summary = match call_at(alloc, host, &summary_call, b"") {
@@ -242,7 +245,7 @@ fn exchange<H: Host>(
     };
     let delta_call = RoundCall {
         number: first + 1,
-        call: Call::Delta,
+        call: ExchangeCall::Delta,
         address: from,
     };
     let delta = match call_at(alloc, host, &delta_call, &summary) {
@@ -251,14 +254,14 @@ fn exchange<H: Host>(
     };
     let merge_call = RoundCall {
         number: first + 2,
-        call: Call::Merge,
+        call: ExchangeCall::Merge,
         address: to,
     };
     let line = match call_at(alloc, host, &merge_call, &delta) {
         Ok(reply) => reply,
         Err(end) => return Err(end),
     };
-    tell_taken(alloc, host, &merge_call, &line)
+    write_taken(alloc, host, &merge_call, &line)
 }
 
 /// Brings each of two sites up to date from the other.

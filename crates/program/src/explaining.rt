@@ -95,6 +95,7 @@ struct Held<'t> {
     request: Option<&'t [u8]>,
 }
 
+/// Returns the files that the options name, with their contents.
 fn given_of<'n, 't>(options: &ExplainOptions<'n>, held: Held<'t>) -> Given<'n, 't>
     ensures { files_of result ≡ files_named options.now (option_map (λ s. s.now) held.entry.schema)
         held.entry.policies.now
@@ -112,7 +113,7 @@ fn given_of<'n, 't>(options: &ExplainOptions<'n>, held: Held<'t>) -> Given<'n, '
 }
 
 /// Reports the explanation of what is rejected in files.
-fn tell_explained<H: Host>(alloc: Global, host: &mut H, given: &Given<'_, '_>) -> ExitCode
+fn report_explanation<H: Host>(alloc: Global, host: &mut H, given: &Given<'_, '_>) -> ExitCode
     ensures { Runs H.does host.old host.new
         (λ events. AreTextsExplained (files_of given.now) events (exit_status result)) }
 {
@@ -148,7 +149,7 @@ fn explain_files<H: Host>(alloc: Global, host: &mut H, options: &ExplainOptions<
         entities: lent(&entities),
         request: lent(&request),
     };
-    tell_explained(alloc, host, &given_of(options, held))
+    report_explanation(alloc, host, &given_of(options, held))
 }
 
 /// Explains a code, if the argument is a number, and otherwise what is rejected in files.

@@ -27,37 +27,71 @@ pub trait Host {
     ghost does: { Self → Event (Link Self.Reader Self.Writer) → Self → Type 0 };
 
     /// Returns the bytes of a file.
+    ///
+    /// # Errors
+    ///
+    /// - `FileFault::Missing`: the file does not exist.
+    /// - `FileFault::Failed`: it cannot be read.
+    /// - `FileFault::NoMemory`: an allocation failed.
     fn read(&mut self, name: &str) -> Result<Vec<u8>, FileFault>
         ensures { MatchResult result (λ bytes. does self.old (read name.now (Ok bytes.items)) self.new)
             (λ fault. does self.old (read name.now (Err fault)) self.new) };
 
     /// Replaces the content of a file. The old content stays until all bytes are written.
+    ///
+    /// # Errors
+    ///
+    /// - `FileFault`: the file cannot be written, or an allocation failed.
     fn store(&mut self, name: &str, bytes: &[u8]) -> Result<(), FileFault>
         ensures { does self.old (stored name.now bytes.now result) self.new };
 
     /// Opens the log of this name; `-` is standard output. A file is appended to, and created if it is missing.
+    ///
+    /// # Errors
+    ///
+    /// - `FileFault`: the log cannot be opened.
     fn open_log(&mut self, name: &str) -> Result<Self::Log, FileFault>
         ensures { does self.old (opened name.now (is_ok result)) self.new };
 
-    /// Writes a label, a line and a line feed.
+    /// Writes a label, a line and a line feed to a stream.
+    ///
+    /// # Errors
+    ///
+    /// - `StreamFailed`: the stream did not accept all bytes.
     fn write_line(&mut self, stream: Stream, label: &str, line: &[u8]) -> Result<(), StreamFailed>
         ensures { does self.old (wrote stream (ended (label.now ++ line.now)) (is_ok result)) self.new };
 
-    /// Writes the text of an error of the command line, or the requested help.
+    /// Writes the text of an error of the command line, or the requested help, to a stream.
+    ///
+    /// # Errors
+    ///
+    /// - `StreamFailed`: the stream did not accept all bytes.
     fn print(&mut self, stream: Stream, fault: &LineFault) -> Result<(), StreamFailed>
         ensures { does self.old (printed stream fault.now (is_ok result)) self.new };
 
     /// Opens a connection to an address.
+    ///
+    /// # Errors
+    ///
+    /// - `NetworkFailed`: the address cannot be reached.
     fn connect(&mut self, address: &str) -> Result<Link<Self::Reader, Self::Writer>, NetworkFailed>
         ensures { MatchResult result (λ link. does self.old (connected address.now (Some link)) self.new)
             (λ failed. does self.old (connected address.now None) self.new) };
 
     /// Listens at an address. If `idle` is given, a read or a write of a connection accepted there fails after that
     /// many seconds.
+    ///
+    /// # Errors
+    ///
+    /// - `NetworkFailed`: the address cannot be listened at.
     fn listen(&mut self, address: &str, idle: Option<u32>) -> Result<Self::Listener, NetworkFailed>
         ensures { does self.old (listened address.now idle (is_ok result)) self.new };
 
     /// Waits for the next connection.
+    ///
+    /// # Errors
+    ///
+    /// - `NetworkFailed`: accepting a connection failed. The next call tries again.
     fn accept(
         &mut self,
         listener: &Self::Listener,

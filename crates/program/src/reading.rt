@@ -2,14 +2,14 @@
 ghost use Rattle.std.specs.Prelude.{◌≡◌, Ok, MatchResult, option_map};
 ghost use Rattle.std.specs.Process.{exit_status};
 ghost use Rattle.program.specs.Events.{read, Runs};
-ghost use Rattle.program.specs.inner.Ways.{found_as, IsFound, IsUnread, IsUnreadIfNamed, IsUnreadThere};
+ghost use Rattle.program.specs.inner.FileReads.{found_as, IsFound, IsUnread, IsUnreadIfNamed, IsUnreadThere};
 
 use crate::device::FileFault;
 use crate::host::Host;
 use crate::report::report_file;
 use std::process::ExitCode;
 
-/// Returns the content of a file; if it cannot be read, reports that, and returns the status of the run.
+/// Returns the content of a file; if it cannot be read, reports that, and returns the status of the run as the error.
 pub(crate) fn read_file<H: Host>(host: &mut H, name: &str) -> Result<Vec<u8>, ExitCode>
     ensures { MatchResult result (λ bytes. H.does host.old (read name.now (Ok bytes.items)) host.new)
         (λ end. Runs H.does host.old host.new (λ events. IsUnread name.now events (exit_status end))) }
@@ -54,7 +54,7 @@ pub(crate) fn read_if_there<H: Host>(host: &mut H, name: &str) -> Result<Option<
     }
 }
 
-/// Returns the bytes of a file, if it exists.
+/// Returns the content of a file, if it was read.
 pub(crate) fn lent(file: &Option<Vec<u8>>) -> Option<&[u8]>
     ensures { option_map (λ s. s.now) result ≡ option_map (λ s. s.items) file.now }
 {

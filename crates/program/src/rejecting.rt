@@ -4,9 +4,9 @@ ghost use Rattle.std.specs.Process.{exit_status};
 ghost use Rattle.explanations.specs.Explained.{IsExplained};
 ghost use Rattle.explanations.specs.Files.{file_of, files_of};
 ghost use Rattle.program.specs.Events.{Runs};
-ghost use Rattle.program.specs.Explained.{IsCodeText, IsRefusalText, IsTextTold, IsRefusalTold, Explains};
-ghost use Rattle.program.specs.Explained.{IsExplanationTold, policies_of, schema_files};
-ghost use Rattle.program.specs.inner.Telling.{IsMadeTold};
+ghost use Rattle.program.specs.Explained.{IsCodeText, IsRefusalText, IsTextWritten, IsErrorReported, Explains};
+ghost use Rattle.program.specs.Explained.{IsExplanationWritten, policies_of, schema_files};
+ghost use Rattle.program.specs.inner.WrittenTexts.{IsMadeWritten};
 ghost use Rattle.program.specs.Reports.{AreLinesReported};
 
 use crate::device::Stream;
@@ -48,8 +48,8 @@ pub(crate) fn schema_given<'n, 't>(name: &'n str, schema: &'t [u8]) -> Given<'n,
 }
 
 /// Writes the lines of a text to standard error.
-fn tell_text<H: Host>(host: &mut H, text: &str)
-    ensures { Runs H.does host.old host.new (λ events. IsTextTold text.now events) }
+fn write_text_lines<H: Host>(host: &mut H, text: &str)
+    ensures { Runs H.does host.old host.new (λ events. IsTextWritten text.now events) }
 {
     let lines = without_end(text);
     if lines.is_empty() {
@@ -59,18 +59,18 @@ fn tell_text<H: Host>(host: &mut H, text: &str)
 }
 
 /// Writes a text to standard error, or that it could not be allocated.
-pub(crate) fn tell_made<H: Host>(host: &mut H, made: Result<String, NoMemory>)
-    ensures { Runs H.does host.old host.new (λ events. IsMadeTold made events) }
+pub(crate) fn write_explanation<H: Host>(host: &mut H, made: Result<String, NoMemory>)
+    ensures { Runs H.does host.old host.new (λ events. IsMadeWritten made events) }
 {
     match made {
-        Ok(text) => tell_text(host, text.as_str()),
+        Ok(text) => write_text_lines(host, text.as_str()),
         Err(_) => {
             let _ = host.write_line(Stream::Faults, "", NO_EXPLANATION.as_bytes());
         }
     }
 }
 
-/// Returns the text on a code; an empty one if there is no such code.
+/// Returns the text on a code, which is empty if there is no such code.
 fn text_on(alloc: Global, code: u8) -> Result<String, NoMemory>
     ensures { IfOk result (λ text. IsCodeText code (string_bytes text)) }
 {
@@ -94,17 +94,17 @@ fn refusal_text(alloc: Global, given: &Given<'_, '_>, code: u8) -> Result<String
 /// Explains an error on standard error.
 fn explain_refusal<H: Host>(alloc: Global, host: &mut H, given: &Given<'_, '_>, code: u8)
     ensures { Runs H.does host.old host.new
-        (λ events. IsExplanationTold (IsRefusalText (files_of given.now) code) events) }
+        (λ events. IsExplanationWritten (IsRefusalText (files_of given.now) code) events) }
 {
-    tell_made(host, refusal_text(alloc, given, code))
+    write_explanation(host, refusal_text(alloc, given, code))
 }
 
 /// Explains on standard error what is rejected in texts.
 fn explain_given<H: Host>(alloc: Global, host: &mut H, given: &Given<'_, '_>)
     ensures { Runs H.does host.old host.new
-        (λ events. IsExplanationTold (IsExplained (files_of given.now)) events) }
+        (λ events. IsExplanationWritten (IsExplained (files_of given.now)) events) }
 {
-    tell_made(host, explain_texts(alloc, given))
+    write_explanation(host, explain_texts(alloc, given))
 }
 
 /// Reports an error and then, if that is requested, explains it: what is rejected in the texts or, if nothing is by
@@ -117,7 +117,7 @@ pub(crate) fn report_rejected<H: Host>(
     given: &Given<'_, '_>,
 ) -> ExitCode
     ensures { Runs H.does host.old host.new (λ events.
-        Explains explain (IsRefusalText (files_of given.now) refusal.code) (IsRefusalTold refusal) events
+        Explains explain (IsRefusalText (files_of given.now) refusal.code) (IsErrorReported refusal) events
         (exit_status result)) }
 {
     let end = report_refusal(alloc, host, refusal);

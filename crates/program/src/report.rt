@@ -30,7 +30,7 @@ const LINE_FAULT: u8 = 2;
 /// The status of a failed file, network or stream.
 pub(crate) const FAILED: u8 = 3;
 
-/// The error line of lack of memory, which does not allocate.
+/// The error line of out of memory, a constant, so that it needs no allocation.
 const NO_MEMORY_LINE: &[u8; 47] = b"{\"error\":{\"code\":1,\"place\":null,\"within\":null}}";
 
 /// Returns the status of a run: `status`, or 3 if the last write failed.
@@ -104,14 +104,14 @@ pub(crate) fn report_no_code<H: Host>(host: &mut H, word: &str) -> ExitCode
     )
 }
 
-/// Writes the error line of lack of memory.
+/// Writes the error line of out of memory.
 pub(crate) fn report_memory<H: Host>(host: &mut H) -> ExitCode
     ensures { Runs H.does host.old host.new (λ events. IsMemoryReported events (exit_status result)) }
 {
     tell(host, Stream::Faults, "", NO_MEMORY_LINE, REFUSED)
 }
 
-/// Writes the line of an error or, if that cannot be allocated, the line of lack of memory.
+/// Writes the line of an error or, if that cannot be allocated, the line of out of memory.
 pub(crate) fn report_refusal<H: Host>(alloc: Global, host: &mut H, refusal: Refusal) -> ExitCode
     ensures { Runs H.does host.old host.new
         (λ events. IsRefusalReported refusal events (exit_status result)

@@ -21,10 +21,10 @@ use program_lines::{ServeOptions, SiteName};
 use std::alloc::Global;
 use std::process::ExitCode;
 
-/// The warning that the initial state has stamps of the site's name, which follows.
+/// The warning that the initial state has stamps of the site's name; the name follows it.
 const OWN_STAMPS: &str = "warning: the state has stamps of this name, which is to be used once: ";
 
-/// The warning that accepting a connection failed at an address, which follows.
+/// The warning that accepting a connection failed at an address; the address follows it.
 const FAILING: &str = "warning: accept failed, trying again: ";
 
 /// The pause after the first of consecutive failures, in milliseconds.
@@ -43,7 +43,7 @@ fn longer(pause: u64) -> u64
     LONGEST_PAUSE.min(pause.saturating_mul(2))
 }
 
-/// Warns of a failure to accept, if it does not directly follow another, and pauses.
+/// Warns of a failure to accept, if no other directly precedes it (`before` is 0), and pauses.
 fn note_failure<H: Host>(host: &mut H, address: &str, before: u64, pause: u64)
     requires { pause ≡ pause_after before }
     ensures { Runs H.does host.old host.new (λ events. IsFailureNoted address.now before events) }
@@ -56,7 +56,8 @@ fn note_failure<H: Host>(host: &mut H, address: &str, before: u64, pause: u64)
     host.pause(pause);
 }
 
-/// Waits for a connection. If accepting it fails, directly after `before` other failures, warns if due and pauses.
+/// Waits for a connection. If accepting it fails, directly after `before` other failures, warns of the first failure
+/// and pauses.
 fn try_accept<H: Host>(
     host: &mut H,
     listener: &H::Listener,
@@ -112,7 +113,7 @@ fn serve_link<H: Host>(
     }
 }
 
-/// Waits for a connection, answers its requests, and closes it. An error of a connection ends that one only.
+/// Waits for a connection, answers its requests, and closes it. An error of a connection ends only that connection.
 fn serve_next<H: Host>(
     alloc: Global,
     host: &mut H,
@@ -158,7 +159,7 @@ fn serve_all<H: Host>(
     Ok(())
 }
 
-/// Returns how many connections are served: all, if no number is given.
+/// Returns how many connections are served: if no number is given, more than any run can reach.
 fn most_of(connections: Option<u32>) -> u64
     ensures { result ≡ most_of connections }
 {
@@ -180,8 +181,8 @@ fn warn_of_own_stamps<H: Host>(host: &mut H, site: &Site, name: SiteName)
     let _ = host.write_line(Stream::Faults, OWN_STAMPS, name.as_bytes());
 }
 
-/// Serves the initial site: warns if it has stamps of its own name, opens its log, if one is named, listens, prints the
-/// address, and serves one connection after another, as many as are given, if a number is.
+/// Serves the initial site: warns if it has stamps of its own name, opens its log, if one is named, and then listens
+/// and serves.
 fn serve_begun<H: Host>(
     alloc: Global,
     host: &mut H,
@@ -201,7 +202,8 @@ fn serve_begun<H: Host>(
     }
 }
 
-/// Listens, prints the address, and serves one connection after another.
+/// Listens, prints the address, and serves one connection after another, as many as `--connections` states, if it is
+/// given.
 fn serve_listening<H: Host>(
     alloc: Global,
     host: &mut H,

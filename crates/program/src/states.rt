@@ -4,18 +4,18 @@ ghost use Rattle.std.specs.Process.{exit_status};
 ghost use Rattle.explanations.specs.Files.{files_of};
 ghost use Rattle.program_drills.specs.http_service.answer_lines.Refusals.{no_memory};
 ghost use Rattle.program.specs.Events.{Runs};
-ghost use Rattle.program.specs.Explained.{IsRefusalTold, Explains, IsExplanationTold};
+ghost use Rattle.program.specs.Explained.{IsErrorReported, Explains, IsExplanationWritten};
 ghost use Rattle.program.specs.Merging.{IsAtFault, IsMessageText, IsMergeText};
 ghost use Rattle.program.specs.Reports.{taken_report_line, IsAnswerReported, IsMemoryReported};
 ghost use Rattle.program.specs.Runs.{AreMerged, IsMergeRun};
 ghost use Rattle.program.specs.Courses.{Stores};
-ghost use Rattle.program.specs.Pulling.{IsPulledOver, IsPullRun, IsPullTold};
+ghost use Rattle.program.specs.Pulling.{IsPulledOver, IsPullRun, IsPullReported};
 
 use crate::device::{Link, NetworkFailed};
 use crate::explaining::is_some_text;
 use crate::host::Host;
 use crate::reading::{lent, read_file, read_if_there};
-use crate::rejecting::{schema_given, tell_made};
+use crate::rejecting::{schema_given, write_explanation};
 use crate::report::{report_answer, report_failure, report_file, report_memory, report_refusal};
 use explanations::{Given, explain_message, explain_texts};
 use plain::NoMemory;
@@ -25,8 +25,12 @@ use state_exchanges::{PullFault, Pulled, merge_texts, pull_over};
 use std::alloc::Global;
 use std::process::ExitCode;
 
-/// Returns an error other than `NoMemory`, or `NoMemory`.
-fn no_want_of_memory(refusal: Refusal) -> Result<Refusal, NoMemory>
+/// Returns the error, unless it is out of memory.
+///
+/// # Errors
+///
+/// - `NoMemory`: the error is out of memory.
+fn unless_no_memory(refusal: Refusal) -> Result<Refusal, NoMemory>
     ensures same { IfOk result (λ r. r ≡ refusal) }
     ensures other { IfOk result (λ r. refusal ≡ no_memory → ⊥) }
 {
@@ -48,13 +52,14 @@ fn message_at_fault<'n>(
     match merge_texts(alloc, schema, first, first) {
         Ok(_line) => Ok(options.second),
         Err(refusal) => {
-            let _other = no_want_of_memory(refusal)?;
+            let _other = unless_no_memory(refusal)?;
             Ok(options.first)
         }
     }
 }
 
-/// Returns the text that explains what is rejected in texts; if nothing is, the error of the message in this file.
+/// Returns the text that explains what is rejected in texts; if nothing is, that of this code for the message in the
+/// file `name`.
 fn message_text(
     alloc: Global,
     given: &Given<'_, '_>,
@@ -71,7 +76,8 @@ fn message_text(
     explain_message(alloc, name, code)
 }
 
-/// Returns the text that explains so the message at fault.
+/// Returns the text that explains a rejected merge: what is rejected in the schema or, if nothing is, the message at
+/// fault.
 fn merge_text(
     alloc: Global,
     given: &Given<'_, '_>,
@@ -97,10 +103,10 @@ fn explain_merge<H: Host>(
     first: &[u8],
     code: u8,
 )
-    ensures { Runs H.does host.old host.new (λ events. IsExplanationTold
+    ensures { Runs H.does host.old host.new (λ events. IsExplanationWritten
         (IsMergeText (files_of given.now) options.now schema.now first.now code) events) }
 {
-    tell_made(host, merge_text(alloc, given, options, schema, first, code))
+    write_explanation(host, merge_text(alloc, given, options, schema, first, code))
 }
 
 /// Reports the error of a merge and then, if that is requested, explains it.
@@ -114,7 +120,7 @@ fn report_unmerged<H: Host>(
     refusal: Refusal,
 ) -> ExitCode
     ensures { Runs H.does host.old host.new (λ events. Explains options.now.explain
-        (IsMergeText (files_of given.now) options.now schema.now first.now refusal.code) (IsRefusalTold refusal)
+        (IsMergeText (files_of given.now) options.now schema.now first.now refusal.code) (IsErrorReported refusal)
         events (exit_status result)) }
 {
     let end = report_refusal(alloc, host, refusal);
@@ -195,13 +201,13 @@ fn keep<H: Host>(alloc: Global, host: &mut H, name: &str, pulled: &Pulled) -> Ex
 }
 
 /// Reports the outcome of a pull: writes the new state, or reports the error.
-fn tell_pull<H: Host>(
+fn report_pull<H: Host>(
     alloc: Global,
     host: &mut H,
     options: &PullOptions<'_>,
     came: Result<Pulled, PullFault>,
 ) -> ExitCode
-    ensures { Runs H.does host.old host.new (λ events. IsPullTold options.now came events (exit_status result)) }
+    ensures { Runs H.does host.old host.new (λ events. IsPullReported options.now came events (exit_status result)) }
 {
     match came {
         Ok(pulled) => keep(alloc, host, options.state, &pulled),
@@ -233,7 +239,7 @@ fn pull<H: Host>(
         &mut link.writer,
     );
     host.close(link);
-    tell_pull(alloc, host, options, came)
+    report_pull(alloc, host, options, came)
 }
 
 /// Reads the schema, and the state, if it exists; then fetches the entries that the state lacks from the site at an

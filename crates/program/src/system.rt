@@ -14,7 +14,7 @@ use std::net::{Net, OpenListener, OpenStream, TcpListener, TcpStream};
 use std::time::{Clock, Duration};
 use std::{fs, io, thread};
 
-/// The files, the network and the clock of the system, and two writers.
+/// The files, the network and the clock of the system, and writers of standard output and standard error.
 #[derive(Drop)]
 pub struct SystemHost<'a, R, O, E> {
     pub files: &'a R,
@@ -54,7 +54,8 @@ pub struct LogLines<D> {
     device: D,
     /// Whether the last accepted byte does not end a line.
     open: bool,
-    /// Whether a write failed since, or the run began there, so that the next write begins a line.
+    /// Whether the next write first ends the open line: a write failed since, or the run began with a line that was cut
+    /// off.
     torn: bool,
 }
 
@@ -97,7 +98,7 @@ fn write_line<W: Write>(out: &mut W, label: &str, line: &[u8]) -> Result<(), Str
     Ok(())
 }
 
-/// Writes a file of this name and no other, and waits until it is on the disk.
+/// Creates the file of this name with these bytes, and waits until it is on the disk.
 fn write_new<R: Files>(files: &R, name: &str, bytes: &[u8]) -> Result<(), FileFault> {
     let mut file = File::create(files, name)?;
     file.write_all(bytes)?;
@@ -113,7 +114,7 @@ fn new_name<R: AllocGlobal>(rt: &R, name: &str) -> Result<String, FileFault> {
     }
 }
 
-/// Returns the reader and the writer of a stream of bytes; the writer does not buffer.
+/// Returns the reader and the writer of a connection; what is written is sent without delay.
 fn link<S: Read + Write + OpenStream + Drop>(
     stream: S,
 ) -> Result<Link<Counted<S>, Counted<S>>, NetworkFailed> {
@@ -125,7 +126,7 @@ fn link<S: Read + Write + OpenStream + Drop>(
     })
 }
 
-/// Returns the reader and the writer of a stream, with a time limit for its reads and writes, if one is given.
+/// Returns the reader and the writer of a connection, with a time limit for its reads and writes, if one is given.
 fn limited_link<S: Read + Write + OpenStream + Drop>(
     stream: S,
     idle: Option<Duration>,

@@ -8,9 +8,9 @@ use Rattle.serde_json.specs.Written.{has_float}
 use Rattle.http_service.specs.site_calls.site_steps.SiteViews.{SiteView}
 use Rattle.http_service.specs.site.declared.event.EventReply.{EventReply}
 use Rattle.program_drills.specs.Lines.{line_end}
-use Rattle.program_drills.specs.EventReports.{message_json, summary_json, state_told}
-use Rattle.program_drills.specs.Drills.{IsTold}
-use Rattle.program_drills.specs.inner.Ended.{ended, AreTold, IsToldOf}
+use Rattle.program_drills.specs.EventReports.{message_json, summary_json, state_line}
+use Rattle.program_drills.specs.Drills.{IsEventLine}
+use Rattle.program_drills.specs.inner.Ended.{ended, AppendsEventLines, AppendsEventLine}
 use Rattle.program_drills.proofs.ScriptSteps.{zip_more}
 
 pub no_float_message : (k : ℕ) → has_float (message_json k) ≡ false
@@ -32,27 +32,27 @@ ended_both (l ∷ ls) ms =
     ap (λ (t : List ℕ). (l ++ line_end ∷ []) ++ t) (ended_both ls ms)
     ∙ sym (append_assoc (l ++ line_end ∷ []) (ended ls) (ended ms))
 
-pub none_told : (before : List ℕ) → AreTold [] before before
+pub none_told : (before : List ℕ) → AppendsEventLines [] before before
 none_told before = ([], tt, sym (append-nil before))
 
-pub told_more : (answers : List EventReply) (answer : EventReply) (before was now after : List ℕ) → AreTold answers before was
-    → IsToldOf answer was now → after ≡ now ++ line_end ∷ [] → AreTold (answers ++ answer ∷ []) before after
+pub told_more : (answers : List EventReply) (answer : EventReply) (before was now after : List ℕ) → AppendsEventLines answers before was
+    → AppendsEventLine answer was now → after ≡ now ++ line_end ∷ [] → AppendsEventLines (answers ++ answer ∷ []) before after
 told_more answers answer before was now after told one end = (
   told.0 ++ one.0 ∷ [],
-  zip_more IsTold answers told.0 answer one.0 told.1 one.1,
+  zip_more IsEventLine answers told.0 answer one.0 told.1 one.1,
   end ∙ ap (λ (t : List ℕ). t ++ line_end ∷ []) (one.2 ∙ ap (λ (t : List ℕ). t ++ one.0) told.2)
       ∙ append_assoc (before ++ ended told.0) one.0 (line_end ∷ [])
       ∙ append_assoc before (ended told.0) (one.0 ++ line_end ∷ [])
       ∙ ap (λ (t : List ℕ). before ++ t) (sym (ended_more told.0 one.0)),
 )
 
-pub states_more : (sites : List SiteView) (site : SiteView) (before was now : List ℕ) → was ≡ before ++ ended (map state_told sites)
-    → now ≡ was ++ (state_told site ++ line_end ∷ []) → now ≡ before ++ ended (map state_told (sites ++ site ∷ []))
+pub states_more : (sites : List SiteView) (site : SiteView) (before was now : List ℕ) → was ≡ before ++ ended (map state_line sites)
+    → now ≡ was ++ (state_line site ++ line_end ∷ []) → now ≡ before ++ ended (map state_line (sites ++ site ∷ []))
 states_more sites site before was now told one =
-    one ∙ ap (λ (t : List ℕ). t ++ (state_told site ++ line_end ∷ [])) told
-    ∙ append_assoc before (ended (map state_told sites)) (state_told site ++ line_end ∷ [])
-    ∙ ap (λ (t : List ℕ). before ++ t) (sym (ended_more (map state_told sites) (state_told site)))
-    ∙ ap (λ (ls : List (List ℕ)). before ++ ended ls) (sym (map-append state_told sites (site ∷ [])))
+    one ∙ ap (λ (t : List ℕ). t ++ (state_line site ++ line_end ∷ [])) told
+    ∙ append_assoc before (ended (map state_line sites)) (state_line site ++ line_end ∷ [])
+    ∙ ap (λ (t : List ℕ). before ++ t) (sym (ended_more (map state_line sites) (state_line site)))
+    ∙ ap (λ (ls : List (List ℕ)). before ++ ended ls) (sym (map-append state_line sites (site ∷ [])))
 
 -- ---- the last end taken away
 
@@ -108,15 +108,15 @@ last_taken (l ∷ ls) text last e some = by_last l ls text last e (some (some_en
 
 -- all lines of a world
 pub world_told : (answers : List EventReply) (sites : List SiteView) (none first second text : List ℕ) (last : Option ℕ) → none ≡ []
-    → AreTold answers none first → second ≡ first ++ ended (map state_told sites) → second ≡ text ++ option_to_list last
+    → AppendsEventLines answers none first → second ≡ first ++ ended (map state_line sites) → second ≡ text ++ option_to_list last
     → (0 < length second → IsSome last)
-    → (lines : List (List ℕ)) × AllZip IsTold answers lines × (text ≡ join_with_byte line_end (lines ++ map state_told sites))
+    → (lines : List (List ℕ)) × AllZip IsEventLine answers lines × (text ≡ join_with_byte line_end (lines ++ map state_line sites))
 world_told answers sites none first second text last empty told states popped some =
-    let all : second ≡ ended (told.0 ++ map state_told sites) =
-    states ∙ ap (λ (t : List ℕ). t ++ ended (map state_told sites)) (told.2 ∙ ap (λ (t : List ℕ). t ++ ended told.0) empty)
-    ∙ sym (ended_both told.0 (map state_told sites)) in (
+    let all : second ≡ ended (told.0 ++ map state_line sites) =
+    states ∙ ap (λ (t : List ℕ). t ++ ended (map state_line sites)) (told.2 ∙ ap (λ (t : List ℕ). t ++ ended told.0) empty)
+    ∙ sym (ended_both told.0 (map state_line sites)) in (
       told.0,
       told.1,
-      last_taken (told.0 ++ map state_told sites) text last (sym all ∙ popped)
+      last_taken (told.0 ++ map state_line sites) text last (sym all ∙ popped)
           (λ h. some (rw all h)),
     )

@@ -11,13 +11,13 @@ use Rattle.http_service.specs.site.declared.event.Operation.TheVariants as opera
 use Rattle.http_service.specs.site.declared.event.Event.{Event}
 use Rattle.program_drills.specs.declared.made.Made.{Made}
 use Rattle.program_drills.specs.Lines.{lines}
-use Rattle.program_drills.specs.ScriptLines.{Asked, plain, put_entity, authorize, ScriptLine, said_of, after_operation, after_asked}
+use Rattle.program_drills.specs.ScriptLines.{ScriptOperation, plain, put_entity, authorize, ScriptLine, script_line_of, after_operation, after_asked}
 use Rattle.program_drills.specs.ScriptLines.{IsOperationOf, IsEventOf}
-use Rattle.program_drills.specs.Scripts.{said_from, none_made, script_of, AreEventsOf, IsScriptRefused}
+use Rattle.program_drills.specs.Scripts.{script_lines_from, none_made, script_of, AreEventsOf, IsScriptRefused}
 use Rattle.program_drills.specs.inner.Reading.{IsLineRead, onto, IsReadUpTo}
 
 -- what is made once an operation is done is what is made once it is asked for
-after_same : (made : Made) (asked : Asked) (d : Operation) → IsOperationOf asked d → after_operation made d ≡ after_asked made asked
+after_same : (made : Made) (asked : ScriptOperation) (d : Operation) → IsOperationOf asked d → after_operation made d ≡ after_asked made asked
 after_same made (plain asked) d is = ap (after_operation made) is
 after_same made (put_entity json) d is = ap (after_operation made) is.1
 after_same made (authorize json) d is = ap (after_operation made) is.1
@@ -71,18 +71,18 @@ none_read n script = record {
 }
 
 -- what the line says, then what those behind it say
-said_next : (n : ℕ) (made : Made) (k : ℕ) (line : List ℕ) (ls : List (List ℕ)) (s : ScriptLine) → said_of n made line ≡ Some s
-    → said_from n made k (line ∷ ls) ≡ (said_from n (after_asked made s.asked) (suc k) ls >>= λ more. Ok (s ∷ more))
-unfolding said_from
+said_next : (n : ℕ) (made : Made) (k : ℕ) (line : List ℕ) (ls : List (List ℕ)) (s : ScriptLine) → script_line_of n made line ≡ Some s
+    → script_lines_from n made k (line ∷ ls) ≡ (script_lines_from n (after_asked made s.asked) (suc k) ls >>= λ more. Ok (s ∷ more))
+unfolding script_lines_from
 said_next n made k line ls s is = rw is refl
 
-said_never : (n : ℕ) (made : Made) (k : ℕ) (line : List ℕ) (ls : List (List ℕ)) → said_of n made line ≡ None
-    → said_from n made k (line ∷ ls) ≡ Err k
-unfolding said_from
+said_never : (n : ℕ) (made : Made) (k : ℕ) (line : List ℕ) (ls : List (List ℕ)) → script_line_of n made line ≡ None
+    → script_lines_from n made k (line ∷ ls) ≡ Err k
+unfolding script_lines_from
 said_never n made k line ls is = rw is refl
 
-said_end : (n : ℕ) (made : Made) (k : ℕ) → said_from n made k (lines []) ≡ Ok []
-unfolding said_from
+said_end : (n : ℕ) (made : Made) (k : ℕ) → script_lines_from n made k (lines []) ≡ Ok []
+unfolding script_lines_from
 said_end n made k = refl
 
 read_said : (said : Option ScriptLine) (e : Event) → IsLineRead said (Some e) → (s : ScriptLine) × (said ≡ Some s) × IsEventOf s e
@@ -95,10 +95,10 @@ read_never (Some s) is = absurd is
 
 -- one line more
 pub read_more : (n : ℕ) (script : List ℕ) (made : Made) (rest line behind : List ℕ) (events : List Event) (e : Event) (now : Made)
-    → IsReadUpTo n script made rest events → lines rest ≡ line ∷ lines behind → IsLineRead (said_of n made line) (Some e)
+    → IsReadUpTo n script made rest events → lines rest ≡ line ∷ lines behind → IsLineRead (script_line_of n made line) (Some e)
     → now ≡ after_operation made e.operation → IsReadUpTo n script now behind (events ++ e ∷ [])
 read_more n script made rest line behind events e now was parts read is =
-    let found = read_said (said_of n made line) e read in
+    let found = read_said (script_line_of n made line) e read in
     let s : ScriptLine = found.0 in
     let after : after_asked made s.asked ≡ now = sym (after_same made s.asked e.operation found.2.1) ∙ sym is in
     let count : length (events ++ e ∷ []) ≡ suc (length events) = length-append events (e ∷ []) ∙ omega arith in
@@ -109,11 +109,11 @@ read_more n script made rest line behind events e now was parts read is =
     record {
       said = was.said ++ s ∷ [];
       is =
-          was.is ∙ ap (λ (ls : List (List ℕ)). onto was.said (said_from n made (length events) ls)) parts
+          was.is ∙ ap (λ (ls : List (List ℕ)). onto was.said (script_lines_from n made (length events) ls)) parts
           ∙ ap (onto was.said) (said_next n made (length events) line (lines behind) s found.1)
-          ∙ onto_more was.said s (said_from n (after_asked made s.asked) (suc (length events)) (lines behind))
-          ∙ ap (λ (m : Made). onto (was.said ++ s ∷ []) (said_from n m (suc (length events)) (lines behind))) after
-          ∙ ap (λ (k : ℕ). onto (was.said ++ s ∷ []) (said_from n now k (lines behind))) (sym count);
+          ∙ onto_more was.said s (script_lines_from n (after_asked made s.asked) (suc (length events)) (lines behind))
+          ∙ ap (λ (m : Made). onto (was.said ++ s ∷ []) (script_lines_from n m (suc (length events)) (lines behind))) after
+          ∙ ap (λ (k : ℕ). onto (was.said ++ s ∷ []) (script_lines_from n now k (lines behind))) (sym count);
       each = zip_more IsEventOf was.said events s e was.each found.2;
       messages = rw (count, is) (omega (arith, more, was_messages));
       summaries = rw (count, is) (omega (arith, sums, was_summaries));
@@ -129,20 +129,20 @@ pub all_read : (n : ℕ) (script : List ℕ) (made : Made) (rest : List ℕ) (ev
 all_read n script made rest events was none = record {
   said = was.said;
   is =
-      was.is ∙ ap (λ (l : List ℕ). onto was.said (said_from n made (length events) (lines l))) (nothing_left rest none)
+      was.is ∙ ap (λ (l : List ℕ). onto was.said (script_lines_from n made (length events) (lines l))) (nothing_left rest none)
       ∙ ap (onto was.said) (said_end n made (length events)) ∙ ap Ok (append-nil was.said);
   each = was.each;
 }
 
 -- or the next one says nothing
 pub next_refused : (n : ℕ) (script : List ℕ) (made : Made) (rest line behind : List ℕ) (events : List Event) (r : Refusal)
-    → IsReadUpTo n script made rest events → lines rest ≡ line ∷ lines behind → IsLineRead (said_of n made line) None
+    → IsReadUpTo n script made rest events → lines rest ≡ line ∷ lines behind → IsLineRead (script_line_of n made line) None
     → r ≡ bad_shape (Some (length events)) → IsScriptRefused n script r
 next_refused n script made rest line behind events r was parts read told = record {
   place = length events;
   is =
-      was.is ∙ ap (λ (ls : List (List ℕ)). onto was.said (said_from n made (length events) ls)) parts
-      ∙ ap (onto was.said) (said_never n made (length events) line (lines behind) (read_never (said_of n made line) read));
+      was.is ∙ ap (λ (ls : List (List ℕ)). onto was.said (script_lines_from n made (length events) ls)) parts
+      ∙ ap (onto was.said) (said_never n made (length events) line (lines behind) (read_never (script_line_of n made line) read));
   told = told;
 }
 

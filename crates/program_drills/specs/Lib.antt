@@ -4,6 +4,6 @@ pub mod ScriptLines
 pub mod Scripts
 pub mod EventReports
 pub mod inner
--- crates below, passed on to those above
+-- Specifications of lower crates, re-exported.
 pub use Rattle.schema_decisions.specs as schema_decisions
 pub use Rattle.http_service.specs as http_service

@@ -1,5 +1,5 @@
 -- Defines what a line of a script states.
--- Source: docs/formats.md, of scripts.
+-- Source: docs/formats.md, "Scripts of `drill`".
 -- Rules of this product: a line is a JSON object, with the number of a site at `site`, an operation at `do`, and its
 -- arguments at further keys. Other keys are ignored.
 use Rattle.std.specs.Prelude.{◌≡◌, ℕ, ◌+◌, ◌&&◌, List, [], Option, Some, None, option_map, option_and_then}
@@ -27,14 +27,15 @@ after_operation made _ = made
 
 -- ---- the operation that a line asks for
 
--- An `Asked` is an operation; or the JSON of an entity to put or of a request, which an operation has as bytes.
-pub data Asked : Type 0 where
-  plain : Operation → Asked
-  put_entity : Data → Asked
-  authorize : Data → Asked
+-- A `ScriptOperation` is what a line asks for: an operation; or the JSON of an entity to put or of a request, which an
+-- operation has as bytes.
+pub data ScriptOperation : Type 0 where
+  plain : Operation → ScriptOperation
+  put_entity : Data → ScriptOperation
+  authorize : Data → ScriptOperation
 
--- `after_asked made a` is the same for what a line asks.
-abbrev pub after_asked : Made → Asked → Made
+-- `after_asked made a` counts the messages and summaries after the operation that a line asks for by `a`.
+abbrev pub after_asked : Made → ScriptOperation → Made
 after_asked made (plain d) = after_operation made d
 after_asked made _ = made
 
@@ -43,37 +44,38 @@ abbrev pub within : ℕ → ℕ → Option ℕ → Option ℕ
 within least most None = None
 within least most (Some k) = if nat_le least k && nat_lt k most then Some k else None
 
--- `number_in key least most d` is such a number at a key: an integer from 0 to 2^64 - 1, written without a point.
+-- `number_in key least most d` is the number at `key` in the object `d`, if it is at least `least` and below `most`: an
+-- integer from 0 to 2^64 - 1, written without a point.
 abbrev pub number_in : List ℕ → ℕ → ℕ → Data → Option ℕ
 number_in key least most d = within least most (option_and_then as_u64 (option_and_then as_number (get key d)))
 
 -- `policy_put id text` is the put of a policy, if both are present; neither is checked here.
-abbrev pub policy_put : Option (List ℕ) → Option (List ℕ) → Option Asked
+abbrev pub policy_put : Option (List ℕ) → Option (List ℕ) → Option ScriptOperation
 policy_put None text = None
 policy_put (Some id) None = None
 policy_put (Some id) (Some text) = Some (plain (operation.PutPolicy id text))
 
 -- `policy_deleted id` is the deletion of a policy.
-abbrev pub policy_deleted : List ℕ → Asked
+abbrev pub policy_deleted : List ℕ → ScriptOperation
 policy_deleted id = plain (operation.DeletePolicy id)
 
--- `entity_deleted o` is the deletion of the entity `o`. JSON that is not a uid is rejected as the body of a put that is
--- not JSON (30), so the operation is a put of no bytes.
-abbrev pub entity_deleted : Option EntityUid → Asked
+-- `entity_deleted o` is the deletion of the entity `o`. For JSON that is not a uid (`None`) it is a put of no bytes,
+-- which has the same error (30).
+abbrev pub entity_deleted : Option EntityUid → ScriptOperation
 entity_deleted None = plain (operation.PutEntity [])
 entity_deleted (Some uid) = plain (operation.DeleteEntity uid)
 
--- `delta_offered k` makes a delta against summary `k`.
-abbrev pub delta_offered : ℕ → Asked
+-- `delta_offered k` is the offer of a delta against summary `k`.
+abbrev pub delta_offered : ℕ → ScriptOperation
 delta_offered k = plain (operation.OfferDelta k)
 
--- `delivered k` applies message `k`.
-abbrev pub delivered : ℕ → Asked
+-- `delivered k` is the delivery of message `k`.
+abbrev pub delivered : ℕ → ScriptOperation
 delivered k = plain (operation.Deliver k)
 
--- `asked_by made word d` is what the operation `word` asks with the other members of the line `d`, if `made` was made
--- before.
-unfoldable pub asked_by : Made → List ℕ → Data → Option Asked
+-- `asked_by made word d` is what the operation `word` asks with the other members of the line `d`, where `made` counts
+-- the messages and summaries made before.
+unfoldable pub asked_by : Made → List ℕ → Data → Option ScriptOperation
 asked_by made word d =
     if bytes_eq word (codes "put_policy") then policy_put (text_at (codes "id") d) (text_at (codes "text") d)
     else if bytes_eq word (codes "delete_policy") then option_map policy_deleted (text_at (codes "id") d)
@@ -94,27 +96,29 @@ asked_by made word d =
 -- A `ScriptLine` is what a line asks for, and the number of the site.
 pub record ScriptLine : Type 0 where
   pub site : ℕ
-  pub asked : Asked
+  pub asked : ScriptOperation
 
--- `said_by site asked` is the line of both, if both are present.
-abbrev pub said_by : Option ℕ → Option Asked → Option ScriptLine
-said_by None asked = None
-said_by (Some site) None = None
-said_by (Some site) (Some asked) = Some (record { site = site; asked = asked })
+-- `script_line_by site asked` is the line with this site and this operation, if both are present.
+abbrev pub script_line_by : Option ℕ → Option ScriptOperation → Option ScriptLine
+script_line_by None asked = None
+script_line_by (Some site) None = None
+script_line_by (Some site) (Some asked) = Some (record { site = site; asked = asked })
 
--- `said_in n made d` is what the JSON `d` states for one of `n` sites, if it does.
-unfoldable pub said_in : ℕ → Made → Data → Option ScriptLine
-said_in n made d = said_by (number_in (codes "site") 1 (n + 1) d)
+-- `script_line_in n made d` is what the JSON `d` states for one of `n` sites, if it states an event; `made` counts the
+-- messages and summaries that earlier lines make.
+unfoldable pub script_line_in : ℕ → Made → Data → Option ScriptLine
+script_line_in n made d = script_line_by (number_in (codes "site") 1 (n + 1) d)
     (option_and_then (λ word. asked_by made word d) (text_at (codes "do") d))
 
--- `said_of n made line` is what `line` states, if it does.
-abbrev pub said_of : ℕ → Made → List ℕ → Option ScriptLine
-said_of n made line = option_and_then (said_in n made) (json_of line)
+-- `script_line_of n made line` is what the bytes `line` state, if they are JSON that states an event.
+abbrev pub script_line_of : ℕ → Made → List ℕ → Option ScriptLine
+script_line_of n made line = option_and_then (script_line_in n made) (json_of line)
 
 -- ---- as events
 
--- `IsOperationOf asked d` holds if the operation `d` is what is asked: bytes are JSON of the same value.
-abbrev pub IsOperationOf : Asked → Operation → Type 0
+-- `IsOperationOf asked d` holds if `d` is the operation `asked`, where its bytes may be any JSON text of the same
+-- value.
+abbrev pub IsOperationOf : ScriptOperation → Operation → Type 0
 IsOperationOf (plain asked) d = d ≡ asked
 IsOperationOf (put_entity json) d = (bytes : List ℕ) × (d ≡ operation.PutEntity bytes) × (json_of bytes ≡ Some json)
 IsOperationOf (authorize json) d = (bytes : List ℕ) × (d ≡ operation.Authorize bytes) × (json_of bytes ≡ Some json)

@@ -2,7 +2,7 @@
 ghost use Rattle.std.specs.Prelude.{◌≤◌, ◌≡◌, IfOk, IfErr};
 ghost use Rattle.schema_decisions.specs.answer_lines.Refusals.{no_memory};
 ghost use Rattle.schema_decisions.specs.schema.Views.{schema_view};
-ghost use Rattle.program_drills.specs.Drills.{IsDrilled, IsPlayedOut, IsDrillRefused};
+ghost use Rattle.program_drills.specs.Drills.{IsDrilled, IsOutputOf, IsDrillRefused};
 ghost use Rattle.program_drills.specs.Scripts.{IsScriptRefused};
 ghost use Rattle.program_drills.specs.inner.Under.{IsDrilledUnder};
 
@@ -13,7 +13,7 @@ use plain::{NoMemory, Shared};
 use schema_decisions::{Refusal, Schema, schema_in};
 use std::alloc::Global;
 
-/// Executes events at `sites` sites, and returns their lines.
+/// Executes events at `count` sites, and returns their lines.
 fn play(
     alloc: Global,
     schema: &Shared<Schema>,
@@ -21,7 +21,7 @@ fn play(
     events: &[Event],
 ) -> Result<Vec<u8>, NoMemory>
     requires { (1 ≤ count) × (count ≤ 64) }
-    ensures { IfOk result (λ text. IsPlayedOut (schema_view schema.now) count events.now text.items) }
+    ensures { IfOk result (λ text. IsOutputOf (schema_view schema.now) count events.now text.items) }
 {
     let world = simulate(alloc, schema, count, events)?;
     world_lines(alloc, &world)
@@ -42,22 +42,24 @@ fn drill_under(
     Ok(play(alloc, schema, count, &events)?)
 }
 
-/// Executes a script at `sites` empty sites of a schema, and returns its lines: one for each event, then the state of
+/// Executes a script at `count` empty sites of a schema, and returns its lines: one for each event, then the state of
 /// each site, joined by line feeds. The sites are named `00001`, `00002` and so on.
 ///
 /// A line of the script is a JSON object with the number of a site at `site` and an operation at `do`, with its
 /// arguments at further keys: `put_policy` (`id`, `text`), `delete_policy` (`id`), `put_entity` (`entity`),
 /// `delete_entity` (`uid`), `authorize` (`request`), `summary`, `offer`, `offer_delta` (`summary`, a number), `deliver`
-/// (`message`, a number). The line of an event is the body of the service's reply, or the error line; of a message or
-/// summary that it makes, the number, from 0.
+/// (`message`, a number).
+///
+/// The line of an event is the body of the service's reply, or the error line. The line of an event that makes a
+/// message or a summary has the number of this, from 0.
 ///
 /// # Errors
 ///
 /// In the order checked:
 ///
 /// - 20 to 25, without a place: the schema is rejected.
-/// - 30: a line of the script states no event, or names what is not made before; the place is the index of the first
-///   such line, from 0. No event is executed.
+/// - 30: a line of the script states no event, or names a message or a summary that no earlier line makes; the place is
+///   the index of the first such line, from 0. No event is executed.
 /// - 1, at any point: out of memory.
 pub fn drill_text(
     alloc: Global,

@@ -11,7 +11,7 @@ pub(crate) struct Made {
     pub(crate) summaries: usize,
 }
 
-/// Returns the numbers after an operation.
+/// Returns the numbers of messages and summaries after an operation.
 pub(crate) fn after_operation(made: Made, operation: &Operation) -> Made
     requires messages { made.messages < 2 ^ 63 }
     requires summaries { made.summaries < 2 ^ 63 }

@@ -8,7 +8,8 @@ ghost use Rattle.json_words.specs.Json.{json_of, text_at};
 ghost use Rattle.schema_decisions.specs.entity_uids.Uids.{uid_in};
 ghost use Rattle.program_drills.specs.ScriptLines.{asked_by, authorize, delivered, delta_offered};
 ghost use Rattle.program_drills.specs.ScriptLines.{entity_deleted, number_in};
-ghost use Rattle.program_drills.specs.ScriptLines.{policy_deleted, policy_put, put_entity, said_in, said_of, within};
+ghost use Rattle.program_drills.specs.ScriptLines.{policy_deleted, policy_put, put_entity, script_line_in};
+ghost use Rattle.program_drills.specs.ScriptLines.{script_line_of, within};
 ghost use Rattle.program_drills.specs.inner.Reading.{IsReadAs, IsLineRead, AreBytesOf};
 
 use crate::made::Made;
@@ -92,7 +93,8 @@ fn entity_put(alloc: Global, value: &Value) -> Result<Option<Operation>, NoMemor
     }
 }
 
-/// Returns the deletion of an entity, if the uid is present, whatever it is.
+/// Returns the deletion of an entity, if the uid is present. JSON that is not a uid gives a put of no bytes, which has
+/// the same error (30).
 fn entity_deleted(alloc: Global, value: &Value) -> Result<Option<Operation>, NoMemory>
     ensures { IfOk result (IsReadAs
         (option_map (λ uid. entity_deleted (uid_in uid)) (get (codes "uid") (view value.now)))) }
@@ -106,7 +108,7 @@ fn entity_deleted(alloc: Global, value: &Value) -> Result<Option<Operation>, NoM
     }
 }
 
-/// Returns a request for a decision, if it is present.
+/// Returns a decision, if its request is present.
 fn authorized(alloc: Global, value: &Value) -> Result<Option<Operation>, NoMemory>
     requires { depth (view value.now) ≤ max_depth }
     ensures { IfOk result (IsReadAs (option_map authorize (get (codes "request") (view value.now)))) }
@@ -117,7 +119,7 @@ fn authorized(alloc: Global, value: &Value) -> Result<Option<Operation>, NoMemor
     }
 }
 
-/// Returns a delta against a summary, if the number of one that was made is present.
+/// Returns the offer of a delta against a summary, if the line has the number of a summary that was made.
 fn delta_offered(value: &Value, made: Made) -> Option<Operation>
     ensures { IsReadAs (option_map delta_offered (number_in (codes "summary") 0 made.summaries (view value.now)))
         result }
@@ -128,7 +130,7 @@ fn delta_offered(value: &Value, made: Made) -> Option<Operation>
     }
 }
 
-/// Returns the delivery of a message, if the number of one that was made is present.
+/// Returns the delivery of a message, if the line has the number of a message that was made.
 fn delivered(value: &Value, made: Made) -> Option<Operation>
     ensures { IsReadAs (option_map delivered (number_in (codes "message") 0 made.messages (view value.now))) result }
 {
@@ -138,7 +140,7 @@ fn delivered(value: &Value, made: Made) -> Option<Operation>
     }
 }
 
-/// Returns the operation of a name, with the other members of the line.
+/// Returns the operation that `word` names, with the other members of the line as its arguments.
 #[tactic(auto, unfolding(crate::specs::ScriptLines::asked_by))]
 fn asked_by(
     alloc: Global,
@@ -179,11 +181,16 @@ fn asked_by(
     Ok(None)
 }
 
-/// Returns the event that a JSON value states for one of `sites` sites, if it does.
-#[tactic(auto, unfolding(crate::specs::ScriptLines::said_in))]
-fn said_in(alloc: Global, count: u16, made: Made, value: &Value) -> Result<Option<Event>, NoMemory>
+/// Returns the event that a JSON value states for one of `count` sites, if it states one.
+#[tactic(auto, unfolding(crate::specs::ScriptLines::script_line_in))]
+fn script_line_in(
+    alloc: Global,
+    count: u16,
+    made: Made,
+    value: &Value,
+) -> Result<Option<Event>, NoMemory>
     requires { depth (view value.now) ≤ max_depth }
-    ensures { IfOk result (IsLineRead (said_in count made (view value.now))) }
+    ensures { IfOk result (IsLineRead (script_line_in count made (view value.now))) }
 {
     let Some(site) = number_in(value, "site", 1, count as usize + 1) else {
         return Ok(None);
@@ -197,17 +204,22 @@ fn said_in(alloc: Global, count: u16, made: Made, value: &Value) -> Result<Optio
     }
 }
 
-/// Returns the event that a line states, or `None` if it states none. Fails only if out of memory.
-pub(crate) fn said_of(
+/// Returns the event that a line states for one of `count` sites, or `None` if it states none. `made` is what the lines
+/// before it make.
+///
+/// # Errors
+///
+/// - `NoMemory`: an allocation failed.
+pub(crate) fn script_line_of(
     alloc: Global,
     count: u16,
     made: Made,
     line: &[u8],
 ) -> Result<Option<Event>, NoMemory>
-    ensures { IfOk result (IsLineRead (said_of count made line.now)) }
+    ensures { IfOk result (IsLineRead (script_line_of count made line.now)) }
 {
     match read_json(alloc, line)? {
-        Some(value) => said_in(alloc, count, made, &value),
+        Some(value) => script_line_in(alloc, count, made, &value),
         None => Ok(None),
     }
 }

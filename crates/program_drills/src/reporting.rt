@@ -5,11 +5,11 @@ ghost use Rattle.serde_json.specs.View.{view};
 ghost use Rattle.schema_decisions.specs.answer_lines.Lines.{answer_line};
 ghost use Rattle.http_service.specs.site_calls.Replies.{answer_reply, fault_reply, put_reply, stamp_reply};
 ghost use Rattle.http_service.specs.site_calls.Replies.{taken_reply};
-ghost use Rattle.program_drills.specs.Drills.{IsTold};
+ghost use Rattle.program_drills.specs.Drills.{IsEventLine};
 ghost use Rattle.program_drills.specs.Lines.{line_end};
-ghost use Rattle.program_drills.specs.EventReports.{answer_told, message_json, message_line, state_told};
+ghost use Rattle.program_drills.specs.EventReports.{reply_line, message_json, message_line, state_line};
 ghost use Rattle.program_drills.specs.EventReports.{summary_json, summary_line};
-ghost use Rattle.program_drills.specs.inner.Ended.{AreTold, IsToldOf, ended};
+ghost use Rattle.program_drills.specs.inner.Ended.{AppendsEventLines, AppendsEventLine, ended};
 
 use http_service::{
     EventReply, LINE_ROOM, Put, Reply, Site, SiteFault, Stamp, Taken, World, report_fault,
@@ -103,7 +103,7 @@ fn message_line(alloc: Global, number: usize) -> Result<Vec<u8>, NoMemory>
     write_json(alloc, &value)
 }
 
-/// Appends it.
+/// Appends the line of a message that was made.
 fn append_message(alloc: Global, text: &mut Vec<u8>, number: usize) -> Result<(), NoMemory>
     ensures { OnOk result (text.new.items ≡ text.old.items ++ message_line number) }
 {
@@ -119,7 +119,7 @@ fn summary_line(alloc: Global, number: usize) -> Result<Vec<u8>, NoMemory>
     write_json(alloc, &value)
 }
 
-/// Appends it.
+/// Appends the line of a summary that was made.
 fn append_summary(alloc: Global, text: &mut Vec<u8>, number: usize) -> Result<(), NoMemory>
     ensures { OnOk result (text.new.items ≡ text.old.items ++ summary_line number) }
 {
@@ -127,9 +127,9 @@ fn append_summary(alloc: Global, text: &mut Vec<u8>, number: usize) -> Result<()
     text.extend_from_slice(line.as_slice())
 }
 
-/// Appends the line of a site's answer.
+/// Appends the line of a site's reply. An event has no reply `Found` or `Written`.
 fn append_reply(alloc: Global, text: &mut Vec<u8>, reply: &Reply) -> Result<(), NoMemory>
-    ensures { OnOk result ((line : List ℕ) × (answer_told reply.now ≡ Some line)
+    ensures { OnOk result ((line : List ℕ) × (reply_line reply.now ≡ Some line)
         × (text.new.items ≡ text.old.items ++ line)) }
 {
     match reply {
@@ -141,10 +141,14 @@ fn append_reply(alloc: Global, text: &mut Vec<u8>, reply: &Reply) -> Result<(), 
     }
 }
 
-/// Appends the line of an event. Fails only if out of memory, also if that is why the message or summary that the event
-/// names was not made.
+/// Appends the line of an event.
+///
+/// # Errors
+///
+/// - `NoMemory`: an allocation failed, now or earlier, so that the message or summary that the event names was not
+///   made.
 fn append_event(alloc: Global, text: &mut Vec<u8>, answer: &EventReply) -> Result<(), NoMemory>
-    ensures { OnOk result (IsToldOf answer.now text.old.items text.new.items) }
+    ensures { OnOk result (AppendsEventLine answer.now text.old.items text.new.items) }
 {
     match answer {
         EventReply::Unknown => Err(NoMemory),
@@ -160,7 +164,7 @@ fn append_event(alloc: Global, text: &mut Vec<u8>, answer: &EventReply) -> Resul
 
 /// Appends a line for each event, each with a line feed.
 fn append_events(alloc: Global, text: &mut Vec<u8>, answers: &[EventReply]) -> Result<(), NoMemory>
-    ensures { OnOk result (AreTold answers.now text.old.items text.new.items) }
+    ensures { OnOk result (AppendsEventLines answers.now text.old.items text.new.items) }
 {
     for answer in answers {
         append_event(alloc, text, answer)?;
@@ -171,7 +175,7 @@ fn append_events(alloc: Global, text: &mut Vec<u8>, answers: &[EventReply]) -> R
 
 /// Appends the state of a site and a line feed.
 fn append_state(text: &mut Vec<u8>, site: &Site) -> Result<(), NoMemory>
-    ensures { OnOk result (text.new.items ≡ text.old.items ++ (state_told site.now ++ line_end ∷ [])) }
+    ensures { OnOk result (text.new.items ≡ text.old.items ++ (state_line site.now ++ line_end ∷ [])) }
 {
     let state = site.state()?;
     text.extend_from_slice(state.as_slice())?;
@@ -181,7 +185,7 @@ fn append_state(text: &mut Vec<u8>, site: &Site) -> Result<(), NoMemory>
 
 /// Appends the state of each site, each with a line feed.
 fn append_states(text: &mut Vec<u8>, sites: &[Site]) -> Result<(), NoMemory>
-    ensures { OnOk result (text.new.items ≡ text.old.items ++ ended (map state_told sites.now)) }
+    ensures { OnOk result (text.new.items ≡ text.old.items ++ ended (map state_line sites.now)) }
 {
     for site in sites {
         append_state(text, site)?;
@@ -191,8 +195,8 @@ fn append_states(text: &mut Vec<u8>, sites: &[Site]) -> Result<(), NoMemory>
 
 /// Returns a line for each event, then the state of each site, joined by line feeds.
 pub(crate) fn world_lines(alloc: Global, world: &World) -> Result<Vec<u8>, NoMemory>
-    ensures { IfOk result (λ text. (lines : List (List ℕ)) × AllZip IsTold world.now.replies.items lines
-        × (text.items ≡ join_with_byte line_end (lines ++ map state_told world.now.sites.items))) }
+    ensures { IfOk result (λ text. (lines : List (List ℕ)) × AllZip IsEventLine world.now.replies.items lines
+        × (text.items ≡ join_with_byte line_end (lines ++ map state_line world.now.sites.items))) }
 {
     let mut text = Vec::new(alloc);
     append_events(alloc, &mut text, &world.replies)?;

@@ -1,4 +1,4 @@
-//! Lines of bytes.
+//! Splits bytes into lines.
 ghost use Rattle.std.specs.Prelude.{◌≡◌, ◌<◌, ◌∷◌, length};
 ghost use Rattle.program_drills.specs.Lines.{lines};
 

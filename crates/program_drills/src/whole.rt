@@ -4,13 +4,13 @@ ghost use Rattle.schema_decisions.specs.answer_lines.Refusals.{bad_shape, no_mem
 ghost use Rattle.program_drills.specs.Scripts.{AreEventsOf, IsScriptRefused};
 
 use crate::made::{Made, after_operation};
-use crate::one_line::said_of;
+use crate::one_line::script_line_of;
 use crate::split::first_line;
 use http_service::Event;
 use schema_decisions::Refusal;
 use std::alloc::Global;
 
-/// Returns the error of the line at an index.
+/// Returns the error (30) of the line at an index.
 fn unread_line(place: usize) -> Refusal
     ensures { result ≡ bad_shape (Some place) }
 {
@@ -21,7 +21,7 @@ fn unread_line(place: usize) -> Refusal
     }
 }
 
-/// Returns the events of a script, one for each line, at `sites` sites.
+/// Returns the events of a script, one for each line, at `count` sites.
 ///
 /// # Errors
 ///
@@ -40,7 +40,7 @@ pub(crate) fn read_script(alloc: Global, count: u16, script: &[u8]) -> Result<Ve
     let mut rest = script;
     while !rest.is_empty() {
         let (line, behind) = first_line(rest);
-        let Some(event) = said_of(alloc, count, made, line)? else {
+        let Some(event) = script_line_of(alloc, count, made, line)? else {
             return Err(unread_line(events.len()));
         };
         made = after_operation(made, &event.operation);

@@ -1,7 +1,7 @@
 -- Which fault is told of a command line: what an error of clap's is told as, and what a command lacks.
 use Rattle.std.proofs.Common.{◌≡◌, ◌∙◌, inl, inr, Bool, true, false, Option, refl, List, sym, ap, [], if◌then◌else◌, subst}
 use Rattle.clap.specs.Words.{Row, Text, HasKind, fault_of, kind_of, subcommand_of}
-use Rattle.program_lines.specs.Lines.{IsNoLine, IsOfNoSite}
+use Rattle.program_lines.specs.Lines.{IsNoLine, HasInvalidSite}
 use Rattle.clap.specs.declared.error.Error.{Error}
 use Rattle.clap.specs.declared.error.ErrorKind.{ErrorKind}
 use Rattle.clap.specs.declared.error.ErrorKind.TheVariants.{OutOfMemory}
@@ -9,7 +9,7 @@ use Rattle.program_lines.specs.declared.fault.LineFault.{LineFault}
 use Rattle.program_lines.specs.declared.fault.LineFault.TheVariants.{Help, Words, Site, Incomplete, NotText, NoMemory}
 use Rattle.program_lines.specs.Apps.{site_app}
 use Rattle.program_lines.specs.Faults.{IsFaultOf, is_help, is_memory}
-use Rattle.program_lines.specs.inner.Sorting.{IsLackOf, sorted}
+use Rattle.program_lines.specs.inner.ClapErrors.{IsWhyIncomplete, sorted}
 
 no_help : {k : ErrorKind} → k ≡ OutOfMemory → is_help k ≡ true → ⊥
 no_help e f = let bad : false ≡ true = sym (ap is_help e) ∙ f in absurd cc
@@ -31,10 +31,10 @@ sorted_fault words error has = sorted_by words error (is_help (kind_of error)) (
 
 -- what a command lacks, where no line was made of it
 pub lacking_fault : (words : List Text) (named : Option (Text × List Row)) (fault : LineFault) → subcommand_of site_app words ≡ named
-    → fault_of site_app words ≡ [] → IsNoLine named → IsLackOf named fault → IsFaultOf words fault
+    → fault_of site_app words ≡ [] → IsNoLine named → IsWhyIncomplete named fault → IsFaultOf words fault
 lacking_fault words named (Help error) is free none lacks = absurd lacks
 lacking_fault words named (Words error) is free none lacks = absurd lacks
-lacking_fault words named Site is free none lacks = (free, subst IsOfNoSite (sym is) lacks)
-lacking_fault words named Incomplete is free none lacks = (free, subst IsNoLine (sym is) none, λ other. lacks (subst IsOfNoSite is other))
+lacking_fault words named Site is free none lacks = (free, subst HasInvalidSite (sym is) lacks)
+lacking_fault words named Incomplete is free none lacks = (free, subst IsNoLine (sym is) none, λ other. lacks (subst HasInvalidSite is other))
 lacking_fault words named NotText is free none lacks = absurd lacks
 lacking_fault words named NoMemory is free none lacks = absurd lacks

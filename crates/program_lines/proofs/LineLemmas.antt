@@ -4,8 +4,8 @@ use Rattle.stamped_store.specs.SiteNames.{IsSiteName}
 use Rattle.clap.specs.Words.{Row, Text, first_of, subcommand_rows_of, subcommand_name_of}
 use Rattle.program_lines.specs.declared.line.Line.{Line}
 use Rattle.program_lines.specs.declared.line.Line.TheVariants.{Check, Decide, Load, Serve, Pull, Exchange, Merge, Drill, Explain}
-use Rattle.program_lines.specs.Lines.{IsLineOf, IsGiven, IsGivenSite, IsGivenNoSite, IsGivenNumber, MayBeGivenNumber, IsNumberIn, IsNamed, HasSites}
-use Rattle.program_lines.specs.inner.Lacking.{IsNone}
+use Rattle.program_lines.specs.Lines.{IsLineOf, IsGiven, IsGivenSite, IsGivenInvalidSite, IsGivenNumber, MayBeGivenNumber, IsNumberIn, IsNamed, HasSites}
+use Rattle.program_lines.specs.inner.NoSuchValue.{IsNone}
 use Rattle.clap.specs.declared.ArgMatches.{ArgMatches}
 use Rattle.clap.specs.declared.ArgMatches.TheViews.{out-ArgMatches}
 
@@ -420,7 +420,7 @@ module _ (rows : List Row) where
   pub site_lacks : first_of (codes "site") rows ≡ None → IsNone (IsGivenSite rows)
   site_lacks none site given = none_given rows (codes "site") site none given.0
 
-  pub no_site_lacks : first_of (codes "site") rows ≡ None → IsGivenNoSite rows → ⊥
+  pub no_site_lacks : first_of (codes "site") rows ≡ None → IsGivenInvalidSite rows → ⊥
   no_site_lacks none given = none_given rows (codes "site") given.0 none given.1
 
   -- what was given is no site's name
@@ -428,7 +428,7 @@ module _ (rows : List Row) where
   no_site text is none site given = none (subst IsSiteName (same_site given.0 is) given.1)
 
   -- or it is one
-  pub some_site : (text : Text) → first_of (codes "site") rows ≡ Some text → IsSiteName text → IsGivenNoSite rows → ⊥
+  pub some_site : (text : Text) → first_of (codes "site") rows ≡ Some text → IsSiteName text → IsGivenInvalidSite rows → ⊥
   some_site text is named given = given.2 (subst IsSiteName (same_site is given.1) named)
 
 -- ---- numbers

@@ -1,5 +1,5 @@
--- Defines the commands and their options, as a value of clap, whose `subcommand_of` and `fault_of` say what it makes of
--- arguments.
+-- Defines the commands and their options, as a value of clap. Of such a value, clap's `subcommand_of` and `fault_of`
+-- give the command, or the errors, of some arguments.
 -- Source: the contracts of the crate clap.
 -- Rules of this product: which commands and options exist.
 use Rattle.std.specs.Prelude.{ℕ, true, Some, codes}
@@ -19,7 +19,7 @@ number_option name least most = record (value_option name) { parser = Some (Unsi
 abbrev pub value_word : Text → Rule
 value_word name = record (new_rule name) { value_names = 1; action = Some Set }
 
--- `demanded rule` makes an option required.
+-- `demanded rule` is `rule` for a required option or argument.
 abbrev pub demanded : Rule → Rule
 demanded rule = record rule { required = true }
 
@@ -43,7 +43,7 @@ abbrev pub site_option : Rule
 site_option = demanded (value_option (codes "site"))
 
 -- serve --schema FILE --site NAME --listen ADDRESS [--state FILE] [--connections NUMBER] [--idle SECONDS] [--log FILE]
--- [--explain]
+-- [--explain], where NUMBER is below 2^32, and SECONDS is at most a day
 abbrev pub serve_app : App
 serve_app = with_rule (with_rule (with_rule (with_rule (with_rule (with_rule (with_rule (with_rule
     (new_app (codes "serve")) (demanded (value_option (codes "schema")))) site_option)
@@ -85,11 +85,11 @@ load_app = with_rule (with_rule (with_rule (with_rule (with_rule (with_rule (new
     (demanded (value_option (codes "schema")))) site_option) (value_option (codes "policies")))
     (value_option (codes "entities"))) (value_option (codes "state"))) explain_flag
 
--- `asks_for_command a` demands a command.
+-- `asks_for_command a` is `a` where a command is required.
 abbrev pub asks_for_command : App → App
 asks_for_command a = record a { top = record a.top { subcommand_required = true } }
 
--- `with_version a` adds `--version`.
+-- `with_version a` is `a` with the option `--version`.
 abbrev pub with_version : App → App
 with_version a = record a { top = record a.top { has_version = true } }
 

@@ -1,5 +1,5 @@
 -- Defines why arguments are not a command: the first error of parsing them, a request for help, an invalid site name,
--- or lack of memory.
+-- or out of memory.
 -- Source: the contracts of the crate clap.
 -- Rules of this product: the site name is checked last.
 use Rattle.std.specs.Prelude.{◌≡◌, Bool, true, false, List, [], ⊤}
@@ -10,20 +10,20 @@ use Rattle.clap.specs.declared.error.ErrorKind.TheVariants.{DisplayHelp, Display
 use Rattle.program_lines.specs.declared.fault.LineFault.{LineFault}
 use Rattle.program_lines.specs.declared.fault.LineFault.TheVariants.{Help, Words, Site, Incomplete, NotText, NoMemory}
 use Rattle.program_lines.specs.Apps.{site_app}
-use Rattle.program_lines.specs.Lines.{IsNoLine, IsOfNoSite}
+use Rattle.program_lines.specs.Lines.{IsNoLine, HasInvalidSite}
 
--- `is_help kind` tests for a request for help or for the version.
+-- `is_help kind` is whether `kind` is a request for help or for the version.
 abbrev pub is_help : ErrorKind → Bool
 is_help DisplayHelp = true
 is_help DisplayVersion = true
 is_help _ = false
 
--- `is_memory kind` tests for lack of memory.
+-- `is_memory kind` is whether `kind` is a failed allocation.
 abbrev pub is_memory : ErrorKind → Bool
 is_memory OutOfMemory = true
 is_memory _ = false
 
--- `IsFirstFault words error` holds if parsing `words` may meet `error` first.
+-- `IsFirstFault words error` holds if `error` may be the first error of parsing `words`.
 abbrev pub IsFirstFault : List Text → Error → Type 0
 IsFirstFault words error = IsAmong (kind_of error) (fault_of site_app words)
 
@@ -31,8 +31,8 @@ IsFirstFault words error = IsAmong (kind_of error) (fault_of site_app words)
 abbrev pub IsFaultOf : List Text → LineFault → Type 0
 IsFaultOf words (Help error) = (is_help (kind_of error) ≡ true) × IsFirstFault words error
 IsFaultOf words (Words error) = (is_help (kind_of error) ≡ false) × IsFirstFault words error
-IsFaultOf words Site = (fault_of site_app words ≡ []) × IsOfNoSite (subcommand_of site_app words)
+IsFaultOf words Site = (fault_of site_app words ≡ []) × HasInvalidSite (subcommand_of site_app words)
 IsFaultOf words Incomplete = (fault_of site_app words ≡ []) × IsNoLine (subcommand_of site_app words)
-    × (IsOfNoSite (subcommand_of site_app words) → ⊥)
+    × (HasInvalidSite (subcommand_of site_app words) → ⊥)
 IsFaultOf words NotText = ⊥
 IsFaultOf words NoMemory = ⊤

@@ -2,5 +2,5 @@ pub mod Apps
 pub mod Faults
 pub mod Lines
 pub mod inner
--- crates below, passed on to those above
+-- Specifications of lower crates, re-exported.
 pub use Rattle.stamped_store.specs as stamped_store

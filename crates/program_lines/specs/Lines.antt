@@ -21,60 +21,61 @@ word_of (Merge options) = codes "merge"
 word_of (Drill options) = codes "drill"
 word_of (Explain options) = codes "explain"
 
--- `IsGiven rows id text` holds if the option `id` has the value `text`.
+-- `IsGiven rows id text` holds if the option `id` has the value `text` in `rows`, the options that clap found.
 abbrev pub IsGiven : List Row → Text → Text → Type 0
 IsGiven rows id text = first_of id rows ≡ Some text
 
--- `IsGivenSite rows site` holds if the site's option has the value `site`, a valid site name.
+-- `IsGivenSite rows site` holds if the option `--site` has the value `site`, a valid site name.
 abbrev pub IsGivenSite : List Row → Text → Type 0
 IsGivenSite rows site = IsGiven rows (codes "site") site × IsSiteName site
 
--- `IsGivenNoSite rows` holds if the site's option has a value that is not a site name.
-abbrev pub IsGivenNoSite : List Row → Type 0
-IsGivenNoSite rows = (text : Text) × IsGiven rows (codes "site") text × (IsSiteName text → ⊥)
+-- `IsGivenInvalidSite rows` holds if the option `--site` has a value that is not a site name.
+abbrev pub IsGivenInvalidSite : List Row → Type 0
+IsGivenInvalidSite rows = (text : Text) × IsGiven rows (codes "site") text × (IsSiteName text → ⊥)
 
--- `IsNumberIn least most text number` holds if `text` is `number` in decimal digits, perhaps after a plus, and it is
--- from `least` to `most`.
+-- `IsNumberIn least most text number` holds if `text` is `number` in decimal digits, perhaps after a plus, and the
+-- number is from `least` to `most`.
 abbrev pub IsNumberIn : ℕ → ℕ → Text → ℕ → Type 0
 IsNumberIn least most text number =
     IsUnsignedIn least most text × (number ≡ digits_value 10 (without_leading_plus text))
 
--- `IsGivenNumber rows id least most number` holds if the option `id` has such a number as its value.
+-- `IsGivenNumber rows id least most number` holds if the option `id` has the value `number`, from `least` to `most`.
 abbrev pub IsGivenNumber : List Row → Text → ℕ → ℕ → ℕ → Type 0
 IsGivenNumber rows id least most number =
     (text : Text) × IsGiven rows id text × IsNumberIn least most text number
 
--- `MayBeGivenNumber rows id least most o` is the same, with `None` for an absent option.
+-- `MayBeGivenNumber rows id least most o` holds if the option `id` has the value `o`, from `least` to `most`, or is
+-- absent and `o` is `None`.
 abbrev pub MayBeGivenNumber : List Row → Text → ℕ → ℕ → Option ℕ → Type 0
 MayBeGivenNumber rows id least most None = first_of id rows ≡ None
 MayBeGivenNumber rows id least most (Some number) = IsGivenNumber rows id least most number
 
--- `IsFlag rows id b` holds if `b` says whether the flag `id` was given: clap gives it the value `true` then, and else
--- `false`.
+-- `IsFlag rows id b` holds if `b` is whether the flag `id` was given: clap gives a flag the value `true` if it was
+-- given, else `false`.
 abbrev pub IsFlag : List Row → Text → Bool → Type 0
 IsFlag rows id true = IsGiven rows id (codes "true")
 IsFlag rows id false = IsGiven rows id (codes "true") → ⊥
 
--- `HasTexts rows line` holds if the options of `line` have the values of `rows`.
-abbrev pub HasTexts : List Row → Line → Type 0
-HasTexts rows (Check options) =
+-- `HasOptions rows line` holds if the options of `line` have the values that they have in `rows`.
+abbrev pub HasOptions : List Row → Line → Type 0
+HasOptions rows (Check options) =
     IsGiven rows (codes "schema") options.schema.now
     × IsGiven rows (codes "policies") options.policies.now
     × IsFlag rows (codes "explain") options.explain
-HasTexts rows (Decide options) =
+HasOptions rows (Decide options) =
     (first_of (codes "schema") rows ≡ option_map (λ s. s.now) options.schema)
     × IsGiven rows (codes "policies") options.policies.now
     × IsGiven rows (codes "entities") options.entities.now
     × IsGiven rows (codes "request") options.request.now
     × IsFlag rows (codes "explain") options.explain
-HasTexts rows (Load options) =
+HasOptions rows (Load options) =
     IsGiven rows (codes "schema") options.schema.now
     × IsGivenSite rows options.site
     × (first_of (codes "policies") rows ≡ option_map (λ s. s.now) options.policies)
     × (first_of (codes "entities") rows ≡ option_map (λ s. s.now) options.entities)
     × (first_of (codes "state") rows ≡ option_map (λ s. s.now) options.state)
     × IsFlag rows (codes "explain") options.explain
-HasTexts rows (Serve options) =
+HasOptions rows (Serve options) =
     IsGiven rows (codes "schema") options.schema.now
     × IsGivenSite rows options.site
     × IsGiven rows (codes "listen") options.listen.now
@@ -83,40 +84,40 @@ HasTexts rows (Serve options) =
     × MayBeGivenNumber rows (codes "idle") 1 86400 options.idle
     × (first_of (codes "log") rows ≡ option_map (λ s. s.now) options.log)
     × IsFlag rows (codes "explain") options.explain
-HasTexts rows (Pull options) =
+HasOptions rows (Pull options) =
     IsGiven rows (codes "schema") options.schema.now
     × IsGivenSite rows options.site
     × IsGiven rows (codes "from") options.from.now
     × IsGiven rows (codes "state") options.state.now
-HasTexts rows (Exchange options) =
+HasOptions rows (Exchange options) =
     IsGiven rows (codes "schema") options.schema.now
     × IsGiven rows (codes "between") options.between.now
     × IsGiven rows (codes "and") options.and.now
-HasTexts rows (Merge options) =
+HasOptions rows (Merge options) =
     IsGiven rows (codes "schema") options.schema.now
     × IsGiven rows (codes "first") options.first.now
     × IsGiven rows (codes "second") options.second.now
     × IsFlag rows (codes "explain") options.explain
-HasTexts rows (Drill options) =
+HasOptions rows (Drill options) =
     IsGiven rows (codes "schema") options.schema.now
     × IsGivenNumber rows (codes "sites") 1 64 options.sites
     × IsGiven rows (codes "script") options.script.now
-HasTexts rows (Explain options) =
+HasOptions rows (Explain options) =
     IsGiven rows (codes "what") options.what.now
     × (first_of (codes "schema") rows ≡ option_map (λ s. s.now) options.schema)
     × (first_of (codes "entities") rows ≡ option_map (λ s. s.now) options.entities)
     × (first_of (codes "request") rows ≡ option_map (λ s. s.now) options.request)
 
--- `HasSites line` holds if a script is executed at 1 to 64 sites.
+-- `HasSites line` holds if `line` is not `drill`, or has a number of sites from 1 to 64.
 abbrev pub HasSites : Line → Type 0
 HasSites (Drill options) = (1 ≤ options.sites) × (options.sites ≤ 64)
 HasSites _ = Unit {0}
 
 -- `IsLineOf word rows line` holds if `line` is the command `word` with the options `rows`.
 abbrev pub IsLineOf : Text → List Row → Line → Type 0
-IsLineOf word rows line = (word_of line ≡ word) × HasTexts rows line
+IsLineOf word rows line = (word_of line ≡ word) × HasOptions rows line
 
--- `IsNamed line named` holds if clap found this command with these options.
+-- `IsNamed line named` holds if clap found the command `line`: `named` is its name with its options.
 abbrev pub IsNamed : Line → Option (Text × List Row) → Type 0
 IsNamed line None = ⊥
 IsNamed line (Some named) = IsLineOf named.0 named.1 line
@@ -125,11 +126,11 @@ IsNamed line (Some named) = IsLineOf named.0 named.1 line
 abbrev pub IsNoLine : Option (Text × List Row) → Type 0
 IsNoLine named = (line : Line) → IsNamed line named → ⊥
 
--- `IsOfNoSite named` holds if clap found a command with an invalid site name.
-abbrev pub IsOfNoSite : Option (Text × List Row) → Type 0
-IsOfNoSite None = ⊥
-IsOfNoSite (Some named) = IsGivenNoSite named.1
+-- `HasInvalidSite named` holds if clap found a command with an invalid site name.
+abbrev pub HasInvalidSite : Option (Text × List Row) → Type 0
+HasInvalidSite None = ⊥
+HasInvalidSite (Some named) = IsGivenInvalidSite named.1
 
--- `Says words line` holds if the arguments `words` are the command `line`.
-abbrev pub Says : List Text → Line → Type 0
-Says words line = IsNamed line (subcommand_of site_app words)
+-- `IsCommandOf words line` holds if the arguments `words` are the command `line`.
+abbrev pub IsCommandOf : List Text → Line → Type 0
+IsCommandOf words line = IsNamed line (subcommand_of site_app words)

@@ -1,3 +1,3 @@
 pub mod Known
-pub mod Lacking
-pub mod Sorting
+pub mod NoSuchValue
+pub mod ClapErrors

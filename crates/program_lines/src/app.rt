@@ -153,6 +153,7 @@ fn with_explain<'a>(
     with(command, flag)
 }
 
+/// Returns the command `check`.
 fn check_command<'a>(alloc: Global) -> Result<Command<'a>, NoMemory>
     ensures { IfOk result (IsApp check_app) }
 {
@@ -165,6 +166,7 @@ fn check_command<'a>(alloc: Global) -> Result<Command<'a>, NoMemory>
     with_explain(alloc, command)
 }
 
+/// Returns the command `decide`.
 fn decide_command<'a>(alloc: Global) -> Result<Command<'a>, NoMemory>
     ensures { IfOk result (IsApp decide_app) }
 {
@@ -183,6 +185,7 @@ fn decide_command<'a>(alloc: Global) -> Result<Command<'a>, NoMemory>
     with_explain(alloc, command)
 }
 
+/// Returns the command `load`.
 fn load_command<'a>(alloc: Global) -> Result<Command<'a>, NoMemory>
     ensures { IfOk result (IsApp load_app) }
 {
@@ -205,6 +208,7 @@ fn load_command<'a>(alloc: Global) -> Result<Command<'a>, NoMemory>
     with_explain(alloc, command)
 }
 
+/// Returns the command `serve`.
 fn serve_command<'a>(alloc: Global) -> Result<Command<'a>, NoMemory>
     ensures { IfOk result (IsApp serve_app) }
 {
@@ -233,6 +237,7 @@ fn serve_command<'a>(alloc: Global) -> Result<Command<'a>, NoMemory>
     with_explain(alloc, command)
 }
 
+/// Returns the command `pull`.
 fn pull_command<'a>(alloc: Global) -> Result<Command<'a>, NoMemory>
     ensures { IfOk result (IsApp pull_app) }
 {
@@ -249,6 +254,7 @@ fn pull_command<'a>(alloc: Global) -> Result<Command<'a>, NoMemory>
     with_needed(alloc, command, "state", "FILE", file)
 }
 
+/// Returns the command `exchange`.
 fn exchange_command<'a>(alloc: Global) -> Result<Command<'a>, NoMemory>
     ensures { IfOk result (IsApp exchange_app) }
 {
@@ -268,6 +274,7 @@ fn exchange_command<'a>(alloc: Global) -> Result<Command<'a>, NoMemory>
     )
 }
 
+/// Returns the command `merge`.
 fn merge_command<'a>(alloc: Global) -> Result<Command<'a>, NoMemory>
     ensures { IfOk result (IsApp merge_app) }
 {
@@ -280,6 +287,7 @@ fn merge_command<'a>(alloc: Global) -> Result<Command<'a>, NoMemory>
     with_explain(alloc, command)
 }
 
+/// Returns the command `drill`.
 fn drill_command<'a>(alloc: Global) -> Result<Command<'a>, NoMemory>
     ensures { IfOk result (IsApp drill_app) }
 {
@@ -295,6 +303,7 @@ fn drill_command<'a>(alloc: Global) -> Result<Command<'a>, NoMemory>
     with_word(alloc, command, "script", "SCRIPT", script)
 }
 
+/// Returns the command `explain`.
 fn explain_command<'a>(alloc: Global) -> Result<Command<'a>, NoMemory>
     ensures { IfOk result (IsApp explain_app) }
 {

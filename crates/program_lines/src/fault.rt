@@ -1,7 +1,7 @@
 //! Errors of the command line.
 ghost use Rattle.std.specs.Prelude.{◌≡◌};
 ghost use Rattle.program_lines.specs.Faults.{is_help, is_memory};
-ghost use Rattle.program_lines.specs.inner.Sorting.{sorted};
+ghost use Rattle.program_lines.specs.inner.ClapErrors.{sorted};
 
 use clap::error::ErrorKind;
 use plain::NoMemory;
@@ -19,7 +19,8 @@ pub enum LineFault {
     /// The value of `--site` is not a site name. Nothing else is wrong.
     #[error("error: the value of '--site' is not a site name: 1 to 32 ASCII letters, digits, '-', '_' or '.'\n")]
     Site,
-    /// clap accepted the arguments, but a command or an option is missing: this does not occur.
+    /// clap accepted the arguments, but a command or a required option is missing. clap demands these, so this does not
+    /// occur.
     #[error("error: an option is missing\n")]
     Incomplete,
     /// An argument is not UTF-8. `line_of` never returns this: its arguments are texts.
@@ -47,14 +48,14 @@ fn is_help(kind: ErrorKind) -> bool
     matches!(kind, ErrorKind::DisplayHelp | ErrorKind::DisplayVersion)
 }
 
-/// Returns whether memory was lacking.
+/// Returns whether an allocation failed.
 fn is_memory(kind: ErrorKind) -> bool
     ensures { result ≡ is_memory kind }
 {
     matches!(kind, ErrorKind::OutOfMemory)
 }
 
-/// Returns what an error of clap means: help, lack of memory, or an error of the arguments.
+/// Returns what an error of clap means: a request for help, out of memory, or an error of the arguments.
 pub(crate) fn sorted(error: clap::Error) -> LineFault
     ensures { result ≡ sorted error }
 {

@@ -1,17 +1,17 @@
-//! The command line.
+//! The commands of the command line, with their options, from what clap finds in the arguments.
 ghost use Rattle.std.specs.Prelude.{◌≡◌, ◌↔◌, IsTrue, [], IfOk, IfErr, OnOk, MatchOption, map, option_map};
 ghost use Rattle.std.specs.Prelude.{string_bytes, codes};
 ghost use Rattle.clap.specs.Words.{fault_of, found_of, rows_of, subcommand_rows_of};
 ghost use Rattle.program_lines.specs.Apps.{site_app};
-ghost use Rattle.program_lines.specs.Lines.{HasSites, IsLineOf, IsNamed, IsNoLine, IsOfNoSite, Says};
+ghost use Rattle.program_lines.specs.Lines.{HasSites, IsLineOf, IsNamed, IsNoLine, HasInvalidSite, IsCommandOf};
 ghost use Rattle.program_lines.specs.Faults.{IsFaultOf};
-ghost use Rattle.program_lines.specs.inner.Lacking.{IsNone};
-ghost use Rattle.program_lines.specs.inner.Sorting.{IsLackOf};
+ghost use Rattle.program_lines.specs.inner.NoSuchValue.{IsNone};
+ghost use Rattle.program_lines.specs.inner.ClapErrors.{IsWhyIncomplete};
 
 use crate::app::command;
 use crate::fault::{LineFault, sorted};
 use crate::options::{
-    connections_in, flag_in, has_no_site, idle_in, option_text, site_in, sites_in,
+    connections_in, flag_in, idle_in, is_given_invalid_site, option_text, site_in, sites_in,
 };
 use clap::ArgMatches;
 use stamped_store::SiteName;
@@ -113,23 +113,23 @@ pub struct ExplainOptions<'a> {
 /// A command, with each required option as a field.
 #[derive(Clone, Copy)]
 pub enum Line<'a> {
-    /// Validate each policy of a file under a schema.
+    /// Validates each policy of a file under a schema.
     Check(CheckOptions<'a>),
-    /// Decide one request.
+    /// Decides one request.
     Decide(DecideOptions<'a>),
-    /// Put files into a site and print its state.
+    /// Puts files into a site and prints its state.
     Load(LoadOptions<'a>),
-    /// Serve a site at an address.
+    /// Serves a site at an address.
     Serve(ServeOptions<'a>),
-    /// Fetch the entries that a state lacks from the site at an address, and write the new state.
+    /// Fetches the entries that a state lacks from the site at an address, and writes the new state.
     Pull(PullOptions<'a>),
-    /// Bring two sites up to date.
+    /// Brings two sites up to date with each other.
     Exchange(ExchangeOptions<'a>),
-    /// Merge two states.
+    /// Merges two states.
     Merge(MergeOptions<'a>),
-    /// Execute a script.
+    /// Executes a script.
     Drill(DrillOptions<'a>),
-    /// Explain a code, or what is rejected in files.
+    /// Explains a code, or what is rejected in files.
     Explain(ExplainOptions<'a>),
 }
 
@@ -400,20 +400,20 @@ fn line_in<'a>(matches: &ArgMatches<'a>) -> Option<Line<'a>>
 }
 
 /// Returns whether clap found a command with an invalid site name.
-fn is_of_no_site(matches: &ArgMatches<'_>) -> bool
-    ensures { IsTrue result ↔ IsOfNoSite (subcommand_rows_of matches.now) }
+fn has_invalid_site(matches: &ArgMatches<'_>) -> bool
+    ensures { IsTrue result ↔ HasInvalidSite (subcommand_rows_of matches.now) }
 {
     match met(matches) {
-        Some((_name, options)) => has_no_site(options),
+        Some((_name, options)) => is_given_invalid_site(options),
         None => false,
     }
 }
 
 /// Returns why the command that clap found is incomplete.
-fn lack_of(matches: &ArgMatches<'_>) -> LineFault
-    ensures { IsLackOf (subcommand_rows_of matches.now) result }
+fn why_incomplete(matches: &ArgMatches<'_>) -> LineFault
+    ensures { IsWhyIncomplete (subcommand_rows_of matches.now) result }
 {
-    if is_of_no_site(matches) {
+    if has_invalid_site(matches) {
         LineFault::Site
     } else {
         LineFault::Incomplete
@@ -427,9 +427,12 @@ fn lack_of(matches: &ArgMatches<'_>) -> LineFault
 ///
 /// # Errors
 ///
-/// Why the arguments are not a command. An invalid site name is reported only if nothing else is wrong.
+/// - [`LineFault::Help`]: help, or the version, is requested.
+/// - [`LineFault::Words`]: clap rejects the arguments.
+/// - [`LineFault::Site`]: the value of `--site` is not a site name, and nothing else is wrong.
+/// - [`LineFault::NoMemory`]: an allocation failed, at any point.
 pub fn line_of<'a>(alloc: Global, words: &'a [String]) -> Result<Line<'a>, LineFault>
-    ensures ok { IfOk result (Says (map string_bytes words.entry.now)) }
+    ensures ok { IfOk result (IsCommandOf (map string_bytes words.entry.now)) }
     ensures sites { IfOk result HasSites }
     ensures taken { OnOk result (fault_of site_app (map string_bytes words.entry.now) ≡ []) }
     ensures err { IfErr result (IsFaultOf (map string_bytes words.entry.now)) }
@@ -440,6 +443,6 @@ pub fn line_of<'a>(alloc: Global, words: &'a [String]) -> Result<Line<'a>, LineF
     };
     match line_in(&matches) {
         Some(line) => Ok(line),
-        None => Err(lack_of(&matches)),
+        None => Err(why_incomplete(&matches)),
     }
 }

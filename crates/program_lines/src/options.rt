@@ -1,9 +1,10 @@
 //! The values of options.
 ghost use Rattle.std.specs.Prelude.{◌≡◌, ◌↔◌, IsTrue, Some, None, MatchOption, option_map, codes};
 ghost use Rattle.clap.specs.Words.{first_of, found_of, rows_of};
-ghost use Rattle.program_lines.specs.Lines.{IsNumberIn, IsGivenNumber, MayBeGivenNumber, IsGivenSite, IsGivenNoSite};
+ghost use Rattle.program_lines.specs.Lines.{IsNumberIn, IsGivenNumber, MayBeGivenNumber, IsGivenSite};
+ghost use Rattle.program_lines.specs.Lines.{IsGivenInvalidSite};
 ghost use Rattle.program_lines.specs.Lines.{IsFlag};
-ghost use Rattle.program_lines.specs.inner.Lacking.{IsNone};
+ghost use Rattle.program_lines.specs.inner.NoSuchValue.{IsNone};
 
 use crate::app::{MOST_CONNECTIONS, MOST_IDLE, MOST_SITES};
 use clap::ArgMatches;
@@ -26,7 +27,7 @@ pub(crate) fn flag_in(options: &ArgMatches<'_>, name: &str) -> bool
     text == "true"
 }
 
-/// Returns the number of a text, decimal digits perhaps after a plus, if it is within bounds.
+/// Returns the number that a text is in decimal digits, perhaps after a plus, if it is within bounds.
 fn number_in(text: &str, least: u64, most: u64) -> Option<u64>
     ensures { MatchOption result (IsNone (IsNumberIn least most text.now)) (IsNumberIn least most text.now) }
 {
@@ -48,8 +49,8 @@ pub(crate) fn site_in(options: &ArgMatches<'_>) -> Option<SiteName>
 }
 
 /// Returns whether the site's option has an invalid site name.
-pub(crate) fn has_no_site(options: &ArgMatches<'_>) -> bool
-    ensures { IsTrue result ↔ IsGivenNoSite (rows_of (found_of options.now)) }
+pub(crate) fn is_given_invalid_site(options: &ArgMatches<'_>) -> bool
+    ensures { IsTrue result ↔ IsGivenInvalidSite (rows_of (found_of options.now)) }
 {
     let Some(text) = option_text(options, "site") else {
         return false;
@@ -57,7 +58,7 @@ pub(crate) fn has_no_site(options: &ArgMatches<'_>) -> bool
     !is_site_name(text)
 }
 
-/// Returns the number of connections, if given; `None` if the value is not such a number.
+/// Returns the number of connections, if given; `None` if the value is not a number within the bounds.
 pub(crate) fn connections_in(options: &ArgMatches<'_>) -> Option<Option<u32>>
     ensures { MatchOption result
         (IsNone (MayBeGivenNumber (rows_of (found_of options.now)) (codes "connections") 0 4294967295))
@@ -72,7 +73,7 @@ pub(crate) fn connections_in(options: &ArgMatches<'_>) -> Option<Option<u32>>
     }
 }
 
-/// Returns the seconds that a connection may be idle, if given; `None` if the value is not such a number.
+/// Returns the seconds that a connection may be idle, if given; `None` if the value is not a number within the bounds.
 pub(crate) fn idle_in(options: &ArgMatches<'_>) -> Option<Option<u32>>
     ensures { MatchOption result
         (IsNone (MayBeGivenNumber (rows_of (found_of options.now)) (codes "idle") 1 86400))
@@ -87,7 +88,7 @@ pub(crate) fn idle_in(options: &ArgMatches<'_>) -> Option<Option<u32>>
     }
 }
 
-/// Returns the number of sites; `None` if the value is not such a number.
+/// Returns the number of sites; `None` if the value is absent or not a number within the bounds.
 pub(crate) fn sites_in(options: &ArgMatches<'_>) -> Option<u16>
     ensures { MatchOption result
         (IsNone (IsGivenNumber (rows_of (found_of options.now)) (codes "sites") 1 64))

@@ -1,4 +1,4 @@
--- Defines what the service of this test program answers.
+-- Defines the answers of the service with which this program tests streams: a `Counter`.
 use Rattle.std.specs.Prelude.{◌≡◌, ℕ, ◌+◌, ◌-◌, ◌^◌, ◌⊎◌, min, List, [], ◌∷◌}
 use Rattle.rows.specs.declared.streams.Counter.{Counter}
 use Rattle.http.specs.declared.status.StatusCode.{StatusCode}
@@ -16,6 +16,7 @@ counts old method target body status reply new =
     × (((status ≡ 503) × (new.refused ≡ min (old.refused + 1) (2 ^ 64 - 1)))
     ⊎ ((status ≡ 200) × (reply ≡ said target body) × (new.refused ≡ old.refused)))
 
--- `asked_alike one other` holds if both counted equally many requests. Replies do not depend on the number of 503s.
+-- `asked_alike one other` holds if both counted equally many requests. They may differ in the number of 503s: no reply
+-- depends on that.
 abbrev pub asked_alike : Counter → Counter → Type 0
 asked_alike one other = one.requests ≡ other.requests

@@ -6,6 +6,7 @@ use explanation_texts::{place_of, push_excerpt};
 use plain::NoMemory;
 use std::alloc::Global;
 
+/// Appends a character, a line feed or a tab as its escape.
 fn push_shown(told: &mut Line, letter: char) {
     match letter {
         '\n' => told.push("\\n"),
@@ -23,7 +24,8 @@ fn in_one_line(alloc: Global, lines: &str) -> Result<String, NoMemory> {
     told.ended()
 }
 
-/// Returns the excerpt of a text that shows the part after its first `from` and before its last `behind` bytes.
+/// Returns the excerpt of a text that shows the part after its first `from` and before its last `behind` bytes. The
+/// name of its file has a control character (U+009B).
 fn excerpt(alloc: Global, text: &str, from: usize, behind: usize) -> Result<String, NoMemory> {
     let start = place_of(text, from);
     let end = place_of(text, text.len().saturating_sub(behind));

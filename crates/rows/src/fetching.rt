@@ -45,6 +45,7 @@ fn run(alloc: Global, bytes: &[u8], way: Way<'_>) -> Fetched {
     Fetched { status, body, left }
 }
 
+/// Returns the word of a row for an error.
 fn fault_word(fault: FetchFault) -> &'static str {
     match fault {
         FetchFault::BadReply => "bad reply",
@@ -54,6 +55,7 @@ fn fault_word(fault: FetchFault) -> &'static str {
     }
 }
 
+/// Returns a status and a body as a row shows them.
 fn status_and_body(alloc: Global, status: u16, body: &[u8]) -> Result<String, NoMemory> {
     let body = shown(alloc, body)?;
     format!(in alloc; "{status} {body}")
@@ -67,17 +69,19 @@ fn told(alloc: Global, fetched: &Fetched) -> Result<String, NoMemory> {
     }
 }
 
+/// Returns the outcome for the bytes, split in this way.
 fn told_in(alloc: Global, bytes: &[u8], way: Way<'_>) -> Result<String, NoMemory> {
     let fetched = run(alloc, bytes, way);
     told(alloc, &fetched)
 }
 
+/// Returns whether the outcome for the bytes, split in this way, is `said`.
 fn is_told_in(alloc: Global, bytes: &[u8], said: &str, way: Way<'_>) -> Result<bool, NoMemory> {
     let found = told_in(alloc, bytes, way)?;
     Ok(found.as_str() == said)
 }
 
-/// Returns whether the outcome is this one however the reply is split in two.
+/// Returns whether the outcome is `said`, however the reply is split in two.
 fn is_told(alloc: Global, bytes: &[u8], said: &str) -> Result<bool, NoMemory> {
     for at in 0..bytes.len() {
         let reads = [at, usize::MAX];
@@ -88,12 +92,13 @@ fn is_told(alloc: Global, bytes: &[u8], said: &str) -> Result<bool, NoMemory> {
     Ok(true)
 }
 
-/// Returns the number of unread bytes of a reply in pieces.
+/// Returns the number of unread bytes of a reply that is read in pieces of 7 bytes.
 fn left(alloc: Global, bytes: &[u8]) -> usize {
     let fetched = run(alloc, bytes, SEVENS);
     fetched.left
 }
 
+/// Returns the outcome `said` with the number of unread bytes, if it is the same however the reply is split in two.
 fn told_and_left(alloc: Global, bytes: &[u8], said: &str) -> Result<String, NoMemory> {
     if !is_told(alloc, bytes, said)? {
         return String::from_str(alloc, "differs");
@@ -102,7 +107,8 @@ fn told_and_left(alloc: Global, bytes: &[u8], said: &str) -> Result<String, NoMe
     format!(in alloc; "{said}, {left} left")
 }
 
-/// Returns the fetched reply, if it is the same however it is split in two, and its number of unread bytes in pieces.
+/// Returns the outcome for a reply, if it is the same however the reply is split, and the number of unread bytes in
+/// pieces.
 fn fetched_all(alloc: Global, bytes: &[u8]) -> Result<String, NoMemory> {
     let said = told_in(alloc, bytes, SLOW)?;
     told_and_left(alloc, bytes, said.as_str())
@@ -118,7 +124,7 @@ fn far(alloc: Global, bytes: &[u8]) -> Result<String, NoMemory> {
 }
 
 /// Returns the outcome of a row.
-pub(crate) fn came_to(alloc: Global, word: &str, bytes: &[u8]) -> Result<String, NoMemory> {
+pub(crate) fn row_outcome(alloc: Global, word: &str, bytes: &[u8]) -> Result<String, NoMemory> {
     match word {
         "fetch" => fetched_all(alloc, bytes),
         _ => far(alloc, bytes),

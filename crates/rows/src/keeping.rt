@@ -1,7 +1,7 @@
 //! Generic functions that drop values, so that a drop is one step of a proof.
 use plain::NoMemory;
 
-/// Returns a value that is whole.
+/// Returns a value, or `NoMemory` if it is not whole.
 pub(crate) fn whole<T: Drop>(value: T, is_whole: bool) -> Result<T, NoMemory> {
     if is_whole { Ok(value) } else { Err(NoMemory) }
 }

@@ -24,8 +24,7 @@
 //! Fetched replies (`fetching`):
 //!
 //! - `fetch`: the outcome of fetching the text as the reply, however it is split, and the number of unread bytes if
-//!   it is read in pieces of 7 bytes.
-//! - `far`: the outcome for a reply that is not split, by its size; `refused` if out of memory.
+//! - `far`: the outcome for a reply that is not split: its status and the size of its body; `refused` if out of memory.
 //!
 //! In a text `\r`, `\n`, `\t` and `\\` have their usual meaning, `\v` is the byte 11, `\p` 12 and `\f` 255, `\d`
 //! is U+202E, `\k` 1,024 letters and `\h` a field.
@@ -47,13 +46,13 @@ use std::alloc::Global;
 use std::io;
 
 /// Returns the outcome of a row.
-fn came_to(alloc: Global, word: &str, text: &str) -> Result<String, NoMemory> {
+fn row_outcome(alloc: Global, word: &str, text: &str) -> Result<String, NoMemory> {
     let bytes = unescaped(alloc, text)?;
     match word {
-        "tokens" | "name" | "json" | "place" | "excerpt" => texts::came_to(alloc, word, &bytes),
-        "span" | "named" => spans::came_to(alloc, word, &bytes),
-        "serve" | "whole" | "slow" | "reply" => streams::came_to(alloc, word, &bytes),
-        "fetch" | "far" => fetching::came_to(alloc, word, &bytes),
+        "tokens" | "name" | "json" | "place" | "excerpt" => texts::row_outcome(alloc, word, &bytes),
+        "span" | "named" => spans::row_outcome(alloc, word, &bytes),
+        "serve" | "whole" | "slow" | "reply" => streams::row_outcome(alloc, word, &bytes),
+        "fetch" | "far" => fetching::row_outcome(alloc, word, &bytes),
         _ => bad_row(alloc),
     }
 }
@@ -64,15 +63,17 @@ fn told(alloc: Global, line: &str) -> Result<String, NoMemory> {
         return String::from_str(alloc, line);
     }
     let (word, text) = line.split_once(' ').unwrap_or((line, ""));
-    let came_to = came_to(alloc, word, text)?;
-    format!(in alloc; "{line}  ->  {came_to}")
+    let outcome = row_outcome(alloc, word, text)?;
+    format!(in alloc; "{line}  ->  {outcome}")
 }
 
+/// Prints the line for a line of input.
 fn print_line(rt: &HostRuntime, line: &str) -> io::Result<()> {
     let told = told(rt.alloc(), line)?;
     println!(rt; "{told}")
 }
 
+/// Prints the line for each line of input.
 fn print_lines(rt: &HostRuntime, text: &str) -> io::Result<()> {
     for line in text.lines() {
         print_line(rt, line)?;

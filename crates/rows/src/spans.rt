@@ -15,6 +15,7 @@ fn path_of(alloc: Global, digits: &str) -> Result<Vec<usize>, NoMemory> {
     Ok(path)
 }
 
+/// Returns the span of the node at a path, or for the word `named` of its name.
 fn span_by(
     alloc: Global,
     word: &str,
@@ -27,6 +28,7 @@ fn span_by(
     span_of(alloc, text, path)
 }
 
+/// Returns the text of a span, or a word otherwise.
 fn told(alloc: Global, text: &str, span: Option<Span>) -> Result<String, NoMemory> {
     match span {
         Some(at) => match text.as_bytes().get(at.start..at.end) {
@@ -46,7 +48,7 @@ fn spanned(alloc: Global, word: &str, row: &str) -> Result<String, NoMemory> {
 }
 
 /// Returns the outcome of a row.
-pub(crate) fn came_to(alloc: Global, word: &str, bytes: &[u8]) -> Result<String, NoMemory> {
+pub(crate) fn row_outcome(alloc: Global, word: &str, bytes: &[u8]) -> Result<String, NoMemory> {
     match std::str::from_utf8(bytes) {
         Ok(text) => spanned(alloc, word, text),
         Err(_) => String::from_str(alloc, "no UTF-8"),

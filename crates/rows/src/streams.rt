@@ -132,8 +132,8 @@ fn is_one_answer(alloc: Global, bytes: &[u8], whole: &Outcome) -> Result<bool, N
     is_same(alloc, bytes, whole, SLOW)
 }
 
-/// Returns how many requests of a part are answered; `None` after an error, or if the replies are not a prefix of
-/// those to the whole.
+/// Returns the number of bytes that are sent for a part; `None` after an error, or if they are not a prefix of those
+/// for the whole.
 fn answered(alloc: Global, part: &[u8], whole: &Outcome) -> Result<Option<usize>, NoMemory> {
     let found = run(alloc, part, PLAIN)?;
     if found.fault.is_none() && found.begins(whole) {
@@ -143,11 +143,13 @@ fn answered(alloc: Global, part: &[u8], whole: &Outcome) -> Result<Option<usize>
     }
 }
 
+/// Returns a place after a blank.
 fn place_told(alloc: Global, place: usize) -> Result<String, NoMemory> {
     format!(in alloc; " {place}")
 }
 
-/// Appends the places at which bytes that end there get more replies; `false` if a place has fewer replies.
+/// Appends the places at which bytes that end there get more of a reply; returns `false` if a place gets less, or an
+/// error.
 fn push_steps(
     alloc: Global,
     bytes: &[u8],
@@ -169,7 +171,7 @@ fn push_steps(
     Ok(true)
 }
 
-/// Appends the status that the bytes begin with.
+/// Appends the status of the reply that the bytes begin with, if they begin with one.
 fn push_status(told: &mut Line, rest: &[u8]) {
     if rest.starts_with(b"HTTP/1.1 ".as_slice()) && rest.len() > 12 {
         if !told.is_empty() {
@@ -181,6 +183,7 @@ fn push_status(told: &mut Line, rest: &[u8]) {
     }
 }
 
+/// Appends the status of each reply, and `!` after one that ends the stream.
 fn push_statuses(told: &mut Line, out: &[u8]) {
     for at in 0..out.len() {
         let rest = &out[at..];
@@ -198,11 +201,13 @@ fn statuses(alloc: Global, out: &[u8]) -> Result<String, NoMemory> {
     told.ended()
 }
 
+/// Returns the number of calls of the service, as a row shows it.
 fn asked_told(alloc: Global, asked: u64) -> Result<String, NoMemory> {
     format!(in alloc; " ({asked}) at")
 }
 
-/// Returns the statuses, the number of calls of the service, and the places; `false` if a place has fewer replies.
+/// Appends the statuses, the number of calls of the service, and the places; returns `false` if a place gets less, or
+/// an error.
 fn push_served(
     alloc: Global,
     bytes: &[u8],
@@ -214,6 +219,7 @@ fn push_served(
     push_steps(alloc, bytes, whole, told)
 }
 
+/// Returns the statuses, the number of calls, and the places; `differs` if a place gets less, or an error.
 fn told_of_steps(alloc: Global, bytes: &[u8], whole: &Outcome) -> Result<String, NoMemory> {
     let mut told = Line::new(alloc);
     if push_served(alloc, bytes, whole, &mut told)? {
@@ -222,6 +228,7 @@ fn told_of_steps(alloc: Global, bytes: &[u8], whole: &Outcome) -> Result<String,
     String::from_str(alloc, "differs")
 }
 
+/// Returns the outcome of a case `serve`; `differs` if it depends on how the stream is split.
 fn served(alloc: Global, bytes: &[u8], whole: &Outcome) -> Result<String, NoMemory> {
     if is_one_answer(alloc, bytes, whole)? {
         return told_of_steps(alloc, bytes, whole);
@@ -247,7 +254,7 @@ fn told(alloc: Global, word: &str, bytes: &[u8], found: &Outcome) -> Result<Stri
 }
 
 /// Returns the outcome of a row.
-pub(crate) fn came_to(alloc: Global, word: &str, bytes: &[u8]) -> Result<String, NoMemory> {
+pub(crate) fn row_outcome(alloc: Global, word: &str, bytes: &[u8]) -> Result<String, NoMemory> {
     let found = run(alloc, bytes, way_of(word))?;
     told(alloc, word, bytes, &found)
 }

@@ -10,11 +10,13 @@ use serde_json::Value;
 use std::alloc::Global;
 use values::TypeName;
 
+/// Returns the kind and the place of a token, after a blank.
 fn token_told(alloc: Global, token: Token) -> Result<String, NoMemory> {
     let (kind, start) = (token.kind, token.start);
     format!(in alloc; " {kind:?} {start}")
 }
 
+/// Returns the number of tokens, and a colon.
 fn count_told(alloc: Global, count: usize) -> Result<String, NoMemory> {
     format!(in alloc; "{count}:")
 }
@@ -29,6 +31,7 @@ fn listed(alloc: Global, found: &[Token]) -> Result<String, NoMemory> {
     told.ended()
 }
 
+/// Returns the tokens of a text, or the place at which no token begins.
 fn lexed(alloc: Global, text: &str) -> Result<String, NoMemory> {
     match tokens(alloc, text) {
         Ok(found) => listed(alloc, &found),
@@ -37,11 +40,13 @@ fn lexed(alloc: Global, text: &str) -> Result<String, NoMemory> {
     }
 }
 
+/// Returns a JSON value as compact text.
 fn compact_text(alloc: Global, value: &Value) -> Result<String, NoMemory> {
     let bytes = write_json(alloc, value)?;
     text_of(alloc, &bytes)
 }
 
+/// Returns the canonical form of a path.
 fn name(alloc: Global, text: &str) -> Result<String, NoMemory> {
     match TypeName::parse(alloc, text)? {
         Some(name) => {
@@ -75,7 +80,7 @@ fn of_text(alloc: Global, word: &str, text: &str) -> Result<String, NoMemory> {
 }
 
 /// Returns the outcome of a row.
-pub(crate) fn came_to(alloc: Global, word: &str, bytes: &[u8]) -> Result<String, NoMemory> {
+pub(crate) fn row_outcome(alloc: Global, word: &str, bytes: &[u8]) -> Result<String, NoMemory> {
     if word == "json" {
         return json(alloc, bytes);
     }

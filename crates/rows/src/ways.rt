@@ -1,4 +1,4 @@
-//! Devices over memory, by how a stream is split.
+//! How a stream is split, and the devices over memory that split it so.
 use http_streams::memory::{Fed, Kept, Plan};
 use std::alloc::Global;
 
@@ -9,33 +9,35 @@ pub(crate) struct Way<'a> {
     pub(crate) writes: &'a [usize],
 }
 
-/// All at once.
+/// The stream is read and written at once.
 pub(crate) const PLAIN: Way<'static> = Way {
     reads: &[],
     writes: &[],
 };
 
-/// Read byte by byte, and written in pieces of 3 bytes.
+/// The stream is read byte by byte, and written in pieces of 3 bytes.
 pub(crate) const SLOW: Way<'static> = Way {
     reads: &[1],
     writes: &[3],
 };
 
-/// Read in pieces of 7 bytes.
+/// The stream is read in pieces of 7 bytes.
 pub(crate) const SEVENS: Way<'static> = Way {
     reads: &[7],
     writes: &[],
 };
 
-/// Read in these pieces.
+/// Returns the way in which the stream is read in these pieces.
 pub(crate) fn by_reads(reads: &[usize]) -> Way<'_> {
     Way { reads, writes: &[] }
 }
 
+/// Returns a reader of the bytes, split in this way.
 pub(crate) fn reader_of<'a>(way: Way<'a>, bytes: &'a [u8]) -> Fed<'a> {
     Fed::new(bytes, Plan::new(way.reads, None))
 }
 
+/// Returns a writer, split in this way.
 pub(crate) fn writer_of<'a>(way: Way<'a>, alloc: Global) -> Kept<'a> {
     Kept::new(alloc, Plan::new(way.writes, None))
 }

@@ -1,14 +1,16 @@
-//! Texts as a row writes them, and bytes as a line shows them.
+//! The bytes that a row denotes, and bytes as a line shows them.
 use crate::pieces::{Bytes, Line};
 use plain::NoMemory;
 use std::alloc::Global;
 
+/// Appends 1,024 letters.
 fn push_letters(bytes: &mut Bytes) {
     for _ in 0..32 {
         bytes.push(b"abcdefghijklmnopqrstuvwxyzabcdef");
     }
 }
 
+/// Appends the bytes that a letter after a backslash denotes.
 fn push_escape(bytes: &mut Bytes, letter: u8) {
     match letter {
         b'r' => bytes.push(b"\r"),
@@ -47,6 +49,7 @@ pub(crate) fn unescaped(alloc: Global, written: &str) -> Result<Vec<u8>, NoMemor
     bytes.ended()
 }
 
+/// Appends a byte, a carriage return or a line feed as its escape.
 fn push_shown(told: &mut Line, byte: u8) {
     match byte {
         b'\r' => told.push("\\r"),
@@ -55,7 +58,7 @@ fn push_shown(told: &mut Line, byte: u8) {
     }
 }
 
-/// Bytes of a stream as a line of text.
+/// Returns bytes of a stream as a line of text.
 pub(crate) fn shown(alloc: Global, bytes: &[u8]) -> Result<String, NoMemory> {
     let mut told = Line::new(alloc);
     for byte in bytes {

@@ -5,8 +5,8 @@ use Rattle.std.specs.Prelude.{Contains, IsTrue, IsSome, ◌↔◌, ◌&&◌, fil
 use Rattle.values.specs.declared.entity_uid.EntityUid.{EntityUid}
 use Rattle.ancestor_search.specs.Deciding.{Contains-here, Contains-there, Contains-cases, Contains-none}
 use Rattle.schema.specs.SchemaEntries.{SchemaEntries}
-use Rattle.schema.specs.Schemas.{IsActionAbove}
-use Rattle.schema.specs.Views.{schema_view, parents_at, is_action_above, above_in}
+use Rattle.schema.specs.Schemas.{ActionHasAncestor}
+use Rattle.schema.specs.Views.{schema_view, parents_at, action_has_ancestor, above_in}
 
 -- ---- those that pass a test
 
@@ -58,26 +58,26 @@ mapped_from y z None e = absurd cc
 
 module _ (k : SchemaEntries) (listed : (w : EntityUid) → Contains k.actions w ↔ IsSome (parents_at k.member_of w)) (u above : EntityUid) where
   abbrev test : EntityUid → Bool
-  test w = is_action_above k.action_numbers k.actions_above u w
+  test w = action_has_ancestor k.action_numbers k.action_ancestor_spans u w
 
   abbrev those : List EntityUid
-  those = above_in k.actions k.action_numbers k.actions_above u
+  those = above_in k.actions k.action_numbers k.action_ancestor_spans u
 
   abbrev are_both : Bool
   are_both = is_some (parents_at k.member_of u) && is_some (parents_at k.member_of above)
 
-  above_from : IsActionAbove (schema_view k) u above → (is_some (parents_at k.member_of u) ≡ true) × (is_some (parents_at k.member_of above) ≡ true) × (test above ≡ true)
+  above_from : ActionHasAncestor (schema_view k) u above → (is_some (parents_at k.member_of u) ≡ true) × (is_some (parents_at k.member_of above) ≡ true) × (test above ≡ true)
   above_from (us, e, c) =
       let at = mapped_from those us (parents_at k.member_of u) e in
       let found = passes test k.actions above (subst (λ (xs : List EntityUid). Contains xs above) (sym at.1) c) in
       (at.0, (listed above).0 found.0, found.1)
 
-  pub told_by_numbers : are_both ≡ true → IsTrue (test above) ↔ IsActionAbove (schema_view k) u above
+  pub told_by_numbers : are_both ≡ true → IsTrue (test above) ↔ ActionHasAncestor (schema_view k) u above
   told_by_numbers h =
       let parts = both _ _ h in (
         (λ yes. (those, mapped those (parents_at k.member_of u) parts.0, stays test k.actions above ((listed above).1 parts.1) yes)),
         (λ is. (above_from is).2),
       )
 
-  pub none_above : are_both ≡ false → IsTrue false ↔ IsActionAbove (schema_view k) u above
+  pub none_above : are_both ≡ false → IsTrue false ↔ ActionHasAncestor (schema_view k) u above
   none_above h = ((λ no. absurd cc), (λ is. let x = above_from is in not_both _ _ h x.0 x.1))

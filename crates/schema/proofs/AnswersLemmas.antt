@@ -8,7 +8,7 @@ use Rattle.std.proofs.lemmas.List.Kept.{IsStrictlySortedBy-filter}
 use Rattle.std.proofs.lemmas.Map.Views.{btree_map_contains_key_iff, btree_map_get_iff}
 use Rattle.values.specs.declared.entity_uid.EntityUid.{EntityUid}
 use Rattle.values.specs.Names.{uid_cmp, text_cmp, uid_cmp-IsTotalOrder, uid_cmp-IsAntisymmetric}
-use Rattle.ancestor_search.specs.Hierarchy.{IsAncestor, IsAscending, IsAllAbove}
+use Rattle.ancestor_search.specs.Hierarchy.{IsAncestor, IsAscending, AreAllAncestorsOf}
 use Rattle.schema_types.specs.Cedar.{Cedar}
 use Rattle.schema_types.specs.CedarViews.{cedar_view}
 use Rattle.schema_types.specs.declared.cedar.CedarType.{CedarType}
@@ -20,13 +20,13 @@ use Rattle.schema.specs.declared.reading.Types.{Types}
 use Rattle.schema.specs.declared.reading.Hierarchies.{Hierarchies}
 use Rattle.sha2.specs.Sha256.{sha256}
 use Rattle.hex.specs.Hex.{encode_lower}
-use Rattle.schema_names.specs.Naming.{StatesNamed}
+use Rattle.schema_names.specs.Naming.{DescribesFile}
 use Rattle.schema_names.specs.Laws.{IsEntityType, NamesItsEntityTypes}
 use Rattle.schema.specs.Schemas.{EnvironmentOf, Answers, IsSound, IsShape, IsAction, IsEnvironment, IsPlace}
 use Rattle.schema.specs.Schemas.{IsRecordOf, action_parents, type_parents, type_uid, place_cmp}
 use Rattle.schema.specs.SchemaEntries.{kept}
 use Rattle.schema.specs.Places.{environment_of}
-use Rattle.schema.specs.LookUps.{is_numbered_at, stands_below, is_ancestor, stands_below_action, is_action_above}
+use Rattle.schema.specs.LookUps.{is_numbered_at, is_ancestor_at, is_ancestor, is_action_ancestor_at, action_has_ancestor}
 use Rattle.schema.specs.Views.{environment_view, schema_view, above_in}
 use Rattle.schema.specs.declared.type_numbers.TypeNumbers.{TypeNumbers}
 use Rattle.schema.specs.inner.ByNaming.{IsParsedAs}
@@ -115,7 +115,7 @@ module _ (s : ResolvedSchema) (called : AreNamed s) (h : Hierarchies) (are : Are
   below_at u w i e (Some j) f = are.above u w i j e f
 
   above_told : (u w : EntityUid) → IsAction s u → (o : Option ℕ) → at u ≡ o
-      → IsTrue (stands_below_action h.above.numbers.entries h.above.spans o w) ↔ IsAncestor (action_parents s) w u
+      → IsTrue (is_action_ancestor_at h.above.numbers.entries h.above.spans o w) ↔ IsAncestor (action_parents s) w u
   above_told u w a None e = ((λ t. cc), (λ above. action_numbered u e a))
   above_told u w a (Some i) e = below_at u w i e (at w) refl
 
@@ -123,21 +123,21 @@ module _ (s : ResolvedSchema) (called : AreNamed s) (h : Hierarchies) (are : Are
   those_above u = above_in h.actions h.above.numbers.entries h.above.spans u
 
   those_ascend : (u : EntityUid) → IsAscending (those_above u)
-  those_ascend u = IsStrictlySortedBy-filter uid_cmp (λ w. is_action_above h.above.numbers.entries h.above.spans u w) h.actions
+  those_ascend u = IsStrictlySortedBy-filter uid_cmp (λ w. action_has_ancestor h.above.numbers.entries h.above.spans u w) h.actions
       (subst (λ (us : List EntityUid). IsAscending us) (sym are.actions) are.ascending)
 
-  all_those : (u : EntityUid) → IsAction s u → IsAllAbove (action_parents s) u (those_above u)
+  all_those : (u : EntityUid) → IsAction s u → AreAllAncestorsOf (action_parents s) u (those_above u)
   all_those u a w =
       let told = above_told u w a (at u) refl in
-      let test = λ (x : EntityUid). is_action_above h.above.numbers.entries h.above.spans u x in
+      let test = λ (x : EntityUid). action_has_ancestor h.above.numbers.entries h.above.spans u x in
       ((λ c. told.0 (passes test h.actions w c).1), (λ above. stays test h.actions w (action_listed w (above_is_action u w above)) (told.1 above)))
 
   pub ancestors_found : (u : EntityUid) (us : List EntityUid) → option_map (λ parents. those_above u) (get uid_cmp h.members u) ≡ Some us
-      → IsAction s u × IsAscending us × IsAllAbove (action_parents s) u us
+      → IsAction s u × IsAscending us × AreAllAncestorsOf (action_parents s) u us
   ancestors_found u us e =
       let x = from_map (λ (parents : List EntityUid). those_above u) (get uid_cmp h.members u) us e in
       let a = (members_found s h.members are.members u x.0 x.1).0 in
-      (a, subst (λ (xs : List EntityUid). IsAscending xs) x.2 (those_ascend u), subst (λ (xs : List EntityUid). IsAllAbove (action_parents s) u xs) x.2 (all_those u a))
+      (a, subst (λ (xs : List EntityUid). IsAscending xs) x.2 (those_ascend u), subst (λ (xs : List EntityUid). AreAllAncestorsOf (action_parents s) u xs) x.2 (all_those u a))
 
   pub ancestors_there : (u : EntityUid) → IsAction s u → IsSome (option_map (λ parents. those_above u) (get uid_cmp h.members u))
   ancestors_there u a = map_some (λ (parents : List EntityUid). those_above u) (get uid_cmp h.members u) (members_there s h.members are.members u a)
@@ -158,7 +158,7 @@ module _ (s : ResolvedSchema) (own : NamesItsEntityTypes s) (t : TypeNumbers) (a
   parent_at child parent i e (Some j) f = are.exact child parent i j e f
 
   child_at : (child parent : List ℕ) (o : Option ℕ) → get text_cmp t.numbers child ≡ o
-      → IsTrue (stands_below t.numbers.entries t.spans o parent) ↔ IsBelow child parent
+      → IsTrue (is_ancestor_at t.numbers.entries t.spans o parent) ↔ IsBelow child parent
   child_at child parent None e = ((λ h. cc), (λ h. numbered child e (below_declared s child parent h)))
   child_at child parent (Some i) e = parent_at child parent i e (get text_cmp t.numbers parent) refl
 
@@ -216,7 +216,7 @@ made_answers s own called label t h types hierarchies = record {
 }
 
 -- what was made is the schema that the bytes state
-pub made_schema : (bytes : List ℕ) (s : ResolvedSchema) → StatesNamed bytes s → NamesItsEntityTypes s → IsSound s → (label : List ℕ) → label ≡ encode_lower (sha256 bytes) → (t : Types) (h : Hierarchies)
+pub made_schema : (bytes : List ℕ) (s : ResolvedSchema) → DescribesFile bytes s → NamesItsEntityTypes s → IsSound s → (label : List ℕ) → label ≡ encode_lower (sha256 bytes) → (t : Types) (h : Hierarchies)
     → AreTypesOf s.commons s t → AreHierarchiesOf s h → IsParsedAs bytes (schema_view (kept label t.environments h.actions t.shapes h.members h.above.numbers h.above.spans h.types.numbers h.types.spans))
 made_schema bytes s states own sound label is t h types hierarchies = record {
   named = s;

@@ -13,16 +13,16 @@ use Rattle.hex.specs.Hex.{encode_lower}
 use Rattle.values.specs.declared.entity_uid.EntityUid.{EntityUid}
 use Rattle.values.specs.Names.{text_cmp, text_cmp-IsTotalOrder, text_cmp-IsAntisymmetric, uid_cmp, uid_cmp-IsTotalOrder}
 use Rattle.values.specs.Names.{uid_cmp-IsAntisymmetric}
-use Rattle.ancestor_search.specs.Hierarchy.{IsAllAbove, IsAscending}
+use Rattle.ancestor_search.specs.Hierarchy.{AreAllAncestorsOf, IsAscending}
 use Rattle.ancestor_search.specs.Decided.{PathsAreDecided, is_same, reaches}
 use Rattle.ancestor_search.specs.Deciding.{Contains-here, Contains-there, Contains-cases, Contains-none}
 use Rattle.ancestor_search.specs.Deciding.{any_from, any_at, same_uid, same_self}
 use Rattle.schema_types.specs.Qualified.{Qualified}
 use Rattle.schema_types.specs.Cedar.{Cedar, record_of, no_fields}
-use Rattle.schema_types.specs.Law.{TypesStandForOneOrSomeForNone}
+use Rattle.schema_types.specs.Law.{TypesExpandOrSomeCommonDoesNot}
 use Rattle.schema_types.specs.declared.fault.SchemaFault.{SchemaFault}
 use Rattle.schema_names.specs.Qualifying.{ResolvedEntityType, ResolvedUse, ResolvedAction, ResolvedSchema}
-use Rattle.schema_names.specs.Naming.{StatesNamed}
+use Rattle.schema_names.specs.Naming.{DescribesFile}
 use Rattle.schema_names.specs.Laws as names
 use Rattle.schema.specs.declared.parts.Place.{Place}
 use Rattle.schema.specs.Schemas as schemas
@@ -227,10 +227,10 @@ module _ (s : ResolvedSchema) (sound : IsSound s) where
     list_same : (xs ys : List EntityUid) → Some xs ≡ Some ys → xs ≡ ys
     list_same xs ys e = cc
 
-    ancestors_found : (u : EntityUid) (us : List EntityUid) (b : Bool) → is_action u ≡ b → cond b (Some (above_list s.actions u)) None ≡ Some us → IsAction s u × IsAscending us × IsAllAbove (action_parents s) u us
+    ancestors_found : (u : EntityUid) (us : List EntityUid) (b : Bool) → is_action u ≡ b → cond b (Some (above_list s.actions u)) None ≡ Some us → IsAction s u × IsAscending us × AreAllAncestorsOf (action_parents s) u us
     ancestors_found u us true is e =
         let same = list_same (above_list s.actions u) us e in
-        (told_action u is, subst IsAscending same (above_ascends s.actions decided u), subst (λ (xs : List EntityUid). IsAllAbove (action_parents s) u xs) same (above_all s.actions decided u))
+        (told_action u is, subst IsAscending same (above_ascends s.actions decided u), subst (λ (xs : List EntityUid). AreAllAncestorsOf (action_parents s) u xs) same (above_all s.actions decided u))
     ancestors_found u us false is e = absurd cc
 
     ancestors_there : (u : EntityUid) (b : Bool) → IsTrue b → IsSome (cond b (Some (above_list s.actions u)) None)
@@ -292,14 +292,14 @@ module _ (s : ResolvedSchema) (sound : IsSound s) where
       environments_ascend = in_order_ascends place_cmp (λ e. e.place) place_cmp-IsTotalOrder place_cmp-IsAntisymmetric made_environments.0;
     }
 
-    built_schema : (bytes : List ℕ) → StatesNamed bytes s → IsParsedAs bytes (built bytes)
+    built_schema : (bytes : List ℕ) → DescribesFile bytes s → IsParsedAs bytes (built bytes)
     unfolding built
     built_schema bytes states = record { named = s; states = states; sound = sound; label = refl; answers = built_answers bytes }
 
-pub some_outcome : names.SomeOutcome → names.FilesDeclareOnce → names.FilesNameTheirOwn → TypesStandForOneOrSomeForNone → PathsAreDecided → SomeParsed
+pub some_outcome : names.SomeOutcome → names.FilesDeclareOnce → names.FilesNameTheirOwn → TypesExpandOrSomeCommonDoesNot → PathsAreDecided → SomeParsed
 some_outcome some once own ends decided bytes = by (some bytes)
   where
-    told : (s : ResolvedSchema) → StatesNamed bytes s → IsSound s ⊎ ((f : SchemaFault) × IsUnsound s f) → ParsedOrNot bytes
+    told : (s : ResolvedSchema) → DescribesFile bytes s → IsSound s ⊎ ((f : SchemaFault) × IsUnsound s f) → ParsedOrNot bytes
     told s states (inl sound) = parsed.parsed (built s sound decided bytes) (built_schema s sound decided bytes states)
     told s states (inr (f, unsound)) = parsed.not_parsed f (parsed.unsound s f states unsound)
 

@@ -19,7 +19,7 @@ use Rattle.schema_types.specs.Optional.{present, optional, required_text}
 use Rattle.schema_types.specs.TypeShape.{type_of}
 use Rattle.schema_types.specs.declared.fault.SchemaFault.TheVariants.{BadShape}
 use Rattle.schema_types.proofs.NameLemmas.{is_unnamed}
-use Rattle.schema_names.specs.schema_file.FileForm.{EntityTypeOf, UseOf, ActionOf, NamespaceOf, ident, name_of, names_of, names_in, names_at, type_in, name_in_place, is_common, common_of, entity_type_name, entity_type_of, parent_of, parents_of, parents_in, use_of, use_in, is_empty_in, action_of, namespace_name, commons_of, entity_types_of, actions_of, commons_in, entity_types_in, actions_in, namespace_of, namespaces_of, stated}
+use Rattle.schema_names.specs.schema_file.FileForm.{EntityTypeOf, UseOf, ActionOf, NamespaceOf, ident, name_of, names_of, names_in, names_at, type_in, optional_name, is_common, common_of, entity_type_name, entity_type_of, parent_of, parents_of, parents_in, use_of, use_in, is_empty_in, action_of, namespace_name, commons_of, entity_types_of, actions_of, commons_in, entity_types_in, actions_in, namespace_of, namespaces_of, stated}
 use Rattle.schema_names.specs.schema_file.declared.stated.StatedParent.{StatedParent}
 use Rattle.schema.specs.ObjectKeys.{HasOnly, HasOther, IsAbsent}
 use Rattle.schema.specs.ObjectKeys as keys
@@ -174,8 +174,8 @@ module _ (told : Told) where
   type_in_agrees : (k : List ℕ) (d : Data) → Agrees BadShape (type_in (optional k d)) (MaybeAt (StatesType false) k d) (WrongAt (IsNoType false) k d)
   type_in_agrees k d = maybe_agrees type_in (type_of false) (StatesType false) (IsNoType false) refl (λ e. refl) k d (type_agrees told.paths false)
 
-  name_in_agrees : (k : List ℕ) (d : Data) → Agrees BadShape (name_in_place (optional k d)) (MaybeAt IsName k d) (WrongAt IsNoName k d)
-  name_in_agrees k d = maybe_agrees name_in_place name_of IsName IsNoName refl (λ e. refl) k d name_agrees
+  name_in_agrees : (k : List ℕ) (d : Data) → Agrees BadShape (optional_name (optional k d)) (MaybeAt IsName k d) (WrongAt IsNoName k d)
+  name_in_agrees k d = maybe_agrees optional_name name_of IsName IsNoName refl (λ e. refl) k d name_agrees
 
   -- ---- common types
 
@@ -447,18 +447,18 @@ module _ (told : Told) where
 
   -- no attributes
   empty_at : (d : Data) → HasNoAttributes d → is_empty_in (optional (codes "attributes") d) ≡ true
-  empty_at d (says.unsaid (keys.nothing at)) = ap (λ (o : Option Data). is_empty_in (present o)) at
-  empty_at d (says.unsaid (keys.is_null at)) = ap (λ (o : Option Data). is_empty_in (present o)) at
-  empty_at d (says.none_said at) = ap (λ (o : Option Data). is_empty_in (present o)) at
+  empty_at d (says.key_absent (keys.nothing at)) = ap (λ (o : Option Data). is_empty_in (present o)) at
+  empty_at d (says.key_absent (keys.is_null at)) = ap (λ (o : Option Data). is_empty_in (present o)) at
+  empty_at d (says.key_given_empty at) = ap (λ (o : Option Data). is_empty_in (present o)) at
 
   empty_by : (d : Data) (o : Option Data) → get (codes "attributes") d ≡ o → HasNoAttributes d ⊎ (is_empty_in (present o) ≡ false)
-  empty_by d None at = inl (says.unsaid (keys.nothing at))
-  empty_by d (Some json.null) at = inl (says.unsaid (keys.is_null at))
+  empty_by d None at = inl (says.key_absent (keys.nothing at))
+  empty_by d (Some json.null) at = inl (says.key_absent (keys.is_null at))
   empty_by d (Some (json.boolean b)) at = inr refl
   empty_by d (Some (json.number n)) at = inr refl
   empty_by d (Some (json.string s)) at = inr refl
   empty_by d (Some (json.array ds)) at = inr refl
-  empty_by d (Some (json.object no_members)) at = inl (says.none_said at)
+  empty_by d (Some (json.object no_members)) at = inl (says.key_given_empty at)
   empty_by d (Some (json.object (member k e ms))) at = inr refl
 
   abbrev EmptyKnown : Data → Type 0

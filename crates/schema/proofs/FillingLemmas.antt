@@ -18,7 +18,7 @@ module _ {X K V : Type 0} (may : X → K → V → Type 0) (must : X → K → T
     sound = λ k v e. inr e;
     all = λ k m. Contains-none m.0 m.1;
     kept = λ k e. e;
-    told = λ x h. Contains-none x h;
+    also = λ x h. Contains-none x h;
   }
 
   pub adds_both : (x : X) (xs : List X) (old mid new : K → Option V)
@@ -36,9 +36,9 @@ module _ {X K V : Type 0} (may : X → K → V → Type 0) (must : X → K → T
       | inr later ↦ rest.all k (m.0, later, m.2)
     ];
     kept = λ k e. rest.kept k (one.kept k e);
-    told = λ y h. elim (Contains-cases x xs y h) [
-      | inl same ↦ subst told same one.told
-      | inr later ↦ rest.told y later
+    also = λ y h. elim (Contains-cases x xs y h) [
+      | inl same ↦ subst told same one.also
+      | inr later ↦ rest.also y later
     ];
   }
 
@@ -52,7 +52,7 @@ module _ {X K V : Type 0} (may : X → K → V → Type 0) (must : X → K → T
     ];
     all = h.all;
     kept = λ k e. absurd cc;
-    told = h.told;
+    also = h.also;
   }
 
   -- a loop over a list
@@ -99,25 +99,25 @@ module _ {K V : Type 0} {R : K → K → Ordering} (exact : IsAntisymmetric R) (
   stays k true e = refl
   stays k false e = e
 
-  pub adds_entry : (May : K → V → Type 0) (Must : K → Type 0) (Told : Type 0) → May key value → ((k : K) → Must k → key ≡ k) → Told
-      → Adds May Must Told (get R m) (get R n)
-  adds_entry May Must Told may must told = record {
+  pub adds_entry : (May : K → V → Type 0) (Must : K → Type 0) (Also : Type 0) → May key value → ((k : K) → Must k → key ≡ k) → Also
+      → Adds May Must Also (get R m) (get R n)
+  adds_entry May Must Also may must told = record {
     sound = λ k v e. found May may k v (is_eq (R key k)) refl (sym (updates.0 k) ∙ e);
     all = λ k m. subst (λ (q : K). IsSome (get R n q)) (must k m) (rw updates.1 refl);
     kept = λ k e. subst (λ (o : Option V). IsSome o) (sym (updates.0 k)) (stays k (is_eq (R key k)) e);
-    told = told;
+    also = told;
   }
 
 -- the same map change, said in other words
-pub adds_as : {K V : Type 0} (May May' : K → V → Type 0) (Must Must' : K → Type 0) (Told Told' : Type 0) (old new : K → Option V)
-    → ((k : K) (v : V) → May k v → May' k v) → ((k : K) → Must' k → Must k) → (Told → Told')
-    → Adds May Must Told old new → Adds May' Must' Told' old new
-adds_as May May' Must Must' Told Told' old new may must told h = record {
+pub adds_as : {K V : Type 0} (May May' : K → V → Type 0) (Must Must' : K → Type 0) (Also Also' : Type 0) (old new : K → Option V)
+    → ((k : K) (v : V) → May k v → May' k v) → ((k : K) → Must' k → Must k) → (Also → Also')
+    → Adds May Must Also old new → Adds May' Must' Also' old new
+adds_as May May' Must Must' Also Also' old new may must told h = record {
   sound = λ k v e. elim (h.sound k v e) [
     | inl m ↦ inl (may k v m)
     | inr before ↦ inr before
   ];
   all = λ k m. h.all k (must k m);
   kept = h.kept;
-  told = told h.told;
+  also = told h.also;
 }

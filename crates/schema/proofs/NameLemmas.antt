@@ -33,7 +33,7 @@ use Rattle.schema_names.specs.Qualifying.{action_meant, action_meant_at, parent_
 use Rattle.schema_names.specs.Qualifying.{qualified_entity_type, qualified_action, qualified_commons}
 use Rattle.schema_names.specs.Qualifying.{qualified_entity_types, qualified_actions, qualified_namespace}
 use Rattle.schema_names.specs.Qualifying.{qualified_namespaces, together, qualified}
-use Rattle.schema_names.specs.Naming.{StatesNamed}
+use Rattle.schema_names.specs.Naming.{DescribesFile}
 use Rattle.schema.specs.Schemas.{IsAction}
 use Rattle.schema.specs.WellFormed.{IsActionType}
 use Rattle.schema.proofs.HierarchyLemmas.{contains_map}
@@ -369,7 +369,7 @@ module _ (ns : List NamespaceOf) (parts : List ResolvedSchema) (all : qualified_
     entity_types = entity_type_apart words;
   }
 
-pub names_of : (bytes : List ℕ) (s : ResolvedSchema) → StatesNamed bytes s → AreNamed s
+pub names_of : (bytes : List ℕ) (s : ResolvedSchema) → DescribesFile bytes s → AreNamed s
 unfolding qualified
 names_of bytes s is =
     let a = bound (qualified_namespaces (scope_in is.namespaces) (is_action_in is.namespaces) is.namespaces) (λ (parts : List ResolvedSchema). Ok (together parts)) s is.named.found in

@@ -13,11 +13,11 @@ use Rattle.std.proofs.lemmas.List.Folds.{list_any-append}
 use Rattle.std.proofs.lemmas.Option.{slice_get_within}
 use Rattle.std.proofs.lemmas.Map.Views.{tells_apart}
 use Rattle.json_words.proofs.EachSame.{cut}
-use Rattle.schema.specs.declared.spans.Span.{Span}
+use Rattle.schema.specs.declared.spans.NumberSpan.{NumberSpan}
 use Rattle.schema.specs.Spans.{in_span, has_number}
 use Rattle.values.specs.declared.entity_uid.EntityUid.{EntityUid}
 use Rattle.values.specs.Names.{uid_cmp, text_cmp, uid_cmp-IsAntisymmetric}
-use Rattle.ancestor_search.specs.Hierarchy.{Parents, Path, IsAncestor, IsAllAbove, names}
+use Rattle.ancestor_search.specs.Hierarchy.{Parents, Path, IsAncestor, AreAllAncestorsOf, names}
 use Rattle.ancestor_search.specs.Deciding.{Contains-here, Contains-there, Contains-cases, Contains-none}
 use Rattle.schema_names.specs.Qualifying.{ResolvedEntityType}
 use Rattle.schema.specs.LookUps.{has_number_at}
@@ -25,8 +25,8 @@ use Rattle.schema.specs.declared.numbering.Numbered.{Numbered}
 use Rattle.schema.specs.declared.type_numbers.TypeNumbers.{TypeNumbers}
 use Rattle.schema.specs.Schemas.{type_uid}
 use Rattle.schema.specs.inner.Filling as filling
-use Rattle.schema.specs.inner.Numbering.{Numbers, IsApart, IsNumbering, NumbersAll, AddsNumber, HasAbove, KeepsAbove}
-use Rattle.schema.specs.inner.Numbering.{single, HasSpans, AddsParent, AddsParents, single_of, singles, AreAbove}
+use Rattle.schema.specs.inner.Numbering.{Numbers, IsApart, IsNumbering, NumbersAll, AddsNumber, HasAncestors, KeepsAncestors}
+use Rattle.schema.specs.inner.Numbering.{single, HasSpans, AddsParent, AddsParents, single_of, singles, AreAncestors}
 use Rattle.schema.specs.inner.Numbering.{AddsName, AreNames, type_points, AreNumbers}
 use Rattle.schema.proofs.HierarchyLemmas.{contains_map}
 
@@ -144,7 +144,7 @@ given u old new a = record {
   sound = λ q i e. inl tt;
   all = λ q e. subst (λ (x : EntityUid). IsSome (get uid_cmp new.numbers x)) e a.there;
   kept = a.kept;
-  told = tt;
+  also = tt;
 }
 
 pub all_given : (vs : List EntityUid) (at : Numbers) → Gives vs (λ u. None) at → NumbersAll vs at
@@ -152,8 +152,8 @@ all_given vs at g u h = g.all u (u, h, refl)
 
 -- ---- spans
 
-has_both : (xs ys : List Span) (i : ℕ) → has_number (xs ++ ys) i ≡ (has_number xs i || has_number ys i)
-has_both xs ys i = list_any-append (λ (s : Span). in_span i s) xs ys
+has_both : (xs ys : List NumberSpan) (i : ℕ) → has_number (xs ++ ys) i ≡ (has_number xs i || has_number ys i)
+has_both xs ys i = list_any-append (λ (s : NumberSpan). in_span i s) xs ys
 
 single_is : (n i : ℕ) → in_span i (single n) ≡ true → n ≡ i
 single_is n i h =
@@ -170,16 +170,16 @@ none_has i h = absurd cc
 
 module _ (parents : Parents) (at : Numbers) (is_apart : IsApart at) where
   -- ---- by parents
-  module _ (reached : List (List Span)) (keeps : KeepsAbove parents at reached) where
+  module _ (reached : List (List NumberSpan)) (keeps : KeepsAncestors parents at reached) where
     -- q is one of these, or above one
     abbrev IsFrom : List EntityUid → EntityUid → Type 0
     IsFrom ps q = (p : EntityUid) × Contains ps p × ((p ≡ q) ⊎ IsAncestor parents q p)
 
-    one_to : (p q : EntityUid) (old new : List Span) (i : ℕ) → AddsParent at reached p old new → at q ≡ Some i → IsTrue (has_number new i)
+    one_to : (p q : EntityUid) (old new : List NumberSpan) (i : ℕ) → AddsParent at reached p old new → at q ≡ Some i → IsTrue (has_number new i)
         → IsTrue (has_number old i) ⊎ ((p ≡ q) ⊎ IsAncestor parents q p)
     one_to p q old new i a e h =
         let further = a.has.further in
-        let whole : (has_number old i || has_number (single a.number ∷ further) i) ≡ true = sym (has_both old (single a.number ∷ further) i) ∙ ap (λ (ss : List Span). has_number ss i) (sym a.has.are) ∙ h in
+        let whole : (has_number old i || has_number (single a.number ∷ further) i) ≡ true = sym (has_both old (single a.number ∷ further) i) ∙ ap (λ (ss : List NumberSpan). has_number ss i) (sym a.has.are) ∙ h in
         elim (or_cases (has_number old i) (has_number (single a.number ∷ further) i) whole) [
           | inl before ↦ inl before
           | inr added ↦ elim (or_cases (in_span i (single a.number)) (has_number further i) added) [
@@ -188,14 +188,14 @@ module _ (parents : Parents) (at : Numbers) (is_apart : IsApart at) where
           ]
         ]
 
-    one_from : (p q : EntityUid) (old new : List Span) (i : ℕ) → AddsParent at reached p old new → at q ≡ Some i → IsTrue (has_number old i) ⊎ ((p ≡ q) ⊎ IsAncestor parents q p)
+    one_from : (p q : EntityUid) (old new : List NumberSpan) (i : ℕ) → AddsParent at reached p old new → at q ≡ Some i → IsTrue (has_number old i) ⊎ ((p ≡ q) ⊎ IsAncestor parents q p)
         → IsTrue (has_number new i)
     one_from p q old new i a e h =
         let further = a.has.further in
         let added : (in_span i (single a.number) || has_number further i) ≡ true → IsTrue (has_number new i) = λ k.
-        ap (λ (ss : List Span). has_number ss i) a.has.are ∙ has_both old (single a.number ∷ further) i ∙ or_right (has_number old i) (has_number (single a.number ∷ further) i) k in
+        ap (λ (ss : List NumberSpan). has_number ss i) a.has.are ∙ has_both old (single a.number ∷ further) i ∙ or_right (has_number old i) (has_number (single a.number ∷ further) i) k in
         elim h [
-          | inl before ↦ ap (λ (ss : List Span). has_number ss i) a.has.are ∙ has_both old (single a.number ∷ further) i ∙ or_left (has_number old i) (has_number (single a.number ∷ further) i) before
+          | inl before ↦ ap (λ (ss : List NumberSpan). has_number ss i) a.has.are ∙ has_both old (single a.number ∷ further) i ∙ or_left (has_number old i) (has_number (single a.number ∷ further) i) before
           | inr here ↦ elim here [
             | inl same ↦
                 let number : a.number ≡ i = some_same a.number i (sym a.named ∙ ap at same ∙ e) in
@@ -204,9 +204,9 @@ module _ (parents : Parents) (at : Numbers) (is_apart : IsApart at) where
           ]
         ]
 
-    all_to : (ps : List EntityUid) (old new : List Span) → AddsParents at reached ps old new → (q : EntityUid) (i : ℕ) → at q ≡ Some i → IsTrue (has_number new i)
+    all_to : (ps : List EntityUid) (old new : List NumberSpan) → AddsParents at reached ps old new → (q : EntityUid) (i : ℕ) → at q ≡ Some i → IsTrue (has_number new i)
         → IsTrue (has_number old i) ⊎ IsFrom ps q
-    all_to [] old new a q i e h = inl (subst (λ (ss : List Span). IsTrue (has_number ss i)) a h)
+    all_to [] old new a q i e h = inl (subst (λ (ss : List NumberSpan). IsTrue (has_number ss i)) a h)
     all_to (p ∷ ps) old new (mid, one, rest) q i e h = elim (all_to ps mid new rest q i e h) [
       | inl before ↦ elim (one_to p q old mid i one e before) [
         | inl older ↦ inl older
@@ -215,9 +215,9 @@ module _ (parents : Parents) (at : Numbers) (is_apart : IsApart at) where
       | inr later ↦ inr (later.0, Contains-there p ps later.0 later.1, later.2)
     ]
 
-    all_from : (ps : List EntityUid) (old new : List Span) → AddsParents at reached ps old new → (q : EntityUid) (i : ℕ) → at q ≡ Some i
+    all_from : (ps : List EntityUid) (old new : List NumberSpan) → AddsParents at reached ps old new → (q : EntityUid) (i : ℕ) → at q ≡ Some i
         → IsTrue (has_number old i) ⊎ IsFrom ps q → IsTrue (has_number new i)
-    all_from [] old new a q i e (inl h) = subst (λ (ss : List Span). IsTrue (has_number ss i)) (sym a) h
+    all_from [] old new a q i e (inl h) = subst (λ (ss : List NumberSpan). IsTrue (has_number ss i)) (sym a) h
     all_from [] old new a q i e (inr h) = Contains-none h.0 h.1
     all_from (p ∷ ps) old new (mid, one, rest) q i e (inl h) = all_from ps mid new rest q i e (inl (one_from p q old mid i one e (inl h)))
     all_from (p ∷ ps) old new (mid, one, rest) q i e (inr h) = elim (Contains-cases p ps h.0 h.1) [
@@ -233,7 +233,7 @@ module _ (parents : Parents) (at : Numbers) (is_apart : IsApart at) where
     down u q [] h = (q, h, inl refl)
     down u q (c ∷ cs) h = (c, h.0, inr (cs, h.1))
 
-    pub by_parents : (u : EntityUid) (spans : List Span) → AddsParents at reached (parents u) [] spans → HasAbove parents at u spans
+    pub by_parents : (u : EntityUid) (spans : List NumberSpan) → AddsParents at reached (parents u) [] spans → HasAncestors parents at u spans
     by_parents u spans a q i e = (
       (λ h. elim (all_to (parents u) [] spans a q i e h) [
         | inl none ↦ none_has i none
@@ -265,68 +265,68 @@ module _ (parents : Parents) (at : Numbers) (is_apart : IsApart at) where
     | inr later ↦ or_right (has_number (single_of (at u)) i) (has_number (singles at us) i) (singles_from us q i e later)
   ]
 
-  pub by_search : (u : EntityUid) (found : List EntityUid) (spans : List Span) → IsAllAbove parents u found → spans ≡ singles at found → HasAbove parents at u spans
+  pub by_search : (u : EntityUid) (found : List EntityUid) (spans : List NumberSpan) → AreAllAncestorsOf parents u found → spans ≡ singles at found → HasAncestors parents at u spans
   by_search u found spans all is q i e = (
-    (λ h. (all q).0 (singles_to found q i e (subst (λ (ss : List Span). IsTrue (has_number ss i)) is h))),
-    (λ above. subst (λ (ss : List Span). IsTrue (has_number ss i)) (sym is) (singles_from found q i e ((all q).1 above))),
+    (λ h. (all q).0 (singles_to found q i e (subst (λ (ss : List NumberSpan). IsTrue (has_number ss i)) is h))),
+    (λ above. subst (λ (ss : List NumberSpan). IsTrue (has_number ss i)) (sym is) (singles_from found q i e ((all q).1 above))),
   )
 
-  pub same_spans : (u : EntityUid) (spans found : List Span) → ((i : ℕ) → has_number found i ≡ has_number spans i) → HasAbove parents at u spans → HasAbove parents at u found
+  pub same_spans : (u : EntityUid) (spans found : List NumberSpan) → ((i : ℕ) → has_number found i ≡ has_number spans i) → HasAncestors parents at u spans → HasAncestors parents at u found
   same_spans u spans found same has q i e = ((λ h. (has q i e).0 (sym (same i) ∙ h)), (λ above. same i ∙ (has q i e).1 above))
 
 -- ---- one after the other
 
-pub none_reached : (parents : Parents) (at : Numbers) (reached : List (List Span)) → reached ≡ [] → KeepsAbove parents at reached
-none_reached parents at reached none u i spans e f = none_some (sym (ap (λ (ss : List (List Span)). slice_get ss i) none) ∙ f)
+pub none_reached : (parents : Parents) (at : Numbers) (reached : List (List NumberSpan)) → reached ≡ [] → KeepsAncestors parents at reached
+none_reached parents at reached none u i spans e f = none_some (sym (ap (λ (ss : List (List NumberSpan)). slice_get ss i) none) ∙ f)
 
-pub reaches_next : (parents : Parents) (at : Numbers) (xs : List (Bor EntityUid)) (x : Bor EntityUid) (reached more : List (List Span)) (spans : List Span) (i : ℕ)
-    → IsNumbering at (names xs) → i < length xs → x ≡ get_or xs i x → length reached ≡ i → more ≡ reached ++ spans ∷ [] → HasAbove parents at x.now spans → KeepsAbove parents at reached → KeepsAbove parents at more
+pub reaches_next : (parents : Parents) (at : Numbers) (xs : List (Bor EntityUid)) (x : Bor EntityUid) (reached more : List (List NumberSpan)) (spans : List NumberSpan) (i : ℕ)
+    → IsNumbering at (names xs) → i < length xs → x ≡ get_or xs i x → length reached ≡ i → more ≡ reached ++ spans ∷ [] → HasAncestors parents at x.now spans → KeepsAncestors parents at reached → KeepsAncestors parents at more
 reaches_next parents at xs x reached more spans i numbering lt is len added has keeps u j found e f =
-    elim (get_pushed reached spans found j (sym (ap (λ (ss : List (List Span)). slice_get ss j) added) ∙ f)) [
+    elim (get_pushed reached spans found j (sym (ap (λ (ss : List (List NumberSpan)). slice_get ss j) added) ∙ f)) [
       | inl before ↦ keeps u j found e before
       | inr last ↦
           let here : slice_get (names xs) i ≡ Some u = subst (λ (k : ℕ). slice_get (names xs) k ≡ Some u) (last.0 ∙ len) (numbering u j e) in
           let same : x.now ≡ u = some_same x.now u (sym (name_at xs i x lt is) ∙ here) in
-          subst (λ (v : EntityUid). HasAbove parents at v found) same (subst (λ (ss : List Span). HasAbove parents at x.now ss) last.1 has)
+          subst (λ (v : EntityUid). HasAncestors parents at v found) same (subst (λ (ss : List NumberSpan). HasAncestors parents at x.now ss) last.1 has)
     ]
 
-module _ (parents : Parents) (at : Numbers) (xs : List (Bor EntityUid)) (numbering : IsNumbering at (names xs)) (reached : List (List Span)) (i : ℕ) (len : length reached ≡ i) (whole : length xs ≤ i)
-    (keeps : KeepsAbove parents at reached) where
-  is_at : (u q : EntityUid) (j k : ℕ) → at u ≡ Some j → at q ≡ Some k → (o : Option (List Span)) → slice_get reached j ≡ o → IsTrue (has_number_at o k) ↔ IsAncestor parents q u
+module _ (parents : Parents) (at : Numbers) (xs : List (Bor EntityUid)) (numbering : IsNumbering at (names xs)) (reached : List (List NumberSpan)) (i : ℕ) (len : length reached ≡ i) (whole : length xs ≤ i)
+    (keeps : KeepsAncestors parents at reached) where
+  is_at : (u q : EntityUid) (j k : ℕ) → at u ≡ Some j → at q ≡ Some k → (o : Option (List NumberSpan)) → slice_get reached j ≡ o → IsTrue (has_number_at o k) ↔ IsAncestor parents q u
   is_at u q j k e f None none =
       let lt = slice_get_within (names xs) j u (numbering u j e) in
       let names_length = length-map xs (λ (x : Bor EntityUid). x.now) in
       absurd (past reached j none (omega (arith, lt, names_length, len, whole)))
     where
-      past : (ss : List (List Span)) (j : ℕ) → slice_get ss j ≡ None → j < length ss → ⊥
+      past : (ss : List (List NumberSpan)) (j : ℕ) → slice_get ss j ≡ None → j < length ss → ⊥
       past [] j n lt = omega (arith, lt)
       past (s ∷ ss) zero n lt = absurd cc
       past (s ∷ ss) (suc j) n lt = past ss j n (omega (arith, lt))
   is_at u q j k e f (Some spans) is = keeps u j spans e is q k f
 
-  pub all_reached : AreAbove parents at reached
+  pub all_reached : AreAncestors parents at reached
   all_reached u q j k e f = is_at u q j k e f (slice_get reached j) refl
 
 -- ---- loops
 
-pub parents_step : (at : Numbers) (reached : List (List Span)) (ps : List EntityUid) (i : ℕ) (p : EntityUid) (old mid new : List Span) → i < length ps → p ≡ get_or ps i p
+pub parents_step : (at : Numbers) (reached : List (List NumberSpan)) (ps : List EntityUid) (i : ℕ) (p : EntityUid) (old mid new : List NumberSpan) → i < length ps → p ≡ get_or ps i p
     → AddsParent at reached p old mid → AddsParents at reached (drop (i + 1) ps) mid new → AddsParents at reached (drop i ps) old new
 parents_step at reached ps i p old mid new lt is one rest = subst (λ (qs : List EntityUid). AddsParents at reached qs old new) (sym (cut ps i p lt is)) (mid, one, rest)
 
-pub parents_end : (at : Numbers) (reached : List (List Span)) (ps : List EntityUid) (i : ℕ) (spans : List Span) → length ps ≤ i → AddsParents at reached (drop i ps) spans spans
+pub parents_end : (at : Numbers) (reached : List (List NumberSpan)) (ps : List EntityUid) (i : ℕ) (spans : List NumberSpan) → length ps ≤ i → AddsParents at reached (drop i ps) spans spans
 parents_end at reached ps i spans le = subst (λ (qs : List EntityUid). AddsParents at reached qs spans spans) (sym (drop_all i ps le)) refl
 
-pub parents_begin : (at : Numbers) (reached : List (List Span)) (ps : List EntityUid) (first last : List Span) → first ≡ [] → AddsParents at reached ps first last → AddsParents at reached ps [] last
-parents_begin at reached ps first last none h = subst (λ (ss : List Span). AddsParents at reached ps ss last) none h
+pub parents_begin : (at : Numbers) (reached : List (List NumberSpan)) (ps : List EntityUid) (first last : List NumberSpan) → first ≡ [] → AddsParents at reached ps first last → AddsParents at reached ps [] last
+parents_begin at reached ps first last none h = subst (λ (ss : List NumberSpan). AddsParents at reached ps ss last) none h
 
-pub singles_step : (at : Numbers) (xs : List (Bor EntityUid)) (i : ℕ) (x : Bor EntityUid) (old new : List Span) → i < length xs → x ≡ get_or xs i x → new ≡ old ++ single_of (at x.now)
+pub singles_step : (at : Numbers) (xs : List (Bor EntityUid)) (i : ℕ) (x : Bor EntityUid) (old new : List NumberSpan) → i < length xs → x ≡ get_or xs i x → new ≡ old ++ single_of (at x.now)
     → old ++ singles at (names (drop i xs)) ≡ singles at (names xs) → new ++ singles at (names (drop (i + 1) xs)) ≡ singles at (names xs)
 singles_step at xs i x old new lt is more before =
     let rest = singles at (names (drop (i + 1) xs)) in
-    ap (λ (ss : List Span). ss ++ rest) more ∙ append_assoc old (single_of (at x.now)) rest
+    ap (λ (ss : List NumberSpan). ss ++ rest) more ∙ append_assoc old (single_of (at x.now)) rest
     ∙ sym (ap (λ (zs : List (Bor EntityUid)). old ++ singles at (names zs)) (cut xs i x lt is)) ∙ before
 
-pub singles_end : (at : Numbers) (xs : List (Bor EntityUid)) (i : ℕ) (spans : List Span) → length xs ≤ i → spans ++ singles at (names (drop i xs)) ≡ singles at (names xs) → spans ≡ singles at (names xs)
+pub singles_end : (at : Numbers) (xs : List (Bor EntityUid)) (i : ℕ) (spans : List NumberSpan) → length xs ≤ i → spans ++ singles at (names (drop i xs)) ≡ singles at (names xs) → spans ≡ singles at (names xs)
 singles_end at xs i spans le h = sym (append-nil spans) ∙ sym (ap (λ (zs : List (Bor EntityUid)). spans ++ singles at (names zs)) (drop_all i xs le)) ∙ h
 
 pub names_step : (us : List EntityUid) (i : ℕ) (u : EntityUid) (b : Bor EntityUid) (old new : List (Bor EntityUid)) (whole : List EntityUid) → i < length us → u ≡ get_or us i u → b.now ≡ u → new ≡ old ++ b ∷ []
@@ -341,7 +341,7 @@ names_end us i found whole le h = sym (append-nil (names found)) ∙ sym (ap (λ
 
 -- ---- entity types
 
-module _ (parents : Parents) (es : List ResolvedEntityType) (at : Numbers) (t : TypeNumbers) (all : NumbersAll (type_points es) at) (are : AreAbove parents at t.spans)
+module _ (parents : Parents) (es : List ResolvedEntityType) (at : Numbers) (t : TypeNumbers) (all : NumbersAll (type_points es) at) (are : AreAncestors parents at t.spans)
     (named : AreNames at (type_points es) t.numbers) where
   point : (u : EntityUid) (n : List ℕ) → Contains (type_points es) u → u.type_name ≡ n → u ≡ type_uid n
   point u n h e = let m = contains_map (λ (x : ResolvedEntityType). type_uid x.name) es u h in sym m.2 ∙ ap type_uid (ap (λ (v : EntityUid). v.type_name) m.2 ∙ e)
@@ -376,13 +376,13 @@ no_name at u named none = record {
   sound = λ n i e. inr e;
   all = λ n m. none_some (sym none ∙ (some_of (at u) m.1).1);
   kept = λ n h. h;
-  told = tt;
+  also = tt;
 }
 
-pub has_spans : (reached : List (List Span)) (number : ℕ) (old mid new further slice : List Span) → slice_get reached number ≡ Some further → slice ≡ further → mid ≡ old ++ single number ∷ [] → new ≡ mid ++ slice
+pub has_spans : (reached : List (List NumberSpan)) (number : ℕ) (old mid new further slice : List NumberSpan) → slice_get reached number ≡ Some further → slice ≡ further → mid ≡ old ++ single number ∷ [] → new ≡ mid ++ slice
     → HasSpans reached number old new
 has_spans reached number old mid new further slice is same one all = record {
   further = further;
   reaches = is;
-  are = all ∙ ap (λ (ss : List Span). mid ++ ss) same ∙ ap (λ (ss : List Span). ss ++ further) one ∙ append_assoc old (single number ∷ []) further;
+  are = all ∙ ap (λ (ss : List NumberSpan). mid ++ ss) same ∙ ap (λ (ss : List NumberSpan). ss ++ further) one ∙ append_assoc old (single number ∷ []) further;
 }

@@ -15,7 +15,7 @@ use Rattle.schema.specs.inner.ByNaming as parsed
 sound_or_not : OneWritten → (s : ResolvedSchema) → DeclaresOnce s → IsSound s → (f : SchemaFault) → IsUnsound s f → ⊥
 sound_or_not one s once sound _ (parsed.type_cycle endless) =
     let at = sound.is_written (common endless.name) (schemas.common endless.name endless.type endless.declared) in
-    endless.stands_for_none at.0 at.1
+    endless.has_no_expansion at.0 at.1
 sound_or_not one s once sound _ (parsed.action_cycle ends cycle) = sound.no_cycle cycle
 sound_or_not one s once sound _ (parsed.too_large ends no_cycle large) =
     let at = sound.is_written large.type large.stands in

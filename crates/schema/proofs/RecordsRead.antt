@@ -7,7 +7,7 @@ use Rattle.schema_types.specs.Qualified.{Qualified}
 use Rattle.schema_types.specs.Names.{full_name, found, built_in, or_entity}
 use Rattle.schema_names.specs.schema_file.FileForm.{NamespaceOf}
 use Rattle.schema_names.specs.Qualifying.{CommonOf, common_in, commons_declared, scope_in}
-use Rattle.schema_names.specs.Records.{common_meant, is_no_record, MeansNoRecord, HasContext, StandsAsRecord, SomeIsNoRecord}
+use Rattle.schema_names.specs.Records.{common_meant, is_no_record, MeansNoRecord, HasContext, MustBeRecord, SomeIsNoRecord}
 use Rattle.schema_names.specs.Records as means
 use Rattle.schema_names.proofs.FoundLemmas.{all_of_from, all_of_to, map_from, map_to}
 use Rattle.schema.specs.NamesResolved.{IsCommon, IsEntityType, Means, MeansNone}
@@ -113,7 +113,7 @@ module _ (ns : List NamespaceOf) where
 
   -- ---- shapes and contexts
 
-  standing : (n : NamespaceOf) (r : Raw) → Contains ns n → IsNoRecord ns n.name r → StandsAsRecord n r → SomeIsNotRecord ns
+  standing : (n : NamespaceOf) (r : Raw) → Contains ns n → IsNoRecord ns n.name r → MustBeRecord n r → SomeIsNotRecord ns
   standing n r stands h (inl e) = says.shape n e.0 r stands e.1 e.2 h
   standing n r stands h (inr a) = says.context n a.0 a.2.0 r stands a.1 a.2.1 a.2.2 h
 

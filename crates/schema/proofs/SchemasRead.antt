@@ -3,16 +3,16 @@ use Rattle.std.proofs.Common.{◌≡◌, ℕ, List, Some, Result, sym, subst}
 use Rattle.serde_json.specs.Data.{Data}
 use Rattle.json_words.specs.Json.{json_of}
 use Rattle.schema_types.specs.Qualified.{Qualified}
-use Rattle.schema_types.specs.WrittenOut.{Declarations, Declares}
+use Rattle.schema_types.specs.Expansions.{Declarations, Declares}
 use Rattle.schema_types.specs.Mentions.{Leads}
 use Rattle.schema_types.specs.Mentions as mentions
-use Rattle.schema_types.specs.Outcome.{SomeStandsForNone}
-use Rattle.schema_types.specs.Law.{CyclesStandForNone, WhatStandsForNoneLeadsBack}
+use Rattle.schema_types.specs.Outcome.{SomeHasNoExpansion}
+use Rattle.schema_types.specs.Law.{CyclesHaveNoExpansion, WhatHasNoExpansionLeadsBack}
 use Rattle.schema_types.specs.declared.fault.SchemaFault.{SchemaFault}
 use Rattle.schema_types.specs.declared.fault.SchemaFault.TheVariants.{NotJson, BadShape, UnknownName, TypeCycle, ActionCycle, TypeTooLarge}
 use Rattle.schema_names.specs.schema_file.FileForm.{NamespaceOf, stated}
 use Rattle.schema_names.specs.Qualifying.{ResolvedSchema, qualified}
-use Rattle.schema_names.specs.Naming.{NamesRefused, StatesNamed, NamingRefused}
+use Rattle.schema_names.specs.Naming.{NamesRefused, DescribesFile, IsNamingError}
 use Rattle.schema_names.specs.Naming as naming
 use Rattle.schema_names.specs.Laws.{FilesNameTheirOwn, FilesDeclareOnce}
 use Rattle.schema.specs.inner.ByNaming.{IsUnsound, IsParsedAs, IsNotParsed, ParsedOrNot, SomeParsed, OneParsed, NotBothParsed, OneNotParsed, ParsedSchemasAreWellFormed, SchemasAreRead}
@@ -34,8 +34,8 @@ use Rattle.schema.proofs.RecordsRead.{some_is_not, not_some}
 
 -- the laws of common types and of the names of a file
 pub record Cyclic : Type 0 where
-  pub cycles : CyclesStandForNone
-  pub back : WhatStandsForNoneLeadsBack
+  pub cycles : CyclesHaveNoExpansion
+  pub back : WhatHasNoExpansionLeadsBack
   pub own : FilesNameTheirOwn
   pub once : FilesDeclareOnce
 
@@ -53,15 +53,15 @@ leads_from : (commons : Declarations) (p q : List ℕ) → Leads commons p q →
 leads_from commons p q (mentions.step a b r d m) = (r, d)
 leads_from commons p q (mentions.steps a b c r d m rest) = (r, d)
 
-module _ (laws : Cyclic) (bytes : List ℕ) (s : ResolvedSchema) (h : StatesNamed bytes s) where
-  leads_back : SomeStandsForNone s.commons → SomeCommonLeadsBack s
-  leads_back n = let b = laws.back s.commons (laws.own bytes s h).commons n.name n.type n.declared n.stands_for_none in (b.0, b.2)
+module _ (laws : Cyclic) (bytes : List ℕ) (s : ResolvedSchema) (h : DescribesFile bytes s) where
+  leads_back : SomeHasNoExpansion s.commons → SomeCommonLeadsBack s
+  leads_back n = let b = laws.back s.commons (laws.own bytes s h).commons n.name n.type n.declared n.has_no_expansion in (b.0, b.2)
 
-  none_at : (q : List ℕ) (l : Leads s.commons q q) → (r : Qualified) × Declares s.commons q r → SomeStandsForNone s.commons
-  none_at q l d = record { name = q; type = d.0; declared = d.1; stands_for_none = laws.cycles s.commons (laws.once bytes s h).commons q l }
+  none_at : (q : List ℕ) (l : Leads s.commons q q) → (r : Qualified) × Declares s.commons q r → SomeHasNoExpansion s.commons
+  none_at q l d = record { name = q; type = d.0; declared = d.1; has_no_expansion = laws.cycles s.commons (laws.once bytes s h).commons q l }
 
-  stands_for_none : SomeCommonLeadsBack s → SomeStandsForNone s.commons
-  stands_for_none (q, l) = none_at q l (leads_from s.commons q q l)
+  has_no_expansion : SomeCommonLeadsBack s → SomeHasNoExpansion s.commons
+  has_no_expansion (q, l) = none_at q l (leads_from s.commons q q l)
 
 module _ (told : Told) (laws : Cyclic) (bytes : List ℕ) where
   content_is : (d : Data) (ns : List NamespaceOf) → json_of bytes ≡ Some d → stated d ≡ done ns → HasContent bytes ns
@@ -73,7 +73,7 @@ module _ (told : Told) (laws : Cyclic) (bytes : List ℕ) where
   resolved_is : (ns : List NamespaceOf) (s : ResolvedSchema) → qualified ns ≡ done s → ResolvesFile ns s
   resolved_is ns s e = value_is UnknownName (qualified ns) (ResolvesFile ns) (FileHasUnknown ns) (names_are_agreed ns) s e
 
-  named_is : (s : ResolvedSchema) → StatesNamed bytes s → HasDeclarations bytes s
+  named_is : (s : ResolvedSchema) → DescribesFile bytes s → HasDeclarations bytes s
   named_is s h = record {
     namespaces = h.namespaces;
     content = content_is h.value h.namespaces h.json h.shape;
@@ -81,7 +81,7 @@ module _ (told : Told) (laws : Cyclic) (bytes : List ℕ) where
     resolved = resolved_is h.namespaces s h.named.found;
   }
 
-  is_named : (s : ResolvedSchema) → HasDeclarations bytes s → StatesNamed bytes s
+  is_named : (s : ResolvedSchema) → HasDeclarations bytes s → DescribesFile bytes s
   is_named s h = record {
     value = h.content.value;
     namespaces = h.namespaces;
@@ -109,15 +109,15 @@ module _ (told : Told) (laws : Cyclic) (bytes : List ℕ) where
   names_refused ns f content (naming.unknown g records e) =
       unknown_refused ns g content (λ n. records (not_some ns n)) (fault_is UnknownName (qualified ns) (ResolvesFile ns) (FileHasUnknown ns) (names_are_agreed ns) g e)
 
-  naming_refused : (f : SchemaFault) → NamingRefused bytes f → RefusedFor bytes f
+  naming_refused : (f : SchemaFault) → IsNamingError bytes f → RefusedFor bytes f
   naming_refused f (naming.not_json e) = says.not_json e
   naming_refused f (naming.bad_shape d g json e) = shape_refused d g json (fault_is BadShape (stated d) (StatesFile d) (IsNoFile d) (file_agrees told d) g e)
   naming_refused f (naming.bad_names d ns g json e n) = names_refused ns g (content_is d ns json e) n
 
-  unsound_refused : (s : ResolvedSchema) (f : SchemaFault) → StatesNamed bytes s → IsUnsound s f → RefusedFor bytes f
+  unsound_refused : (s : ResolvedSchema) (f : SchemaFault) → DescribesFile bytes s → IsUnsound s f → RefusedFor bytes f
   unsound_refused s f h (parsed.type_cycle none) = says.type_cycle s (named_is s h) (leads_back laws bytes s h none)
-  unsound_refused s f h (parsed.action_cycle none cycle) = says.action_cycle s (named_is s h) (λ l. none (stands_for_none laws bytes s h l)) cycle
-  unsound_refused s f h (parsed.too_large none nor large) = says.too_large s (named_is s h) (λ l. none (stands_for_none laws bytes s h l)) nor large
+  unsound_refused s f h (parsed.action_cycle none cycle) = says.action_cycle s (named_is s h) (λ l. none (has_no_expansion laws bytes s h l)) cycle
+  unsound_refused s f h (parsed.too_large none nor large) = says.too_large s (named_is s h) (λ l. none (has_no_expansion laws bytes s h l)) nor large
 
   refused_is : (f : SchemaFault) → IsNotParsed bytes f → RefusedFor bytes f
   refused_is f (parsed.naming g n) = naming_refused g n
@@ -129,7 +129,7 @@ module _ (told : Told) (laws : Cyclic) (bytes : List ℕ) where
   is_refused f (says.no_record ns h n) = parsed.naming BadShape (naming.bad_names h.value ns BadShape h.json (is_content ns h) (naming.no_record (not_some ns n)))
   is_refused f (says.unknown_name ns h records n) =
       parsed.naming UnknownName (naming.bad_names h.value ns UnknownName h.json (is_content ns h) (naming.unknown UnknownName (λ m. records (some_is_not ns m)) ((names_are_agreed ns).fails n)))
-  is_refused f (says.type_cycle s h cycle) = parsed.unsound s TypeCycle (is_named s h) (parsed.type_cycle (stands_for_none laws bytes s (is_named s h) cycle))
+  is_refused f (says.type_cycle s h cycle) = parsed.unsound s TypeCycle (is_named s h) (parsed.type_cycle (has_no_expansion laws bytes s (is_named s h) cycle))
   is_refused f (says.action_cycle s h none cycle) =
       parsed.unsound s ActionCycle (is_named s h) (parsed.action_cycle (λ n. none (leads_back laws bytes s (is_named s h) n)) cycle)
   is_refused f (says.too_large s h none nor large) =

@@ -7,23 +7,23 @@ use Rattle.std.specs.Ordering.{is_eq}
 use Rattle.std.proofs.lemmas.List.Elements.{Contains-append_left, Contains-append_right}
 use Rattle.values.specs.declared.entity_uid.EntityUid.{EntityUid}
 use Rattle.values.specs.Names.{uid_cmp, uid_cmp-IsTotalOrder, uid_cmp-IsAntisymmetric}
-use Rattle.ancestor_search.specs.Hierarchy.{Parents, Path, IsAllAbove, IsAscending, IsOnCycle, no_parents, with_parents}
+use Rattle.ancestor_search.specs.Hierarchy.{Parents, Path, AreAllAncestorsOf, IsAscending, IsOnCycle, no_parents, with_parents}
 use Rattle.ancestor_search.specs.Decided.{Decides, HaveAllParents, PathsAreDecided, reaches}
 use Rattle.ancestor_search.specs.Deciding.{Contains-here, Contains-there, Contains-cases, Contains-none, same_uid}
 use Rattle.schema_types.specs.Qualified as qualified
 use Rattle.schema_types.specs.Qualified.{Qualified}
 use Rattle.schema_types.specs.Cedar.{Cedar, parts, deep, IsTooLarge}
-use Rattle.schema_types.specs.WrittenOut.{Declarations, Declares, WrittenOut}
+use Rattle.schema_types.specs.Expansions.{Declarations, Declares, IsExpansion}
 use Rattle.schema_types.specs.Mentions.{IsClosed}
-use Rattle.schema_types.specs.Law.{TypesStandForOneOrSomeForNone}
-use Rattle.schema_types.specs.Outcome.{SomeStandsForNone}
+use Rattle.schema_types.specs.Law.{TypesExpandOrSomeCommonDoesNot}
+use Rattle.schema_types.specs.Outcome.{SomeHasNoExpansion}
 use Rattle.schema_types.specs.declared.fault.SchemaFault.{SchemaFault}
 use Rattle.schema_types.specs.declared.fault.SchemaFault.TheVariants.{TypeCycle, ActionCycle, TypeTooLarge}
 use Rattle.schema_names.specs.Qualifying.{ResolvedEntityType, ResolvedUse, ResolvedAction, ResolvedSchema}
 use Rattle.schema_names.specs.Laws as names
-use Rattle.schema_names.specs.Laws.{DeclaresOnce, NamesItsOwn}
+use Rattle.schema_names.specs.Laws.{DeclaresOnce, DeclaresItsCommonTypes}
 use Rattle.schema.specs.Schemas as schemas
-use Rattle.schema.specs.Schemas.{IsWritten, StandsIn, SomeActionIsOnCycle, SomeTypeIsTooLarge, IsSound}
+use Rattle.schema.specs.Schemas.{IsWritten, IsSchemaType, SomeActionIsOnCycle, SomeTypeIsTooLarge, IsSound}
 use Rattle.schema.specs.inner.ByNaming.{IsUnsound}
 use Rattle.schema.specs.inner.ByNaming as parsed
 use Rattle.schema.specs.Schemas.{type_uid, with_actions, with_types}
@@ -190,7 +190,7 @@ module _ (us : List ResolvedAction) where
         let list = those (λ a. is_ancestor a b) (ends_of us) in
         subst (λ (xs : List EntityUid). IsStrictlySortedBy uid_cmp xs) (map_same (in_order uid_cmp (λ u. u) list)) (in_order_ascends uid_cmp (λ u. u) uid_cmp-IsTotalOrder uid_cmp-IsAntisymmetric list)
 
-    pub above_all : (b : EntityUid) → IsAllAbove edges b (above_list b)
+    pub above_all : (b : EntityUid) → AreAllAncestorsOf edges b (above_list b)
     unfolding above_list
     above_all b a =
         let list = those (λ x. is_ancestor x b) (ends_of us) in (
@@ -222,34 +222,34 @@ types_stored es b a h = by (has_parent no_parents es b a h)
 
 -- ---- is the file sound?
 
-module _ (s : ResolvedSchema) (ends : TypesStandForOneOrSomeForNone) (once : DeclaresOnce s) (own : NamesItsOwn s) where
+module _ (s : ResolvedSchema) (ends : TypesExpandOrSomeCommonDoesNot) (once : DeclaresOnce s) (own : DeclaresItsCommonTypes s) where
   common_closed : (d : List ℕ × Qualified) → Contains s.commons d → IsClosed s.commons (qualified.common d.0)
   common_closed d h q m = (d.1, subst (λ (x : List ℕ). Declares s.commons x d.1) m (inside_declared s.commons d h))
 
-  written_or_not : (r : Qualified) → IsClosed s.commons r → ((t : Cedar) × WrittenOut s.commons r t) ⊎ SomeStandsForNone s.commons
+  written_or_not : (r : Qualified) → IsClosed s.commons r → ((t : Cedar) × IsExpansion s.commons r t) ⊎ SomeHasNoExpansion s.commons
   written_or_not r closed = ends s.commons once.commons own.commons r closed
 
-  some_endless : SomeStandsForNone s.commons ⊎ (SomeStandsForNone s.commons → ⊥)
-  some_endless = by (some_or_all (λ d. SomeStandsForNone s.commons) (λ d. (t : Cedar) × WrittenOut s.commons (qualified.common d.0) t) s.commons (λ d h. turn (written_or_not (qualified.common d.0) (common_closed d h))))
+  some_endless : SomeHasNoExpansion s.commons ⊎ (SomeHasNoExpansion s.commons → ⊥)
+  some_endless = by (some_or_all (λ d. SomeHasNoExpansion s.commons) (λ d. (t : Cedar) × IsExpansion s.commons (qualified.common d.0) t) s.commons (λ d h. turn (written_or_not (qualified.common d.0) (common_closed d h))))
     where
       turn : {A B : Type 0} → A ⊎ B → B ⊎ A
       turn (inl x) = inr x
       turn (inr y) = inl y
 
-      by : ((d : List ℕ × Qualified) × Contains s.commons d × SomeStandsForNone s.commons) ⊎ ((d : List ℕ × Qualified) → Contains s.commons d → (t : Cedar) × WrittenOut s.commons (qualified.common d.0) t)
-          → SomeStandsForNone s.commons ⊎ (SomeStandsForNone s.commons → ⊥)
+      by : ((d : List ℕ × Qualified) × Contains s.commons d × SomeHasNoExpansion s.commons) ⊎ ((d : List ℕ × Qualified) → Contains s.commons d → (t : Cedar) × IsExpansion s.commons (qualified.common d.0) t)
+          → SomeHasNoExpansion s.commons ⊎ (SomeHasNoExpansion s.commons → ⊥)
       by (inl (d, h, endless)) = inl endless
-      by (inr all) = inr (λ endless. let w = all (endless.name, endless.type) (declared_inside s.commons endless.name endless.type endless.declared) in endless.stands_for_none w.0 w.1)
+      by (inr all) = inr (λ endless. let w = all (endless.name, endless.type) (declared_inside s.commons endless.name endless.type endless.declared) in endless.has_no_expansion w.0 w.1)
 
-  module _ (none : SomeStandsForNone s.commons → ⊥) where
-    fits_or_not : (r : Qualified) → StandsIn s r → IsClosed s.commons r → SomeTypeIsTooLarge s ⊎ IsWritten s.commons r
+  module _ (none : SomeHasNoExpansion s.commons → ⊥) where
+    fits_or_not : (r : Qualified) → IsSchemaType s r → IsClosed s.commons r → SomeTypeIsTooLarge s ⊎ IsWritten s.commons r
     fits_or_not r stands closed = by (written_or_not r closed)
       where
-        sized : (t : Cedar) → WrittenOut s.commons r t → IsTooLarge t ⊎ (IsTooLarge t → ⊥) → SomeTypeIsTooLarge s ⊎ IsWritten s.commons r
+        sized : (t : Cedar) → IsExpansion s.commons r t → IsTooLarge t ⊎ (IsTooLarge t → ⊥) → SomeTypeIsTooLarge s ⊎ IsWritten s.commons r
         sized t w (inl large) = inl (record { type = r; whole = t; stands = stands; is_written = w; too_large = large })
         sized t w (inr small) = inr (t, w, small)
 
-        by : ((t : Cedar) × WrittenOut s.commons r t) ⊎ SomeStandsForNone s.commons → SomeTypeIsTooLarge s ⊎ IsWritten s.commons r
+        by : ((t : Cedar) × IsExpansion s.commons r t) ⊎ SomeHasNoExpansion s.commons → SomeTypeIsTooLarge s ⊎ IsWritten s.commons r
         by (inl (t, w)) = sized t w (large_or_not t)
         by (inr endless) = absurd (none endless)
 
@@ -293,18 +293,18 @@ module _ (s : ResolvedSchema) (ends : TypesStandForOneOrSomeForNone) (once : Dec
     module _ (commons : (d : List ℕ × Qualified) → Contains s.commons d → IsWritten s.commons (qualified.common d.0))
         (shapes : (e : ResolvedEntityType) → Contains s.entity_types e → (r : Qualified) → e.shape ≡ Some r → IsWritten s.commons r)
         (contexts : (a : ResolvedAction) → Contains s.actions a → (u : ResolvedUse) → a.applies_to ≡ Some u → (r : Qualified) → u.context ≡ Some r → IsWritten s.commons r) where
-      all_fit : (r : Qualified) → StandsIn s r → IsWritten s.commons r
+      all_fit : (r : Qualified) → IsSchemaType s r → IsWritten s.commons r
       all_fit _ (schemas.common q r d) = commons (q, r) (declared_inside s.commons q r d)
       all_fit _ (schemas.shape_or_context r (inl (e, h, is))) = shapes e h r is
       all_fit _ (schemas.shape_or_context r (inr (a, h, (u, applies, is)))) = contexts a h u applies r is
 
-    sizes_decided : SomeTypeIsTooLarge s ⊎ ((r : Qualified) → StandsIn s r → IsWritten s.commons r)
+    sizes_decided : SomeTypeIsTooLarge s ⊎ ((r : Qualified) → IsSchemaType s r → IsWritten s.commons r)
     sizes_decided = by commons_fit shapes_fit contexts_fit
       where
         by : SomeTypeIsTooLarge s ⊎ ((d : List ℕ × Qualified) → Contains s.commons d → IsWritten s.commons (qualified.common d.0))
             → SomeTypeIsTooLarge s ⊎ ((e : ResolvedEntityType) → Contains s.entity_types e → (r : Qualified) → e.shape ≡ Some r → IsWritten s.commons r)
             → SomeTypeIsTooLarge s ⊎ ((a : ResolvedAction) → Contains s.actions a → (u : ResolvedUse) → a.applies_to ≡ Some u → (r : Qualified) → u.context ≡ Some r → IsWritten s.commons r)
-            → SomeTypeIsTooLarge s ⊎ ((r : Qualified) → StandsIn s r → IsWritten s.commons r)
+            → SomeTypeIsTooLarge s ⊎ ((r : Qualified) → IsSchemaType s r → IsWritten s.commons r)
         by (inl large) b c = inl large
         by (inr a) (inl large) c = inl large
         by (inr a) (inr b) (inl large) = inl large
@@ -313,14 +313,14 @@ module _ (s : ResolvedSchema) (ends : TypesStandForOneOrSomeForNone) (once : Dec
   pub sound_or_not : PathsAreDecided → IsSound s ⊎ ((f : SchemaFault) × IsUnsound s f)
   sound_or_not decided = by some_endless
     where
-      sized : (SomeStandsForNone s.commons → ⊥) → (SomeActionIsOnCycle s → ⊥) → SomeTypeIsTooLarge s ⊎ ((r : Qualified) → StandsIn s r → IsWritten s.commons r) → IsSound s ⊎ ((f : SchemaFault) × IsUnsound s f)
+      sized : (SomeHasNoExpansion s.commons → ⊥) → (SomeActionIsOnCycle s → ⊥) → SomeTypeIsTooLarge s ⊎ ((r : Qualified) → IsSchemaType s r → IsWritten s.commons r) → IsSound s ⊎ ((f : SchemaFault) × IsUnsound s f)
       sized endless cycle (inl large) = inr (TypeTooLarge, parsed.too_large endless cycle large)
       sized endless cycle (inr all) = inl (record { no_cycle = cycle; is_written = all })
 
-      acyclic : (SomeStandsForNone s.commons → ⊥) → SomeActionIsOnCycle s ⊎ (SomeActionIsOnCycle s → ⊥) → IsSound s ⊎ ((f : SchemaFault) × IsUnsound s f)
+      acyclic : (SomeHasNoExpansion s.commons → ⊥) → SomeActionIsOnCycle s ⊎ (SomeActionIsOnCycle s → ⊥) → IsSound s ⊎ ((f : SchemaFault) × IsUnsound s f)
       acyclic endless (inl cycle) = inr (ActionCycle, parsed.action_cycle endless cycle)
       acyclic endless (inr none) = sized endless none (sizes_decided endless)
 
-      by : SomeStandsForNone s.commons ⊎ (SomeStandsForNone s.commons → ⊥) → IsSound s ⊎ ((f : SchemaFault) × IsUnsound s f)
+      by : SomeHasNoExpansion s.commons ⊎ (SomeHasNoExpansion s.commons → ⊥) → IsSound s ⊎ ((f : SchemaFault) × IsUnsound s f)
       by (inl endless) = inr (TypeCycle, parsed.type_cycle endless)
       by (inr none) = acyclic none (on_cycle_or_not s.actions decided)

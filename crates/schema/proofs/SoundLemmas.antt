@@ -3,16 +3,16 @@ use Rattle.std.proofs.Common.{ℕ, List, sym, subst, inl, inr}
 use Rattle.schema_types.specs.Qualified as qualified
 use Rattle.schema_types.specs.Qualified.{Qualified}
 use Rattle.schema_types.specs.Cedar.{Cedar}
-use Rattle.schema_types.specs.WrittenOut as written
-use Rattle.schema_types.specs.WrittenOut.{Declarations, Declares, WrittenOut}
-use Rattle.schema_written_types.specs.Knowledge.{Knowledge, AreWritten, AreWhole}
-use Rattle.schema_types.specs.Outcome.{SomeStandsForNone, CommonsRefused, SizesRefused, TypeRefused}
+use Rattle.schema_types.specs.Expansions as written
+use Rattle.schema_types.specs.Expansions.{Declarations, Declares, IsExpansion}
+use Rattle.schema_written_types.specs.TypeTables.{TypeTable, AreWritten, AreWhole}
+use Rattle.schema_types.specs.Outcome.{SomeHasNoExpansion, CommonsRefused, SizesRefused, TypeRefused}
 use Rattle.schema_types.specs.Outcome as outcome
 use Rattle.schema_types.specs.declared.fault.SchemaFault.{SchemaFault}
 use Rattle.schema_types.specs.declared.fault.SchemaFault.TheVariants.{ActionCycle}
 use Rattle.schema_names.specs.Qualifying.{ResolvedSchema}
 use Rattle.schema_names.specs.Laws.{IsShapeOrContext}
-use Rattle.schema.specs.Schemas.{SomeActionIsOnCycle, StandsIn, IsWritten, IsSound}
+use Rattle.schema.specs.Schemas.{SomeActionIsOnCycle, IsSchemaType, IsWritten, IsSound}
 use Rattle.schema.specs.inner.ByNaming.{IsUnsound}
 use Rattle.schema.specs.inner.ByNaming as parsed
 use Rattle.schema.specs.Schemas as schemas
@@ -20,11 +20,11 @@ use Rattle.schema.specs.declared.reading.Types.{Types}
 use Rattle.schema.specs.inner.Reading.{AreTypesOf, TypesRefused, EdgesRefused}
 
 -- every common type ends where all are written
-pub all_end : (commons : Declarations) (known : Knowledge) → AreWritten commons known → SomeStandsForNone commons → ⊥
+pub all_end : (commons : Declarations) (known : TypeTable) → AreWritten commons known → SomeHasNoExpansion commons → ⊥
 all_end commons known are endless =
     let at = are.all endless.name endless.type endless.declared in
     let stands = are.table endless.name at.0 at.1 in
-    endless.stands_for_none stands.type stands.is_written
+    endless.has_no_expansion stands.type stands.is_written
 
 commons_fault : (s : ResolvedSchema) (f : SchemaFault) → CommonsRefused s.commons f → IsUnsound s f
 commons_fault s _ (outcome.cycle endless) = parsed.type_cycle endless
@@ -32,16 +32,16 @@ commons_fault s _ (outcome.cycle endless) = parsed.type_cycle endless
 pub commons_refused : (s : ResolvedSchema) (f : SchemaFault) → CommonsRefused s.commons f → IsUnsound s f
 commons_refused s f h = commons_fault s f h
 
-edges_fault : (s : ResolvedSchema) → (SomeStandsForNone s.commons → ⊥) → SomeActionIsOnCycle s → IsUnsound s ActionCycle
+edges_fault : (s : ResolvedSchema) → (SomeHasNoExpansion s.commons → ⊥) → SomeActionIsOnCycle s → IsUnsound s ActionCycle
 edges_fault s ends cycle = parsed.action_cycle ends cycle
 
-pub edges_refused : (s : ResolvedSchema) (f : SchemaFault) → (SomeStandsForNone s.commons → ⊥) → EdgesRefused s f → IsUnsound s f
+pub edges_refused : (s : ResolvedSchema) (f : SchemaFault) → (SomeHasNoExpansion s.commons → ⊥) → EdgesRefused s f → IsUnsound s f
 edges_refused s f ends h = subst (λ (g : SchemaFault). IsUnsound s g) (sym h.0) (edges_fault s ends h.1)
 
-declared_of : (commons : Declarations) (q : List ℕ) (t : Cedar) → WrittenOut commons (qualified.common q) t → (r : Qualified) × Declares commons q r
+declared_of : (commons : Declarations) (q : List ℕ) (t : Cedar) → IsExpansion commons (qualified.common q) t → (r : Qualified) × Declares commons q r
 declared_of commons _ _ (written.common q r t d w) = (r, d)
 
-sizes_fault : (s : ResolvedSchema) (f : SchemaFault) → (SomeStandsForNone s.commons → ⊥) → (SomeActionIsOnCycle s → ⊥) → SizesRefused s.commons f → IsUnsound s f
+sizes_fault : (s : ResolvedSchema) (f : SchemaFault) → (SomeHasNoExpansion s.commons → ⊥) → (SomeActionIsOnCycle s → ⊥) → SizesRefused s.commons f → IsUnsound s f
 sizes_fault s _ ends no_cycle (outcome.large_common large) =
     let declared = declared_of s.commons large.name large.type large.is_written in
     parsed.too_large ends no_cycle (record {
@@ -52,10 +52,10 @@ sizes_fault s _ ends no_cycle (outcome.large_common large) =
       too_large = large.too_large;
     })
 
-pub sizes_refused : (s : ResolvedSchema) (f : SchemaFault) → (SomeStandsForNone s.commons → ⊥) → (SomeActionIsOnCycle s → ⊥) → SizesRefused s.commons f → IsUnsound s f
+pub sizes_refused : (s : ResolvedSchema) (f : SchemaFault) → (SomeHasNoExpansion s.commons → ⊥) → (SomeActionIsOnCycle s → ⊥) → SizesRefused s.commons f → IsUnsound s f
 sizes_refused s f ends no_cycle h = sizes_fault s f ends no_cycle h
 
-type_fault : (s : ResolvedSchema) (r : Qualified) (f : SchemaFault) → (SomeStandsForNone s.commons → ⊥) → (SomeActionIsOnCycle s → ⊥) → IsShapeOrContext s r → TypeRefused s.commons r f → IsUnsound s f
+type_fault : (s : ResolvedSchema) (r : Qualified) (f : SchemaFault) → (SomeHasNoExpansion s.commons → ⊥) → (SomeActionIsOnCycle s → ⊥) → IsShapeOrContext s r → TypeRefused s.commons r f → IsUnsound s f
 type_fault s r _ ends no_cycle is (outcome.large_type large) =
     parsed.too_large ends no_cycle (record {
       type = r;
@@ -65,16 +65,16 @@ type_fault s r _ ends no_cycle is (outcome.large_type large) =
       too_large = large.large;
     })
 
-pub types_refused : (s : ResolvedSchema) (f : SchemaFault) → (SomeStandsForNone s.commons → ⊥) → (SomeActionIsOnCycle s → ⊥) → TypesRefused s.commons s f → IsUnsound s f
+pub types_refused : (s : ResolvedSchema) (f : SchemaFault) → (SomeHasNoExpansion s.commons → ⊥) → (SomeActionIsOnCycle s → ⊥) → TypesRefused s.commons s f → IsUnsound s f
 types_refused s f ends no_cycle h = type_fault s h.0 f ends no_cycle h.1 h.2
 
 -- each shape and each context was written out
 pub records_written : (s : ResolvedSchema) (t : Types) → AreTypesOf s.commons s t → (r : Qualified) → IsShapeOrContext s r → IsWritten s.commons r
-records_written s t are r (inl e) = are.shapes.told e.0 e.1 r e.2
-records_written s t are r (inr a) = are.are.told a.0 a.1 a.2.0 a.2.1 r a.2.2
+records_written s t are r (inl e) = are.shapes.also e.0 e.1 r e.2
+records_written s t are r (inr a) = are.are.also a.0 a.1 a.2.0 a.2.1 r a.2.2
 
-module _ (s : ResolvedSchema) (known : Knowledge) (are : AreWritten s.commons known) (whole : AreWhole s.commons known) (records : (r : Qualified) → IsShapeOrContext s r → IsWritten s.commons r) where
-  stands_written : (r : Qualified) → StandsIn s r → IsWritten s.commons r
+module _ (s : ResolvedSchema) (known : TypeTable) (are : AreWritten s.commons known) (whole : AreWhole s.commons known) (records : (r : Qualified) → IsShapeOrContext s r → IsWritten s.commons r) where
+  stands_written : (r : Qualified) → IsSchemaType s r → IsWritten s.commons r
   stands_written _ (schemas.common q r d) =
       let at = are.all q r d in
       let it = whole q r d at.0 at.1 in

@@ -59,10 +59,10 @@ other_key_step a d w ks named may other =
 -- ---- what a key says
 
 pub closed_by : (d : Data) (o : Option Data) → get (codes "additionalAttributes") d ≡ o → IsClosed d ⊎ (closed_in (present o) ≡ failed BadShape)
-closed_by d None at = inl (says.unsaid (keys.nothing at))
-closed_by d (Some json.null) at = inl (says.unsaid (keys.is_null at))
+closed_by d None at = inl (says.key_absent (keys.nothing at))
+closed_by d (Some json.null) at = inl (says.key_absent (keys.is_null at))
 closed_by d (Some (json.boolean true)) at = inr refl
-closed_by d (Some (json.boolean false)) at = inl (says.said at)
+closed_by d (Some (json.boolean false)) at = inl (says.key_given at)
 closed_by d (Some (json.number n)) at = inr refl
 closed_by d (Some (json.string s)) at = inr refl
 closed_by d (Some (json.array ds)) at = inr refl
@@ -78,9 +78,9 @@ abbrev Required : Data → Type 0
 Required d = (b : Bool) × IsRequired d b
 
 pub required_by : (d : Data) (o : Option Data) → get (codes "required") d ≡ o → Required d ⊎ (truth_or true (present o) ≡ failed BadShape)
-required_by d None at = inl (true, says.unsaid (keys.nothing at))
-required_by d (Some json.null) at = inl (true, says.unsaid (keys.is_null at))
-required_by d (Some (json.boolean b)) at = inl (b, says.said b at)
+required_by d None at = inl (true, says.key_absent (keys.nothing at))
+required_by d (Some json.null) at = inl (true, says.key_absent (keys.is_null at))
+required_by d (Some (json.boolean b)) at = inl (b, says.key_given b at)
 required_by d (Some (json.number n)) at = inr refl
 required_by d (Some (json.string s)) at = inr refl
 required_by d (Some (json.array ds)) at = inr refl

@@ -48,12 +48,12 @@ closed_said : (d : Data) → get (codes "additionalAttributes") d ≡ Some (json
 closed_said d at = ap (λ (o : Option Data). closed_in (present o)) at
 
 pub is_closed : (d : Data) → IsClosed d → closed_in (optional (codes "additionalAttributes") d) ≡ done tt
-is_closed d (says.unsaid h) = ap closed_in (absent_is (codes "additionalAttributes") d h)
-is_closed d (says.said at) = closed_said d at
+is_closed d (says.key_absent h) = ap closed_in (absent_is (codes "additionalAttributes") d h)
+is_closed d (says.key_given at) = closed_said d at
 
 pub is_required : (d : Data) (b : Bool) → IsRequired d b → required_in d ≡ done b
-is_required d b (says.unsaid h) = ap (truth_or true) (absent_is (codes "required") d h)
-is_required d b (says.said c at) = ap (λ (o : Option Data). truth_or true (present o)) at
+is_required d b (says.key_absent h) = ap (truth_or true) (absent_is (codes "required") d h)
+is_required d b (says.key_given c at) = ap (λ (o : Option Data). truth_or true (present o)) at
 
 -- ---- one step of reading
 

@@ -4,12 +4,12 @@ use Rattle.std.specs.Prelude.{Contains, ⊤}
 use Rattle.std.specs.BTreeMap.{get}
 use Rattle.values.specs.declared.entity_uid.EntityUid.{EntityUid}
 use Rattle.schema_types.specs.CedarViews.{cedar_view}
-use Rattle.schema_types.specs.WrittenOut.{Declarations}
+use Rattle.schema_types.specs.Expansions.{Declarations}
 use Rattle.schema_types.specs.declared.cedar.CedarType.{CedarType}
 use Rattle.schema_names.specs.Qualifying.{ResolvedUse, ResolvedAction}
 use Rattle.schema.specs.declared.parts.Place.{Place}
 use Rattle.schema.specs.Schemas.{place_cmp, IsRecordOf}
-use Rattle.schema.specs.inner.Filling.{SomeMay, SomeMust, AllTold}
+use Rattle.schema.specs.inner.Filling.{SomeMay, SomeMust, HoldsForEach}
 use Rattle.schema.specs.Places.{place_of}
 use Rattle.schema.specs.inner.Making.{Places, PlaceMay, PlaceMust, AddsPrincipals, UseMay, UseMust, AddsUse, ActionMay, ActionMust, AddsAction, IsWrittenAt, IsContextWritten}
 use Rattle.schema.proofs.FillingLemmas.{adds_as}
@@ -45,5 +45,5 @@ module _ (commons : Declarations) (action : EntityUid) (u : ResolvedUse) (contex
   used_as told old new h =
       adds_as (SomeMay (λ q. SomeMay (PlaceMay action context q) u.resources) u.principals) (UseMay commons action u)
       (SomeMust (λ q. SomeMust (PlaceMust action q) u.resources) u.principals) (UseMust action u)
-      (AllTold (λ q. AllTold (λ r. ⊤) u.resources) u.principals) (IsWrittenAt commons u.context) (get place_cmp old) (get place_cmp new)
+      (HoldsForEach (λ q. HoldsForEach (λ r. ⊤) u.resources) u.principals) (IsWrittenAt commons u.context) (get place_cmp old) (get place_cmp new)
       may_use must_use (λ t. told) h

@@ -6,7 +6,7 @@ use Rattle.values.specs.declared.entity_uid.EntityUid.{EntityUid}
 use Rattle.ancestor_search.specs.Deciding.{IsAncestor-joined}
 use Rattle.schema_types.specs.Qualified.{Qualified}
 use Rattle.schema_types.specs.Cedar.{Cedar, CedarFields, record_of, no_fields, IsTooLarge}
-use Rattle.schema_types.specs.WrittenOut.{Declares, WrittenOut}
+use Rattle.schema_types.specs.Expansions.{Declares, IsExpansion}
 use Rattle.schema_types.specs.Ascending.{Ascend, KeysAscend}
 use Rattle.schema_types.specs.AscendingLaw.{WrittenTypesAscend}
 use Rattle.schema_types.specs.Law.{OneWritten, WrittenEntitiesAreNamed}
@@ -62,7 +62,7 @@ module _ (named : WrittenEntitiesAreNamed) (s : ResolvedSchema) (own : NamesItsE
 -- ---- all of it
 
 module _ (one : OneWritten) (written : WrittenTypesAscend) (s : ResolvedSchema) (once : DeclaresOnce s) (ascend : TypesAscend s)
-    (records : (r : Qualified) → IsShapeOrContext s r → (t : Cedar) → WrittenOut s.commons r t → (fs : CedarFields) × (t ≡ record_of fs)) (sound : IsSound s)
+    (records : (r : Qualified) → IsShapeOrContext s r → (t : Cedar) → IsExpansion s.commons r t → (fs : CedarFields) × (t ≡ record_of fs)) (sound : IsSound s)
     (named : WrittenEntitiesAreNamed) (own : NamesItsEntityTypes s) (called : AreNamed s) where
   attributes : (o : Option Qualified) → ((r : Qualified) → o ≡ Some r → IsShapeOrContext s r) → (t : Cedar) → IsRecordOf s.commons o t → AreAttributes t
   attributes None here t e = no_attributes t e

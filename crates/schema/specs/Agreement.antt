@@ -1,7 +1,7 @@
 -- Defines that a parsing function gives exactly what JSON states, and that JSON has one outcome.
 use Rattle.std.specs.Prelude.{◌≡◌, ◌↔◌, ◌⊎◌, Result, Ok, Err}
 
--- `Gives r States Refuses` holds if `r` is the value that `States` holds of, or the error that `Refuses` holds of.
+-- `Gives r States Refuses` holds if `r` is the value of which `States` holds, or the error of which `Refuses` holds.
 pub record Gives {A F : Type 0} (r : Result A F) (States : A → Type 0) (Refuses : F → Type 0) : Type 0 where
   pub value : (a : A) → (r ≡ Ok a) ↔ States a
   pub fault : (f : F) → (r ≡ Err f) ↔ Refuses f

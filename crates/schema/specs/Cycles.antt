@@ -4,6 +4,6 @@
 use Rattle.values.specs.declared.entity_uid.EntityUid.{EntityUid}
 use Rattle.ancestor_search.specs.Hierarchy.{Parents, IsOnCycle}
 
--- `HasCycle parents` holds if something is its own ancestor.
+-- `HasCycle parents` holds if some entity of the hierarchy `parents` is its own ancestor.
 abbrev pub HasCycle : Parents → Type 0
 HasCycle parents = (u : EntityUid) × IsOnCycle parents u

@@ -5,7 +5,7 @@ use Rattle.serde_json.specs.Data.{Data}
 use Rattle.schema_types.specs.TypeShape.{type_of}
 use Rattle.schema_names.specs.schema_file.FileForm.{NamespaceOf, stated}
 use Rattle.schema_names.specs.Qualifying.{ResolvedSchema, qualified}
-use Rattle.schema_names.specs.Naming.{StatesNamed}
+use Rattle.schema_names.specs.Naming.{DescribesFile}
 use Rattle.schema.specs.Agreement.{Gives, HasOneOutcome}
 use Rattle.schema.specs.StatedTypes.{StatesType, RefusesType}
 use Rattle.schema.specs.StatedFiles.{StatesFile, RefusesFile}
@@ -14,7 +14,7 @@ use Rattle.schema.specs.Schemas.{HasDeclarations}
 
 -- ---- types
 
--- `TypesAreRead`: the function gives the type that `d` states, or the error if it states none.
+-- `TypesAreRead`: the function `type_of` gives the type that `d` states, or the error if it states none.
 abbrev pub TypesAreRead : Type 0
 TypesAreRead = (is_attribute : Bool) (d : Data)
     → Gives (type_of is_attribute d) (StatesType is_attribute d) (RefusesType is_attribute d)
@@ -26,7 +26,7 @@ TypesHaveOneOutcome = (is_attribute : Bool) (d : Data)
 
 -- ---- files
 
--- `FilesAreRead`: the function gives the namespaces that `d` states, or the error if it states no file.
+-- `FilesAreRead`: the function `stated` gives the namespaces that `d` states, or the error if it states no file.
 abbrev pub FilesAreRead : Type 0
 FilesAreRead = (d : Data) → Gives (stated d) (StatesFile d) (RefusesFile d)
 
@@ -36,15 +36,16 @@ FilesHaveOneOutcome = (d : Data) → HasOneOutcome (StatesFile d) (RefusesFile d
 
 -- ---- names
 
--- `NamesAreResolved`: the function gives the declarations of `ns` with their names resolved, or the error if a name
--- means nothing.
+-- `NamesAreResolved`: the function `qualified` gives the declarations of `ns` with their names resolved, or the error
+-- if a name means nothing.
 abbrev pub NamesAreResolved : Type 0
 NamesAreResolved = (ns : List NamespaceOf) → Gives (qualified ns) (ResolvesFile ns) (RefusesNames ns)
 
--- `NamesHaveOneOutcome`: each name means one declaration, or some name means none, and never both.
+-- `NamesHaveOneOutcome`: the names of a file resolve in exactly one way, or are rejected with exactly one error, and
+-- never both.
 abbrev pub NamesHaveOneOutcome : Type 0
 NamesHaveOneOutcome = (ns : List NamespaceOf) → HasOneOutcome (ResolvesFile ns) (RefusesNames ns)
 
--- `DeclarationsAreRead`: the declarations that are parsed of `bytes` are those that they state.
+-- `DeclarationsAreRead`: parsing `bytes` gives the declarations `s` if and only if `bytes` state them.
 abbrev pub DeclarationsAreRead : Type 0
-DeclarationsAreRead = (bytes : List ℕ) (s : ResolvedSchema) → StatesNamed bytes s ↔ HasDeclarations bytes s
+DeclarationsAreRead = (bytes : List ℕ) (s : ResolvedSchema) → DescribesFile bytes s ↔ HasDeclarations bytes s

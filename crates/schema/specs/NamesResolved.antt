@@ -4,7 +4,7 @@
 -- `appliesTo`.
 -- Rules of this product: a name without `::` is looked up in its own namespace, then in the empty one; a common type
 -- goes before an entity type, and that before a primitive; an action of the empty namespace has the type `Action`, one
--- of another `NS::Action`; a member of `memberOf` without a type is of the same namespace; the error.
+-- of another `NS::Action`; a member of `memberOf` without a type is of the same namespace; the error is 22.
 use Prim.Native.Char.{code}
 use Rattle.std.specs.Prelude.{◌≡◌, ℕ, List, Bool, Option, Some, None, Contains, codes}
 use Rattle.std.specs.List.{AllZip}
@@ -41,12 +41,12 @@ IsAction ns u =
 
 -- ---- names
 
--- `HasNamespace w` holds if the name `w` has a namespace in it.
+-- `HasNamespace w` holds if the name `w` contains a namespace: it has a `:`.
 abbrev pub HasNamespace : List ℕ → Type 0
 HasNamespace w = Contains w (code ":")
 
--- `Means IsDeclared own w q` holds if the name `w`, in the namespace `own`, is that of `q`, which is declared: `w`
--- itself if it has a namespace; otherwise `w` in its own namespace, else in the empty one.
+-- `Means IsDeclared own w q` holds if the name `w`, used in the namespace `own`, means the full name `q`, which is
+-- declared: `w` itself if it contains a namespace; otherwise `w` in `own` if that is declared, else in the empty one.
 pub data Means (IsDeclared : List ℕ → Type 0) (own : Option (List ℕ)) (w : List ℕ) : List ℕ → Type 0 where
   whole : HasNamespace w → IsDeclared w → Means IsDeclared own w w
   in_own : (HasNamespace w → ⊥) → IsDeclared (full_name own w) → Means IsDeclared own w (full_name own w)
@@ -56,7 +56,8 @@ pub data Means (IsDeclared : List ℕ → Type 0) (own : Option (List ℕ)) (w :
 abbrev pub MeansNone : (List ℕ → Type 0) → Option (List ℕ) → List ℕ → Type 0
 MeansNone IsDeclared own w = (q : List ℕ) → Means IsDeclared own w q → ⊥
 
--- `MeansAction ns own p u` holds if the member `p` of `memberOf`, in the namespace `own`, is the action `u`.
+-- `MeansAction ns own p u` holds if the member `p` of `memberOf`, in the namespace `own`, means the action `u`, which
+-- is declared.
 pub data MeansAction (ns : List NamespaceOf) (own : Option (List ℕ)) (p : StatedParent) : EntityUid → Type 0 where
   untyped : p.type_name ≡ None → IsAction ns (action_uid (action_type own) p.id)
       → MeansAction ns own p (action_uid (action_type own) p.id)
@@ -98,6 +99,7 @@ mutual
     common : (w q : List ℕ) → Means (IsCommon ns) own w q → ResolvesType ns own (raw.common w) (qualified.common q)
     either : (w : List ℕ) (t : Qualified) → MeansEither ns own w t → ResolvesType ns own (raw.entity_or_common w) t
 
+  -- `ResolvesFields ns own rs ts` holds if `ts` are the attributes `rs` with the names in their types resolved.
   pub data ResolvesFields (ns : List NamespaceOf) (own : Option (List ℕ)) : RawFields → QualifiedFields → Type 0 where
     no_fields : ResolvesFields ns own raw.no_fields qualified.no_fields
     field : (key : List ℕ) (r : Raw) (t : Qualified) (required : Bool) (rs : RawFields) (ts : QualifiedFields)
@@ -114,6 +116,7 @@ mutual
     neither : (w : List ℕ) → ((t : Qualified) → MeansEither ns own w t → ⊥)
         → HasUnknown ns own (raw.entity_or_common w)
 
+  -- `SomeFieldHasUnknown ns own rs` holds if some name in the type of one of the attributes `rs` means nothing.
   pub data SomeFieldHasUnknown (ns : List NamespaceOf) (own : Option (List ℕ)) : RawFields → Type 0 where
     in_first : (key : List ℕ) (r : Raw) (required : Bool) (rs : RawFields) → HasUnknown ns own r
         → SomeFieldHasUnknown ns own (raw.field key r required rs)
@@ -133,19 +136,21 @@ pub record ResolvesCommon (ns : List NamespaceOf) (own : Option (List ℕ)) (c :
   pub name : d.0 ≡ full_name own c.0
   pub type : ResolvesType ns own c.1 d.1
 
--- `ResolvesEntityType`, `ResolvesUse` and `ResolvesAction` are the same for an entity type, for what an action applies
--- to, and for an action.
+-- `ResolvesEntityType ns own e f`, `ResolvesUse ns own u v` and `ResolvesAction ns own a b` state the same of an entity
+-- type, of what an action applies to, and of an action: the last argument is the one before it with its names resolved.
 pub record ResolvesEntityType (ns : List NamespaceOf) (own : Option (List ℕ)) (e : EntityTypeOf)
     (f : ResolvedEntityType) : Type 0 where
   pub name : f.name ≡ full_name own e.name
   pub parents : AllZip (Means (IsEntityType ns) own) e.parents f.parents
   pub shape : BothOrNeither (ResolvesType ns own) e.shape f.shape
 
+-- what an action applies to
 pub record ResolvesUse (ns : List NamespaceOf) (own : Option (List ℕ)) (u : UseOf) (v : ResolvedUse) : Type 0 where
   pub principals : AllZip (Means (IsEntityType ns) own) u.principals v.principals
   pub resources : AllZip (Means (IsEntityType ns) own) u.resources v.resources
   pub context : BothOrNeither (ResolvesType ns own) u.context v.context
 
+-- an action
 pub record ResolvesAction (ns : List NamespaceOf) (own : Option (List ℕ)) (a : ActionOf) (b : ResolvedAction) : Type 0
   where
     pub uid : b.uid ≡ action_uid (action_type own) a.id
@@ -167,31 +172,31 @@ pub record ResolvesFile (ns : List NamespaceOf) (s : ResolvedSchema) : Type 0 wh
 
 -- ---- names that mean nothing
 
--- `UseHasUnknown ns own u` holds if a name in what an action applies to means nothing.
+-- `UseHasUnknown ns own u` holds if a name in `u`, what an action of the namespace `own` applies to, means nothing.
 pub data UseHasUnknown (ns : List NamespaceOf) (own : Option (List ℕ)) (u : UseOf) : Type 0 where
   in_principals : (w : List ℕ) → Contains u.principals w → MeansNone (IsEntityType ns) own w → UseHasUnknown ns own u
   in_resources : (w : List ℕ) → Contains u.resources w → MeansNone (IsEntityType ns) own w → UseHasUnknown ns own u
   in_context : (r : Raw) → u.context ≡ Some r → HasUnknown ns own r → UseHasUnknown ns own u
 
--- `EntityTypeHasUnknown ns own e` holds if a name in the entity type `e` means nothing.
+-- `EntityTypeHasUnknown ns own e` holds if a name in the entity type `e`, of the namespace `own`, means nothing.
 pub data EntityTypeHasUnknown (ns : List NamespaceOf) (own : Option (List ℕ)) (e : EntityTypeOf) : Type 0 where
   in_parents : (w : List ℕ) → Contains e.parents w → MeansNone (IsEntityType ns) own w → EntityTypeHasUnknown ns own e
   in_shape : (r : Raw) → e.shape ≡ Some r → HasUnknown ns own r → EntityTypeHasUnknown ns own e
 
--- `ActionHasUnknown ns own a` holds if a name in the action `a` means nothing.
+-- `ActionHasUnknown ns own a` holds if a name in the action `a`, of the namespace `own`, means nothing.
 pub data ActionHasUnknown (ns : List NamespaceOf) (own : Option (List ℕ)) (a : ActionOf) : Type 0 where
   in_parents : (p : StatedParent) → Contains a.parents p → ((u : EntityUid) → MeansAction ns own p u → ⊥)
       → ActionHasUnknown ns own a
   in_use : (u : UseOf) → a.applies_to ≡ Some u → UseHasUnknown ns own u → ActionHasUnknown ns own a
 
--- `NamespaceHasUnknown ns n` holds if a name in the namespace `n` means nothing that `ns` declare.
+-- `NamespaceHasUnknown ns n` holds if a name in the namespace `n` means nothing that the namespaces `ns` declare.
 pub data NamespaceHasUnknown (ns : List NamespaceOf) (n : NamespaceOf) : Type 0 where
   in_common : (c : List ℕ × Raw) → Contains n.commons c → HasUnknown ns n.name c.1 → NamespaceHasUnknown ns n
   in_entity_type : (e : EntityTypeOf) → Contains n.entity_types e → EntityTypeHasUnknown ns n.name e
       → NamespaceHasUnknown ns n
   in_action : (a : ActionOf) → Contains n.actions a → ActionHasUnknown ns n.name a → NamespaceHasUnknown ns n
 
--- `FileHasUnknown ns` holds if a name in one of `ns` means nothing that they declare.
+-- `FileHasUnknown ns` holds if a name in one of the namespaces `ns` means nothing that these declare.
 abbrev pub FileHasUnknown : List NamespaceOf → Type 0
 FileHasUnknown ns = (n : NamespaceOf) × Contains ns n × NamespaceHasUnknown ns n
 

@@ -1,4 +1,4 @@
--- Defines which types are not records, directly or by name, and that some shape or context is not one.
+-- Defines which types are not records, directly or by name, and when some shape or context of a file is not a record.
 -- Source: Cedar reference guide 4.0, "Schema JSON format": `shape`, `context`.
 -- Rules of this product: names are followed as far as they are declared.
 use Rattle.std.specs.Prelude.{◌≡◌, ℕ, List, Option, Some, Contains}
@@ -9,8 +9,8 @@ use Rattle.schema_types.specs.Names.{full_name}
 use Rattle.schema_names.specs.schema_file.FileForm.{EntityTypeOf, UseOf, ActionOf, NamespaceOf}
 use Rattle.schema.specs.NamesResolved.{IsCommon, IsEntityType, Means, MeansNone, IsPrimitive}
 
--- `IsNoRecord ns own r` holds if the type `r`, of the namespace `own`, is not a record: it has another form, or its
--- name leads to such a type. (A name that means nothing leads nowhere.)
+-- `IsNoRecord ns own r` holds if the type `r`, of the namespace `own`, is not a record: it has another form, or it is a
+-- name that leads to such a type. (It does not hold of a name that means nothing.)
 pub data IsNoRecord (ns : List NamespaceOf) : Option (List ℕ) → Raw → Type 0 where
   text : (own : Option (List ℕ)) → IsNoRecord ns own raw.text
   long : (own : Option (List ℕ)) → IsNoRecord ns own raw.long
@@ -19,7 +19,7 @@ pub data IsNoRecord (ns : List NamespaceOf) : Option (List ℕ) → Raw → Type
   ipaddr : (own : Option (List ℕ)) → IsNoRecord ns own raw.ipaddr
   set : (own : Option (List ℕ)) (r : Raw) → IsNoRecord ns own (raw.set r)
   entity : (own : Option (List ℕ)) (w : List ℕ) → IsNoRecord ns own (raw.entity w)
-  -- the common type `c` of the namespace `n`
+  -- the name `w` means the common type `c` of the namespace `n`
   common : (own : Option (List ℕ)) (w : List ℕ) (n : NamespaceOf) (c : List ℕ × Raw) → Contains ns n
       → Contains n.commons c → Means (IsCommon ns) own w (full_name n.name c.0) → IsNoRecord ns n.name c.1
       → IsNoRecord ns own (raw.common w)

@@ -1,5 +1,5 @@
--- Defines the content at a key of an object, in an array and in an object, by what each part states, and why it states
--- nothing.
+-- Defines what the value at a key, the items of an array and the members of an object state, and when they state
+-- nothing. `States` says what a single value states, and `IsNone` that it states nothing.
 -- Source: RFC 8259, sections 4 and 5.
 -- Rules of this product: null at an optional key counts as missing.
 use Rattle.std.specs.Prelude.{◌≡◌, ℕ, List, [], ◌∷◌, Option, Some, None, Contains}
@@ -11,33 +11,34 @@ use Rattle.schema.specs.ObjectKeys.{IsAbsent}
 
 -- ---- at a key
 
--- `HasAt key d found` holds if `d` has `found` at `key`, other than null.
+-- `HasAt key d found` holds if `d` has the value `found`, which is not null, at `key`.
 pub record HasAt (key : List ℕ) (d found : Data) : Type 0 where
   pub stands : get key d ≡ Some found
   pub counts : found ≡ null → ⊥
 
--- `GivenAt States key d x` holds if `d` has at the required key `key` what states `x`.
+-- `GivenAt States key d x` holds if `d` has a value that states `x` at the required key `key`.
 pub record GivenAt {A : Type 0} (States : Data → A → Type 0) (key : List ℕ) (d : Data) (x : A) : Type 0 where
   pub found : Data
   pub stands : get key d ≡ Some found
   pub states : States found x
 
--- `NotGivenAt IsNone key d` holds if `d` has nothing at `key`, or what states nothing.
+-- `NotGivenAt IsNone key d` holds if `d` has no value at the required key `key`, or one that states nothing.
 pub data NotGivenAt (IsNone : Data → Type 0) (key : List ℕ) (d : Data) : Type 0 where
   nothing : get key d ≡ None → NotGivenAt IsNone key d
   wrong : (found : Data) → get key d ≡ Some found → IsNone found → NotGivenAt IsNone key d
 
--- `MaybeAt States key d o` holds if `o` is what `d` states at the optional key `key`.
+-- `MaybeAt States key d o` holds if `o` is what `d` states at the optional key `key`; `None` if the key is absent.
 pub data MaybeAt {A : Type 0} (States : Data → A → Type 0) (key : List ℕ) (d : Data) : Option A → Type 0 where
   stands : (found : Data) (x : A) → HasAt key d found → States found x → MaybeAt States key d (Some x)
   absent : IsAbsent key d → MaybeAt States key d None
 
--- `ListAt States key d xs` holds if `xs` is the list that `d` states at the optional key `key`; absent is empty.
+-- `ListAt States key d xs` holds if `xs` is the list that `d` states at the optional key `key`; empty if the key is
+-- absent.
 pub data ListAt {A : Type 0} (States : Data → List A → Type 0) (key : List ℕ) (d : Data) : List A → Type 0 where
   stands : (found : Data) (xs : List A) → HasAt key d found → States found xs → ListAt States key d xs
   absent : IsAbsent key d → ListAt States key d []
 
--- `WrongAt IsNone key d` holds if `d` has at the optional key `key` what states nothing.
+-- `WrongAt IsNone key d` holds if `d` has, at the optional key `key`, a value other than null that states nothing.
 pub record WrongAt (IsNone : Data → Type 0) (key : List ℕ) (d : Data) : Type 0 where
   pub found : Data
   pub has : HasAt key d found

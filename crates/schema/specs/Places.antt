@@ -1,4 +1,4 @@
--- Defines the order of places, and environments.
+-- Defines places, their order, and the environment at a place.
 -- Source: Cedar reference guide 4.0, "Schema JSON format", `appliesTo`.
 -- Rules of this product: the order of places.
 use Rattle.std.specs.Prelude.{ℕ, List}
@@ -10,17 +10,17 @@ use Rattle.schema_types.specs.declared.cedar.CedarType.{CedarType}
 use Rattle.schema.specs.declared.parts.Environment.{Environment}
 use Rattle.schema.specs.declared.parts.Place.{Place}
 
--- A place is an action with the types of principal and resource. `place_cmp p q` orders places by action, then by
--- principal type, then by resource type.
+-- A place is an action with the types of principal and resource. `place_cmp p q` compares the places `p` and `q` by
+-- action, then by principal type, then by resource type.
 abbrev pub place_cmp : Place → Place → Ordering
 place_cmp p q =
     ordering_then (uid_cmp p.action q.action)
     (ordering_then (text_cmp p.principal q.principal) (text_cmp p.resource q.resource))
 
--- `place_of action principal resource` is this place.
+-- `place_of action principal resource` is the place of the action `action` with these two types.
 abbrev pub place_of : EntityUid → List ℕ → List ℕ → Place
 place_of action principal resource = record { action = action; principal = principal; resource = resource }
 
--- `environment_of e` is a place with the type of its action's context.
+-- `environment_of e` is the environment at the place `e.0`, with the context type `e.1`.
 abbrev pub environment_of : Place × CedarType → Environment
 environment_of e = record { place = e.0; context = e.1 }

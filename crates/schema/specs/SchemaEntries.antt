@@ -1,7 +1,7 @@
--- Defines the entries of a schema: the entries of its maps, which ascend by key.
+-- Defines the parts of a schema, with each map as the list of its entries, which ascend by key.
 use Rattle.std.specs.Prelude.{ℕ, List}
 use Rattle.std.specs.BTreeMap.{BTreeMap}
-use Rattle.schema.specs.declared.spans.Span.{Span}
+use Rattle.schema.specs.declared.spans.NumberSpan.{NumberSpan}
 use Rattle.values.specs.declared.entity_uid.EntityUid.{EntityUid}
 use Rattle.schema.specs.declared.parts.Environment.{Environment}
 use Rattle.schema.specs.declared.parts.EntityDecl.{EntityDecl}
@@ -17,25 +17,25 @@ pub record SchemaEntries : Type 0 where
   pub member_of : List (EntityUid × List EntityUid)
   -- the number of each action
   pub action_numbers : List (EntityUid × ℕ)
-  -- at the index of each action's number, the ranges of its ancestors' numbers
-  pub actions_above : List (List Span)
+  -- at the index of each action's number, the spans of its ancestors' numbers
+  pub action_ancestor_spans : List (List NumberSpan)
   -- the number of each entity type
   pub type_numbers : List (List ℕ × ℕ)
-  -- at the index of each type's number, the ranges of its ancestors' numbers
-  pub types_above : List (List Span)
+  -- at the index of each type's number, the spans of its ancestors' numbers
+  pub type_ancestor_spans : List (List NumberSpan)
 
--- `kept label environments ..` are these parts, with the entries of each map.
+-- `kept label environments ..` collects these parts of a schema, with each map as the list of its entries.
 abbrev pub kept : List ℕ → List Environment → List EntityUid → BTreeMap (List ℕ) EntityDecl
-    → BTreeMap EntityUid (List EntityUid) → BTreeMap EntityUid ℕ → List (List Span) → BTreeMap (List ℕ) ℕ
-    → List (List Span) → SchemaEntries
-kept label environments actions shapes member_of action_numbers actions_above type_numbers types_above = record {
+    → BTreeMap EntityUid (List EntityUid) → BTreeMap EntityUid ℕ → List (List NumberSpan) → BTreeMap (List ℕ) ℕ
+    → List (List NumberSpan) → SchemaEntries
+kept label environments actions shapes member_of action_numbers action_spans type_numbers type_spans = record {
   label = label;
   environments = environments;
   actions = actions;
   entity_types = shapes.entries;
   member_of = member_of.entries;
   action_numbers = action_numbers.entries;
-  actions_above = actions_above;
+  action_ancestor_spans = action_spans;
   type_numbers = type_numbers.entries;
-  types_above = types_above;
+  type_ancestor_spans = type_spans;
 }

@@ -1,7 +1,8 @@
 -- Defines the schema that bytes state, and the error of bytes that state none, by its cause.
 -- Source: Cedar reference guide 4.0, "Schema JSON format": `shape`, `memberOfTypes`, `memberOf`, `appliesTo`.
--- Rules of this product: the limits on types, that no action is its own ancestor; the order of the errors: 20, 21 over
--- the whole file, 22, 23, 24, 25; the label of a schema is SHA-256 (FIPS 180-4) of its bytes.
+-- Rules of this product: the limits on types (10,000 parts, 64 deep); no action is its own ancestor; the order of the
+-- errors: not JSON (20), then the form of the whole file (21), unknown names (22), cycles of common types (23), cycles
+-- of actions (24), types that are too large (25); the label of a schema is SHA-256 (FIPS 180-4) of its bytes.
 use Rattle.std.specs.Prelude.{◌≡◌, ◌↔◌, ℕ, List, [], ◌∷◌, map, Contains, IsTrue, IsSome, Bool, Option, Some, None}
 use Rattle.std.specs.List.Sorted.{IsStrictlySortedBy}
 use Rattle.sha2.specs.Sha256.{sha256}
@@ -9,12 +10,12 @@ use Rattle.hex.specs.Hex.{encode_lower}
 use Rattle.serde_json.specs.Data.{Data}
 use Rattle.json_words.specs.Json.{json_of}
 use Rattle.values.specs.declared.entity_uid.EntityUid.{EntityUid}
-use Rattle.ancestor_search.specs.Hierarchy.{Parents, IsAncestor, IsAllAbove, IsAscending, IsOnCycle, no_parents}
+use Rattle.ancestor_search.specs.Hierarchy.{Parents, IsAncestor, AreAllAncestorsOf, IsAscending, IsOnCycle, no_parents}
 use Rattle.ancestor_search.specs.Hierarchy.{with_parents}
 use Rattle.schema_types.specs.Qualified as qualified
 use Rattle.schema_types.specs.Qualified.{Qualified}
 use Rattle.schema_types.specs.Cedar.{Cedar, record_of, no_fields, IsTooLarge}
-use Rattle.schema_types.specs.WrittenOut.{Declarations, Declares, WrittenOut}
+use Rattle.schema_types.specs.Expansions.{Declarations, Declares, IsExpansion}
 use Rattle.schema_types.specs.Mentions.{Leads}
 use Rattle.schema_types.specs.declared.fault.SchemaFault.{SchemaFault}
 use Rattle.schema_types.specs.declared.fault.SchemaFault.TheVariants.{NotJson, BadShape, UnknownName, TypeCycle}
@@ -41,17 +42,18 @@ pub record StatedSchema : Type 0 where
   pub label : List ℕ
   pub environments : List EnvironmentOf
   pub actions : List EntityUid
-  -- of an entity type: its attributes, as a record
+  -- the attributes of a declared entity type, as a record
   pub shape : List ℕ → Option Cedar
-  -- of an action: its parents, as `memberOf` states them
+  -- the parents of a declared action, as `memberOf` states them
   pub member_of : EntityUid → Option (List EntityUid)
+  -- the ancestors of a declared action
   pub ancestors : EntityUid → Option (List EntityUid)
-  -- of the child's type, and of the parent's
+  -- whether one or more steps by `memberOfTypes` lead from the first type, the child's, to the second
   pub may_have_parent : List ℕ → List ℕ → Bool
 
--- `IsActionAbove v u above` holds if the action `u` is declared, and `above` is its ancestor.
-abbrev pub IsActionAbove : StatedSchema → EntityUid → EntityUid → Type 0
-IsActionAbove v u above = (us : List EntityUid) × (v.ancestors u ≡ Some us) × Contains us above
+-- `ActionHasAncestor v u above` holds if the action `u` is declared, and `above` is its ancestor.
+abbrev pub ActionHasAncestor : StatedSchema → EntityUid → EntityUid → Type 0
+ActionHasAncestor v u above = (us : List EntityUid) × (v.ancestors u ≡ Some us) × Contains us above
 
 -- ---- hierarchies
 
@@ -88,23 +90,23 @@ SomeActionIsOnCycle s = (u : EntityUid) × IsOnCycle (action_parents s) u
 -- `IsRecordOf commons r t` holds if `t` is the expansion of a shape or a context; without one it has no attributes.
 abbrev pub IsRecordOf : Declarations → Option Qualified → Cedar → Type 0
 IsRecordOf commons None t = t ≡ record_of no_fields
-IsRecordOf commons (Some r) t = WrittenOut commons r t
+IsRecordOf commons (Some r) t = IsExpansion commons r t
 
--- `StandsIn s r` holds if `r` is a type of the schema: a common type by its name, a shape or a context.
-pub data StandsIn (s : ResolvedSchema) : Qualified → Type 0 where
-  common : (q : List ℕ) (r : Qualified) → Declares s.commons q r → StandsIn s (qualified.common q)
-  shape_or_context : (r : Qualified) → IsShapeOrContext s r → StandsIn s r
+-- `IsSchemaType s r` holds if `r` is a type of the schema: a common type by its name, a shape or a context.
+pub data IsSchemaType (s : ResolvedSchema) : Qualified → Type 0 where
+  common : (q : List ℕ) (r : Qualified) → Declares s.commons q r → IsSchemaType s (qualified.common q)
+  shape_or_context : (r : Qualified) → IsShapeOrContext s r → IsSchemaType s r
 
 -- `IsWritten commons r` holds if `r` has an expansion within the limits.
 abbrev pub IsWritten : Declarations → Qualified → Type 0
-IsWritten commons r = (t : Cedar) × WrittenOut commons r t × (IsTooLarge t → ⊥)
+IsWritten commons r = (t : Cedar) × IsExpansion commons r t × (IsTooLarge t → ⊥)
 
 -- `SomeTypeIsTooLarge s` holds if the expansion of some type is too large.
 pub record SomeTypeIsTooLarge (s : ResolvedSchema) : Type 0 where
   pub type : Qualified
   pub whole : Cedar
-  pub stands : StandsIn s type
-  pub is_written : WrittenOut s.commons type whole
+  pub stands : IsSchemaType s type
+  pub is_written : IsExpansion s.commons type whole
   pub too_large : IsTooLarge whole
 
 -- ---- the schema of a file with resolved names
@@ -134,8 +136,8 @@ IsEnvironment s e = (applied : ResolvedUse) × Applies s e.place applied × IsRe
 abbrev pub IsPlace : ResolvedSchema → Place → Type 0
 IsPlace s p = (applied : ResolvedUse) × Applies s p applied
 
--- `Answers s v` holds if each look-up of `v` finds exactly what `s` declares; lists are in ascending order, without
--- duplicates.
+-- `Answers s v` holds if each look-up of `v` finds exactly what `s` declares. The actions, the ancestors of each action
+-- and the environments ascend, without duplicates; the parents of an action are in the order of its `memberOf`.
 pub record Answers (s : ResolvedSchema) (v : StatedSchema) : Type 0 where
   pub shapes : (n : List ℕ) (t : Cedar) → v.shape n ≡ Some t → IsShape s n t
   pub all_shapes : (e : ResolvedEntityType) → Contains s.entity_types e → IsSome (v.shape e.name)
@@ -145,7 +147,7 @@ pub record Answers (s : ResolvedSchema) (v : StatedSchema) : Type 0 where
       → IsAction s u × (us ≡ action_parents s u)
   pub all_member_of : (u : EntityUid) → IsAction s u → IsSome (v.member_of u)
   pub ancestors : (u : EntityUid) (us : List EntityUid) → v.ancestors u ≡ Some us
-      → IsAction s u × IsAscending us × IsAllAbove (action_parents s) u us
+      → IsAction s u × IsAscending us × AreAllAncestorsOf (action_parents s) u us
   pub all_ancestors : (u : EntityUid) → IsAction s u → IsSome (v.ancestors u)
   pub parents : (child above : List ℕ)
       → IsTrue (v.may_have_parent child above) ↔ IsAncestor (type_parents s) (type_uid above) (type_uid child)
@@ -158,7 +160,7 @@ pub record Answers (s : ResolvedSchema) (v : StatedSchema) : Type 0 where
 -- `IsSound s` holds if no action is its own ancestor, and each type has an expansion within the limits.
 pub record IsSound (s : ResolvedSchema) : Type 0 where
   pub no_cycle : SomeActionIsOnCycle s → ⊥
-  pub is_written : (r : Qualified) → StandsIn s r → IsWritten s.commons r
+  pub is_written : (r : Qualified) → IsSchemaType s r → IsWritten s.commons r
 
 -- `HasContent bytes ns` holds if `bytes` are JSON that states the namespaces `ns`.
 pub record HasContent (bytes : List ℕ) (ns : List NamespaceOf) : Type 0 where
@@ -184,7 +186,8 @@ pub record IsSchemaOf (bytes : List ℕ) (v : StatedSchema) : Type 0 where
   pub label : v.label ≡ encode_lower (sha256 bytes)
   pub answers : Answers named v
 
--- `SomeCommonLeadsBack s` holds if some common type leads back to itself, from a declaration to a name in it.
+-- `SomeCommonLeadsBack s` holds if the declaration of some common type names that type, directly or through the
+-- declarations of other common types.
 abbrev pub SomeCommonLeadsBack : ResolvedSchema → Type 0
 SomeCommonLeadsBack s = (q : List ℕ) × Leads s.commons q q
 
@@ -198,7 +201,7 @@ pub data RefusedFor (bytes : List ℕ) : SchemaFault → Type 0 where
   -- 22: some name denotes no declaration
   unknown_name : (ns : List NamespaceOf) → HasContent bytes ns → (SomeIsNotRecord ns → ⊥) → FileHasUnknown ns
       → RefusedFor bytes UnknownName
-  -- 23: some common type leads back to itself
+  -- 23: the declaration of some common type leads back to that type
   type_cycle : (s : ResolvedSchema) → HasDeclarations bytes s → SomeCommonLeadsBack s → RefusedFor bytes TypeCycle
   -- 24: some action is its own ancestor
   action_cycle : (s : ResolvedSchema) → HasDeclarations bytes s → (SomeCommonLeadsBack s → ⊥)

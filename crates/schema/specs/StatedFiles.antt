@@ -1,7 +1,8 @@
 -- Defines which JSON states which content of a schema file, before names are resolved, and why other JSON does not.
 -- Source: Cedar reference guide 4.0, "Schema JSON format": namespaces, `commonTypes`, `entityTypes`, `actions`.
--- Rules of this product: a namespace may lack each of the three; null at an optional key counts as missing;
--- `annotations` has any value; an action's `attributes` is an object without keys; other keys are rejected; the error.
+-- Rules of this product: a namespace may lack any of the three; null at an optional key counts as missing;
+-- `annotations` has any value; an action's `attributes` is an object without keys; other keys are rejected; the error
+-- is 21.
 use Rattle.std.specs.Prelude.{◌≡◌, ℕ, List, [], ◌∷◌, Option, Some, None, Contains, codes, false}
 use Rattle.serde_json.specs.Data.{Data, string, object, no_members}
 use Rattle.serde_json.specs.Find.{get}
@@ -28,14 +29,15 @@ pub record IsName (d : Data) (name : List ℕ) : Type 0 where
 abbrev pub IsNoName : Data → Type 0
 IsNoName d = (name : List ℕ) → IsName d name → ⊥
 
--- `IsNamespace key name` holds if `key` is the namespace `name`; the empty string is the empty namespace.
+-- `IsNamespace key name` holds if `key` names the namespace `name`: a Path, or the empty string, which names the empty
+-- namespace, `None`.
 pub data IsNamespace : List ℕ → Option (List ℕ) → Type 0 where
   empty_namespace : IsNamespace [] None
   named : (key : List ℕ) → IsPath key → IsNamespace key (Some key)
 
 -- ---- keys
 
--- The keys of an entity type, of a member of `memberOf`, of `appliesTo`, of an action and of a namespace.
+-- The keys that an entity type, a member of `memberOf`, `appliesTo`, an action and a namespace may have.
 abbrev pub entity_type_keys : List (List ℕ)
 entity_type_keys = codes "memberOfTypes" ∷ codes "shape" ∷ codes "annotations" ∷ []
 
@@ -84,8 +86,8 @@ pub record StatesUse (d : Data) (u : UseOf) : Type 0 where
 
 -- `HasNoAttributes d` holds if `d` has no `attributes`, or an object without members.
 pub data HasNoAttributes (d : Data) : Type 0 where
-  unsaid : IsAbsent (codes "attributes") d → HasNoAttributes d
-  none_said : get (codes "attributes") d ≡ Some (object no_members) → HasNoAttributes d
+  key_absent : IsAbsent (codes "attributes") d → HasNoAttributes d
+  key_given_empty : get (codes "attributes") d ≡ Some (object no_members) → HasNoAttributes d
 
 -- `StatesAction key d a` holds if `d` states under `key`, which is its id, the action `a`.
 pub record StatesAction (key : List ℕ) (d : Data) (a : ActionOf) : Type 0 where

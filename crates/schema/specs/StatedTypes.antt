@@ -1,8 +1,8 @@
 -- Defines which JSON states which type of a schema, and why other JSON does not.
 -- Source: Cedar reference guide 4.0, "Schema JSON format": types `String`, `Long`, `Boolean`, `Set`, `Record`,
 -- `Entity`, `Extension`, `EntityOrCommon`, names of common types.
--- Rules of this product: `Bool` is `Boolean`; other keys are rejected; `annotations` has any value; null at an
--- optional key counts as missing; the error.
+-- Rules of this product: `Bool` is `Boolean`; other keys are rejected; `annotations` has any value; null at an optional
+-- key counts as missing; the error is 21.
 use Rattle.std.specs.Prelude.{◌≡◌, ℕ, List, [], ◌∷◌, Bool, true, false, Some, None, Contains, codes}
 use Rattle.std.specs.Prelude.{if◌then◌else◌}
 use Rattle.serde_json.specs.Data as json
@@ -36,7 +36,8 @@ pub data HasKeys : List ℕ → List (List ℕ) → Type 0 where
   of_either : HasKeys (codes "EntityOrCommon") (codes "name" ∷ [])
   of_common : (word : List ℕ) → (Contains form_words word → ⊥) → HasKeys word []
 
--- `all_keys is_attribute keys` are `keys`, those of each type, and `required` of an attribute.
+-- `all_keys is_attribute keys` are all keys that a type may have: `type`, `annotations`, `keys`, and, if it is the type
+-- of an attribute, `required`.
 abbrev pub all_keys : Bool → List (List ℕ) → List (List ℕ)
 all_keys is_attribute keys =
     codes "type" ∷ codes "annotations" ∷ (if is_attribute then codes "required" ∷ keys else keys)
@@ -56,8 +57,8 @@ pub data IsExtension : List ℕ → Raw → Type 0 where
   ipaddr : IsExtension (codes "ipaddr") raw.ipaddr
   decimal : IsExtension (codes "decimal") raw.decimal
 
--- `IsEither name t` holds if `t` is the type of the name `name` of an `EntityOrCommon`, before it is resolved: after
--- `__cedar::` a primitive or an extension type. (No path has the word `__cedar`.)
+-- `IsEither name t` holds if an `EntityOrCommon` with the name `name` is the type `t`, before names are resolved: after
+-- `__cedar::` a primitive or an extension type; else any path. (No path contains the word `__cedar`.)
 pub data IsEither : List ℕ → Raw → Type 0 where
   of_string : IsEither (codes "__cedar::String") raw.text
   of_long : IsEither (codes "__cedar::Long") raw.long
@@ -71,19 +72,20 @@ pub data IsEither : List ℕ → Raw → Type 0 where
 
 -- `IsClosed d` holds if `additionalAttributes` of `d` is absent or false.
 pub data IsClosed (d : Data) : Type 0 where
-  unsaid : IsAbsent (codes "additionalAttributes") d → IsClosed d
-  said : get (codes "additionalAttributes") d ≡ Some (json.boolean false) → IsClosed d
+  key_absent : IsAbsent (codes "additionalAttributes") d → IsClosed d
+  key_given : get (codes "additionalAttributes") d ≡ Some (json.boolean false) → IsClosed d
 
 -- `IsRequired d required` holds if `required` is the boolean `required` of the attribute `d`, or true if that is
 -- absent.
 pub data IsRequired (d : Data) : Bool → Type 0 where
-  unsaid : IsAbsent (codes "required") d → IsRequired d true
-  said : (required : Bool) → get (codes "required") d ≡ Some (json.boolean required) → IsRequired d required
+  key_absent : IsAbsent (codes "required") d → IsRequired d true
+  key_given : (required : Bool) → get (codes "required") d ≡ Some (json.boolean required) → IsRequired d required
 
 -- ---- types
 
 mutual
-  -- `StatesType is_attribute d t` holds if `d`, a type or an attribute, states the type `t`: one case a form.
+  -- `StatesType is_attribute d t` holds if `d` states the type `t`, by one case for each form; `is_attribute` says
+  -- whether `d` is an attribute of a record, which may have the key `required`.
   pub data StatesType : Bool → Data → Raw → Type 0 where
     text : (a : Bool) (d : Data) → HasForm a (codes "String") d → StatesType a d raw.text
     long : (a : Bool) (d : Data) → HasForm a (codes "Long") d → StatesType a d raw.long
@@ -113,8 +115,8 @@ mutual
 -- ---- JSON that states no type
 
 mutual
-  -- `IsNoType is_attribute d` holds if `d` states no type, by its cause: no word at `type`, another key than those of
-  -- the word, or what a form demands is missing or wrong.
+  -- `IsNoType is_attribute d` holds if `d` states no type, by the cause: it has no word at `type`, it has a key that
+  -- this word does not allow, or something that the form demands is missing or wrong.
   pub data IsNoType : Bool → Data → Type 0 where
     no_word : (a : Bool) (d : Data) → text_at (codes "type") d ≡ None → IsNoType a d
     other_key : (a : Bool) (d : Data) (word : List ℕ) (keys : List (List ℕ)) → text_at (codes "type") d ≡ Some word

@@ -9,16 +9,16 @@ use Rattle.schema_types.specs.Ascending.{KeysAscend}
 use Rattle.schema_names.specs.schema_types.Actions.{action_type}
 use Rattle.schema.specs.Schemas.{EnvironmentOf, StatedSchema, IsSchemaOf, place_cmp}
 
--- `AreAttributes t` holds if `t` are the attributes of an entity type, or a context: a record within the limits,
--- whose keys ascend, at every depth.
+-- `AreAttributes t` holds if `t` has the form of an entity type's attributes or of a context: a record within the
+-- limits on types, whose keys ascend at every depth.
 pub record AreAttributes (t : Cedar) : Type 0 where
   pub fields : CedarFields
   pub is_record : t ≡ record_of fields
   pub ascend : KeysAscend t
   pub small : IsTooLarge t → ⊥
 
--- `IsActionType name` holds if `name` is the type of the actions of a namespace, or of none: its last word is
--- `Action`.
+-- `IsActionType name` holds if `name` is the type of the actions of a namespace, which may be the empty one: its last
+-- word is `Action`.
 abbrev pub IsActionType : List ℕ → Type 0
 IsActionType name = (namespace : Option (List ℕ)) × (name ≡ action_type namespace)
 
@@ -26,28 +26,28 @@ IsActionType name = (namespace : Option (List ℕ)) × (name ≡ action_type nam
 pub record IsWellFormed (v : StatedSchema) : Type 0 where
   pub shapes : (n : List ℕ) (t : Cedar) → v.shape n ≡ Some t → AreAttributes t
   pub contexts : (e : EnvironmentOf) → Contains v.environments e → AreAttributes e.context
-  -- strictly ascending, and of declared actions
+  -- the places of the environments ascend strictly, and their actions are declared
   pub environments_ascend : IsStrictlySortedBy place_cmp (map (λ e. e.place) v.environments)
   pub places : (e : EnvironmentOf) → Contains v.environments e → Contains v.actions e.place.action
-  -- the actions are those that have ancestors, in order, and those that have stated parents
+  -- an action is listed if and only if its ancestors are found, and if and only if its parents are; the list ascends
   pub actions : (u : EntityUid) → Contains v.actions u ↔ IsSome (v.ancestors u)
   pub actions_stated : (u : EntityUid) → Contains v.actions u ↔ IsSome (v.member_of u)
   pub actions_ascend : IsAscending v.actions
-  -- ancestors ascend; an ancestor's ancestor is one; and no action is its own
+  -- the ancestors of an action ascend; an ancestor of an ancestor is an ancestor; no action is its own ancestor
   pub ancestors_ascend : (u : EntityUid) (us : List EntityUid) → v.ancestors u ≡ Some us → IsAscending us
   pub ancestors_join : (u w x : EntityUid) (us ws : List EntityUid) → v.ancestors u ≡ Some us → Contains us w
       → v.ancestors w ≡ Some ws → Contains ws x → Contains us x
   pub no_cycle : (u : EntityUid) (us : List EntityUid) → v.ancestors u ≡ Some us → Contains us u → ⊥
-  -- each ancestor is an action
+  -- each ancestor is a declared action
   pub ancestors_declared : (u w : EntityUid) (us : List EntityUid) → v.ancestors u ≡ Some us → Contains us w
       → Contains v.actions w
-  -- actions have action types, and no declared entity type is one
+  -- actions have action types, and no declared entity type is an action type
   pub actions_typed : (u : EntityUid) → Contains v.actions u → IsActionType u.type_name
   pub shapes_apart : (n : List ℕ) → IsSome (v.shape n) → IsActionType n → ⊥
-  -- what may be a parent of a possible parent is a possible parent
+  -- `may_have_parent` is transitive
   pub parents_join : (child parent above : List ℕ) → IsTrue (v.may_have_parent child parent)
       → IsTrue (v.may_have_parent parent above) → IsTrue (v.may_have_parent child above)
-  -- each named entity type is declared: in a shape or a context, in an environment, in the hierarchy
+  -- each entity type that is named in a shape, a context, an environment or the hierarchy is declared
   pub shapes_name : (n : List ℕ) (t : Cedar) → v.shape n ≡ Some t → (q : List ℕ) → NamesEntity t q
       → IsSome (v.shape q)
   pub contexts_name : (e : EnvironmentOf) → Contains v.environments e → (q : List ℕ) → NamesEntity e.context q

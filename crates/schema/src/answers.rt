@@ -1,9 +1,9 @@
 //! The schema, and its look-ups.
 
 use crate::laws::stated_schemas_are_well_formed;
-use crate::lookups::{is_action_above, may_have_parent, parents_at};
+use crate::lookups::{action_has_ancestor, may_have_parent, parents_at};
 use crate::parts::{EntityDecl, Environment};
-use crate::spans::Span;
+use crate::spans::NumberSpan;
 use plain::{Items, Text};
 use std::collections::BTreeMap;
 use std::marker::Model;
@@ -11,9 +11,9 @@ use values::{EntityUid, TypeName};
 
 /// A schema: entity types with their shapes, actions, and environments.
 ///
-/// Look-ups do not allocate and take logarithmic time; whether a type may be an ancestor of another also takes time
-/// linear in the spans of numbers of its ancestors: one in a chain or in layers. Contracts see its entries, which are
-/// plain data, and state properties of `schema_view`. Some bytes state each schema: [`Schema::is_stated`].
+/// Look-ups do not allocate and take logarithmic time. A test for an ancestor also takes time linear in the number of
+/// spans of the ancestors' numbers: one in a chain or in layers. Contracts see the entries of a schema, which are plain
+/// data, and state properties of `schema_view`. Each schema is stated by some bytes: [`Schema::is_stated`].
 #[derive(Drop)]
 pub struct Schema {
     pub(crate) label: Text,
@@ -24,12 +24,12 @@ pub struct Schema {
     pub(crate) member_of: BTreeMap<EntityUid, Items<EntityUid>>,
     /// The number of each action.
     pub(crate) action_numbers: BTreeMap<EntityUid, usize>,
-    /// For each number, the numbers of that action's ancestors.
-    pub(crate) actions_above: Items<Items<Span>>,
+    /// At each action's number, the spans of the numbers of its ancestors.
+    pub(crate) action_ancestor_spans: Items<Items<NumberSpan>>,
     /// The number of each entity type.
     pub(crate) type_numbers: BTreeMap<TypeName, usize>,
-    /// For each number, the numbers of that type's ancestors.
-    pub(crate) types_above: Items<Items<Span>>,
+    /// At each type's number, the spans of the numbers of its ancestors.
+    pub(crate) type_ancestor_spans: Items<Items<NumberSpan>>,
 }
 
 impl Model for Schema {
@@ -43,18 +43,18 @@ impl Model for Schema {
     ghost coded = { Prim.hlevel (codes, cedar.the_row.coded) };
 
     ghost view = { λ s. kept s.label s.environments s.actions s.shapes s.member_of s.action_numbers
-        s.actions_above s.type_numbers s.types_above };
+        s.action_ancestor_spans s.type_numbers s.type_ancestor_spans };
 
     ghost invariant = { λ s. IsStated
         (kept s.label s.environments s.actions s.shapes s.member_of s.action_numbers
-        s.actions_above s.type_numbers s.types_above) };
+        s.action_ancestor_spans s.type_numbers s.type_ancestor_spans) };
 }
 
 impl Schema {
     ghost use Rattle.std.specs.Prelude.{◌≡◌, ◌↔◌, ◌&&◌, map, option_map, is_some, IsTrue};
     ghost use Rattle.schema_types.specs.CedarViews.{cedar_view};
-    ghost use Rattle.schema.specs.Schemas.{IsActionAbove};
-    ghost use Rattle.schema.specs.Views.{environment_view, schema_view, is_action_above, IsStated};
+    ghost use Rattle.schema.specs.Schemas.{ActionHasAncestor};
+    ghost use Rattle.schema.specs.Views.{environment_view, schema_view, action_has_ancestor, IsStated};
 
     /// Proves the schema's invariant: some bytes state it. No-op.
     pub fn is_stated(&self)
@@ -101,10 +101,10 @@ impl Schema {
         }
     }
 
-    /// Returns whether an action is declared and another is its ancestor: whether one or more steps by `memberOf`
-    /// lead there.
-    pub fn is_action_above(&self, uid: &EntityUid, above: &EntityUid) -> bool
-        ensures { IsTrue result ↔ IsActionAbove (schema_view self.now) uid.now above.now }
+    /// Returns whether the action `uid` is declared and `above` is its ancestor: whether one or more steps by
+    /// `memberOf` lead from `uid` to `above`.
+    pub fn action_has_ancestor(&self, uid: &EntityUid, above: &EntityUid) -> bool
+        ensures { IsTrue result ↔ ActionHasAncestor (schema_view self.now) uid.now above.now }
     {
         self.is_stated();
         stated_schemas_are_well_formed();
@@ -114,6 +114,7 @@ impl Schema {
         false
     }
 
+    /// Returns whether both are declared actions.
     fn are_actions(&self, uid: &EntityUid, above: &EntityUid) -> bool
         ensures { result ≡ (is_some ((schema_view self.now).member_of uid.now)
             && is_some ((schema_view self.now).member_of above.now)) }
@@ -123,24 +124,25 @@ impl Schema {
 
     /// Returns whether the number of `above` is among those of the ancestors of `uid`.
     fn has_above(&self, uid: &EntityUid, above: &EntityUid) -> bool
-        ensures { result ≡ is_action_above self.now.action_numbers self.now.actions_above uid.now above.now }
+        ensures { result
+            ≡ action_has_ancestor self.now.action_numbers self.now.action_ancestor_spans uid.now above.now }
     {
-        is_action_above(
+        action_has_ancestor(
             &self.action_numbers,
-            self.actions_above.as_slice(),
+            self.action_ancestor_spans.as_slice(),
             uid,
             above,
         )
     }
 
-    /// Returns whether an entity of the type `child` may have a parent of the type `parent`: whether one or more
-    /// steps by `memberOfTypes` lead there.
+    /// Returns whether an entity of the type `child` may have a parent of the type `parent`: whether one or more steps
+    /// by `memberOfTypes` lead from `child` to `parent`.
     pub fn may_have_parent(&self, child: &TypeName, parent: &TypeName) -> bool
         ensures { result ≡ (schema_view self.now).may_have_parent child.now parent.now }
     {
         may_have_parent(
             &self.type_numbers,
-            self.types_above.as_slice(),
+            self.type_ancestor_spans.as_slice(),
             child,
             parent,
         )

@@ -8,7 +8,7 @@ use ancestor_search::{Ancestry, Searched};
 use plain::NoMemory;
 use schema_types::SchemaFault;
 
-/// Returns whether something is its own ancestor.
+/// Returns whether some entity of a hierarchy is its own ancestor.
 fn has_cycle(edges: &Searched) -> Result<bool, NoMemory>
     ensures { IfOk result (λ yes. IsTrue yes ↔ HasCycle (searched.parents-value.it edges.now)) }
 {
@@ -19,11 +19,11 @@ fn has_cycle(edges: &Searched) -> Result<bool, NoMemory>
     }
 }
 
-/// Rejects a hierarchy in which something is its own ancestor.
+/// Rejects a hierarchy in which some entity is its own ancestor.
 ///
 /// # Errors
 ///
-/// - `ActionCycle` (24): something is its own ancestor.
+/// - `ActionCycle` (24): some entity is its own ancestor.
 /// - `NoMemory` (1): an allocation failed; possible at any point.
 pub fn demand_no_cycle(edges: &Searched) -> Result<(), SchemaFault>
     ensures { MatchResult result (λ u. HasCycle (searched.parents-value.it edges.now) → ⊥)

@@ -1,9 +1,10 @@
-//! The environments of a schema (an action with the types of principal and resource), with their contexts.
+//! The environments of a schema (each an action with the types of principal and resource), with their contexts. A
+//! `Place` is an environment without its context. In contracts `commons` are the common types of the schema.
 ghost use Rattle.std.specs.Prelude.{◌≢◌, OnOk, MatchResult, map, option_map};
 ghost use Rattle.schema_types.specs.QualifiedViews.{qualified_view};
-ghost use Rattle.schema_types.specs.WrittenOut.{Declarations};
-ghost use Rattle.schema_written_types.specs.Knowledge.{AreWritten};
-ghost use Rattle.schema_written_types.specs.TableViews.{knowledge};
+ghost use Rattle.schema_types.specs.Expansions.{Declarations};
+ghost use Rattle.schema_written_types.specs.TypeTables.{AreWritten};
+ghost use Rattle.schema_written_types.specs.TableViews.{type_table};
 ghost use Rattle.schema_types.specs.declared.fault.SchemaFault.TheVariants as SchemaFault;
 ghost use Rattle.schema_names.specs.ResolvedViews.{found_use_view, found_action_view};
 ghost use Rattle.schema.specs.inner.Making.{IsClosedAt, IsRefusedAt, AddsPlace, AddsResources};
@@ -22,7 +23,7 @@ use std::alloc::Global;
 use std::collections::BTreeMap;
 use values::{EntityUid, TypeName};
 
-/// Adds one environment with the type of its context.
+/// Adds one environment with the type of its context to `places`.
 fn add_place(
     action: &EntityUid,
     principal: &TypeName,
@@ -38,7 +39,7 @@ fn add_place(
     Ok(())
 }
 
-/// Adds the environments of a principal type.
+/// Adds the environments of a principal type with each resource type.
 fn add_resources(
     action: &EntityUid,
     principal: &TypeName,
@@ -74,8 +75,8 @@ fn add_principals(
 ///
 /// # Errors
 ///
-/// - `TypeTooLarge`: the type of its context is too large.
-/// - `NoMemory`: an allocation failed.
+/// - `TypeTooLarge` (25): the type of the action's context is too large.
+/// - `NoMemory` (1): an allocation failed; possible at any point.
 fn add_use(
     alloc: Global,
     action: &EntityUid,
@@ -84,7 +85,7 @@ fn add_use(
     places: &mut BTreeMap<Place, Shared<CedarType>>,
 ) -> Result<(), SchemaFault>
     ghost commons: { Declarations }
-    requires table { AreWritten commons (knowledge table.now) }
+    requires table { AreWritten commons (type_table table.now) }
     requires closed { IsClosedAt commons (option_map qualified_view applied.now.context) }
     ensures { MatchResult result (λ u. AddsUse commons action.now (found_use_view applied.now) places.old places.new)
         (λ f. f ≢ SchemaFault.NoMemory → IsRefusedAt commons (option_map qualified_view applied.now.context) f) }
@@ -97,7 +98,7 @@ fn add_use(
     Ok(())
 }
 
-/// Adds the environments of an action. An action without `appliesTo` has none.
+/// Adds the environments of an action, with the errors of [`add_use`]. An action without `appliesTo` has none.
 fn add_action(
     alloc: Global,
     action: &ResolvedAction,
@@ -105,7 +106,7 @@ fn add_action(
     places: &mut BTreeMap<Place, Shared<CedarType>>,
 ) -> Result<(), SchemaFault>
     ghost commons: { Declarations }
-    requires table { AreWritten commons (knowledge table.now) }
+    requires table { AreWritten commons (type_table table.now) }
     requires closed { IsContextClosed commons (found_action_view action.now) }
     ensures { MatchResult result (λ u. AddsAction commons (found_action_view action.now) places.old places.new)
         (λ f. f ≢ SchemaFault.NoMemory → IsContextRefused commons (found_action_view action.now) f) }
@@ -120,15 +121,15 @@ fn add_action(
 ///
 /// # Errors
 ///
-/// - `TypeTooLarge`: one of these types is too large.
-/// - `NoMemory`: an allocation failed.
+/// - `TypeTooLarge` (25): one of these types is too large.
+/// - `NoMemory` (1): an allocation failed; possible at any point.
 pub(crate) fn make_places(
     alloc: Global,
     actions: &[ResolvedAction],
     table: &Table,
 ) -> Result<BTreeMap<Place, Shared<CedarType>>, SchemaFault>
     ghost commons: { Declarations }
-    requires table { AreWritten commons (knowledge table.now) }
+    requires table { AreWritten commons (type_table table.now) }
     requires closed { AreContextsClosed commons (map found_action_view actions.now) }
     ensures { MatchResult result (λ places. ArePlaces commons (map found_action_view actions.now) places)
         (λ f. f ≢ SchemaFault.NoMemory → SomeContextIsRefused commons (map found_action_view actions.now) f) }

@@ -15,6 +15,7 @@ use std::alloc::Global;
 use std::collections::BTreeMap;
 use values::{EntityUid, SharedText, TypeName};
 
+/// Returns copies of these uids, as a vector.
 fn copy_uids(alloc: Global, uids: &[EntityUid]) -> Result<Vec<EntityUid>, NoMemory>
     ensures { IfOk result (λ copies. copies.items ≡ uids.now) }
 {
@@ -25,7 +26,7 @@ fn copy_uids(alloc: Global, uids: &[EntityUid]) -> Result<Vec<EntityUid>, NoMemo
     Ok(copies)
 }
 
-/// Returns copies of these uids.
+/// Returns copies of the uids behind these references.
 fn copy_all(alloc: Global, uids: &[&EntityUid]) -> Result<Items<EntityUid>, NoMemory>
     ensures { IfOk result (λ copies. copies ≡ names uids.now) }
 {
@@ -45,6 +46,7 @@ pub(crate) fn type_uid(alloc: Global, name: &TypeName) -> Result<EntityUid, NoMe
     Ok(EntityUid { type_name, id })
 }
 
+/// Returns entity types as nodes of a hierarchy.
 fn type_uids(alloc: Global, types: &[TypeName]) -> Result<Vec<EntityUid>, NoMemory>
     ensures { IfOk result (λ uids. uids.items ≡ map type_uid types.now) }
 {
@@ -109,7 +111,7 @@ pub(crate) fn type_edges(
     Ok(edges)
 }
 
-/// Adds an action with its parents.
+/// Adds an action with its parents to `members`.
 fn add_member(
     alloc: Global,
     edges: &Searched,

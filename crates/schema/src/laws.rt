@@ -1,4 +1,4 @@
-//! Theorems about the definitions. The functions are no-ops.
+//! Theorems about schemas and their parsing. The functions are no-ops.
 ghost use Rattle.schema.specs.Laws.{TypesAreRead, TypesHaveOneOutcome, FilesAreRead, FilesHaveOneOutcome};
 ghost use Rattle.schema.specs.Laws.{NamesAreResolved, NamesHaveOneOutcome, DeclarationsAreRead};
 ghost use Rattle.schema.specs.inner.ByNaming.{SchemasAreRead};
@@ -11,8 +11,8 @@ use schema_names::{
     one_refusal, shapes_are_records, some_outcome,
 };
 use schema_types::{
-    cycles_stand_for_none, keys_ascend, one_written, types_stand_for_one_or_some_for_none,
-    what_stands_for_none_leads_back, written_entities_are_named,
+    cycles_have_no_expansion, keys_ascend, one_written, types_expand_or_some_common_does_not,
+    what_has_no_expansion_leads_back, written_entities_are_named,
 };
 use values::paths_are_told;
 
@@ -45,24 +45,24 @@ pub fn names_are_resolved_as_stated()
     ensures one { NamesHaveOneOutcome }
 {}
 
-/// Proves that the declarations that are parsed of bytes are those that they state. No-op.
+/// Proves that parsing bytes gives exactly the declarations that the bytes state. No-op.
 pub fn declarations_are_read_as_stated()
     ensures { DeclarationsAreRead }
 {
     paths_are_told();
-    cycles_stand_for_none();
-    what_stands_for_none_leads_back();
+    cycles_have_no_expansion();
+    what_has_no_expansion_leads_back();
     files_name_their_own();
     files_are_in_order();
 }
 
-/// Proves that parsing gives the schema that bytes state, or the first error by its cause. No-op.
+/// Proves that parsing bytes gives the schema that they state, or their first error. No-op.
 pub(crate) fn schemas_are_read_as_stated()
     ensures { SchemasAreRead }
 {
     paths_are_told();
-    cycles_stand_for_none();
-    what_stands_for_none_leads_back();
+    cycles_have_no_expansion();
+    what_has_no_expansion_leads_back();
     files_name_their_own();
     files_are_in_order();
 }
@@ -83,7 +83,7 @@ pub fn bytes_have_one_outcome()
     one_refusal();
     some_outcome();
     one_written();
-    types_stand_for_one_or_some_for_none();
+    types_expand_or_some_common_does_not();
     schemas_are_read_as_stated();
 }
 

@@ -25,9 +25,9 @@ pub use laws::{
     bytes_have_one_outcome, declarations_are_read_as_stated, files_are_read_as_stated,
     names_are_resolved_as_stated, stated_schemas_are_well_formed, types_are_read_as_stated,
 };
-pub use listed_environments::{listed, make_place};
-pub use lookups::{is_action_above, may_have_parent, parents_at};
+pub use listed_environments::{environments_in_order, make_place};
+pub use lookups::{action_has_ancestor, may_have_parent, parents_at};
 pub use parts::{EntityDecl, Environment, Place};
 pub use reading::read_schema;
 pub use schema_types::{CedarType, SchemaFault};
-pub use spans::{Span, has_number, joined};
+pub use spans::{NumberSpan, has_number, joined};

@@ -1,4 +1,4 @@
-//! Places and environments.
+//! Creation of places, and of environments from a map.
 ghost use Rattle.std.specs.Prelude.{◌≡◌, IfOk, map};
 ghost use Rattle.std.specs.BTreeMap.{IsOrdered};
 ghost use Rattle.schema.specs.Places.{place_cmp, place_of, environment_of};
@@ -28,8 +28,8 @@ pub fn make_place(
     })
 }
 
-/// Returns the entries of a map as environments, in order, without duplicates. The only error is `NoMemory`.
-pub fn listed(
+/// Returns the entries of a map as environments, ascending by place, without duplicates. The only error is `NoMemory`.
+pub fn environments_in_order(
     alloc: Global,
     places: BTreeMap<Place, Shared<CedarType>>,
 ) -> Result<Items<Environment>, NoMemory>

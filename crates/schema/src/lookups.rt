@@ -1,17 +1,17 @@
-//! Look-ups in the parts of a schema. They do not allocate and take logarithmic time; that of a type's or an action's
-//! ancestors also the logarithm of the spans of their numbers, which are few in layers.
+//! Look-ups in the parts of a schema. They do not allocate, and take logarithmic time. A test for an ancestor also
+//! takes time linear in the number of spans of the ancestors' numbers, which are few in layers.
 ghost use Rattle.std.specs.Prelude.{◌≡◌, option_map};
 ghost use Rattle.std.specs.List.{slice_get};
 ghost use Rattle.std.specs.BTreeMap.{get};
 ghost use Rattle.values.specs.Names.{text_cmp, uid_cmp};
-ghost use Rattle.schema.specs.LookUps.{parents_at, has_number_at, is_numbered_at, is_ancestor, is_action_above};
+ghost use Rattle.schema.specs.LookUps.{parents_at, has_number_at, is_numbered_at, is_ancestor, action_has_ancestor};
 
-use crate::spans::{Span, has_number};
+use crate::spans::{NumberSpan, has_number};
 use plain::Items;
 use std::collections::BTreeMap;
 use values::{EntityUid, TypeName};
 
-/// Returns the parents of an action; `None` if it is not one.
+/// Returns the parents of an action; `None` if `uid` is not an action.
 pub fn parents_at<'a>(
     parents: &'a BTreeMap<EntityUid, Items<EntityUid>>,
     uid: &EntityUid,
@@ -25,7 +25,7 @@ pub fn parents_at<'a>(
 }
 
 /// Returns whether the spans at an index contain a number.
-fn has_number_at(spans: &[Items<Span>], place: usize, number: usize) -> bool
+fn has_number_at(spans: &[Items<NumberSpan>], place: usize, number: usize) -> bool
     ensures { result ≡ has_number_at (slice_get spans.now place) number }
 {
     match spans.get(place) {
@@ -37,7 +37,7 @@ fn has_number_at(spans: &[Items<Span>], place: usize, number: usize) -> bool
 /// Returns whether a type has a number, and the spans at an index contain it.
 fn is_numbered_at(
     numbers: &BTreeMap<TypeName, usize>,
-    spans: &[Items<Span>],
+    spans: &[Items<NumberSpan>],
     place: usize,
     name: &TypeName,
 ) -> bool
@@ -49,11 +49,11 @@ fn is_numbered_at(
     }
 }
 
-/// Returns whether the type `parent` is an ancestor of `child`: at the number of each type, `spans` has the ranges of
+/// Returns whether the type `parent` is an ancestor of `child`. At the number of each type, `spans` has the spans of
 /// the numbers of its ancestors.
 pub fn may_have_parent(
     numbers: &BTreeMap<TypeName, usize>,
-    spans: &[Items<Span>],
+    spans: &[Items<NumberSpan>],
     child: &TypeName,
     parent: &TypeName,
 ) -> bool
@@ -68,7 +68,7 @@ pub fn may_have_parent(
 /// Returns whether an action has a number, and the spans at an index contain it.
 fn is_action_numbered_at(
     numbers: &BTreeMap<EntityUid, usize>,
-    spans: &[Items<Span>],
+    spans: &[Items<NumberSpan>],
     place: usize,
     uid: &EntityUid,
 ) -> bool
@@ -80,15 +80,15 @@ fn is_action_numbered_at(
     }
 }
 
-/// Returns whether the action `above` is an ancestor of `action`: at the number of each action, `spans` has the ranges
+/// Returns whether the action `above` is an ancestor of `action`. At the number of each action, `spans` has the spans
 /// of the numbers of its ancestors.
-pub fn is_action_above(
+pub fn action_has_ancestor(
     numbers: &BTreeMap<EntityUid, usize>,
-    spans: &[Items<Span>],
+    spans: &[Items<NumberSpan>],
     action: &EntityUid,
     above: &EntityUid,
 ) -> bool
-    ensures { result ≡ is_action_above numbers.now.entries spans.now action.now above.now }
+    ensures { result ≡ action_has_ancestor numbers.now.entries spans.now action.now above.now }
 {
     match numbers.get(action) {
         Some(place) => is_action_numbered_at(numbers, spans, *place, above),

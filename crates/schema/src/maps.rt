@@ -1,4 +1,4 @@
-//! Filling maps.
+//! Insertion into maps.
 ghost use Rattle.std.specs.Prelude.{Some, OnOk};
 ghost use Rattle.std.specs.BTreeMap.{Updates};
 

@@ -1,8 +1,8 @@
 //! The ancestors of each entity, as numbers.
 //!
-//! Entities are numbered, each after its ancestors unless these lead back to it. So the numbers of the ancestors of
-//! one entity are mostly consecutive, and few spans contain them: one span each in a chain, in layers, and if each is
-//! a member of several before it.
+//! Entities are numbered, each after its ancestors unless these lead back to it. So the numbers of the ancestors of one
+//! entity are mostly consecutive, and few spans contain them: one span for each entity in a chain, in layers, and if
+//! each entity is a member of several before it.
 ghost use Rattle.std.specs.Prelude.{◌≡◌, ◌++◌, ◌∷◌, ⊤, [], Contains, Some, None, true, IfOk, OnOk, MatchOption};
 ghost use Rattle.std.specs.Prelude.{option_map};
 ghost use Rattle.std.specs.List.{slice_get};
@@ -11,15 +11,15 @@ ghost use Rattle.values.specs.Names.{uid_cmp};
 ghost use Rattle.values.specs.declared.entity_uid.EntityUid.{EntityUid};
 ghost use Rattle.ancestor_search.specs.Hierarchy.{names};
 ghost use Rattle.ancestor_search.specs.contracts.searched.SearchedAncestry.TheImpl as searched;
-ghost use Rattle.schema.specs.inner.Numbering.{IsApart, IsNumbering, IsNumbered, NumbersAll, AddsNumber, AreAbove};
-ghost use Rattle.schema.specs.inner.Numbering.{KeepsAbove, HasAbove};
+ghost use Rattle.schema.specs.inner.Numbering.{IsApart, IsNumbering, IsNumbered, NumbersAll, AddsNumber, AreAncestors};
+ghost use Rattle.schema.specs.inner.Numbering.{KeepsAncestors, HasAncestors};
 ghost use Rattle.schema.specs.inner.Numbering.{AddsParent, AddsParents, single, single_of, singles, HasSpans};
 
 use crate::maps::put;
-use crate::spans::{Span, joined};
+use crate::spans::{NumberSpan, joined};
 use ancestor_search::{Ancestry, ParentsOf, Searched};
 use plain::{Items, NoMemory};
-use schema_written_types::ends_first;
+use schema_written_types::successors_first;
 use std::alloc::Global;
 use std::collections::BTreeMap;
 use values::EntityUid;
@@ -33,12 +33,12 @@ pub(crate) struct Numbered<'e> {
 
 /// The numbers of entities, and for each number the numbers of its ancestors.
 #[derive(Drop)]
-pub(crate) struct IsAncestor {
+pub(crate) struct NumberedAncestors {
     pub(crate) numbers: BTreeMap<EntityUid, usize>,
-    pub(crate) spans: Items<Items<Span>>,
+    pub(crate) spans: Items<Items<NumberSpan>>,
 }
 
-/// Returns the index of each in the list.
+/// Returns the index of each uid in the list.
 fn places_of(alloc: Global, uids: &[EntityUid]) -> Result<BTreeMap<EntityUid, usize>, NoMemory> {
     let mut places = BTreeMap::new(alloc);
     for place in 0..uids.len() {
@@ -48,7 +48,7 @@ fn places_of(alloc: Global, uids: &[EntityUid]) -> Result<BTreeMap<EntityUid, us
     Ok(places)
 }
 
-/// Returns the indices of the parents of an entity.
+/// Returns the indices of those parents of an entity that have one in `places`.
 fn parents_at(
     alloc: Global,
     edges: &Searched,
@@ -64,7 +64,7 @@ fn parents_at(
     Ok(found)
 }
 
-/// Returns the hierarchy of the list, by indices.
+/// Returns, for each uid of the list, the indices of its parents in the list.
 fn edges_by_place(
     alloc: Global,
     edges: &Searched,
@@ -78,6 +78,7 @@ fn edges_by_place(
     Ok(found)
 }
 
+/// Returns the uids at these indices.
 fn those_at<'e>(
     alloc: Global,
     uids: &'e [EntityUid],
@@ -92,6 +93,7 @@ fn those_at<'e>(
     Ok(found)
 }
 
+/// Appends references to all uids of a list.
 fn append_all<'e>(uids: &'e [EntityUid], found: &mut Vec<&'e EntityUid>) -> Result<(), NoMemory>
     ensures { OnOk result (names found.new.items ≡ names found.old.items ++ uids.now) }
 {
@@ -101,8 +103,8 @@ fn append_all<'e>(uids: &'e [EntityUid], found: &mut Vec<&'e EntityUid>) -> Resu
     Ok(())
 }
 
-/// Returns all of the list, and some of them twice: first each after its parents, unless these lead back to it. Any
-/// order gives the same result; this one takes the least time.
+/// Returns the uids of the list, first in an order in which each follows its parents unless these lead back to it, and
+/// then all again in the order of the list. Ancestors are found in any order, and fastest in this one.
 fn in_order<'e>(
     alloc: Global,
     edges: &Searched,
@@ -111,7 +113,7 @@ fn in_order<'e>(
     ensures { IfOk result (λ found. (u : EntityUid) → Contains uids.now u → Contains (names found.items) u) }
 {
     let graph = edges_by_place(alloc, edges, uids)?;
-    let order = ends_first(alloc, graph.as_slice())?;
+    let order = successors_first(alloc, graph.as_slice())?;
     let mut found = those_at(alloc, uids, order.as_slice())?;
     append_all(uids, &mut found)?;
     Ok(found)
@@ -154,7 +156,7 @@ fn number_all<'e>(alloc: Global, uids: &[&'e EntityUid]) -> Result<Numbered<'e>,
 }
 
 /// Returns the spans that were found at a number.
-fn reached_at(reached: &[Items<Span>], number: usize) -> Option<&[Span]>
+fn reached_at(reached: &[Items<NumberSpan>], number: usize) -> Option<&[NumberSpan]>
     ensures { option_map (λ s. s.now) result ≡ slice_get reached.now number }
 {
     match reached.get(number) {
@@ -163,11 +165,11 @@ fn reached_at(reached: &[Items<Span>], number: usize) -> Option<&[Span]>
     }
 }
 
-/// Adds a number, and those of its ancestors.
+/// Appends a number and the numbers of its entity's ancestors to `spans`; returns `false` if these are not found yet.
 fn add_reached(
-    reached: &[Items<Span>],
+    reached: &[Items<NumberSpan>],
     number: usize,
-    spans: &mut Vec<Span>,
+    spans: &mut Vec<NumberSpan>,
 ) -> Result<bool, NoMemory>
     ensures { IfOk result (λ known. known ≡ true → HasSpans reached.now number spans.old.items spans.new.items) }
 {
@@ -179,12 +181,12 @@ fn add_reached(
     Ok(true)
 }
 
-/// Adds a parent and its ancestors; `false` if they are not found yet.
+/// Appends the numbers of a parent and of its ancestors to `spans`; returns `false` if these are not found yet.
 fn add_parent(
     numbers: &BTreeMap<EntityUid, usize>,
-    reached: &[Items<Span>],
+    reached: &[Items<NumberSpan>],
     parent: &EntityUid,
-    spans: &mut Vec<Span>,
+    spans: &mut Vec<NumberSpan>,
 ) -> Result<bool, NoMemory>
     ensures { IfOk result (λ known. known ≡ true
         → AddsParent (get uid_cmp numbers.now) reached.now parent.now spans.old.items spans.new.items) }
@@ -195,13 +197,13 @@ fn add_parent(
     }
 }
 
-/// Returns parents and their ancestors; `None` if those of one are not found yet.
+/// Returns the numbers of parents and of their ancestors; `None` if the ancestors of one are not found yet.
 fn add_parents(
     alloc: Global,
     numbers: &BTreeMap<EntityUid, usize>,
-    reached: &[Items<Span>],
+    reached: &[Items<NumberSpan>],
     parents: &[EntityUid],
-) -> Result<Option<Vec<Span>>, NoMemory>
+) -> Result<Option<Vec<NumberSpan>>, NoMemory>
     ensures { IfOk result (λ o. MatchOption o ⊤
         (λ spans. AddsParents (get uid_cmp numbers.now) reached.now parents.now [] spans.items)) }
 {
@@ -214,22 +216,22 @@ fn add_parents(
     Ok(Some(spans))
 }
 
-/// Adds a number.
-fn push_single(number: usize, spans: &mut Vec<Span>) -> Result<(), NoMemory>
+/// Appends the span of one number to `spans`.
+fn push_single(number: usize, spans: &mut Vec<NumberSpan>) -> Result<(), NoMemory>
     ensures { OnOk result (spans.new.items ≡ spans.old.items ++ single number ∷ []) }
 {
-    spans.push(Span {
+    spans.push(NumberSpan {
         first: number,
         last: number,
     })?;
     Ok(())
 }
 
-/// Adds the number of an entity, if it has one.
+/// Appends the span of the number of an entity, if it has one, to `spans`.
 fn add_single(
     numbers: &BTreeMap<EntityUid, usize>,
     uid: &EntityUid,
-    spans: &mut Vec<Span>,
+    spans: &mut Vec<NumberSpan>,
 ) -> Result<(), NoMemory>
     ensures { OnOk result (spans.new.items ≡ spans.old.items ++ single_of (get uid_cmp numbers.now uid.now)) }
 {
@@ -239,12 +241,12 @@ fn add_single(
     }
 }
 
-/// Returns the numbers of some entities.
+/// Returns the numbers of some entities, as spans of one number each.
 fn numbers_of(
     alloc: Global,
     numbers: &BTreeMap<EntityUid, usize>,
     uids: &[&EntityUid],
-) -> Result<Vec<Span>, NoMemory>
+) -> Result<Vec<NumberSpan>, NoMemory>
     ensures { IfOk result (λ spans. spans.items ≡ singles (get uid_cmp numbers.now) (names uids.now)) }
 {
     let mut spans = Vec::new(alloc);
@@ -254,34 +256,34 @@ fn numbers_of(
     Ok(spans)
 }
 
-/// Returns the ancestors of an entity, by a search.
+/// Returns the numbers of the ancestors of an entity, by a search.
 fn spans_found(
     alloc: Global,
     edges: &Searched,
     numbers: &BTreeMap<EntityUid, usize>,
     uid: &EntityUid,
-) -> Result<Items<Span>, NoMemory>
+) -> Result<Items<NumberSpan>, NoMemory>
     requires { IsApart (get uid_cmp numbers.now) }
     ensures { IfOk result (λ spans.
-        HasAbove (searched.parents-value.it edges.now) (get uid_cmp numbers.now) uid.now spans) }
+        HasAncestors (searched.parents-value.it edges.now) (get uid_cmp numbers.now) uid.now spans) }
 {
     let found = edges.ancestors(uid)?;
     let spans = numbers_of(alloc, numbers, found.as_slice())?;
     joined(alloc, spans)
 }
 
-/// Returns the ancestors of an entity: by its parents, if theirs are found, and else by a search.
+/// Returns the numbers of the ancestors of an entity: from those of its parents, if these are found, else by a search.
 fn spans_above(
     alloc: Global,
     edges: &Searched,
     numbers: &BTreeMap<EntityUid, usize>,
-    reached: &[Items<Span>],
+    reached: &[Items<NumberSpan>],
     uid: &EntityUid,
-) -> Result<Items<Span>, NoMemory>
+) -> Result<Items<NumberSpan>, NoMemory>
     requires apart { IsApart (get uid_cmp numbers.now) }
-    requires keeps { KeepsAbove (searched.parents-value.it edges.now) (get uid_cmp numbers.now) reached.now }
+    requires keeps { KeepsAncestors (searched.parents-value.it edges.now) (get uid_cmp numbers.now) reached.now }
     ensures { IfOk result (λ spans.
-        HasAbove (searched.parents-value.it edges.now) (get uid_cmp numbers.now) uid.now spans) }
+        HasAncestors (searched.parents-value.it edges.now) (get uid_cmp numbers.now) uid.now spans) }
 {
     let by_parents = add_parents(alloc, numbers, reached, edges.parents_of(uid))?;
     match by_parents {
@@ -290,16 +292,16 @@ fn spans_above(
     }
 }
 
-/// Returns the ancestors of each of the numbered entities, in their order.
+/// Returns the numbers of the ancestors of each of the numbered entities, in their order.
 fn all_spans(
     alloc: Global,
     edges: &Searched,
     numbers: &BTreeMap<EntityUid, usize>,
     uids: &[&EntityUid],
-) -> Result<Items<Items<Span>>, NoMemory>
+) -> Result<Items<Items<NumberSpan>>, NoMemory>
     requires { IsNumbering (get uid_cmp numbers.now) (names uids.now) }
     ensures { IfOk result (λ spans.
-        AreAbove (searched.parents-value.it edges.now) (get uid_cmp numbers.now) spans) }
+        AreAncestors (searched.parents-value.it edges.now) (get uid_cmp numbers.now) spans) }
 {
     let mut reached = Items::new(alloc);
     for uid in uids {
@@ -309,20 +311,20 @@ fn all_spans(
     Ok(reached)
 }
 
-/// Returns the ancestors of each of these entities.
+/// Numbers these entities, and returns the numbers of the ancestors of each.
 pub(crate) fn above_each(
     alloc: Global,
     edges: &Searched,
     uids: &[EntityUid],
-) -> Result<IsAncestor, NoMemory>
+) -> Result<NumberedAncestors, NoMemory>
     ensures are { IfOk result (λ a.
-        AreAbove (searched.parents-value.it edges.now) (get uid_cmp a.numbers) a.spans) }
+        AreAncestors (searched.parents-value.it edges.now) (get uid_cmp a.numbers) a.spans) }
     ensures all { IfOk result (λ a. NumbersAll uids.now (get uid_cmp a.numbers)) }
 {
     let order = in_order(alloc, edges, uids)?;
     let numbered = number_all(alloc, order.as_slice())?;
     let spans = all_spans(alloc, edges, &numbered.numbers, numbered.listed.as_slice())?;
-    Ok(IsAncestor {
+    Ok(NumberedAncestors {
         numbers: numbered.numbers,
         spans,
     })

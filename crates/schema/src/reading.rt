@@ -1,13 +1,13 @@
-//! From bytes to a schema.
+//! Parsing of a schema from bytes.
 ghost use Rattle.std.specs.Prelude.{◌≢◌, IfOk, MatchResult};
 ghost use Rattle.ancestor_search.specs.contracts.searched.SearchedAncestry.TheImpl as searched;
-ghost use Rattle.schema_types.specs.WrittenOut.{Declarations};
-ghost use Rattle.schema_written_types.specs.Knowledge.{AreWritten, AreWhole};
-ghost use Rattle.schema_written_types.specs.TableViews.{knowledge};
+ghost use Rattle.schema_types.specs.Expansions.{Declarations};
+ghost use Rattle.schema_written_types.specs.TypeTables.{AreWritten, AreWhole};
+ghost use Rattle.schema_written_types.specs.TableViews.{type_table};
 ghost use Rattle.schema_types.specs.declared.fault.SchemaFault.TheVariants as SchemaFault;
 ghost use Rattle.schema_names.specs.ResolvedViews.{found_view};
-ghost use Rattle.schema_names.specs.Laws.{NamesItsOwn};
-ghost use Rattle.schema_names.specs.Naming.{StatesNamed};
+ghost use Rattle.schema_names.specs.Laws.{DeclaresItsCommonTypes};
+ghost use Rattle.schema_names.specs.Naming.{DescribesFile};
 ghost use Rattle.schema.specs.Schemas.{IsSchemaOf, RefusedFor};
 ghost use Rattle.schema.specs.inner.ByNaming.{IsUnsound};
 ghost use Rattle.schema.specs.Views.{schema_view};
@@ -20,8 +20,8 @@ use crate::environments::make_places;
 use crate::hierarchies::{action_edges, make_members, type_edges, uids_of};
 use crate::label::label_of;
 use crate::laws::schemas_are_read_as_stated;
-use crate::listed_environments::listed;
-use crate::numbering::{IsAncestor, above_each};
+use crate::listed_environments::environments_in_order;
+use crate::numbering::{NumberedAncestors, above_each};
 use crate::parts::{EntityDecl, Environment};
 use crate::shapes::make_shapes;
 use crate::type_numbers::{TypeNumbers, number_types};
@@ -34,7 +34,7 @@ use std::alloc::Global;
 use std::collections::BTreeMap;
 use values::{EntityUid, TypeName};
 
-/// Shapes and environments.
+/// The shapes of a schema, by the names of their entity types, and its environments.
 #[derive(Drop)]
 struct Types {
     shapes: BTreeMap<TypeName, EntityDecl>,
@@ -46,11 +46,12 @@ struct Types {
 struct Hierarchies {
     actions: Items<EntityUid>,
     members: BTreeMap<EntityUid, Items<EntityUid>>,
-    above: IsAncestor,
+    above: NumberedAncestors,
     types: TypeNumbers,
 }
 
-/// Returns the hierarchy of actions, in which no action is its own ancestor.
+/// Returns the hierarchy of actions, if no action is its own ancestor. The only errors are `ActionCycle` (24), and
+/// `NoMemory`.
 fn demand_edges(alloc: Global, found: &ResolvedFile) -> Result<Searched, SchemaFault>
     ensures { MatchResult result (λ s. AreEdges (found_view found.now) (searched.parents-value.it s))
         (λ f. f ≢ SchemaFault.NoMemory → EdgesRefused (found_view found.now) f) }
@@ -61,11 +62,11 @@ fn demand_edges(alloc: Global, found: &ResolvedFile) -> Result<Searched, SchemaF
     Ok(edges)
 }
 
-/// Returns the shapes and the environments of a file whose common types are expanded. The only errors are that a type
-/// is too large, and `NoMemory`.
+/// Returns the shapes and the environments of a file whose common types are expanded. The only errors are
+/// `TypeTooLarge` (25), and `NoMemory`.
 fn make_types(alloc: Global, found: &ResolvedFile, table: &Table) -> Result<Types, SchemaFault>
     ghost commons: { Declarations }
-    requires written { AreWritten commons (knowledge table.now) }
+    requires written { AreWritten commons (type_table table.now) }
     requires closed { AreTypesClosed commons (found_view found.now) }
     ensures { MatchResult result (λ t. AreTypesOf commons (found_view found.now) t)
         (λ f. f ≢ SchemaFault.NoMemory → TypesRefused commons (found_view found.now) f) }
@@ -74,7 +75,7 @@ fn make_types(alloc: Global, found: &ResolvedFile, table: &Table) -> Result<Type
     let actions = found.actions.as_slice();
     let shapes = make_shapes(alloc, entity_types, table)?;
     let places = make_places(alloc, actions, table)?;
-    let environments = listed(alloc, places)?;
+    let environments = environments_in_order(alloc, places)?;
     Ok(Types {
         shapes,
         environments,
@@ -105,8 +106,8 @@ fn make_hierarchies(
     })
 }
 
-/// Returns the schema of bytes that state this file, once its actions and its common types are checked. The only
-/// errors are that a shape or a context is too large, and `NoMemory`.
+/// Returns the schema of bytes that state this file, once its actions and its common types are checked. The only errors
+/// are `TypeTooLarge` (25), for a shape or a context, and `NoMemory`.
 fn make_schema(
     alloc: Global,
     bytes: &[u8],
@@ -114,10 +115,10 @@ fn make_schema(
     edges: &Searched,
     table: &Table,
 ) -> Result<Schema, SchemaFault>
-    requires states { StatesNamed bytes.now (found_view found.now) }
-    requires written { AreWritten (found_view found.now).commons (knowledge table.now) }
-    requires whole { AreWhole (found_view found.now).commons (knowledge table.now) }
-    requires own { NamesItsOwn (found_view found.now) }
+    requires states { DescribesFile bytes.now (found_view found.now) }
+    requires written { AreWritten (found_view found.now).commons (type_table table.now) }
+    requires whole { AreWhole (found_view found.now).commons (type_table table.now) }
+    requires own { DeclaresItsCommonTypes (found_view found.now) }
     requires edges { AreEdges (found_view found.now) (searched.parents-value.it edges.now) }
     ensures { MatchResult result (λ s. IsSchemaOf bytes.now (schema_view s))
         (λ f. f ≢ SchemaFault.NoMemory
@@ -135,9 +136,9 @@ fn make_schema(
         shapes: types.shapes,
         member_of: hierarchies.members,
         action_numbers: hierarchies.above.numbers,
-        actions_above: hierarchies.above.spans,
+        action_ancestor_spans: hierarchies.above.spans,
         type_numbers: hierarchies.types.numbers,
-        types_above: hierarchies.types.spans,
+        type_ancestor_spans: hierarchies.types.spans,
     })
 }
 
@@ -149,11 +150,11 @@ fn make_schema(
 ///
 /// - `TypeCycle` (23): a common type refers to itself.
 /// - `ActionCycle` (24): an action is its own ancestor.
-/// - `TypeTooLarge` (25): a type is too large.
+/// - `TypeTooLarge` (25): a type, expanded, has over 10,000 parts or is over 64 deep.
 /// - `NoMemory` (1): an allocation failed; possible at any point.
 fn sound_schema(alloc: Global, bytes: &[u8], found: &ResolvedFile) -> Result<Schema, SchemaFault>
-    requires states { StatesNamed bytes.now (found_view found.now) }
-    requires own { NamesItsOwn (found_view found.now) }
+    requires states { DescribesFile bytes.now (found_view found.now) }
+    requires own { DeclaresItsCommonTypes (found_view found.now) }
     ensures { MatchResult result (λ s. IsSchemaOf bytes.now (schema_view s))
         (λ f. f ≢ SchemaFault.NoMemory → IsUnsound (found_view found.now) f) }
 {
@@ -175,7 +176,7 @@ fn sound_schema(alloc: Global, bytes: &[u8], found: &ResolvedFile) -> Result<Sch
 /// - `UnknownName` (22): a name is not declared.
 /// - `TypeCycle` (23): a common type refers to itself.
 /// - `ActionCycle` (24): an action is its own ancestor.
-/// - `TypeTooLarge` (25): a type, expanded, is too large.
+/// - `TypeTooLarge` (25): a type, expanded, has over 10,000 parts or is over 64 deep.
 /// - `NoMemory` (1): an allocation failed; possible at any point.
 pub fn read_schema(alloc: Global, bytes: &[u8]) -> Result<Schema, SchemaFault>
     ensures { MatchResult result (λ s. IsSchemaOf bytes.now (schema_view s))

@@ -3,9 +3,9 @@ ghost use Rattle.std.specs.Prelude.{◌≡◌, ◌≢◌, Some, MatchResult, map
 ghost use Rattle.schema_types.specs.QualifiedViews.{qualified_view};
 ghost use Rattle.schema_types.specs.Cedar.{record_of, no_fields};
 ghost use Rattle.schema_types.specs.CedarViews.{cedar_view};
-ghost use Rattle.schema_types.specs.WrittenOut.{Declarations};
-ghost use Rattle.schema_written_types.specs.Knowledge.{AreWritten};
-ghost use Rattle.schema_written_types.specs.TableViews.{knowledge};
+ghost use Rattle.schema_types.specs.Expansions.{Declarations};
+ghost use Rattle.schema_written_types.specs.TypeTables.{AreWritten};
+ghost use Rattle.schema_written_types.specs.TableViews.{type_table};
 ghost use Rattle.schema_types.specs.declared.fault.SchemaFault.TheVariants as SchemaFault;
 ghost use Rattle.schema_names.specs.ResolvedViews.{found_entity_type_view};
 ghost use Rattle.schema.specs.inner.Making.{IsClosedAt, IsMade, IsRefusedAt, AddsShape, AreShapesClosed};
@@ -29,15 +29,15 @@ fn no_attributes(alloc: Global) -> Result<CedarType, SchemaFault>
     Ok(CedarType::Record(fields))
 }
 
-/// Returns a shape or a context, expanded; if it is missing, a record without attributes. The only errors are that it
-/// is too large, and `NoMemory`.
+/// Returns a shape or a context, expanded; if it is missing, a record without attributes. The only errors are
+/// `TypeTooLarge` (25), and `NoMemory`.
 pub(crate) fn make_record(
     alloc: Global,
     ty: &Option<QualifiedType>,
     table: &Table,
 ) -> Result<CedarType, SchemaFault>
     ghost commons: { Declarations }
-    requires table { AreWritten commons (knowledge table.now) }
+    requires table { AreWritten commons (type_table table.now) }
     requires closed { IsClosedAt commons (option_map qualified_view ty.now) }
     ensures { MatchResult result (λ t. IsMade commons (option_map qualified_view ty.now) (cedar_view t))
         (λ f. f ≢ SchemaFault.NoMemory → IsRefusedAt commons (option_map qualified_view ty.now) f) }
@@ -56,7 +56,7 @@ fn add_shape(
     shapes: &mut BTreeMap<TypeName, EntityDecl>,
 ) -> Result<(), SchemaFault>
     ghost commons: { Declarations }
-    requires table { AreWritten commons (knowledge table.now) }
+    requires table { AreWritten commons (type_table table.now) }
     requires closed { IsClosedAt commons (option_map qualified_view entity_type.now.shape) }
     ensures { MatchResult result (λ u. AddsShape commons (found_entity_type_view entity_type.now) shapes.old shapes.new)
         (λ f. f ≢ SchemaFault.NoMemory → IsRefusedAt commons (option_map qualified_view entity_type.now.shape) f) }
@@ -67,14 +67,14 @@ fn add_shape(
     Ok(())
 }
 
-/// Returns the shapes of entity types, by their names. The only errors are that one is too large, and `NoMemory`.
+/// Returns the shapes of entity types, by their names. The only errors are `TypeTooLarge` (25), and `NoMemory`.
 pub(crate) fn make_shapes(
     alloc: Global,
     entity_types: &[ResolvedEntityType],
     table: &Table,
 ) -> Result<BTreeMap<TypeName, EntityDecl>, SchemaFault>
     ghost commons: { Declarations }
-    requires table { AreWritten commons (knowledge table.now) }
+    requires table { AreWritten commons (type_table table.now) }
     requires closed { AreShapesClosed commons (map found_entity_type_view entity_types.now) }
     ensures { MatchResult result (λ shapes. AreShapes commons (map found_entity_type_view entity_types.now) shapes)
         (λ f. f ≢ SchemaFault.NoMemory → SomeShapeIsRefused commons (map found_entity_type_view entity_types.now) f) }

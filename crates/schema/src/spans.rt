@@ -5,22 +5,22 @@ ghost use Rattle.schema.specs.Spans.{in_span, has_number};
 use plain::{Items, NoMemory};
 use std::alloc::Global;
 
-/// The numbers from the first to the last, inclusive; empty if the last is less than the first.
+/// A span: the numbers from the first to the last, inclusive; empty if the last is less than the first.
 #[derive(Clone, Copy, PartialEq, Eq, PartialOrd, Ord)]
-pub struct Span {
+pub struct NumberSpan {
     pub first: usize,
     pub last: usize,
 }
 
 /// Returns whether a number is in a span.
-fn is_in(span: &Span, number: usize) -> bool
+fn is_in(span: &NumberSpan, number: usize) -> bool
     ensures { result ≡ in_span number span.now }
 {
     span.first <= number && number <= span.last
 }
 
 /// Returns whether one of the spans contains a number. Does not allocate.
-pub fn has_number(spans: &[Span], number: usize) -> bool
+pub fn has_number(spans: &[NumberSpan], number: usize) -> bool
     ensures { result ≡ has_number spans.now number }
 {
     for span in spans {
@@ -31,8 +31,8 @@ pub fn has_number(spans: &[Span], number: usize) -> bool
     false
 }
 
-/// Returns the span of the numbers of both, if the second begins in the first or directly after it.
-fn over(span: Span, next: Span) -> Option<Span>
+/// Returns the span of the numbers of both, if the second is not empty and begins in the first or directly after it.
+fn over(span: NumberSpan, next: NumberSpan) -> Option<NumberSpan>
     ensures { MatchOption result ⊤ (λ whole. (n : ℕ) → in_span n whole ≡ (in_span n span || in_span n next)) }
 {
     if span.first > next.first || next.first > next.last {
@@ -41,14 +41,14 @@ fn over(span: Span, next: Span) -> Option<Span>
     if next.first > span.last && next.first - span.last > 1 {
         return None;
     }
-    Some(Span {
+    Some(NumberSpan {
         first: span.first,
         last: span.last.max(next.last),
     })
 }
 
 /// Appends a span, merged with the last one if they touch.
-fn append(spans: &mut Vec<Span>, next: Span) -> Result<(), NoMemory>
+fn append(spans: &mut Vec<NumberSpan>, next: NumberSpan) -> Result<(), NoMemory>
     ensures { OnOk result ((n : ℕ) → has_number spans.new.items n
         ≡ (has_number spans.old.items n || in_span n next)) }
 {
@@ -66,9 +66,9 @@ fn append(spans: &mut Vec<Span>, next: Span) -> Result<(), NoMemory>
     Ok(())
 }
 
-/// Returns spans of the same numbers, merged if they touch, so that few remain. Only the numbers are specified,
-/// neither the number of spans nor their order. The only error is `NoMemory`.
-pub fn joined(alloc: Global, spans: Vec<Span>) -> Result<Items<Span>, NoMemory>
+/// Returns spans of the same numbers, merged if they touch, so that few remain. The contract specifies the set of
+/// numbers, not how many spans there are or their order. The only error is `NoMemory`.
+pub fn joined(alloc: Global, spans: Vec<NumberSpan>) -> Result<Items<NumberSpan>, NoMemory>
     ensures { IfOk result (λ found. (n : ℕ) → has_number found n ≡ has_number spans.items n) }
 {
     let mut spans = spans;

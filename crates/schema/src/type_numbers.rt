@@ -9,7 +9,7 @@ ghost use Rattle.schema.specs.inner.Numbering.{AddsName, AreNames, type_points, 
 use crate::hierarchies::type_uid;
 use crate::maps::put;
 use crate::numbering::above_each;
-use crate::spans::Span;
+use crate::spans::NumberSpan;
 use ancestor_search::Searched;
 use plain::{Items, NoMemory};
 use schema_names::ResolvedEntityType;
@@ -17,14 +17,14 @@ use std::alloc::Global;
 use std::collections::BTreeMap;
 use values::{EntityUid, TypeName};
 
-/// The numbers of entity types by their names, and at each number the ranges of the numbers of the type's ancestors.
+/// The numbers of entity types by their names, and at each number the spans of the numbers of the type's ancestors.
 #[derive(Drop)]
 pub(crate) struct TypeNumbers {
     pub(crate) numbers: BTreeMap<TypeName, usize>,
-    pub(crate) spans: Items<Items<Span>>,
+    pub(crate) spans: Items<Items<NumberSpan>>,
 }
 
-/// Sets the number of an entity's type.
+/// Sets the number of the type of `uid`.
 fn put_name(
     uid: &EntityUid,
     number: usize,
@@ -37,7 +37,7 @@ fn put_name(
     Ok(())
 }
 
-/// Sets the number of an entity's type to that of the entity.
+/// Sets the number of the type of `uid` to that of `uid`, if it has one.
 fn add_name(
     numbers: &BTreeMap<EntityUid, usize>,
     uid: &EntityUid,

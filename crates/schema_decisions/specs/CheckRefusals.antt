@@ -1,4 +1,5 @@
--- Defines the code and the place with which errors of a schema and of validation are reported.
+-- Defines the reports on errors of a schema and of validation: code and place.
+-- Source: docs/codes.md.
 -- Rules of this product: codes and places.
 use Rattle.std.specs.Prelude.{ℕ, Some, None}
 use Rattle.validator.specs.schema_types.declared.fault.SchemaFault.{SchemaFault}
@@ -9,11 +10,12 @@ use Rattle.validator.specs.declared.fault.TypeFault.{TypeFault}
 use Rattle.validator.specs.declared.fault.TypeFault.TheVariants.{NoMemory}
 use Rattle.validator.specs.Faults as validation
 
--- `schema_refusal fault` is the schema error `fault` without a place.
+-- `schema_refusal fault` is the report on the schema error `fault`, without a place.
 abbrev pub schema_refusal : SchemaFault → Refusal
 schema_refusal fault = record { code = schemas.code_of fault; place = None; within = None }
 
--- `check_refusal place fault` is the validation error `fault` of the policy at the index `place` of its file.
+-- `check_refusal place fault` is the report on the validation error `fault` of the policy at the index `place` of its
+-- file; `NoMemory` has no place.
 abbrev pub check_refusal : ℕ → TypeFault → Refusal
 check_refusal place NoMemory = no_memory
 check_refusal place fault = record { code = validation.code_of fault; place = Some place; within = None }

@@ -1,4 +1,5 @@
--- Defines the outcome of checking policies under a schema: lines, or the first error.
+-- Defines the outcome of checking policies under a schema: a line for each policy, or the first error of the texts of
+-- schema and policies.
 -- Rules of this product: the schema is checked before the policies; a policy that does not pass validation is not an
 -- error of the texts, but is reported in its line.
 use Rattle.std.specs.Prelude.{◌≡◌, ◌⊎◌, ℕ, Bool, List, map}
@@ -38,8 +39,8 @@ pub record AreReportsOf (s : StatedSchema) (policies : List NamedPolicy) (text :
   pub text_is : text ≡ join_with_byte line_end (map (λ t. verdict_line t.id t.outcome) told)
   pub some_refused_is : some_refused ≡ list_any (λ t. is_refusal t.outcome) told
 
--- `AreReportsOnFile s policies text some_refused` holds if `policies` is a file of policies, and `text` and
--- `some_refused` report on them.
+-- `AreReportsOnFile s policies text some_refused` holds if `policies` is a file of policies, `text` has their lines,
+-- and `some_refused` is whether one of them is rejected.
 pub record AreReportsOnFile (s : StatedSchema) (policies text : List ℕ) (some_refused : Bool) : Type 0 where
   pub names : List (List ℕ)
   pub cores : List Policy
@@ -48,27 +49,27 @@ pub record AreReportsOnFile (s : StatedSchema) (policies text : List ℕ) (some_
 
 -- ---- the two texts
 
--- `IsChecked schema policies text some_refused` holds if both texts are parsed, and `text` and `some_refused` report
--- on the policies.
+-- `IsChecked schema policies text some_refused` holds if `schema` is a schema and `policies` a file of policies, `text`
+-- has their lines, and `some_refused` is whether one of them is rejected.
 pub record IsChecked (schema policies text : List ℕ) (some_refused : Bool) : Type 0 where
   pub stated : StatedSchema
   pub schema_is : IsSchemaOf schema stated
   pub file_told : AreReportsOnFile stated policies text some_refused
 
--- `IsSchemaRefused schema refusal` holds if the bytes `schema` do not state a schema, with error `refusal`.
+-- `IsSchemaRefused schema refusal` holds if the bytes `schema` do not describe a schema, and `refusal` is their error.
 pub record IsSchemaRefused (schema : List ℕ) (refusal : Refusal) : Type 0 where
   pub fault : SchemaFault
   pub due : RefusedFor schema fault
   pub is : refusal ≡ schema_refusal fault
 
--- `AreNextRefused schema policies refusal` holds if `schema` states a schema, and `refusal` is the error of
--- `policies`.
+-- `AreNextRefused schema policies refusal` holds if the bytes `schema` describe a schema, and `refusal` is the error of
+-- the text `policies`.
 pub record AreNextRefused (schema policies : List ℕ) (refusal : Refusal) : Type 0 where
   pub stated : StatedSchema
   pub schema_is : IsSchemaOf schema stated
   pub refused : ArePoliciesRefused policies refusal
 
--- `AreChecksRefused schema policies refusal` holds if `refusal` is the error of `schema` or, if that states a schema,
--- of `policies`.
+-- `AreChecksRefused schema policies refusal` holds if `refusal` is the error of `schema` or, if that describes a
+-- schema, the error of `policies`.
 abbrev pub AreChecksRefused : List ℕ → List ℕ → Refusal → Type 0
 AreChecksRefused schema policies refusal = IsSchemaRefused schema refusal ⊎ AreNextRefused schema policies refusal

@@ -1,33 +1,35 @@
--- Defines the line of a policy's verdict under a schema. Rules of this product: compact JSON, keys ascending; only
--- the line of a rejected policy has a code.
+-- Defines the line of a policy's verdict under a schema.
+-- Source: docs/formats.md.
+-- Rules of this product: compact JSON, keys ascending; only the line of a rejected policy has a code.
 use Rattle.std.specs.Prelude.{ℕ, Bool, true, false, List, codes}
 use Rattle.serde_json.specs.Data.{Data, string, number, object, unsigned, no_members, member}
 use Rattle.serde_json.specs.Written.{compact_text}
 use Rattle.validator.specs.Faults.{code_of}
 use Rattle.validator.specs.Outcomes.{CheckResult, passes, refused}
 
--- `passed_json id word` is `{"id":"policy0","verdict":"accepted"}`, for this id and word.
+-- `passed_json id word` is the JSON `{"id":"policy0","verdict":"accepted"}`, with `id` for `policy0` and `word` for
+-- `accepted`.
 abbrev pub passed_json : List ℕ → List ℕ → Data
 passed_json id word =
     object (member (codes "id") (string id) (member (codes "verdict") (string word) no_members))
 
--- `refused_json id code` is `{"code":44,"id":"policy2","verdict":"refused"}`, for this id and code.
+-- `refused_json id code` is the JSON `{"code":44,"id":"policy2","verdict":"refused"}`, with `code` for 44 and `id` for
+-- `policy2`.
 abbrev pub refused_json : List ℕ → ℕ → Data
 refused_json id code = object (member (codes "code") (number (unsigned code))
     (member (codes "id") (string id) (member (codes "verdict") (string (codes "refused")) no_members)))
 
--- `verdict_word impossible` is the word for a policy that passes: impossible if it is False in each environment, else
--- accepted.
+-- `verdict_word impossible` is the word for a policy that passes, by whether it is impossible.
 abbrev pub verdict_word : Bool → List ℕ
 verdict_word true = codes "impossible"
 verdict_word false = codes "accepted"
 
--- `verdict_json id outcome` is the JSON of `outcome` for the policy `id`.
+-- `verdict_json id outcome` is the JSON of the validation outcome `outcome` of the policy `id`.
 abbrev pub verdict_json : List ℕ → CheckResult → Data
 verdict_json id (passes impossible) = passed_json id (verdict_word impossible)
 verdict_json id (refused fault) = refused_json id (code_of fault)
 
--- `verdict_line id outcome` is the line of `outcome` for the policy `id`, without a line feed.
+-- `verdict_line id outcome` is the line of the validation outcome `outcome` of the policy `id`, without a line feed.
 unfoldable pub verdict_line : List ℕ → CheckResult → List ℕ
 verdict_line id outcome = compact_text (verdict_json id outcome)
 

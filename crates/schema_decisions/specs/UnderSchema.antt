@@ -1,7 +1,7 @@
--- Defines how texts are parsed under a schema.
+-- Defines how texts are parsed under a schema: policies, which must pass validation, entities and requests.
 -- Source: Cedar reference guide 4.0, "Policy validation".
 -- Rules of this product: a request is decided only if each policy passes validation; the schema's actions are added
--- to the entities, each with the parents that its `memberOf` states.
+-- to the entities, each with the parents that its `memberOf` names.
 use Rattle.std.specs.Prelude.{◌≡◌, All}
 use Rattle.serde_json.specs.Data.{Data}
 use Rattle.entity_hierarchy.specs.schema.Schemas.{StatedSchema}
@@ -10,22 +10,23 @@ use Rattle.entity_hierarchy.specs.entities.Entities.{entity_stated_in}
 use Rattle.entity_hierarchy.specs.entities.Requests.{StatesRequest, RequestRefused}
 use Rattle.validator.specs.Passing.{Passes}
 use Rattle.decision_texts.specs.answer_lines.declared.refusal.Refusal.{Refusal}
-use Rattle.decision_texts.specs.Settings.{Reading, told_by}
+use Rattle.decision_texts.specs.Settings.{Reading, reported_by}
 use Rattle.schema_decisions.specs.Policies.{FirstUnpassed}
 use Rattle.schema_decisions.specs.Refusals.{entity_refusal}
 
--- `IsRequestFault s d refusal` holds if the value `d` does not state a request, with first error `refusal`.
+-- `IsRequestFault s d refusal` holds if the JSON value `d` does not describe a request under `s`, and `refusal` reports
+-- its first error.
 pub record IsRequestFault (s : StatedSchema) (d : Data) (refusal : Refusal) : Type 0 where
   pub fault : EntityFault
   pub due : RequestRefused s d fault
   pub is : refusal ≡ entity_refusal fault
 
--- `reading_under s` is the reading of texts under `s`.
+-- `reading_under s` is the way in which texts are parsed and checked under the schema `s`.
 abbrev pub reading_under : StatedSchema → Reading
 reading_under s = record {
   admits = All (Passes s);
   rejects = FirstUnpassed s 0;
-  entity = λ d. told_by entity_refusal (entity_stated_in s d);
+  entity = λ d. reported_by entity_refusal (entity_stated_in s d);
   states = StatesRequest s;
   faults = IsRequestFault s;
   actions = s.member_of;

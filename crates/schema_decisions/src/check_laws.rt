@@ -1,11 +1,11 @@
-//! Theorems about the definitions; their functions do nothing.
+//! Theorems about checks of policies under a schema. The function is a no-op.
 ghost use Rattle.schema_decisions.specs.CheckOutcomes.{TextsHaveOneOutcome};
 
 use decision_texts::texts_have_one_reading;
 use validator::{bytes_have_one_outcome, policies_have_one_outcome};
 
-/// Proves that the texts of a schema and of policies have exactly one outcome: lines, and whether one of them is of a
-/// rejected policy; or one error. No-op.
+/// Proves that the texts of a schema and of policies have exactly one outcome: the lines and whether one of them is of
+/// a rejected policy, or one error. No-op.
 pub fn checks_have_one_outcome()
     ensures { TextsHaveOneOutcome }
 {

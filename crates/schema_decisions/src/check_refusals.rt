@@ -1,12 +1,12 @@
-//! Errors of a schema and of policies that do not pass validation, as [`Refusal`]s of [`decision_texts`]: a code, an
-//! index, and the code of an inner error.
+//! Errors of schemas and of validation, as a [`Refusal`] of [`decision_texts`]: a code, a place, and the code of an
+//! inner error.
 ghost use Rattle.std.specs.Prelude.{◌≡◌};
 ghost use Rattle.schema_decisions.specs.CheckRefusals.{schema_refusal, check_refusal};
 
 use decision_texts::Refusal;
 use validator::{SchemaFault, TypeFault};
 
-/// Converts an error of the schema (20 to 25, or 1); it has no place.
+/// Converts an error of the schema (20 to 25, or 1) to a [`Refusal`] without a place.
 pub fn schema_refusal(fault: SchemaFault) -> Refusal
     ensures { result ≡ schema_refusal fault }
 {
@@ -17,8 +17,8 @@ pub fn schema_refusal(fault: SchemaFault) -> Refusal
     }
 }
 
-/// Converts an error of validation (40 to 46); its place is the policy's index in its file. `NoMemory` (1) has no
-/// place.
+/// Converts an error of validation (40 to 46) to a [`Refusal`] whose place is the policy's index in its file.
+/// `NoMemory` (1) has no place.
 pub fn check_refusal(place: usize, fault: TypeFault) -> Refusal
     ensures { result ≡ check_refusal place fault }
 {

@@ -10,12 +10,12 @@ ghost use Rattle.schema_decisions.specs.inner.Named.{named_in, outcome_of};
 
 use crate::lines::{add_line, verdict_line};
 use crate::reading::schema_in;
-use decision_texts::{Policy, Refusal, policies_in};
+use decision_texts::{Policy, Refusal, policies_of_file};
 use plain::NoMemory;
 use std::alloc::Global;
 use validator::{Schema, TypeFault, Verdict, check};
 
-/// Returns the outcome of validating a policy.
+/// Returns the outcome of validating a policy: its verdict, or its error.
 fn verdict_of(
     alloc: Global,
     schema: &Schema,
@@ -30,7 +30,7 @@ fn verdict_of(
     }
 }
 
-/// Returns whether the outcome is a rejection.
+/// Returns whether a validation outcome is an error.
 fn refuses(verdict: Result<Verdict, TypeFault>) -> bool
     ensures { result ≡ is_refusal (outcome_of verdict) }
 {
@@ -40,6 +40,7 @@ fn refuses(verdict: Result<Verdict, TypeFault>) -> bool
     }
 }
 
+/// Returns whether one of the two is true.
 fn either(first: bool, second: bool) -> bool
     ensures { result ≡ (first || second) }
 {
@@ -70,24 +71,25 @@ fn check_file(alloc: Global, schema: &Schema, policies: &[u8]) -> Result<(Vec<u8
     ensures told { IfOk result (λ told. AreReportsOnFile (schema_view schema.now) policies.now told.0.items told.1) }
     ensures refused { IfErr result (λ r. (r ≡ no_memory → ⊥) → ArePoliciesRefused policies.now r) }
 {
-    let policies = policies_in(alloc, policies)?;
+    let policies = policies_of_file(alloc, policies)?;
     Ok(check_each(alloc, schema, &policies)?)
 }
 
-/// Validates the policies of a file under a schema; returns a line for each, and whether one of them is rejected.
+/// Validates the policies of a file under a schema. Returns a line for each, and whether one of them is rejected.
 ///
 /// The lines have the order of the file, with a line feed between each two:
 ///
 /// - `{"id":"policy0","verdict":"accepted"}`: the policy passes validation.
-/// - `{"id":"policy0","verdict":"impossible"}`: it passes, and no request that conforms to the schema satisfies it.
-/// - `{"code":44,"id":"policy0","verdict":"refused"}`: it does not pass; `code` is the error's (40 to 46).
+/// - `{"id":"policy0","verdict":"impossible"}`: it passes, and its type is False in each environment of the schema, so
+///   that no request that conforms to the schema satisfies it.
+/// - `{"code":44,"id":"policy0","verdict":"refused"}`: it does not pass; `code` is that of the error (40 to 46).
 ///
 /// # Errors
 ///
 /// In this order; a policy that does not pass is not an error of the texts:
 ///
-/// - 20 to 25, without a place: the schema.
-/// - 10 to 19, at a byte offset: the policies' text.
+/// - 20 to 25, without a place: the schema is rejected.
+/// - 10 to 19, at a byte offset: the text of the policies is rejected.
 /// - `NoMemory` (1): an allocation failed; possible at any point.
 pub fn check_texts(
     alloc: Global,

@@ -9,22 +9,21 @@ use crate::under_schema::UnderSchema;
 use decision_texts::{Refusal, decide_in};
 use std::alloc::Global;
 
-/// Returns the line of the answer to a request under a schema, over a file of policies and an array of entities, to
-/// which the schema's actions are added.
+/// Returns the line of the answer to a request under a schema, over a file of policies and an array of entities.
 ///
-/// Parents of an entity may be absent from the array. Cycles among entities are not an error: the answer is then a
-/// denial that names the least cycle.
+/// The schema's actions are added to the entities. Parents of an entity may be absent from the array. A cycle of
+/// entities is not an error: the answer is then a denial that reports a cycle.
 ///
 /// # Errors
 ///
 /// The first of these, in this order:
 ///
-/// - 20 to 25, without a place: the schema.
-/// - 10 to 19, at a byte offset: the file of policies.
-/// - 40 to 46, at the policy's index: the first policy, in the file's order, that does not pass validation.
-/// - 30 to 38, at the entity's index in the array: the first entity that is in error, or (30) has the uid of an earlier
-///   one; 30 without a place if there is no array.
-/// - 30 to 39, without a place: the request.
+/// - 20 to 25, without a place: the schema is rejected.
+/// - 10 to 19, at a byte offset: the file of policies is rejected.
+/// - 40 to 46, at the index of a policy: the first policy of the file that does not pass validation.
+/// - 30 to 38, at the index of an entity: the first entity of the array that has an error, or the uid of an earlier one
+///   (30); 30 without a place, if the text is not an array.
+/// - 30 to 39, without a place: the request is rejected.
 /// - `NoMemory` (1): an allocation failed; possible at any point.
 ///
 /// Source: Cedar reference guide, "Authorization" and "Policy validation".

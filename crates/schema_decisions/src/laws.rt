@@ -1,4 +1,4 @@
-//! Theorems about the definitions; their functions do nothing.
+//! Theorems about the decision of four texts. The function is a no-op.
 ghost use Rattle.schema_decisions.specs.Outcomes.{OneLine, NotBoth, OneRefusal, LineOrRefusal};
 ghost use Rattle.schema_decisions.specs.Outcomes.{ListsOfLinesAscend, MemberOfDecidesAlike};
 
@@ -8,8 +8,11 @@ use entity_hierarchy::{
 };
 use validator::policies_have_one_outcome;
 
-/// Proves that four texts have exactly one outcome, a line or an error; that the ids in an answer's line ascend; and
-/// that the answer stays the same if each action has only the parents that its `memberOf` states. No-op.
+/// Proves that the texts of a schema, policies, entities and a request have exactly one outcome, a line or an error.
+/// No-op.
+///
+/// The ids in an answer line ascend, and the answer stays the same if each action has only the parents that its
+/// `memberOf` names.
 pub fn texts_have_one_outcome()
     ensures one_line { OneLine }
     ensures not_both { NotBoth }

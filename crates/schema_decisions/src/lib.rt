@@ -1,4 +1,4 @@
-//! Decisions and checks under a schema, from bytes to lines: answers, verdicts of policies, errors.
+//! Decisions of requests and checks of policies under a schema, from bytes to the lines that are printed.
 #![tactic(auto)]
 
 mod check_laws;
@@ -17,8 +17,8 @@ pub use check_refusals::{check_refusal, schema_refusal};
 pub use checking::check_texts;
 pub use deciding::decide_under;
 pub use decision_texts::{
-    Answer, Member, Members, Policy, Refusal, Scratch, answer_line, decide_texts, judge_entities,
-    members_of, policies_in, read_uid,
+    Answer, Member, Members, Policy, Refusal, Scratch, answer_line, check_entities, decide_texts,
+    members_of, policies_of_file, read_uid,
 };
 pub use laws::texts_have_one_outcome;
 pub use reading::schema_in;

@@ -10,24 +10,28 @@ use serde_json::{Value, json};
 use std::alloc::Global;
 use validator::{TypeFault, Verdict};
 
+/// Returns the word for a policy that passes.
 fn verdict_word(impossible: bool) -> &'static str
     ensures { result.now ≡ verdict_word impossible }
 {
     if impossible { "impossible" } else { "accepted" }
 }
 
+/// Returns the JSON of a policy that passes.
 fn passed_value(alloc: Global, id: &str, word: &str) -> Result<Value, NoMemory>
     ensures { IfOk result (λ v. view v ≡ passed_json id.now word.now) }
 {
     json!(in alloc; {"id": id, "verdict": word})
 }
 
+/// Returns the JSON of a policy that does not pass.
 fn refused_value(alloc: Global, id: &str, code: u64) -> Result<Value, NoMemory>
     ensures { IfOk result (λ v. view v ≡ refused_json id.now code) }
 {
     json!(in alloc; {"code": code, "id": id, "verdict": "refused"})
 }
 
+/// Returns the JSON of a policy's verdict or error.
 fn verdict_value(
     alloc: Global,
     id: &str,
@@ -41,7 +45,7 @@ fn verdict_value(
     }
 }
 
-/// Returns the line of a policy's verdict, without a line feed.
+/// Returns the line of a policy's verdict or error, without a line feed.
 pub(crate) fn verdict_line(
     alloc: Global,
     id: &str,
@@ -53,7 +57,7 @@ pub(crate) fn verdict_line(
     write_json(alloc, &value)
 }
 
-/// Appends a line feed, unless the next line is the first.
+/// Appends the line feed before the next line, unless that is the first.
 fn end_line(text: &mut Vec<u8>, is_first: bool) -> Result<(), NoMemory>
     ensures { IfOk result (λ _. text.new.items ≡ text.old.items ++ set_apart is_first []) }
 {
@@ -64,7 +68,7 @@ fn end_line(text: &mut Vec<u8>, is_first: bool) -> Result<(), NoMemory>
     Ok(())
 }
 
-/// Appends a line; a line feed sets it apart from the lines before it.
+/// Appends a line, after a line feed unless it is the first.
 pub(crate) fn add_line(text: &mut Vec<u8>, is_first: bool, line: &[u8]) -> Result<(), NoMemory>
     ensures { IfOk result (λ _. text.new.items ≡ text.old.items ++ set_apart is_first line.now) }
 {

@@ -1,4 +1,4 @@
-//! Validation of each policy of a file.
+//! The check that each policy of a file passes validation.
 ghost use Rattle.std.specs.Prelude.{IfOk, IfErr, All, map};
 ghost use Rattle.entity_hierarchy.specs.schema.Views.{schema_view};
 ghost use Rattle.validator.specs.Passing.{Passes};
@@ -12,7 +12,7 @@ use entity_hierarchy::Schema;
 use std::alloc::Global;
 use validator::check;
 
-/// Checks that the policy at an index passes validation.
+/// Checks that the policy at the index `place` of its file passes validation.
 fn check_at(alloc: Global, schema: &Schema, place: usize, policy: &Policy) -> Result<(), Refusal>
     ensures passes { IfOk result (λ _. Passes (schema_view schema.now) policy.now) }
     ensures refused { IfErr result (OrNoMemory no_memory (IsUnpassed (schema_view schema.now) place policy.now)) }
@@ -23,7 +23,7 @@ fn check_at(alloc: Global, schema: &Schema, place: usize, policy: &Policy) -> Re
     }
 }
 
-/// Checks that each policy passes validation; returns the error of the first that does not.
+/// Checks that each policy passes validation. Returns the error of the first that does not.
 pub(crate) fn check_each(
     alloc: Global,
     schema: &Schema,

@@ -1,4 +1,4 @@
-//! Parses the text of a schema.
+//! The parsing of a schema's text.
 ghost use Rattle.std.specs.Prelude.{◌≡◌, IfOk, IfErr};
 ghost use Rattle.validator.specs.schema.Schemas.{IsSchemaOf};
 ghost use Rattle.validator.specs.schema.Views.{schema_view};
@@ -10,11 +10,12 @@ use decision_texts::Refusal;
 use std::alloc::Global;
 use validator::{Schema, read_schema};
 
-/// Parses the schema that bytes state.
+/// Parses the schema that `bytes` describe.
 ///
 /// # Errors
 ///
-/// The first error of the schema (20 to 25), or `NoMemory` (1); it has no place.
+/// - 20 to 25, without a place: the first error of the schema.
+/// - `NoMemory` (1): an allocation failed; possible at any point.
 pub fn schema_in(alloc: Global, bytes: &[u8]) -> Result<Schema, Refusal>
     ensures read { IfOk result (λ s. IsSchemaOf bytes.now (schema_view s)) }
     ensures refused { IfErr result (λ r. (r ≡ no_memory → ⊥) → IsSchemaRefused bytes.now r) }

@@ -1,9 +1,9 @@
-//! Reading of texts under a schema.
+//! The parsing and checking of texts under a schema.
 ghost use Rattle.std.specs.Prelude.{◌≡◌, IfOk, IfErr};
 ghost use Rattle.serde_json.specs.View.{view};
 ghost use Rattle.json_words.specs.ReadsAs.{ReadsAs};
 ghost use Rattle.plain.specs.Refused.{OrNoMemory};
-ghost use Rattle.decision_texts.specs.Settings.{told_by};
+ghost use Rattle.decision_texts.specs.Settings.{reported_by};
 ghost use Rattle.decision_texts.specs.answer_lines.Refusals.{no_memory};
 ghost use Rattle.entity_hierarchy.specs.entities.Entities.{entity_stated_in};
 ghost use Rattle.entity_hierarchy.specs.entities.Requests.{StatesRequest};
@@ -19,10 +19,10 @@ use serde_json::Value;
 use std::alloc::Global;
 use values::Request;
 
-/// Returns the entity that a value states, or its first error.
+/// Returns the entity that a JSON value describes, or the value's first error.
 fn entity_in(alloc: Global, schema: &Schema, value: &Value) -> Result<Entity, Refusal>
     ensures { ReadsAs no_memory (λ e. e) result
-        (told_by entity_refusal (entity_stated_in (schema_view schema.now) (view value.now))) }
+        (reported_by entity_refusal (entity_stated_in (schema_view schema.now) (view value.now))) }
 {
     match read_entity(alloc, schema, value) {
         Ok(entity) => Ok(entity),
@@ -30,7 +30,7 @@ fn entity_in(alloc: Global, schema: &Schema, value: &Value) -> Result<Entity, Re
     }
 }
 
-/// Returns the request that a value states, or its first error.
+/// Returns the request that a JSON value describes, or the value's first error.
 fn request_in(alloc: Global, schema: &Schema, value: &Value) -> Result<Request, Refusal>
     ensures read { IfOk result (StatesRequest (schema_view schema.now) (view value.now)) }
     ensures refused { IfErr result
@@ -42,7 +42,8 @@ fn request_in(alloc: Global, schema: &Schema, value: &Value) -> Result<Request, 
     }
 }
 
-/// A setting with a schema: each policy must pass validation, and the schema's actions are added to the entities.
+/// The setting of a decision under a schema: each policy must pass validation, and the schema's actions are added to
+/// the entities.
 #[derive(Clone, Copy)]
 pub struct UnderSchema<'s> {
     /// The schema.
@@ -58,7 +59,7 @@ impl<'s> Setting for UnderSchema<'s> {
         SchemaActions::of(self.schema)
     }
 
-    fn judge(&self, alloc: Global, policies: &[(String, Policy)]) -> Result<(), Refusal> {
+    fn check_policies(&self, alloc: Global, policies: &[(String, Policy)]) -> Result<(), Refusal> {
         check_each(alloc, self.schema, policies)
     }
 

@@ -23,25 +23,25 @@ use Rattle.schema_types.specs.declared.fault.SchemaFault.TheVariants.{BadShape}
 
 -- ---- the content
 
--- An `EntityTypeOf` is a stated entity type: its name, its parent types and its shape.
+-- An `EntityTypeOf` is an entity type of the file: its name, its parent types and its shape, if it has one.
 pub record EntityTypeOf : Type 0 where
   pub name : List ℕ
   pub parents : List (List ℕ)
   pub shape : Option Raw
 
--- A `UseOf` is what an action applies to.
+-- A `UseOf` is what an action applies to: the types of principals and resources, and the context's type, if it has one.
 pub record UseOf : Type 0 where
   pub principals : List (List ℕ)
   pub resources : List (List ℕ)
   pub context : Option Raw
 
--- An `ActionOf` is a stated action: its id, its parents and what it applies to.
+-- An `ActionOf` is an action of the file: its id, its parents, and what it applies to, if it applies to anything.
 pub record ActionOf : Type 0 where
   pub id : List ℕ
   pub parents : List StatedParent
   pub applies_to : Option UseOf
 
--- A `NamespaceOf` is a stated namespace; the empty one has no name.
+-- A `NamespaceOf` is a namespace of the file, with its declarations; the empty namespace has no name.
 pub record NamespaceOf : Type 0 where
   pub name : Option (List ℕ)
   pub commons : List (List ℕ × Raw)
@@ -50,59 +50,59 @@ pub record NamespaceOf : Type 0 where
 
 -- ---- parsing
 
--- `members_in o` are the members of an optional object.
+-- `members_in o` are the members of the object in `o`; none if `o` is `None`, and `BadShape` if it is no object.
 abbrev pub members_in : Option Data → Result Members SchemaFault
 members_in None = Ok no_members
 members_in (Some d) = or_fault BadShape (as_object d)
 
--- `ident w` checks for an Ident: a Path of one word.
+-- `ident w` is the name `w`, or `BadShape` if it is not an Ident, that is, a Path of one word.
 unfoldable pub ident : List ℕ → Result (List ℕ) SchemaFault
 ident w = do
   path ← type_name w
   one ← demand BadShape (not (is_qualified w))
   Ok path
 
--- `name_of d` is the name that `d` states.
+-- `name_of d` is the name in the string `d`; `BadShape` if `d` is not a string, or the string is not a name.
 unfoldable pub name_of : Data → Result (List ℕ) SchemaFault
 name_of d = do
   w ← or_fault BadShape (as_str d)
   type_name w
 
--- `names_of ds` are the names that an array states.
+-- `names_of ds` are the names in the elements `ds` of an array, each a string, or the first error.
 unfoldable pub names_of : Items → Result (List (List ℕ)) SchemaFault
 names_of ds = each (λ i d. name_of d) 0 (list_of ds)
 
--- `names_in o` are those of an optional array.
+-- `names_in o` are the names in an optional array; none if `o` is `None`.
 abbrev pub names_in : Option Data → Result (List (List ℕ)) SchemaFault
 names_in None = Ok []
 names_in (Some d) = do
   ds ← or_fault BadShape (as_array d)
   names_of ds
 
--- `names_at k d` are those of the array at a required key.
+-- `names_at k d` are the names in the array of `d` at the required key `k`.
 abbrev pub names_at : List ℕ → Data → Result (List (List ℕ)) SchemaFault
 names_at k d = do
   found ← or_fault BadShape (get k d)
   ds ← or_fault BadShape (as_array found)
   names_of ds
 
--- `type_in o` is an optional type.
+-- `type_in o` is the type that an optional value describes; `None` if `o` is `None`.
 abbrev pub type_in : Option Data → Result (Option Raw) SchemaFault
 type_in None = Ok None
 type_in (Some d) = do
   t ← type_of false d
   Ok (Some t)
 
--- `name_in_place o` is an optional name.
-abbrev pub name_in_place : Option Data → Result (Option (List ℕ)) SchemaFault
-name_in_place None = Ok None
-name_in_place (Some d) = do
+-- `optional_name o` is the name in an optional string; `None` if `o` is `None`.
+abbrev pub optional_name : Option Data → Result (Option (List ℕ)) SchemaFault
+optional_name None = Ok None
+optional_name (Some d) = do
   n ← name_of d
   Ok (Some n)
 
 -- ---- common types
 
--- `is_common form`: a common type may not have the name of a form.
+-- `is_common form` tests for `Common`: a name that selects another form may not be that of a common type.
 abbrev pub is_common : Form → Bool
 is_common Text = false
 is_common Long = false
@@ -114,7 +114,7 @@ is_common Extension = false
 is_common EntityOrCommon = false
 is_common Common = true
 
--- `common_of k d` is the common type under the key `k`.
+-- `common_of k d` is the common type with the name `k` that `d` describes, or the first error.
 unfoldable pub common_of : List ℕ → Data → Result (List ℕ × Raw) SchemaFault
 common_of k d = do
   name ← ident k
@@ -124,14 +124,14 @@ common_of k d = do
 
 -- ---- entity types
 
--- `entity_type_name k`: an entity type may not be called `Action`.
+-- `entity_type_name k` is the name `k` of an entity type, or `BadShape` if it is not an Ident, or is `Action`.
 abbrev pub entity_type_name : List ℕ → Result (List ℕ) SchemaFault
 entity_type_name k = do
   name ← ident k
   free ← demand BadShape (not (bytes_eq k (codes "Action")))
   Ok name
 
--- `entity_type_of k d` is the entity type under the key `k`.
+-- `entity_type_of k d` is the entity type with the name `k` that `d` describes, or the first error.
 unfoldable pub entity_type_of : List ℕ → Data → Result EntityTypeOf SchemaFault
 entity_type_of k d = do
   name ← entity_type_name k
@@ -142,26 +142,26 @@ entity_type_of k d = do
 
 -- ---- actions
 
--- `parent_of d` is a parent of an action: its id, and the type if it is stated.
+-- `parent_of d` is a parent of an action: its id, and its type if `d` has one; or the first error.
 unfoldable pub parent_of : Data → Result StatedParent SchemaFault
 parent_of d = do
   keys ← demand BadShape (has_only (codes "id" ∷ codes "type" ∷ codes "annotations" ∷ []) d)
   id ← required_text (codes "id") d
-  type_name ← name_in_place (optional (codes "type") d)
+  type_name ← optional_name (optional (codes "type") d)
   Ok (record { type_name = type_name; id = id })
 
--- `parents_of ds` are the parents of an action in an array.
+-- `parents_of ds` are the parents of an action that the elements `ds` of an array describe, or the first error.
 unfoldable pub parents_of : Items → Result (List StatedParent) SchemaFault
 parents_of ds = each (λ i d. parent_of d) 0 (list_of ds)
 
--- `parents_in o` are those of an optional array.
+-- `parents_in o` are the parents in an optional array; none if `o` is `None`.
 abbrev pub parents_in : Option Data → Result (List StatedParent) SchemaFault
 parents_in None = Ok []
 parents_in (Some d) = do
   ds ← or_fault BadShape (as_array d)
   parents_of ds
 
--- `use_of d` is what an action applies to.
+-- `use_of d` is what an action applies to, as `d` describes it, or the first error.
 unfoldable pub use_of : Data → Result UseOf SchemaFault
 use_of d = do
   keys ← demand BadShape
@@ -171,19 +171,19 @@ use_of d = do
   context ← type_in (optional (codes "context") d)
   Ok (record { principals = principals; resources = resources; context = context })
 
--- `use_in o` is that, if it is stated.
+-- `use_in o` is what an action applies to, by an optional value; `None` if `o` is `None`.
 abbrev pub use_in : Option Data → Result (Option UseOf) SchemaFault
 use_in None = Ok None
 use_in (Some d) = do
   applied ← use_of d
   Ok (Some applied)
 
--- `is_empty_in o` tests for an absent value, or an object without members.
+-- `is_empty_in o` tests for an absent value (`None`), or an object without members.
 abbrev pub is_empty_in : Option Data → Bool
 is_empty_in None = true
 is_empty_in (Some d) = has_only [] d
 
--- `action_of k d` is the action under the key `k`.
+-- `action_of k d` is the action with the id `k` that `d` describes, or the first error.
 unfoldable pub action_of : List ℕ → Data → Result ActionOf SchemaFault
 action_of k d = do
   keys ← demand BadShape
@@ -195,14 +195,15 @@ action_of k d = do
 
 -- ---- namespaces
 
--- `namespace_name k`: the empty string is the empty namespace.
+-- `namespace_name k` is the name of the namespace at the key `k`; `None` for the empty string, the empty namespace.
 unfoldable pub namespace_name : List ℕ → Result (Option (List ℕ)) SchemaFault
 namespace_name [] = Ok None
 namespace_name (c ∷ cs) = do
   name ← type_name (c ∷ cs)
   Ok (Some name)
 
--- `commons_of`, `entity_types_of` and `actions_of` are the declarations under the keys of an object.
+-- `commons_of ms`, `entity_types_of ms` and `actions_of ms` are the declarations that the members `ms` describe, each
+-- with its key as its name, or the first error.
 unfoldable pub commons_of : Members → Result (List (List ℕ × Raw)) SchemaFault
 commons_of ms = each_member common_of ms
 
@@ -212,7 +213,8 @@ entity_types_of ms = each_member entity_type_of ms
 unfoldable pub actions_of : Members → Result (List ActionOf) SchemaFault
 actions_of ms = each_member action_of ms
 
--- `commons_in`, `entity_types_in` and `actions_in` are those of an optional object.
+-- `commons_in o`, `entity_types_in o` and `actions_in o` are the declarations in an optional object; none if `o` is
+-- `None`.
 abbrev pub commons_in : Option Data → Result (List (List ℕ × Raw)) SchemaFault
 commons_in found = do
   ms ← members_in found
@@ -228,7 +230,7 @@ actions_in found = do
   ms ← members_in found
   actions_of ms
 
--- `namespace_of k d` is the namespace under the key `k`.
+-- `namespace_of k d` is the namespace at the key `k` that `d` describes, or the first error.
 unfoldable pub namespace_of : List ℕ → Data → Result NamespaceOf SchemaFault
 namespace_of k d = do
   name ← namespace_name k
@@ -239,11 +241,11 @@ namespace_of k d = do
   actions ← actions_in (optional (codes "actions") d)
   Ok (record { name = name; commons = commons; entity_types = entity_types; actions = actions })
 
--- `namespaces_of ms` are the namespaces of an object.
+-- `namespaces_of ms` are the namespaces that the members `ms` describe, or the first error.
 unfoldable pub namespaces_of : Members → Result (List NamespaceOf) SchemaFault
 namespaces_of ms = each_member namespace_of ms
 
--- `stated d` are the namespaces of a schema file, an object of namespaces.
+-- `stated d` are the namespaces of the schema file `d`, which must be an object of namespaces, or the first error.
 unfoldable pub stated : Data → Result (List NamespaceOf) SchemaFault
 stated d = do
   ms ← or_fault BadShape (as_object d)

@@ -1,14 +1,14 @@
--- Defines the theorems about the content of a file, if the keys of each object ascend, as in parsed JSON.
+-- Defines the theorems about the content of a schema file, if the keys of each object ascend, as in parsed JSON.
 use Rattle.std.specs.Prelude.{◌≡◌, ℕ, List, Contains, Some, Ok}
 use Rattle.serde_json.specs.Data.{Data}
 use Rattle.schema_types.specs.Raw.{Raw}
 use Rattle.schema_types.specs.Ascending.{DataAscends, RawAscends}
-use Rattle.schema_file.specs.Once.{AllStateOnce}
+use Rattle.schema_file.specs.Once.{HaveDistinctNames}
 use Rattle.schema_file.specs.FileForm.{EntityTypeOf, UseOf, ActionOf, NamespaceOf, stated}
 
--- `FilesStateOnce`: nothing is stated twice.
+-- `FilesStateOnce`: the declared names of a file are distinct (`HaveDistinctNames`).
 abbrev pub FilesStateOnce : Type 0
-FilesStateOnce = (d : Data) (ns : List NamespaceOf) → stated d ≡ Ok ns → DataAscends d → AllStateOnce ns
+FilesStateOnce = (d : Data) (ns : List NamespaceOf) → stated d ≡ Ok ns → DataAscends d → HaveDistinctNames ns
 
 -- `IsTypeOf n r` holds if `r` is a type of the namespace `n`: a common type, a shape or a context.
 pub data IsTypeOf (n : NamespaceOf) : Raw → Type 0 where
@@ -17,7 +17,7 @@ pub data IsTypeOf (n : NamespaceOf) : Raw → Type 0 where
   context : (a : ActionOf) (u : UseOf) (r : Raw) → Contains n.actions a → a.applies_to ≡ Some u → u.context ≡ Some r
       → IsTypeOf n r
 
--- `FilesTypesAscend`: in each type the keys ascend.
+-- `FilesTypesAscend`: in each type of a file the keys of each record ascend.
 abbrev pub FilesTypesAscend : Type 0
 FilesTypesAscend =
     (d : Data) (ns : List NamespaceOf) → stated d ≡ Ok ns → DataAscends d → (n : NamespaceOf) → Contains ns n

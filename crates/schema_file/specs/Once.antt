@@ -1,4 +1,4 @@
--- Defines that the names that a file states are distinct, since the keys of an object are.
+-- Defines that the names that a schema file declares are distinct, as the keys of an object are.
 -- Source: RFC 8259, section 4: names within an object should be unique.
 -- Rules of this product: only the last value of a duplicate key counts.
 use Rattle.std.specs.Prelude.{◌≢◌, ⊤, List, [], ◌∷◌, map}
@@ -10,13 +10,14 @@ abbrev pub AreApart : {A : Type 0} → List A → Type 0
 AreApart [] = ⊤
 AreApart (x ∷ xs) = AllByRecursion (λ y. x ≢ y) xs × AreApart xs
 
--- `StatesOnce n` holds if in the namespace `n` no common type, no entity type and no action is stated twice.
+-- `StatesOnce n` holds if in the namespace `n` no two common types, no two entity types and no two actions have the
+-- same name.
 pub record StatesOnce (n : NamespaceOf) : Type 0 where
   pub commons : AreApart (map (λ c. c.0) n.commons)
   pub entity_types : AreApart (map (λ e. e.name) n.entity_types)
   pub actions : AreApart (map (λ a. a.id) n.actions)
 
--- `AllStateOnce ns` holds if this is so for each of `ns`, and no namespace is stated twice.
-pub record AllStateOnce (ns : List NamespaceOf) : Type 0 where
+-- `HaveDistinctNames ns` holds if this is so for each of the namespaces `ns`, and no two of these have the same name.
+pub record HaveDistinctNames (ns : List NamespaceOf) : Type 0 where
   pub namespaces : AreApart (map (λ n. n.name) ns)
   pub names : AllByRecursion StatesOnce ns

@@ -17,7 +17,7 @@ use serde_json::{Map, Value};
 use std::alloc::Global;
 use values::TypeName;
 
-/// Returns the name of the namespace under a key.
+/// Returns the name of the namespace at a key; `None` for the empty key. The error is `BadShape` (21).
 #[tactic(auto, unfolding(crate::specs::FileForm::namespace_name))]
 fn read_namespace_name(alloc: Global, key: &str) -> Result<Option<TypeName>, SchemaFault>
     ensures { ReadsAs SchemaFault.NoMemory (λ n. n) result (namespace_name key.now) }
@@ -28,6 +28,7 @@ fn read_namespace_name(alloc: Global, key: &str) -> Result<Option<TypeName>, Sch
     Ok(Some(read_type_name(alloc, key)?))
 }
 
+/// Returns the common types that the members describe, in the order of their keys.
 fn read_commons(
     alloc: Global,
     members: &Map<String, Value>,
@@ -42,7 +43,7 @@ fn read_commons(
     Ok(commons)
 }
 
-/// Returns the common types of a namespace.
+/// Returns the common types in an optional object; none if there is no object.
 fn read_optional_commons(
     alloc: Global,
     found: Option<&Value>,
@@ -59,6 +60,7 @@ fn read_optional_commons(
     }
 }
 
+/// Returns the entity types that the members describe, in the order of their keys.
 fn read_entity_types(
     alloc: Global,
     members: &Map<String, Value>,
@@ -74,7 +76,7 @@ fn read_entity_types(
     Ok(entity_types)
 }
 
-/// Returns the entity types of a namespace.
+/// Returns the entity types in an optional object; none if there is no object.
 fn read_optional_entity_types(
     alloc: Global,
     found: Option<&Value>,
@@ -91,6 +93,7 @@ fn read_optional_entity_types(
     }
 }
 
+/// Returns the actions that the members describe, in the order of their keys.
 fn read_actions(
     alloc: Global,
     members: &Map<String, Value>,
@@ -105,7 +108,7 @@ fn read_actions(
     Ok(actions)
 }
 
-/// Returns the actions of a namespace.
+/// Returns the actions in an optional object; none if there is no object.
 fn read_optional_actions(
     alloc: Global,
     found: Option<&Value>,
@@ -122,7 +125,7 @@ fn read_optional_actions(
     }
 }
 
-/// Returns the namespace under a key.
+/// Returns the namespace that a value describes at a key.
 #[tactic(auto, unfolding(crate::specs::FileForm::namespace_of))]
 fn read_namespace(alloc: Global, key: &str, value: &Value) -> Result<StatedNamespace, SchemaFault>
     ensures { ReadsAs SchemaFault.NoMemory namespace_view result (namespace_of key.now (view value.now)) }
@@ -145,6 +148,7 @@ fn read_namespace(alloc: Global, key: &str, value: &Value) -> Result<StatedNames
     })
 }
 
+/// Returns the namespaces that the members describe, in the order of their keys.
 fn read_namespaces(
     alloc: Global,
     members: &Map<String, Value>,

@@ -15,7 +15,7 @@ use schema_types::{SchemaFault, optional, required_text};
 use serde_json::Value;
 use std::alloc::Global;
 
-/// Returns one of the parents of an action.
+/// Returns the parent of an action that a value describes.
 #[tactic(auto, unfolding(crate::specs::FileForm::parent_of))]
 fn read_parent(alloc: Global, value: &Value) -> Result<StatedParent, SchemaFault>
     ensures { ReadsAs SchemaFault.NoMemory (λ p. p) result (parent_of (view value.now)) }
@@ -29,6 +29,7 @@ fn read_parent(alloc: Global, value: &Value) -> Result<StatedParent, SchemaFault
     Ok(StatedParent { type_name, id })
 }
 
+/// Returns the parents of an action that the values describe.
 fn read_parents(alloc: Global, values: &[Value]) -> Result<Items<StatedParent>, SchemaFault>
     ensures { ReadsAs SchemaFault.NoMemory (λ ps. ps) result (parents_of (items_view values.now)) }
 {
@@ -40,7 +41,7 @@ fn read_parents(alloc: Global, values: &[Value]) -> Result<Items<StatedParent>, 
     Ok(parents)
 }
 
-/// Returns the parents of an action, in an optional array.
+/// Returns the parents of an action in an optional array; none if there is no array.
 fn read_optional_parents(
     alloc: Global,
     found: Option<&Value>,
@@ -56,7 +57,7 @@ fn read_optional_parents(
     }
 }
 
-/// Returns what an action applies to.
+/// Returns what an action applies to, as a value describes it.
 #[tactic(auto, unfolding(crate::specs::FileForm::use_of))]
 fn read_use(alloc: Global, value: &Value) -> Result<StatedUse, SchemaFault>
     ensures { ReadsAs SchemaFault.NoMemory use_view result (use_of (view value.now)) }
@@ -77,7 +78,7 @@ fn read_use(alloc: Global, value: &Value) -> Result<StatedUse, SchemaFault>
     })
 }
 
-/// Returns what an action applies to, if it is stated.
+/// Returns what an action applies to, by an optional value; `None` if there is no value.
 fn read_optional_use(alloc: Global, found: Option<&Value>) -> Result<Option<StatedUse>, SchemaFault>
     ensures { ReadsAs SchemaFault.NoMemory (option_map use_view) result
         (use_in (option_map (λ v. view v.now) found.entry)) }
@@ -98,7 +99,7 @@ fn is_empty(found: Option<&Value>) -> bool
     }
 }
 
-/// Returns the action under a key.
+/// Returns the action that a value describes at a key, which is its id.
 #[tactic(auto, unfolding(crate::specs::FileForm::action_of))]
 pub(crate) fn read_action(
     alloc: Global,

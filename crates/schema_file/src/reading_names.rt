@@ -2,7 +2,7 @@
 ghost use Rattle.std.specs.Prelude.{option_map};
 ghost use Rattle.serde_json.specs.View.{view, items_view};
 ghost use Rattle.json_words.specs.ReadsAs.{ReadsAs};
-ghost use Rattle.schema_file.specs.FileForm.{ident, name_of, names_of, names_in, names_at, name_in_place};
+ghost use Rattle.schema_file.specs.FileForm.{ident, name_of, names_of, names_in, names_at, optional_name};
 ghost use Rattle.schema_types.specs.declared.fault.SchemaFault.TheVariants as SchemaFault;
 
 use plain::Items;
@@ -11,7 +11,7 @@ use serde_json::Value;
 use std::alloc::Global;
 use values::TypeName;
 
-/// Returns the identifier of a string.
+/// Returns the name of a string that is an identifier; else the error `BadShape` (21).
 #[tactic(auto, unfolding(crate::specs::FileForm::ident))]
 pub(crate) fn read_ident(alloc: Global, text: &str) -> Result<TypeName, SchemaFault>
     ensures { ReadsAs SchemaFault.NoMemory (λ t. t) result (ident text.now) }
@@ -23,7 +23,7 @@ pub(crate) fn read_ident(alloc: Global, text: &str) -> Result<TypeName, SchemaFa
     Ok(name)
 }
 
-/// Returns the name of a value.
+/// Returns the name of a value that is a string and a Path; else the error `BadShape` (21).
 #[tactic(auto, unfolding(crate::specs::FileForm::name_of))]
 fn read_name(alloc: Global, value: &Value) -> Result<TypeName, SchemaFault>
     ensures { ReadsAs SchemaFault.NoMemory (λ t. t) result (name_of (view value.now)) }
@@ -34,6 +34,7 @@ fn read_name(alloc: Global, value: &Value) -> Result<TypeName, SchemaFault>
     }
 }
 
+/// Returns the names of the values.
 fn read_names(alloc: Global, values: &[Value]) -> Result<Items<TypeName>, SchemaFault>
     ensures { ReadsAs SchemaFault.NoMemory (λ ns. ns) result (names_of (items_view values.now)) }
 {
@@ -45,7 +46,7 @@ fn read_names(alloc: Global, values: &[Value]) -> Result<Items<TypeName>, Schema
     Ok(names)
 }
 
-/// Returns the names in an optional array.
+/// Returns the names in an optional array; none if there is no array.
 pub(crate) fn read_optional_names(
     alloc: Global,
     found: Option<&Value>,
@@ -61,7 +62,7 @@ pub(crate) fn read_optional_names(
     }
 }
 
-/// Returns the names in the array at a key.
+/// Returns the names in the array at a required key.
 pub(crate) fn read_names_at(
     alloc: Global,
     value: &Value,
@@ -78,12 +79,12 @@ pub(crate) fn read_names_at(
     }
 }
 
-/// Returns an optional name.
+/// Returns the name of an optional value; `None` if there is no value.
 pub(crate) fn read_optional_name(
     alloc: Global,
     found: Option<&Value>,
 ) -> Result<Option<TypeName>, SchemaFault>
-    ensures { ReadsAs SchemaFault.NoMemory (λ n. n) result (name_in_place (option_map (λ v. view v.now) found.entry)) }
+    ensures { ReadsAs SchemaFault.NoMemory (λ n. n) result (optional_name (option_map (λ v. view v.now) found.entry)) }
 {
     match found {
         None => Ok(None),

@@ -16,7 +16,7 @@ use serde_json::Value;
 use std::alloc::Global;
 use values::TypeName;
 
-/// Returns an optional type.
+/// Returns the type that an optional value describes; `None` if there is no value.
 pub(crate) fn read_optional_type(
     alloc: Global,
     found: Option<&Value>,
@@ -30,13 +30,14 @@ pub(crate) fn read_optional_type(
     }
 }
 
+/// Returns whether a word of this form may name a common type.
 fn is_common(form: Form) -> bool
     ensures { result ≡ is_common_form form }
 {
     matches!(form, Form::Common)
 }
 
-/// Returns the common type under a key.
+/// Returns the common type that a value describes at a key, which is its name.
 #[tactic(auto, unfolding(crate::specs::FileForm::common_of))]
 pub(crate) fn read_common(
     alloc: Global,
@@ -53,7 +54,7 @@ pub(crate) fn read_common(
     Ok(StatedCommon { name, ty })
 }
 
-/// Returns the name of the entity type under a key.
+/// Returns the name of the entity type at a key; `BadShape` (21) if it is not an identifier, or is `Action`.
 #[tactic(auto)]
 fn read_entity_type_name(alloc: Global, key: &str) -> Result<TypeName, SchemaFault>
     ensures { ReadsAs SchemaFault.NoMemory (λ t. t) result (entity_type_name key.now) }
@@ -65,7 +66,7 @@ fn read_entity_type_name(alloc: Global, key: &str) -> Result<TypeName, SchemaFau
     Ok(name)
 }
 
-/// Returns the entity type under a key.
+/// Returns the entity type that a value describes at a key, which is its name.
 #[tactic(auto, unfolding(crate::specs::FileForm::entity_type_of))]
 pub(crate) fn read_entity_type(
     alloc: Global,

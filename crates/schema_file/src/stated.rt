@@ -4,23 +4,24 @@ use plain::{Items, Text};
 use schema_types::RawType;
 use values::TypeName;
 
-/// A common type with its name in its namespace.
+/// A common type: its name within its namespace, and its type.
 #[derive(Drop)]
 pub struct StatedCommon {
     pub name: TypeName,
     pub ty: RawType,
 }
 
-/// An entity type with its name in its namespace.
+/// An entity type: its name within its namespace, its parent types and its shape.
 #[derive(Drop)]
 pub struct StatedEntityType {
     pub name: TypeName,
     /// The names of the types that its entities may have as parents.
     pub parents: Items<TypeName>,
+    /// The type of its attributes' record, if there is one.
     pub shape: Option<RawType>,
 }
 
-/// What an action applies to.
+/// What an action applies to: the types of principals and resources, and the type of the context, if there is one.
 #[derive(Drop)]
 pub struct StatedUse {
     pub principals: Items<TypeName>,
@@ -28,14 +29,14 @@ pub struct StatedUse {
     pub context: Option<RawType>,
 }
 
-/// A parent of an action: its id, and its type if it is stated.
+/// A parent of an action: its id, and its type if the file has one.
 #[derive(Drop)]
 pub struct StatedParent {
     pub type_name: Option<TypeName>,
     pub id: Text,
 }
 
-/// An action with its id.
+/// An action: its id within its namespace, its parents, and what it applies to, if it applies to anything.
 #[derive(Drop)]
 pub struct StatedAction {
     pub id: Text,
@@ -43,7 +44,7 @@ pub struct StatedAction {
     pub applies_to: Option<StatedUse>,
 }
 
-/// A namespace; the empty one has no name.
+/// A namespace with its declarations; the empty namespace has no name.
 #[derive(Drop)]
 pub struct StatedNamespace {
     pub name: Option<TypeName>,

@@ -8,7 +8,7 @@ use Rattle.schema_file.specs.FileForm.{NamespaceOf}
 use Rattle.schema_file.specs.Laws.{IsTypeOf, common, shape, context}
 use Rattle.schema_file.specs.Laws as file
 use Rattle.schema_names.specs.Qualifying.{CommonOf, common_in, commons_declared, scope_in}
-use Rattle.schema_names.specs.Records.{StandsAsRecord}
+use Rattle.schema_names.specs.Records.{MustBeRecord}
 use Rattle.schema_names.specs.Laws.{FilesTypesAscend}
 use Rattle.schema_names.proofs.FoundLemmas.{all_of_from, map_from, record_from, common_from}
 
@@ -19,7 +19,7 @@ module _ (ns : List NamespaceOf) (ascend : (n : NamespaceOf) → Contains ns n �
       let m = map_from (λ y. common_in x.0.name y) x.0.commons c x.2 in
       subst RawAscends (ap (λ (y : CommonOf). y.type) m.2) (ascend x.0 x.1 m.0.1 (common m.0 m.1))
 
-  record_ascends : (n : NamespaceOf) → Contains ns n → (r : Raw) → StandsAsRecord n r → RawAscends r
+  record_ascends : (n : NamespaceOf) → Contains ns n → (r : Raw) → MustBeRecord n r → RawAscends r
   record_ascends n inside r (inl (e, here, is)) = ascend n inside r (shape e r here is)
   record_ascends n inside r (inr (a, here, (u, applies, is))) = ascend n inside r (context a u r here applies is)
 

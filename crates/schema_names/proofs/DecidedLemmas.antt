@@ -11,7 +11,7 @@ use Rattle.schema_types.specs.declared.fault.SchemaFault.{SchemaFault}
 use Rattle.schema_file.specs.FileForm.{NamespaceOf, stated}
 use Rattle.schema_names.specs.Qualifying.{CommonOf, commons_declared, scope_in, ResolvedSchema, qualified}
 use Rattle.schema_names.specs.Records.{SomeIsNoRecord}
-use Rattle.schema_names.specs.inner.Spreading.{means_now, NamesNoRecord, ReportsRecords, are_records}
+use Rattle.schema_names.specs.inner.Spreading.{is_known_non_record, NamesNoRecord, ReportsRecords, are_records}
 use Rattle.schema_names.specs.Naming.{no_record, unknown, not_json, bad_shape, bad_names}
 use Rattle.schema_names.specs.Laws.{NamesOrRefusal, SomeOutcome, states, refused}
 use Rattle.schema_names.proofs.FollowLemmas.{Known, IsSo, IsDone, found_so, all_found}
@@ -64,30 +64,30 @@ module _ (ns : List NamespaceOf) where
 
   -- one that is to be added
   abbrev Next : Known → List CommonOf → Type 0
-  Next known cs = (c : CommonOf) × Contains cs c × (means_now known (scope_in ns) c.own c.type ≡ true) × (known c.name ≡ false)
+  Next known cs = (c : CommonOf) × Contains cs c × (is_known_non_record known (scope_in ns) c.own c.type ≡ true) × (known c.name ≡ false)
 
   search_in : (known : Known) (cs : List CommonOf) → IsDone ns known cs ⊎ Next known cs
   search_in known [] = inl (λ c here m. none c here)
     where
       none : {B : Type 0} (c : CommonOf) → Contains [] c → B
       none c (k, lt, e) = absurd (omega (arith, lt))
-  search_in known (d ∷ cs) = by (cases_Bool (means_now known (scope_in ns) d.own d.type)) (cases_Bool (known d.name)) (search_in known cs)
+  search_in known (d ∷ cs) = by (cases_Bool (is_known_non_record known (scope_in ns) d.own d.type)) (cases_Bool (known d.name)) (search_in known cs)
     where
-      more : IsDone ns known cs → (means_now known (scope_in ns) d.own d.type ≡ true → known d.name ≡ true) → (c : CommonOf) → (d ≡ c) ⊎ Contains cs c → means_now known (scope_in ns) c.own c.type ≡ true → known c.name ≡ true
-      more done one c (inl same) m = ap (λ (x : CommonOf). known x.name) (sym same) ∙ one (ap (λ (x : CommonOf). means_now known (scope_in ns) x.own x.type) same ∙ m)
+      more : IsDone ns known cs → (is_known_non_record known (scope_in ns) d.own d.type ≡ true → known d.name ≡ true) → (c : CommonOf) → (d ≡ c) ⊎ Contains cs c → is_known_non_record known (scope_in ns) c.own c.type ≡ true → known c.name ≡ true
+      more done one c (inl same) m = ap (λ (x : CommonOf). known x.name) (sym same) ∙ one (ap (λ (x : CommonOf). is_known_non_record known (scope_in ns) x.own x.type) same ∙ m)
       more done one c (inr there) m = done c there m
 
-      late : (means_now known (scope_in ns) d.own d.type ≡ true → known d.name ≡ true) → IsDone ns known cs ⊎ Next known cs → IsDone ns known (d ∷ cs) ⊎ Next known (d ∷ cs)
+      late : (is_known_non_record known (scope_in ns) d.own d.type ≡ true → known d.name ≡ true) → IsDone ns known cs ⊎ Next known cs → IsDone ns known (d ∷ cs) ⊎ Next known (d ∷ cs)
       late one (inl done) = inl (λ c here m. more done one c (Contains-cases d cs c here) m)
       late one (inr (c, there, m, none)) = inr (c, Contains-there d cs c there, m, none)
 
-      by : (means_now known (scope_in ns) d.own d.type ≡ true) ⊎ (means_now known (scope_in ns) d.own d.type ≡ false) → (known d.name ≡ true) ⊎ (known d.name ≡ false) → IsDone ns known cs ⊎ Next known cs
+      by : (is_known_non_record known (scope_in ns) d.own d.type ≡ true) ⊎ (is_known_non_record known (scope_in ns) d.own d.type ≡ false) → (known d.name ≡ true) ⊎ (known d.name ≡ false) → IsDone ns known cs ⊎ Next known cs
           → IsDone ns known (d ∷ cs) ⊎ Next known (d ∷ cs)
       by (inl m) (inr none) rest = inr (d, Contains-here d cs, m, none)
       by (inl m) (inl there) rest = late (λ x. there) rest
       by (inr n) there rest = late (λ x. absurd (true≢false (sym x ∙ n))) rest
 
-  added_so : (known : Known) (c : CommonOf) → Contains (commons_declared ns) c → means_now known (scope_in ns) c.own c.type ≡ true → IsSo ns known → IsSo ns (adding c.name known)
+  added_so : (known : Known) (c : CommonOf) → Contains (commons_declared ns) c → is_known_non_record known (scope_in ns) c.own c.type ≡ true → IsSo ns known → IsSo ns (adding c.name known)
   unfolding adding
   added_so known c here m so q is = by (bytes_eq c.name q) refl is
     where

@@ -13,7 +13,7 @@ use Rattle.schema_types.specs.Law.{FoundEntitiesAreDeclared}
 use Rattle.schema_types.specs.Names.{Scope, full_name, entity_named, qualified_of}
 use Rattle.schema_types.specs.declared.fault.SchemaFault.{SchemaFault}
 use Rattle.schema_file.specs.FileForm.{EntityTypeOf, UseOf, NamespaceOf}
-use Rattle.schema_names.specs.Naming.{StatesNamed}
+use Rattle.schema_names.specs.Naming.{DescribesFile}
 use Rattle.schema_names.specs.Laws.{IsEntityType, NamesItsEntityTypes}
 use Rattle.schema_names.specs.Qualifying.{entity_types_declared, scope_in, is_action_in, ResolvedEntityType, ResolvedUse, ResolvedAction, ResolvedSchema, entity_type_named, entity_types_named, type_named, qualified_entity_type, qualified_use, qualified_action, qualified_entity_types, qualified_actions, qualified}
 use Rattle.schema_names.proofs.FoundLemmas.{ok_same, read_from, read_to, all_of_from, all_of_to, map_from, some_passes, parts_of, namespace_from, namespace_to, namespace_parts, applies_from, record_from, common_from}
@@ -109,5 +109,5 @@ module _ (ns : List NamespaceOf) (s : ResolvedSchema) (named : qualified ns ≡ 
       resources = λ a f here applies q m. let u = use_in a f here applies in in_list u.0 u.1.resources f.resources (use_parts (scope_in ns) u.0 u.1 f u.2).1 q m;
     }
 
-pub names_its_entity_types : FoundEntitiesAreDeclared → (bytes : List ℕ) (s : ResolvedSchema) → StatesNamed bytes s → NamesItsEntityTypes s
+pub names_its_entity_types : FoundEntitiesAreDeclared → (bytes : List ℕ) (s : ResolvedSchema) → DescribesFile bytes s → NamesItsEntityTypes s
 names_its_entity_types declared bytes s h = all_declared h.namespaces s h.named.found declared

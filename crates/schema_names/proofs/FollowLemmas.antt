@@ -5,7 +5,7 @@ use Rattle.schema_types.specs.Raw.{Raw}
 use Rattle.schema_file.specs.FileForm.{NamespaceOf}
 use Rattle.schema_names.specs.Qualifying.{CommonOf, commons_declared, scope_in}
 use Rattle.schema_names.specs.Records.{common_meant, is_no_record, MeansNoRecord, form, named}
-use Rattle.schema_names.specs.inner.Spreading.{means_by, means_now, NamesNoRecord}
+use Rattle.schema_names.specs.inner.Spreading.{means_by, is_known_non_record, NamesNoRecord}
 
 abbrev pub Known : Type 0
 Known = List ℕ → Bool
@@ -15,10 +15,10 @@ module _ (ns : List NamespaceOf) where
   IsSo known = (q : List ℕ) → known q ≡ true → NamesNoRecord ns q
 
   abbrev pub IsDone : Known → List CommonOf → Type 0
-  IsDone known cs = (c : CommonOf) → Contains cs c → means_now known (scope_in ns) c.own c.type ≡ true → known c.name ≡ true
+  IsDone known cs = (c : CommonOf) → Contains cs c → is_known_non_record known (scope_in ns) c.own c.type ≡ true → known c.name ≡ true
 
   -- what is found is so
-  pub found_so : (known : Known) (own : Option (List ℕ)) (r : Raw) → IsSo known → means_now known (scope_in ns) own r ≡ true → MeansNoRecord ns own r
+  pub found_so : (known : Known) (own : Option (List ℕ)) (r : Raw) → IsSo known → is_known_non_record known (scope_in ns) own r ≡ true → MeansNoRecord ns own r
   found_so known own r h m = by (common_meant (scope_in ns) own r) refl m
     where
       by : (o : Option (List ℕ)) → common_meant (scope_in ns) own r ≡ o → means_by o known (is_no_record (scope_in ns) own r) ≡ true → MeansNoRecord ns own r
@@ -26,6 +26,6 @@ module _ (ns : List NamespaceOf) where
       by None e there = form own r e there
 
   -- and where nothing is left to be found, all that is so was found
-  pub all_found : (known : Known) → IsDone known (commons_declared ns) → (own : Option (List ℕ)) (r : Raw) → MeansNoRecord ns own r → means_now known (scope_in ns) own r ≡ true
+  pub all_found : (known : Known) → IsDone known (commons_declared ns) → (own : Option (List ℕ)) (r : Raw) → MeansNoRecord ns own r → is_known_non_record known (scope_in ns) own r ≡ true
   all_found known done _ _ (form own r e n) = rw e n
   all_found known done _ _ (named own r c e here m) = rw e (done c here (all_found known done c.own c.type m))

@@ -12,15 +12,15 @@ use Rattle.values.specs.declared.entity_uid.EntityUid.{EntityUid}
 use Rattle.plain.proofs.Members.{Contains-here, Contains-there, Contains-cases, Contains-none}
 use Rattle.schema_types.specs.Raw.{Raw}
 use Rattle.schema_types.specs.Qualified.{Qualified}
-use Rattle.schema_types.specs.WrittenOut.{Declarations, Declares}
+use Rattle.schema_types.specs.Expansions.{Declarations, Declares}
 use Rattle.schema_types.specs.Names.{Scope, full_name, qualified_of}
 use Rattle.schema_types.specs.declared.fault.SchemaFault.{SchemaFault}
 use Rattle.schema_file.specs.FileForm.{EntityTypeOf, UseOf, ActionOf, NamespaceOf}
 use Rattle.schema_types.specs.Mentions.{IsClosed}
-use Rattle.schema_types.specs.Law.{FoundCommonsAreDeclared}
-use Rattle.schema_names.specs.Laws.{IsShapeOrContext, NamesItsOwn}
-use Rattle.schema_names.specs.Naming.{StatesNamed}
-use Rattle.schema_names.specs.Records.{StandsAsRecord}
+use Rattle.schema_types.specs.Law.{ResolvedCommonsAreDeclared}
+use Rattle.schema_names.specs.Laws.{IsShapeOrContext, DeclaresItsCommonTypes}
+use Rattle.schema_names.specs.Naming.{DescribesFile}
+use Rattle.schema_names.specs.Records.{MustBeRecord}
 use Rattle.schema_names.specs.Qualifying.{all_of, CommonOf, common_in, commons_declared, scope_in, is_action_in, ResolvedEntityType, ResolvedUse, ResolvedAction, ResolvedSchema, entity_types_named, type_named, parents_named, use_named, qualified_common, qualified_entity_type, qualified_use, qualified_action, qualified_commons, qualified_entity_types, qualified_actions, qualified_namespace, qualified_namespaces, together, qualified}
 
 abbrev ok : {A : Type 0} → A → Result A SchemaFault
@@ -225,7 +225,7 @@ applies_from sc is_action own x a read f is =
 
 module _ (ns : List NamespaceOf) (s : ResolvedSchema) (named : qualified ns ≡ ok s) where
   -- a shape or a context of s is what one of a namespace means
-  pub record_from : (r : Qualified) → IsShapeOrContext s r → (n : NamespaceOf) × (raw : Raw) × Contains ns n × StandsAsRecord n raw × (qualified_of (scope_in ns) n.name raw ≡ ok r)
+  pub record_from : (r : Qualified) → IsShapeOrContext s r → (n : NamespaceOf) × (raw : Raw) × Contains ns n × MustBeRecord n raw × (qualified_of (scope_in ns) n.name raw ≡ ok r)
   unfolding qualified_entity_types qualified_actions
   record_from r (inl (e, here, is)) =
       let parts = parts_of ns s named in
@@ -279,13 +279,13 @@ module _ (ns : List NamespaceOf) (s : ResolvedSchema) (named : qualified ns ≡ 
       (t.0.1, subst (λ (q : List ℕ). Declares s.commons q t.0.1) name (declares_to s.commons t.0 there))
 
   -- what a type of the file names is declared
-  closed : FoundCommonsAreDeclared → (own : Option (List ℕ)) (raw : Raw) (r : Qualified) → qualified_of (scope_in ns) own raw ≡ ok r → IsClosed s.commons r
+  closed : ResolvedCommonsAreDeclared → (own : Option (List ℕ)) (raw : Raw) (r : Qualified) → qualified_of (scope_in ns) own raw ≡ ok r → IsClosed s.commons r
   closed declared own raw r e q m =
       let x = some_passes (λ c. bytes_eq c.name q) (commons_declared ns) (declared (scope_in ns) own raw r e q m) in
       let t = common_to x.0 x.1 in
       (t.0, subst (λ (p : List ℕ). Declares s.commons p t.0) ((bytes_eq-Decides x.0.name q).0 x.2) t.1)
 
-pub names_its_own : FoundCommonsAreDeclared → (bytes : List ℕ) (s : ResolvedSchema) → StatesNamed bytes s → NamesItsOwn s
+pub names_its_own : ResolvedCommonsAreDeclared → (bytes : List ℕ) (s : ResolvedSchema) → DescribesFile bytes s → DeclaresItsCommonTypes s
 names_its_own declared bytes s h = record {
   commons = λ q r here. let c = common_from h.namespaces s h.named.found q r here in closed h.namespaces s h.named.found declared c.0.own c.0.type r c.3;
   records = λ r here. let x = record_from h.namespaces s h.named.found r here in closed h.namespaces s h.named.found declared x.0.name x.1 r x.4;

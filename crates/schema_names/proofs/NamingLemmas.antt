@@ -15,7 +15,7 @@ use Rattle.schema_names.specs.ResolvedViews.{found_view}
 use Rattle.schema_names.specs.Records.{SomeIsNoRecord}
 use Rattle.schema_names.specs.inner.Adding.{Declares}
 use Rattle.schema_names.specs.inner.Spreading.{MayRefuseRecords}
-use Rattle.schema_names.specs.Naming.{IsNamed, NamesRefused, no_record, unknown, StatesNamed, NamingRefused, not_json}
+use Rattle.schema_names.specs.Naming.{IsNamed, NamesRefused, no_record, unknown, DescribesFile, IsNamingError, not_json}
 use Rattle.schema_names.specs.Naming.{bad_shape, bad_names}
 
 pub records_refused : (ns : List NamespaceOf) (f : SchemaFault) → MayRefuseRecords ns f → f ≢ NoMemory → NamesRefused ns f
@@ -37,18 +37,18 @@ json_some : (o : Option Data) (d : Data) → or_fault NotJson o ≡ Ok d → o �
 json_some (Some x) d h = let same : x ≡ d = cc in ap (λ (y : Data). Some y) same
 json_some None d h = absurd cc
 
-no_json : (bytes : List ℕ) (f : SchemaFault) (o : Option Data) → json_of bytes ≡ o → or_fault NotJson o ≡ Err f → NamingRefused bytes f
+no_json : (bytes : List ℕ) (f : SchemaFault) (o : Option Data) → json_of bytes ≡ o → or_fault NotJson o ≡ Err f → IsNamingError bytes f
 no_json bytes f (Some x) e h = absurd cc
-no_json bytes f None e h = let same : NotJson ≡ f = cc in subst (λ (g : SchemaFault). NamingRefused bytes g) same (not_json e)
+no_json bytes f None e h = let same : NotJson ≡ f = cc in subst (λ (g : SchemaFault). IsNamingError bytes g) same (not_json e)
 
-pub json_refused : (bytes : List ℕ) (f : SchemaFault) → Fails NoMemory f (or_fault NotJson (json_of bytes)) → f ≢ NoMemory → NamingRefused bytes f
+pub json_refused : (bytes : List ℕ) (f : SchemaFault) → Fails NoMemory f (or_fault NotJson (json_of bytes)) → f ≢ NoMemory → IsNamingError bytes f
 json_refused bytes f fails apart = no_json bytes f (json_of bytes) refl (fails apart)
 
-pub shape_refused : (bytes : List ℕ) (d : Data) (f : SchemaFault) → or_fault NotJson (json_of bytes) ≡ Ok d → Fails NoMemory f (stated d) → f ≢ NoMemory → NamingRefused bytes f
+pub shape_refused : (bytes : List ℕ) (d : Data) (f : SchemaFault) → or_fault NotJson (json_of bytes) ≡ Ok d → Fails NoMemory f (stated d) → f ≢ NoMemory → IsNamingError bytes f
 shape_refused bytes d f json fails apart = bad_shape d f (json_some (json_of bytes) d json) (fails apart)
 
 pub bytes_named : (bytes : List ℕ) (d : Data) (ns : List NamespaceOf) → or_fault NotJson (json_of bytes) ≡ Ok d → stated d ≡ Ok ns → (r : Result (List ResolvedFile) SchemaFault)
     → MatchResult r (λ ps. IsNamed ns (together (map found_view ps))) (λ f. f ≢ NoMemory → NamesRefused ns f)
-    → MatchResult r (λ ps. StatesNamed bytes (together (map found_view ps))) (λ f. f ≢ NoMemory → NamingRefused bytes f)
+    → MatchResult r (λ ps. DescribesFile bytes (together (map found_view ps))) (λ f. f ≢ NoMemory → IsNamingError bytes f)
 bytes_named bytes d ns json shape (Ok ps) h = record { value = d; namespaces = ns; json = json_some (json_of bytes) d json; shape = shape; named = h }
 bytes_named bytes d ns json shape (Err f) h = λ apart. bad_names d ns f (json_some (json_of bytes) d json) shape (h apart)

@@ -15,7 +15,7 @@ use Rattle.values.specs.declared.entity_uid.EntityUid.{EntityUid}
 use Rattle.values.specs.Paths.{is_path}
 use Rattle.schema_types.specs.Raw.{Raw}
 use Rattle.schema_types.specs.Qualified.{Qualified}
-use Rattle.schema_types.specs.WrittenOut.{Declarations, Declares}
+use Rattle.schema_types.specs.Expansions.{Declarations, Declares}
 use Rattle.schema_types.specs.Law.{AreOnce}
 use Rattle.schema_types.specs.Optional.{optional}
 use Rattle.schema_types.specs.Forms.{form_named}
@@ -23,7 +23,7 @@ use Rattle.schema_types.specs.Names.{Scope, is_qualified, full_name, qualified_o
 use Rattle.schema_types.specs.TypeShape.{type_name, type_of}
 use Rattle.schema_types.specs.declared.fault.SchemaFault.{SchemaFault}
 use Rattle.schema_types.specs.declared.fault.SchemaFault.TheVariants.{BadShape}
-use Rattle.schema_file.specs.Once.{AreApart, StatesOnce, AllStateOnce}
+use Rattle.schema_file.specs.Once.{AreApart, StatesOnce, HaveDistinctNames}
 use Rattle.schema_file.specs.FileForm.{EntityTypeOf, ActionOf, NamespaceOf, ident, is_common, common_of, commons_of}
 use Rattle.schema_file.specs.FileForm.{entity_type_name, entity_type_of, entity_types_of, names_in, type_in, members_in}
 use Rattle.schema_file.specs.FileForm.{commons_in, entity_types_in, actions_in, namespace_name, namespace_of}
@@ -360,7 +360,7 @@ apart_at : {A : Type 0} (of : NamespaceOf → List A) (word : A → List ℕ) �
 apart_at of word at [] h = tt
 apart_at of word at (n ∷ ns) h = (at n h.0, apart_at of word at ns h.1)
 
-declares_once : (d : Data) (ns : List NamespaceOf) (s : ResolvedSchema) → stated d ≡ ok ns → AllStateOnce ns → qualified ns ≡ ok s → DeclaresOnce s
+declares_once : (d : Data) (ns : List NamespaceOf) (s : ResolvedSchema) → stated d ≡ ok ns → HaveDistinctNames ns → qualified ns ≡ ok s → DeclaresOnce s
 unfolding stated namespaces_of
 declares_once d ns s shape once found =
     let a = bind_ok (or_fault BadShape (as_object d)) (λ ms. namespaces_of ms) ns shape in

@@ -7,8 +7,8 @@ use Rattle.std.proofs.lemmas.List.{drop_all}
 use Rattle.schema_types.specs.Raw.{Raw}
 use Rattle.schema_file.specs.FileForm.{UseOf, ActionOf, NamespaceOf}
 use Rattle.schema_names.specs.Qualifying.{scope_in}
-use Rattle.schema_names.specs.Records.{StandsAsRecord, SomeIsNoRecord}
-use Rattle.schema_names.specs.inner.Spreading.{means_now, ReportsRecords, is_record_at, is_record_in, are_shapes, are_contexts, are_records_of, are_records}
+use Rattle.schema_names.specs.Records.{MustBeRecord, SomeIsNoRecord}
+use Rattle.schema_names.specs.inner.Spreading.{is_known_non_record, ReportsRecords, is_record_at, is_record_in, are_shapes, are_contexts, are_records_of, are_records}
 use Rattle.json_words.proofs.EachSame.{cut}
 
 -- ---- a loop that stops at the first that fails
@@ -53,7 +53,7 @@ not_false true h = refl
 not_false false h = absurd (true≢false h)
 
 module _ (ns : List NamespaceOf) (names : List ℕ → Bool) (t : ReportsRecords ns names) where
-  no_shape : (n : NamespaceOf) (r : Raw) → are_records_of names (scope_in ns) n ≡ true → StandsAsRecord n r → means_now names (scope_in ns) n.name r ≡ true → ⊥
+  no_shape : (n : NamespaceOf) (r : Raw) → are_records_of names (scope_in ns) n ≡ true → MustBeRecord n r → is_known_non_record names (scope_in ns) n.name r ≡ true → ⊥
   no_shape n r h (inl (e, there, is)) m =
       let both = and_parts (are_shapes names (scope_in ns) n.name n.entity_types) _ h in
       let one = all_at (λ x. is_record_at names (scope_in ns) n.name x.shape) n.entity_types e both.0 there in
@@ -67,7 +67,7 @@ module _ (ns : List NamespaceOf) (names : List ℕ → Bool) (t : ReportsRecords
   pub all_records : are_records names (scope_in ns) ns ≡ true → SomeIsNoRecord ns → ⊥
   all_records h s = no_shape s.namespace s.type (all_at (λ n. are_records_of names (scope_in ns) n) ns s.namespace h s.stated) s.stands (t.complete s.namespace.name s.type s.means)
 
-  none_there : (n : NamespaceOf) → Contains ns n → (o : Option Raw) → ((r : Raw) → o ≡ Some r → StandsAsRecord n r) → is_record_at names (scope_in ns) n.name o ≡ false → SomeIsNoRecord ns
+  none_there : (n : NamespaceOf) → Contains ns n → (o : Option Raw) → ((r : Raw) → o ≡ Some r → MustBeRecord n r) → is_record_at names (scope_in ns) n.name o ≡ false → SomeIsNoRecord ns
   none_there n here None stands h = absurd (true≢false h)
   none_there n here (Some r) stands h = record { namespace = n; type = r; stated = here; stands = stands r refl; means = t.sound n.name r (not_false _ h) }
 

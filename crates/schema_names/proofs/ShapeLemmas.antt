@@ -10,15 +10,15 @@ use Rattle.schema_types.specs.Qualified as qualified
 use Rattle.schema_types.specs.Qualified.{Qualified, QualifiedFields}
 use Rattle.schema_types.specs.Cedar as cedar
 use Rattle.schema_types.specs.Cedar.{Cedar, CedarFields}
-use Rattle.schema_types.specs.WrittenOut as written
-use Rattle.schema_types.specs.WrittenOut.{WrittenOut}
+use Rattle.schema_types.specs.Expansions as written
+use Rattle.schema_types.specs.Expansions.{IsExpansion}
 use Rattle.schema_types.specs.Names.{Scope, found, built_in, or_entity, or_common, any_named, entity_named, common_named, qualified_of, fields_of}
 use Rattle.schema_types.specs.declared.fault.SchemaFault.{SchemaFault}
 use Rattle.schema_types.specs.declared.fault.SchemaFault.TheVariants.{UnknownName}
 use Rattle.schema_file.specs.FileForm.{NamespaceOf}
 use Rattle.schema_names.specs.Qualifying as file
 use Rattle.schema_names.specs.Qualifying.{CommonOf, scope_in, ResolvedSchema}
-use Rattle.schema_names.specs.Records.{common_meant, MeansNoRecord, form, named, StandsAsRecord}
+use Rattle.schema_names.specs.Records.{common_meant, MeansNoRecord, form, named, MustBeRecord}
 use Rattle.schema_names.specs.Laws.{ShapesAreRecords}
 use Rattle.schema_names.proofs.FoundLemmas.{record_from, common_from}
 
@@ -136,7 +136,7 @@ IsRecord t = (fs : CedarFields) × (t ≡ cedar.record_of fs)
 
 module _ (ns : List NamespaceOf) (s : ResolvedSchema) (file_is : file.qualified ns ≡ ok s) where
   -- either what is written out is a record, or what is stated means no record
-  record_or : (own : Option (List ℕ)) (r : Raw) (n : Qualified) (t : Cedar) → WrittenOut s.commons n t → qualified_of (scope_in ns) own r ≡ ok n → IsRecord t ⊎ MeansNoRecord ns own r
+  record_or : (own : Option (List ℕ)) (r : Raw) (n : Qualified) (t : Cedar) → IsExpansion s.commons n t → qualified_of (scope_in ns) own r ≡ ok n → IsRecord t ⊎ MeansNoRecord ns own r
   record_or own r _ _ written.text e = inr (other_is ns own r qualified.text e tt)
   record_or own r _ _ written.long e = inr (other_is ns own r qualified.long e tt)
   record_or own r _ _ written.boolean e = inr (other_is ns own r qualified.boolean e tt)
@@ -158,6 +158,6 @@ shapes_are_records bytes s h r here t w =
     let x = record_from h.namespaces s h.named.found r here in
     by x.0 x.1 x.2 x.3 (record_or h.namespaces s h.named.found x.0.name x.1 r t w x.4)
   where
-    by : (n : NamespaceOf) (raw : Raw) → Contains h.namespaces n → StandsAsRecord n raw → IsRecord t ⊎ MeansNoRecord h.namespaces n.name raw → IsRecord t
+    by : (n : NamespaceOf) (raw : Raw) → Contains h.namespaces n → MustBeRecord n raw → IsRecord t ⊎ MeansNoRecord h.namespaces n.name raw → IsRecord t
     by n raw inside stands (inl record_is) = record_is
     by n raw inside stands (inr none) = absurd (h.named.records (record { namespace = n; type = raw; stated = inside; stands = stands; means = none }))

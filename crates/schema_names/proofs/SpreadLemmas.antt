@@ -10,7 +10,7 @@ use Rattle.schema_types.specs.Names.{Scope}
 use Rattle.schema_file.specs.FileForm.{NamespaceOf}
 use Rattle.schema_names.specs.Qualifying.{CommonOf, commons_declared, scope_in}
 use Rattle.schema_names.specs.inner.Adding.{has_name}
-use Rattle.schema_names.specs.inner.Spreading.{means_now, NamesNoRecord, IsSound, AreAmong, IsSettled, KeepsNames, Spreads, ReportsRecords, tried_one, tried_in_order}
+use Rattle.schema_names.specs.inner.Spreading.{is_known_non_record, NamesNoRecord, IsSound, AreAmong, IsSettled, KeepsNames, AddsNonRecords, ReportsRecords, tried_one, tried_in_order}
 use Rattle.schema_names.specs.inner.Uses.{listed_view}
 use Rattle.schema_names.specs.declared.order.ListedCommon.{ListedCommon}
 use Rattle.std.specs.List.{slice_get}
@@ -26,7 +26,7 @@ only_member : (c d : CommonOf) → Contains (c ∷ []) d → c ≡ d
 only_member c d (zero, lt, e) = e
 only_member c d (suc k, lt, e) = absurd (omega (arith, lt))
 
-pub spreads_none : (s : Scope) (t : Names) → Spreads s [] t t
+pub spreads_none : (s : Scope) (t : Names) → AddsNonRecords s [] t t
 spreads_none s t = record { sound = λ ns e among h. h; grows = inl (refl, λ c here m. Contains-none c here) }
 
 settled_both : (s : Scope) (t : Names) (xs ys : List CommonOf) → IsSettled s t xs → IsSettled s t ys → IsSettled s t (xs ++ ys)
@@ -44,7 +44,7 @@ grow_both s xs ys old mid new (inr lt) (inl q) = inr (subst (λ (t : Names). btr
 grow_both s xs ys old mid new (inr lt) (inr more) = inr (omega (arith, lt, more))
 
 -- first these, and then those
-pub spreads_both : (s : Scope) (xs ys : List CommonOf) (old mid new : Names) → Spreads s xs old mid → Spreads s ys mid new → Spreads s (xs ++ ys) old new
+pub spreads_both : (s : Scope) (xs ys : List CommonOf) (old mid new : Names) → AddsNonRecords s xs old mid → AddsNonRecords s ys mid new → AddsNonRecords s (xs ++ ys) old new
 spreads_both s xs ys old mid new h k = record {
   sound = λ ns e among so. k.sound ns e (λ c here. among c (Contains-append_right xs ys c here)) (h.sound ns e (λ c here. among c (Contains-append_left xs ys c here)) so);
   grows = grow_both s xs ys old mid new h.grows k.grows;
@@ -52,19 +52,19 @@ spreads_both s xs ys old mid new h k = record {
 
 -- ---- one common type
 
-pub stays_known : (s : Scope) (c : CommonOf) (t : Names) → has_name t c.name ≡ true → Spreads s (c ∷ []) t t
+pub stays_known : (s : Scope) (c : CommonOf) (t : Names) → has_name t c.name ≡ true → AddsNonRecords s (c ∷ []) t t
 stays_known s c t known = record {
   sound = λ ns e among h. h;
   grows = inl (refl, λ d here m. subst (λ (x : CommonOf). has_name t x.name ≡ true) (only_member c d here) known);
 }
 
-pub stays_record : (s : Scope) (c : CommonOf) (t : Names) → means_now (λ q. has_name t q) s c.own c.type ≡ false → Spreads s (c ∷ []) t t
+pub stays_record : (s : Scope) (c : CommonOf) (t : Names) → is_known_non_record (λ q. has_name t q) s c.own c.type ≡ false → AddsNonRecords s (c ∷ []) t t
 stays_record s c t means = record {
   sound = λ ns e among h. h;
   grows = inl (
     refl,
     λ d here m.
-        let other : means_now (λ q. has_name t q) s d.own d.type ≡ false = subst (λ (x : CommonOf). means_now (λ q. has_name t q) s x.own x.type ≡ false) (only_member c d here) means in
+        let other : is_known_non_record (λ q. has_name t q) s d.own d.type ≡ false = subst (λ (x : CommonOf). is_known_non_record (λ q. has_name t q) s x.own x.type ≡ false) (only_member c d here) means in
         absurd (true≢false (sym m ∙ other)),
   );
 }
@@ -73,8 +73,8 @@ grown : (old new : ℕ) (here added : Bool) → new ≡ old + (if added then 1 e
 grown old new here added len is none = let more = ap (λ (b : Bool). old + cond b 1 0) (is ∙ ap not none) in omega (arith, len, more)
 
 pub spreads_one : (s : Scope) (c : CommonOf) (old new : Names) (text : String Global) (added : Bool) → string_bytes text ≡ c.name → has_name old c.name ≡ false
-    → means_now (λ q. has_name old q) s c.own c.type ≡ true → Updates string_cmp old new text true → btree_set_len new ≡ btree_set_len old + (if added then 1 else 0)
-    → added ≡ not (contains string_cmp old text) → Spreads s (c ∷ []) old new
+    → is_known_non_record (λ q. has_name old q) s c.own c.type ≡ true → Updates string_cmp old new text true → btree_set_len new ≡ btree_set_len old + (if added then 1 else 0)
+    → added ≡ not (contains string_cmp old text) → AddsNonRecords s (c ∷ []) old new
 spreads_one s c old new text added t none means updates len is = record {
   sound = λ ns e among h q known. added_so ns e among h q known (cases_Bool (bytes_eq c.name q));
   grows = inr (grown (btree_set_len old) (btree_set_len new) (contains string_cmp old text) added len is (ap (λ (n : List ℕ). has_name old n) t ∙ none));
@@ -86,7 +86,7 @@ spreads_one s c old new text added t none means updates len is = record {
       common = c;
       declared = among c (zero, omega arith, refl);
       is = (bytes_eq-Decides c.name q).0 y;
-      means = found_so ns (λ q. has_name old q) c.own c.type h (subst (λ (x : Scope). means_now (λ p. has_name old p) x c.own c.type ≡ true) e means);
+      means = found_so ns (λ q. has_name old q) c.own c.type h (subst (λ (x : Scope). is_known_non_record (λ p. has_name old p) x c.own c.type ≡ true) e means);
     }
     added_so ns e among h q known (inr n) =
         let here = name_added old new text (string_bytes text) (string_bytes text) c.name refl refl t updates q in
@@ -94,14 +94,14 @@ spreads_one s c old new text added t none means updates len is = record {
 
 -- ---- when nothing is left to do
 
-pub settled_of : (s : Scope) (cs : List CommonOf) (old new : Names) → Spreads s cs old new → btree_set_len new ≡ btree_set_len old → IsSettled s new cs
+pub settled_of : (s : Scope) (cs : List CommonOf) (old new : Names) → AddsNonRecords s cs old new → btree_set_len new ≡ btree_set_len old → IsSettled s new cs
 settled_of s cs old new r same = at r.grows
   where
     at : ((new ≡ old) × IsSettled s old cs) ⊎ (btree_set_len old < btree_set_len new) → IsSettled s new cs
     at (inl p) = subst (λ (t : Names). IsSettled s t cs) (sym p.0) p.1
     at (inr lt) = absurd (omega (arith, lt, same))
 
-pub grown_of : (s : Scope) (cs : List CommonOf) (old new : Names) → Spreads s cs old new → (btree_set_len new ≡ btree_set_len old → ⊥) → btree_set_len old < btree_set_len new
+pub grown_of : (s : Scope) (cs : List CommonOf) (old new : Names) → AddsNonRecords s cs old new → (btree_set_len new ≡ btree_set_len old → ⊥) → btree_set_len old < btree_set_len new
 grown_of s cs old new r apart = at r.grows
   where
     at : ((new ≡ old) × IsSettled s old cs) ⊎ (btree_set_len old < btree_set_len new) → btree_set_len old < btree_set_len new
@@ -114,7 +114,7 @@ tells ns known so settled = record { sound = λ own r m. found_so ns (λ q. has_
 -- ---- one of the common types
 
 pub kept_one : (s : Scope) (all : List ListedCommon) (i : ℕ) (x : ListedCommon) (old new : Names) → i < length all → x ≡ get_or all i x
-    → Spreads s (listed_view x ∷ []) old new → KeepsNames s (map listed_view all) old new
+    → AddsNonRecords s (listed_view x ∷ []) old new → KeepsNames s (map listed_view all) old new
 kept_one s all i x old new lt at h = λ ns e among so.
     let here : Contains (map listed_view all) (listed_view x) = listed_inside all i x lt at in
     h.sound ns e (λ d only. subst (λ (y : CommonOf). Contains (commons_declared ns) y) (only_member (listed_view x) d only) (among (listed_view x) here)) so
@@ -137,17 +137,17 @@ none_at f (y ∷ ys) zero le = absurd (omega (arith, le))
 none_at f (y ∷ ys) (suc i) le = none_at f ys i (omega (arith, le))
 
 pub tried_there : (s : Scope) (all : List ListedCommon) (i : ℕ) (x : ListedCommon) (old new : Names) → i < length all → x ≡ get_or all i x
-    → Spreads s (listed_view x ∷ []) old new → Spreads s (tried_one (slice_get (map listed_view all) i)) old new
-tried_there s all i x old new lt at h = subst (λ (o : Option CommonOf). Spreads s (tried_one o) old new) (sym (item_at listed_view all i x lt at)) h
+    → AddsNonRecords s (listed_view x ∷ []) old new → AddsNonRecords s (tried_one (slice_get (map listed_view all) i)) old new
+tried_there s all i x old new lt at h = subst (λ (o : Option CommonOf). AddsNonRecords s (tried_one o) old new) (sym (item_at listed_view all i x lt at)) h
 
-pub tried_nowhere : (s : Scope) (all : List ListedCommon) (i : ℕ) (t : Names) → length all ≤ i → Spreads s (tried_one (slice_get (map listed_view all) i)) t t
-tried_nowhere s all i t le = subst (λ (o : Option CommonOf). Spreads s (tried_one o) t t) (sym (none_at listed_view all i le)) (spreads_none s t)
+pub tried_nowhere : (s : Scope) (all : List ListedCommon) (i : ℕ) (t : Names) → length all ≤ i → AddsNonRecords s (tried_one (slice_get (map listed_view all) i)) t t
+tried_nowhere s all i t le = subst (λ (o : Option CommonOf). AddsNonRecords s (tried_one o) t t) (sym (none_at listed_view all i le)) (spreads_none s t)
 
 pub tried_step : (s : Scope) (cs : List CommonOf) (order : List ℕ) (i : ℕ) (old mid new : Names) → i < length order
-    → Spreads s (tried_one (slice_get cs (get_or order i 0))) old mid → Spreads s (tried_in_order cs (drop (i + 1) order)) mid new → Spreads s (tried_in_order cs (drop i order)) old new
+    → AddsNonRecords s (tried_one (slice_get cs (get_or order i 0))) old mid → AddsNonRecords s (tried_in_order cs (drop (i + 1) order)) mid new → AddsNonRecords s (tried_in_order cs (drop i order)) old new
 tried_step s cs order i old mid new lt h rest =
-    subst (λ (is : List ℕ). Spreads s (tried_in_order cs is) old new) (sym (drop_more order i 0 lt))
+    subst (λ (is : List ℕ). AddsNonRecords s (tried_in_order cs is) old new) (sym (drop_more order i 0 lt))
     (spreads_both s (tried_one (slice_get cs (get_or order i 0))) (tried_in_order cs (drop (i + 1) order)) old mid new h rest)
 
-pub tried_end : (s : Scope) (cs : List CommonOf) (order : List ℕ) (i : ℕ) (t : Names) → length order ≤ i → Spreads s (tried_in_order cs (drop i order)) t t
-tried_end s cs order i t le = subst (λ (is : List ℕ). Spreads s (tried_in_order cs is) t t) (sym (drop_all i order le)) (spreads_none s t)
+pub tried_end : (s : Scope) (cs : List CommonOf) (order : List ℕ) (i : ℕ) (t : Names) → length order ≤ i → AddsNonRecords s (tried_in_order cs (drop i order)) t t
+tried_end s cs order i t le = subst (λ (is : List ℕ). AddsNonRecords s (tried_in_order cs is) t t) (sym (drop_all i order le)) (spreads_none s t)

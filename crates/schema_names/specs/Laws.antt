@@ -1,9 +1,9 @@
--- Defines the theorems that bytes state one file or are rejected with one error, and that a file names what it
--- declares.
+-- Defines the theorems that bytes describe one schema file or are rejected with one error, and that a file declares
+-- what it names.
 use Rattle.std.specs.Prelude.{◌≡◌, ◌⊎◌, ℕ, List, Contains, map, Some}
 use Rattle.schema_types.specs.Qualified.{Qualified}
 use Rattle.schema_types.specs.Cedar.{Cedar, CedarFields, record_of}
-use Rattle.schema_types.specs.WrittenOut.{Declares, WrittenOut}
+use Rattle.schema_types.specs.Expansions.{Declares, IsExpansion}
 use Rattle.schema_types.specs.Mentions.{IsClosed, MentionsEntity}
 use Rattle.schema_types.specs.Law.{AreOnce, AreClosed}
 use Rattle.schema_types.specs.Ascending.{QualifiedAscends}
@@ -11,36 +11,37 @@ use Rattle.schema_types.specs.AscendingLaw.{AllAscend}
 use Rattle.schema_types.specs.declared.fault.SchemaFault.{SchemaFault}
 use Rattle.schema_file.specs.Once.{AreApart}
 use Rattle.schema_names.specs.Qualifying.{ResolvedEntityType, ResolvedUse, ResolvedAction, ResolvedSchema}
-use Rattle.schema_names.specs.Naming.{StatesNamed, NamingRefused}
+use Rattle.schema_names.specs.Naming.{DescribesFile, IsNamingError}
 
--- `DeclaresOnce s` holds if no common type, no entity type and no action is declared twice.
+-- `DeclaresOnce s` holds if no two common types, no two entity types and no two actions of the file `s` have the same
+-- name.
 pub record DeclaresOnce (s : ResolvedSchema) : Type 0 where
   pub commons : AreOnce s.commons
   pub entity_types : AreApart (map (λ e. e.name) s.entity_types)
   pub actions : AreApart (map (λ a. a.uid) s.actions)
 
--- `IsShapeOrContext s r` holds if `r` is the shape of an entity type, or the context of an action.
+-- `IsShapeOrContext s r` holds if `r` is the shape of an entity type of the file `s`, or the context of an action.
 abbrev pub IsShapeOrContext : ResolvedSchema → Qualified → Type 0
 IsShapeOrContext s r =
     ((e : ResolvedEntityType) × Contains s.entity_types e × (e.shape ≡ Some r))
     ⊎ ((a : ResolvedAction) × Contains s.actions a
     × ((u : ResolvedUse) × (a.applies_to ≡ Some u) × (u.context ≡ Some r)))
 
--- `NamesItsOwn s` holds if each common type that is named is declared.
-pub record NamesItsOwn (s : ResolvedSchema) : Type 0 where
+-- `DeclaresItsCommonTypes s` holds if each common type that is mentioned in the file `s` is declared there.
+pub record DeclaresItsCommonTypes (s : ResolvedSchema) : Type 0 where
   pub commons : AreClosed s.commons
   pub records : (r : Qualified) → IsShapeOrContext s r → IsClosed s.commons r
 
--- `FilesNameTheirOwn`: in each file that bytes state, each common type that is named is declared.
+-- `FilesNameTheirOwn`: in each file that bytes describe, each common type that is mentioned is declared.
 abbrev pub FilesNameTheirOwn : Type 0
-FilesNameTheirOwn = (bytes : List ℕ) (s : ResolvedSchema) → StatesNamed bytes s → NamesItsOwn s
+FilesNameTheirOwn = (bytes : List ℕ) (s : ResolvedSchema) → DescribesFile bytes s → DeclaresItsCommonTypes s
 
--- `IsEntityType s q` holds if the entity type `q` is declared.
+-- `IsEntityType s q` holds if the entity type `q` is declared in the file `s`.
 abbrev pub IsEntityType : ResolvedSchema → List ℕ → Type 0
 IsEntityType s q = (e : ResolvedEntityType) × Contains s.entity_types e × (e.name ≡ q)
 
--- `NamesItsEntityTypes s` holds if each entity type that is named is declared: in a type, as a parent type, and in
--- what an action applies to.
+-- `NamesItsEntityTypes s` holds if each entity type that the file `s` mentions is declared there: those in types, the
+-- parent types, and those in what an action applies to.
 pub record NamesItsEntityTypes (s : ResolvedSchema) : Type 0 where
   pub commons : (p : List ℕ) (r : Qualified) → Declares s.commons p r → (q : List ℕ) → MentionsEntity r q
       → IsEntityType s q
@@ -52,48 +53,49 @@ pub record NamesItsEntityTypes (s : ResolvedSchema) : Type 0 where
   pub resources : (a : ResolvedAction) (u : ResolvedUse) → Contains s.actions a → a.applies_to ≡ Some u → (q : List ℕ)
       → Contains u.resources q → IsEntityType s q
 
--- `FilesNameTheirEntityTypes`: in each file that bytes state, each entity type that is named is declared.
+-- `FilesNameTheirEntityTypes`: in each file that bytes describe, each entity type that is mentioned is declared.
 abbrev pub FilesNameTheirEntityTypes : Type 0
-FilesNameTheirEntityTypes = (bytes : List ℕ) (s : ResolvedSchema) → StatesNamed bytes s → NamesItsEntityTypes s
+FilesNameTheirEntityTypes = (bytes : List ℕ) (s : ResolvedSchema) → DescribesFile bytes s → NamesItsEntityTypes s
 
--- `FilesDeclareOnce`: nothing is declared twice, since the keys of a parsed object are distinct.
+-- `FilesDeclareOnce`: in each file that bytes describe, the declared names are distinct, since the keys of a parsed
+-- object are.
 abbrev pub FilesDeclareOnce : Type 0
-FilesDeclareOnce = (bytes : List ℕ) (s : ResolvedSchema) → StatesNamed bytes s → DeclaresOnce s
+FilesDeclareOnce = (bytes : List ℕ) (s : ResolvedSchema) → DescribesFile bytes s → DeclaresOnce s
 
--- `TypesAscend s` holds if in each common type, shape and context the keys ascend.
+-- `TypesAscend s` holds if in each common type, shape and context of the file `s` the keys of each record ascend.
 pub record TypesAscend (s : ResolvedSchema) : Type 0 where
   pub commons : AllAscend s.commons
   pub records : (r : Qualified) → IsShapeOrContext s r → QualifiedAscends r
 
--- `FilesTypesAscend`: in each file that bytes state, the keys of each type ascend.
+-- `FilesTypesAscend`: in each file that bytes describe, the keys of each record in a type ascend.
 abbrev pub FilesTypesAscend : Type 0
-FilesTypesAscend = (bytes : List ℕ) (s : ResolvedSchema) → StatesNamed bytes s → TypesAscend s
+FilesTypesAscend = (bytes : List ℕ) (s : ResolvedSchema) → DescribesFile bytes s → TypesAscend s
 
--- `ShapesAreRecords`: the expansion of a shape or a context is a record.
+-- `ShapesAreRecords`: if a shape or a context has an expansion, it is a record.
 abbrev pub ShapesAreRecords : Type 0
 ShapesAreRecords =
-    (bytes : List ℕ) (s : ResolvedSchema) → StatesNamed bytes s → (r : Qualified) → IsShapeOrContext s r → (t : Cedar)
-    → WrittenOut s.commons r t → (fs : CedarFields) × (t ≡ record_of fs)
+    (bytes : List ℕ) (s : ResolvedSchema) → DescribesFile bytes s → (r : Qualified) → IsShapeOrContext s r → (t : Cedar)
+    → IsExpansion s.commons r t → (fs : CedarFields) × (t ≡ record_of fs)
 
--- ---- bytes state one file, or are rejected with one error, and never both
+-- ---- bytes describe one file, or are rejected with one error, and never both
 
--- `NamesOrRefusal bytes` holds if `bytes` state a file, or are rejected.
+-- `NamesOrRefusal bytes` holds if `bytes` describe a file, or are rejected.
 pub data NamesOrRefusal (bytes : List ℕ) : Type 0 where
-  states : (s : ResolvedSchema) → StatesNamed bytes s → NamesOrRefusal bytes
-  refused : (f : SchemaFault) → NamingRefused bytes f → NamesOrRefusal bytes
+  states : (s : ResolvedSchema) → DescribesFile bytes s → NamesOrRefusal bytes
+  refused : (f : SchemaFault) → IsNamingError bytes f → NamesOrRefusal bytes
 
--- `SomeOutcome`: all bytes state a file, or are rejected.
+-- `SomeOutcome`: all bytes describe a file, or are rejected.
 abbrev pub SomeOutcome : Type 0
 SomeOutcome = (bytes : List ℕ) → NamesOrRefusal bytes
 
--- `OneFile`: bytes state at most one file.
+-- `OneFile`: bytes describe at most one file.
 abbrev pub OneFile : Type 0
-OneFile = (bytes : List ℕ) (s t : ResolvedSchema) → StatesNamed bytes s → StatesNamed bytes t → s ≡ t
+OneFile = (bytes : List ℕ) (s t : ResolvedSchema) → DescribesFile bytes s → DescribesFile bytes t → s ≡ t
 
 -- `OneRefusal`: bytes are rejected with at most one error.
 abbrev pub OneRefusal : Type 0
-OneRefusal = (bytes : List ℕ) (f g : SchemaFault) → NamingRefused bytes f → NamingRefused bytes g → f ≡ g
+OneRefusal = (bytes : List ℕ) (f g : SchemaFault) → IsNamingError bytes f → IsNamingError bytes g → f ≡ g
 
--- `NotBoth`: bytes that state a file are not rejected.
+-- `NotBoth`: bytes that describe a file are not rejected.
 abbrev pub NotBoth : Type 0
-NotBoth = (bytes : List ℕ) (s : ResolvedSchema) (f : SchemaFault) → StatesNamed bytes s → NamingRefused bytes f → ⊥
+NotBoth = (bytes : List ℕ) (s : ResolvedSchema) (f : SchemaFault) → DescribesFile bytes s → IsNamingError bytes f → ⊥

@@ -1,6 +1,6 @@
--- Defines the schema file that bytes state, with resolved names, and the error if they state none.
--- Rules of this product: the order of errors. `NotJson` comes before `BadShape`, over the whole file, and that before
--- a name that is not declared.
+-- Defines the schema file that bytes describe, with resolved names, and the error if they describe none.
+-- Rules of this product: the order of errors. `NotJson` comes before `BadShape`, and `BadShape`, over the whole file,
+-- before a name that is not declared.
 use Rattle.std.specs.Prelude.{◌≡◌, ℕ, List, Some, None, Ok, Err}
 use Rattle.json_words.specs.Json.{json_of}
 use Rattle.serde_json.specs.Data.{Data}
@@ -10,27 +10,29 @@ use Rattle.schema_names.specs.Records.{SomeIsNoRecord}
 use Rattle.schema_types.specs.declared.fault.SchemaFault.{SchemaFault}
 use Rattle.schema_types.specs.declared.fault.SchemaFault.TheVariants.{NotJson, BadShape}
 
--- `IsNamed ns s` holds if shapes and contexts are records, and `s` are these namespaces with resolved names.
+-- `IsNamed ns s` holds if no shape or context of the namespaces `ns` means a type that is not a record, and `s` are
+-- these namespaces with resolved names.
 pub record IsNamed (ns : List NamespaceOf) (s : ResolvedSchema) : Type 0 where
   pub records : SomeIsNoRecord ns → ⊥
   pub found : qualified ns ≡ Ok s
 
--- `NamesRefused ns f` holds if `f` is the error of the names of these namespaces.
+-- `NamesRefused ns f` holds if `f` is the error of resolving the names of the namespaces `ns`: some shape or context is
+-- not a record, or else a name is not declared.
 pub data NamesRefused (ns : List NamespaceOf) : SchemaFault → Type 0 where
   no_record : SomeIsNoRecord ns → NamesRefused ns BadShape
   unknown : (f : SchemaFault) → (SomeIsNoRecord ns → ⊥) → qualified ns ≡ Err f → NamesRefused ns f
 
--- `StatesNamed bytes s` holds if `bytes` state the file `s`, with resolved names.
-pub record StatesNamed (bytes : List ℕ) (s : ResolvedSchema) : Type 0 where
+-- `DescribesFile bytes s` holds if `bytes` describe the schema file `s`, whose names are resolved.
+pub record DescribesFile (bytes : List ℕ) (s : ResolvedSchema) : Type 0 where
   pub value : Data
   pub namespaces : List NamespaceOf
   pub json : json_of bytes ≡ Some value
   pub shape : stated value ≡ Ok namespaces
   pub named : IsNamed namespaces s
 
--- `NamingRefused bytes f` holds if `bytes` state no such file, and `f` is the first error.
-pub data NamingRefused (bytes : List ℕ) : SchemaFault → Type 0 where
-  not_json : json_of bytes ≡ None → NamingRefused bytes NotJson
-  bad_shape : (d : Data) (f : SchemaFault) → json_of bytes ≡ Some d → stated d ≡ Err f → NamingRefused bytes f
+-- `IsNamingError bytes f` holds if `bytes` describe no schema file, and `f` is the first error.
+pub data IsNamingError (bytes : List ℕ) : SchemaFault → Type 0 where
+  not_json : json_of bytes ≡ None → IsNamingError bytes NotJson
+  bad_shape : (d : Data) (f : SchemaFault) → json_of bytes ≡ Some d → stated d ≡ Err f → IsNamingError bytes f
   bad_names : (d : Data) (ns : List NamespaceOf) (f : SchemaFault) → json_of bytes ≡ Some d → stated d ≡ Ok ns
-      → NamesRefused ns f → NamingRefused bytes f
+      → NamesRefused ns f → IsNamingError bytes f

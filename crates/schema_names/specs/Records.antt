@@ -1,6 +1,6 @@
--- Defines when shapes and contexts are records, directly or by name.
+-- Defines when shapes and contexts are records, directly or by the names of common types.
 -- Source: Cedar reference guide, "Schema JSON format": `shape`, `context`.
--- Rules of this product: names are followed as far as they are declared.
+-- Rules of this product: names are followed as far as they are declared; a name that is not declared is another error.
 use Rattle.std.specs.Prelude.{◌≡◌, ◌⊎◌, ℕ, List, Contains, Bool, true, false, Option, Some, None, is_some}
 use Rattle.schema_types.specs.Raw as raw
 use Rattle.schema_types.specs.Raw.{Raw}
@@ -8,7 +8,8 @@ use Rattle.schema_types.specs.Names.{Scope, found, or_entity, built_in}
 use Rattle.schema_file.specs.FileForm.{EntityTypeOf, UseOf, ActionOf, NamespaceOf}
 use Rattle.schema_names.specs.Qualifying.{CommonOf, commons_declared, scope_in}
 
--- `common_meant s own r` is the declared common type that `r` names, if it names one.
+-- `common_meant s own r` is the declared common type that the type `r`, written in the namespace `own`, is a name of,
+-- if it is one.
 abbrev pub common_meant : Scope → Option (List ℕ) → Raw → Option (List ℕ)
 common_meant s own raw.text = None
 common_meant s own raw.long = None
@@ -21,7 +22,8 @@ common_meant s own (raw.entity w) = None
 common_meant s own (raw.common w) = found s.commons own w
 common_meant s own (raw.entity_or_common w) = found s.commons own w
 
--- `is_no_record s own r` tests, for a type that names no declared common type, that it is not a record.
+-- `is_no_record s own r` tests whether a type that is not a name of a declared common type is of a form other than a
+-- record. It is false for an undeclared name, which is another error.
 abbrev pub is_no_record : Scope → Option (List ℕ) → Raw → Bool
 is_no_record s own raw.text = true
 is_no_record s own raw.long = true
@@ -34,7 +36,8 @@ is_no_record s own (raw.entity w) = true
 is_no_record s own (raw.common w) = false
 is_no_record s own (raw.entity_or_common w) = is_some (or_entity (found s.entities own w) (built_in w))
 
--- `MeansNoRecord ns own r` holds if following the names from `r` leads to a form that is not a record.
+-- `MeansNoRecord ns own r` holds if following the names of common types from `r`, written in the namespace `own`, leads
+-- to a form that is not a record.
 pub data MeansNoRecord (ns : List NamespaceOf) : Option (List ℕ) → Raw → Type 0 where
   form : (own : Option (List ℕ)) (r : Raw) → common_meant (scope_in ns) own r ≡ None
       → is_no_record (scope_in ns) own r ≡ true → MeansNoRecord ns own r
@@ -46,16 +49,17 @@ pub data MeansNoRecord (ns : List NamespaceOf) : Option (List ℕ) → Raw → T
 abbrev pub HasContext : ActionOf → Raw → Type 0
 HasContext a r = (u : UseOf) × (a.applies_to ≡ Some u) × (u.context ≡ Some r)
 
--- `StandsAsRecord n r` holds if `r` is the shape of an entity type, or the context of an action.
-abbrev pub StandsAsRecord : NamespaceOf → Raw → Type 0
-StandsAsRecord n r =
+-- `MustBeRecord n r` holds if `r` must be a record: it is the shape of an entity type of the namespace `n`, or the
+-- context of an action.
+abbrev pub MustBeRecord : NamespaceOf → Raw → Type 0
+MustBeRecord n r =
     ((e : EntityTypeOf) × Contains n.entity_types e × (e.shape ≡ Some r))
     ⊎ ((a : ActionOf) × Contains n.actions a × HasContext a r)
 
--- `SomeIsNoRecord ns` holds if some shape or context is not a record.
+-- `SomeIsNoRecord ns` holds if some shape or context of the namespaces `ns` means a type that is not a record.
 pub record SomeIsNoRecord (ns : List NamespaceOf) : Type 0 where
   pub namespace : NamespaceOf
   pub type : Raw
   pub stated : Contains ns namespace
-  pub stands : StandsAsRecord namespace type
+  pub stands : MustBeRecord namespace type
   pub means : MeansNoRecord ns namespace.name type

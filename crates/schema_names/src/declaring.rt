@@ -19,7 +19,7 @@ use std::alloc::Global;
 use std::collections::BTreeSet;
 use values::{EntityUid, TypeName};
 
-/// Returns the full name of a declaration, as a new string.
+/// Returns the full name of a declaration in the namespace `own`, as a new string.
 pub(crate) fn full_text(
     alloc: Global,
     own: &Option<TypeName>,
@@ -31,6 +31,7 @@ pub(crate) fn full_text(
     Ok(String::from_str(alloc, full.as_str())?)
 }
 
+/// Adds the full name of a declaration to the declared names.
 fn add_name(
     alloc: Global,
     declared: &mut BTreeSet<String>,
@@ -44,6 +45,7 @@ fn add_name(
     Ok(())
 }
 
+/// Adds the common types of a namespace.
 fn add_commons(
     alloc: Global,
     declared: &mut BTreeSet<String>,
@@ -59,6 +61,7 @@ fn add_commons(
     Ok(())
 }
 
+/// Adds the entity types of a namespace.
 fn add_entity_types(
     alloc: Global,
     declared: &mut BTreeSet<String>,
@@ -74,6 +77,7 @@ fn add_entity_types(
     Ok(())
 }
 
+/// Adds an action of a namespace.
 fn add_action(
     alloc: Global,
     declared: &mut BTreeSet<EntityUid>,
@@ -88,6 +92,7 @@ fn add_action(
     Ok(())
 }
 
+/// Adds the actions of a namespace.
 fn add_actions(
     alloc: Global,
     declared: &mut BTreeSet<EntityUid>,
@@ -104,6 +109,7 @@ fn add_actions(
     Ok(())
 }
 
+/// Adds the declarations of a namespace.
 fn add_namespace(
     alloc: Global,
     names: &mut Names,

@@ -7,7 +7,7 @@ use crate::qualifying::ResolvedFile;
 use plain::{Items, NoMemory, both};
 use std::alloc::Global;
 
-/// Returns the items of both lists.
+/// Returns the items of both lists, in order.
 fn append<T: Drop>(items: Items<T>, more: Items<T>) -> Result<Items<T>, NoMemory>
     ensures { IfOk result (λ whole. whole ≡ items ++ more) }
 {
@@ -17,7 +17,7 @@ fn append<T: Drop>(items: Items<T>, more: Items<T>) -> Result<Items<T>, NoMemory
     Ok(Items::from_vec(whole))
 }
 
-/// Returns the declarations of both.
+/// Returns the declarations of both files or namespaces.
 fn join(first: ResolvedFile, second: ResolvedFile) -> Result<ResolvedFile, NoMemory>
     ensures { IfOk result (λ found. found_view found ≡ both (found_view first) (found_view second)) }
 {
@@ -32,7 +32,7 @@ fn join(first: ResolvedFile, second: ResolvedFile) -> Result<ResolvedFile, NoMem
     })
 }
 
-/// Returns the declarations of all.
+/// Returns the declarations of all parts, in order.
 pub(crate) fn join_all(alloc: Global, parts: Items<ResolvedFile>) -> Result<ResolvedFile, NoMemory>
     ensures { IfOk result (λ found. found_view found ≡ together (map found_view parts)) }
 {

@@ -5,23 +5,23 @@ ghost use Rattle.schema_names.specs.Laws.{NotBoth, FilesDeclareOnce, FilesTypesA
 use schema_file::stated_files_are_in_order;
 use schema_types::{found_names_are_declared, keys_ascend};
 
-/// Proves that each common type that a file names is declared there. No-op.
+/// Proves that each common type that a schema file mentions is declared there. No-op.
 pub fn files_name_their_own()
     ensures { FilesNameTheirOwn }
 {
     found_names_are_declared();
 }
 
-/// Proves that each entity type that a file names is declared there: in a type, as a parent type, and in what an
-/// action applies to. No-op.
+/// Proves that each entity type that a schema file mentions is declared there: those in types, the parent types, and
+/// those in what an action applies to. No-op.
 pub fn files_name_their_entity_types()
     ensures { FilesNameTheirEntityTypes }
 {
     found_names_are_declared();
 }
 
-/// Proves that no common type, no entity type and no action is declared twice, and that in each type the keys ascend
-/// strictly. No-op.
+/// Proves that no two common types, entity types or actions of a schema file have the same name, and that the keys of
+/// each record in a type ascend strictly. No-op.
 pub fn files_are_in_order()
     ensures once { FilesDeclareOnce }
     ensures types { FilesTypesAscend }
@@ -30,17 +30,17 @@ pub fn files_are_in_order()
     stated_files_are_in_order();
 }
 
-/// Proves that the expansion of a shape or a context is a record. No-op.
+/// Proves that the expansion of a shape or a context, if it has one, is a record. No-op.
 pub fn shapes_are_records()
     ensures { ShapesAreRecords }
 {}
 
-/// Proves that bytes state a file or are rejected. No-op.
+/// Proves that all bytes describe a schema file or are rejected. No-op.
 pub fn some_outcome()
     ensures { SomeOutcome }
 {}
 
-/// Proves that bytes state at most one file. No-op.
+/// Proves that bytes describe at most one schema file. No-op.
 pub fn one_file()
     ensures { OneFile }
 {}
@@ -50,7 +50,7 @@ pub fn one_refusal()
     ensures { OneRefusal }
 {}
 
-/// Proves that bytes that state a file are not rejected. No-op.
+/// Proves that bytes that describe a schema file are not rejected. No-op.
 pub fn not_both()
     ensures { NotBoth }
 {}

@@ -1,8 +1,8 @@
-//! A schema file with resolved names: its namespaces, their declarations, and which declaration each name means.
+//! A schema file with resolved names: its declarations, and which declaration each name means.
 #![tactic(auto)]
 
+mod appending_items;
 mod declaring;
-mod held;
 mod joining;
 mod laws;
 mod naming;

@@ -6,7 +6,7 @@ ghost use Rattle.json_words.specs.Json.{json_of};
 ghost use Rattle.schema_file.specs.StatedViews.{namespace_view};
 ghost use Rattle.schema_names.specs.Qualifying.{together};
 ghost use Rattle.schema_names.specs.ResolvedViews.{found_view};
-ghost use Rattle.schema_names.specs.Naming.{IsNamed, NamesRefused, StatesNamed, NamingRefused};
+ghost use Rattle.schema_names.specs.Naming.{IsNamed, NamesRefused, DescribesFile, IsNamingError};
 ghost use Rattle.schema_types.specs.declared.fault.SchemaFault.TheVariants as SchemaFault;
 
 use crate::declaring::declare;
@@ -20,6 +20,7 @@ use schema_types::SchemaFault;
 use serde_json::Value;
 use std::alloc::Global;
 
+/// Returns the JSON value of bytes. Its errors are `NotJson` (20) and `NoMemory` (1).
 fn read_value(alloc: Global, bytes: &[u8]) -> Result<Value, SchemaFault>
     ensures { ReadsAs SchemaFault.NoMemory view result (or_fault SchemaFault.NotJson (json_of bytes.now)) }
 {
@@ -33,8 +34,10 @@ fn read_value(alloc: Global, bytes: &[u8]) -> Result<Value, SchemaFault>
 ///
 /// # Errors
 ///
-/// - In this order: `BadShape` (21), a shape or a context is not a record; `UnknownName` (22), a name is not
-///   declared.
+/// In this order:
+///
+/// - `BadShape` (21): a shape or a context is not a record.
+/// - `UnknownName` (22): a name is not declared.
 /// - `NoMemory` (1): an allocation failed; possible at any point.
 fn name_all(alloc: Global, stated: &[StatedNamespace]) -> Result<Items<ResolvedFile>, SchemaFault>
     ensures { MatchResult result (λ ps. IsNamed (map namespace_view stated.now) (together (map found_view ps)))
@@ -45,17 +48,17 @@ fn name_all(alloc: Global, stated: &[StatedNamespace]) -> Result<Items<ResolvedF
     qualify_namespaces(alloc, &names, stated)
 }
 
-/// Returns the namespaces that bytes state, with resolved names.
+/// Returns the namespaces that bytes describe, with resolved names. Its errors are those of [`read_named`].
 fn read_parts(alloc: Global, bytes: &[u8]) -> Result<Items<ResolvedFile>, SchemaFault>
-    ensures { MatchResult result (λ ps. StatesNamed bytes.now (together (map found_view ps)))
-        (λ f. f ≢ SchemaFault.NoMemory → NamingRefused bytes.now f) }
+    ensures { MatchResult result (λ ps. DescribesFile bytes.now (together (map found_view ps)))
+        (λ f. f ≢ SchemaFault.NoMemory → IsNamingError bytes.now f) }
 {
     let value = read_value(alloc, bytes)?;
     let stated = read_stated(alloc, &value)?;
     name_all(alloc, stated.as_slice())
 }
 
-/// Returns the declarations of the namespaces that bytes state, with resolved names.
+/// Returns the declarations of the schema file that bytes describe, with resolved names.
 ///
 /// # Errors
 ///
@@ -66,8 +69,8 @@ fn read_parts(alloc: Global, bytes: &[u8]) -> Result<Items<ResolvedFile>, Schema
 /// - `UnknownName` (22): a name is not declared.
 /// - `NoMemory` (1): an allocation failed; possible at any point.
 pub fn read_named(alloc: Global, bytes: &[u8]) -> Result<ResolvedFile, SchemaFault>
-    ensures { MatchResult result (λ found. StatesNamed bytes.now (found_view found))
-        (λ f. f ≢ SchemaFault.NoMemory → NamingRefused bytes.now f) }
+    ensures { MatchResult result (λ found. DescribesFile bytes.now (found_view found))
+        (λ f. f ≢ SchemaFault.NoMemory → IsNamingError bytes.now f) }
 {
     let parts = read_parts(alloc, bytes)?;
     Ok(join_all(alloc, parts)?)

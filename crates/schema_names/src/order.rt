@@ -1,7 +1,8 @@
-//! The common types of a file, in an order that saves rounds: a common type comes after the one that it is a name of.
+//! The common types of a file, in an order in which one round finds all that are not records: a common type whose
+//! definition is only a name of another comes after that one.
 ghost use Rattle.std.specs.Prelude.{◌≡◌, ◌++◌, ℕ, List, IfOk, OnOk, map};
 ghost use Rattle.std.specs.BTreeMap.{get_by_text};
-ghost use Rattle.schema_written_types.specs.Orders.{graph_of, IsEndsFirst};
+ghost use Rattle.schema_written_types.specs.Orders.{graph_of, IsSuccessorsFirst};
 ghost use Rattle.schema_types.specs.Views.{raw_view};
 ghost use Rattle.schema_file.specs.schema_types.NamesViews.{scope_of};
 ghost use Rattle.schema_file.specs.StatedViews.{common_view, namespace_view};
@@ -14,7 +15,7 @@ use crate::records::find_common;
 use plain::NoMemory;
 use schema_file::{Names, StatedCommon, StatedNamespace};
 use schema_types::RawType;
-use schema_written_types::ends_first;
+use schema_written_types::successors_first;
 use std::alloc::Global;
 use std::collections::BTreeMap;
 use values::TypeName;
@@ -26,7 +27,7 @@ pub(crate) struct ListedCommon<'a> {
     pub(crate) common: &'a StatedCommon,
 }
 
-/// Adds the common types that a namespace declares, in order.
+/// Appends the common types that a namespace declares, in order.
 fn add_all<'a>(
     own: &'a Option<TypeName>,
     commons: &'a [StatedCommon],
@@ -56,7 +57,7 @@ pub(crate) fn list_all<'a>(
     Ok(listed)
 }
 
-/// Returns the index of each declared name; for one that is declared twice, the last.
+/// Returns the index of each declared name; the last one for a name that is declared twice.
 fn places_of(
     alloc: Global,
     commons: &[ListedCommon<'_>],
@@ -73,13 +74,14 @@ fn places_of(
     Ok(places)
 }
 
+/// Returns the index of a name, if it is declared.
 fn place_at(name: &str, places: &BTreeMap<String, usize>) -> Option<usize>
     ensures { result ≡ get_by_text places.now name.now }
 {
     places.get(name).copied()
 }
 
-/// Returns the index of the common type that a type names, if it names one.
+/// Returns the index of the common type that a type is a name of, if it is one.
 fn place_meant(
     alloc: Global,
     names: &Names,
@@ -96,7 +98,7 @@ fn place_meant(
     }
 }
 
-/// Returns a list of the index, if there is one.
+/// Returns the index as a list; an empty list for `None`.
 fn in_list(alloc: Global, place: Option<usize>) -> Result<Vec<usize>, NoMemory>
     ensures { IfOk result (λ places. places.items ≡ in_list place) }
 {
@@ -107,7 +109,8 @@ fn in_list(alloc: Global, place: Option<usize>) -> Result<Vec<usize>, NoMemory>
     Ok(places)
 }
 
-/// Returns the index of the common type that a common type is a name of, if it is one.
+/// Returns the index of the common type that the definition of a common type is a name of, as a list; an empty list if
+/// it is not such a name.
 fn use_of(
     alloc: Global,
     names: &Names,
@@ -121,7 +124,7 @@ fn use_of(
     in_list(alloc, place)
 }
 
-/// Returns for each common type the index of the one that it is a name of.
+/// Returns for each common type the index of the one that its definition is a name of, if there is one.
 fn uses_of(
     alloc: Global,
     names: &Names,
@@ -140,17 +143,17 @@ fn uses_of(
     Ok(edges)
 }
 
-/// Returns the indices of common types, without duplicates, each after that of the common type that it names, if it
-/// names one that does not lead back to it: in this order one round finds each that is not a record.
+/// Returns the indices of the common types, without duplicates, each after that of the common type that its definition
+/// is a name of, unless that one leads back to it. In this order one round finds each that is not a record.
 pub(crate) fn order_of(
     alloc: Global,
     names: &Names,
     commons: &[ListedCommon<'_>],
 ) -> Result<Vec<usize>, NoMemory>
-    ensures { IfOk result (λ order. IsEndsFirst
+    ensures { IfOk result (λ order. IsSuccessorsFirst
         (uses (scope_of names.now) (map listed_view commons.now)) order.items) }
 {
     let places = places_of(alloc, commons)?;
     let edges = uses_of(alloc, names, commons, &places)?;
-    ends_first(alloc, edges.as_slice())
+    successors_first(alloc, edges.as_slice())
 }

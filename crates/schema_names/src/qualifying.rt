@@ -2,7 +2,7 @@
 ghost use Rattle.std.specs.Prelude.{◌≡◌, IfOk, map, option_map};
 ghost use Rattle.json_words.specs.ReadsAs.{ReadsAs};
 ghost use Rattle.schema_types.specs.Views.{raw_view};
-ghost use Rattle.schema_types.specs.QualifiedViews.{qualified_view, found_common_view};
+ghost use Rattle.schema_types.specs.QualifiedViews.{qualified_view, resolved_common_view};
 ghost use Rattle.schema_file.specs.schema_types.NamesViews.{scope_of, is_action_of};
 ghost use Rattle.schema_file.specs.schema_types.Actions.{action_type, action_uid};
 ghost use Rattle.schema_file.specs.StatedViews.{common_view, entity_type_view, use_view, action_view, namespace_view};
@@ -15,17 +15,17 @@ ghost use Rattle.schema_names.specs.Qualifying.{use_named, qualified_action, qua
 ghost use Rattle.schema_names.specs.Qualifying.{qualified_actions, qualified_namespace, qualified_namespaces};
 ghost use Rattle.schema_types.specs.declared.fault.SchemaFault.TheVariants as SchemaFault;
 
-use crate::held::followed_by;
+use crate::appending_items::followed_by;
 use plain::{Items, NoMemory, Text, beside};
 use schema_file::{
     Names, StatedAction, StatedCommon, StatedEntityType, StatedNamespace, StatedParent, StatedUse,
     action_type, declared_action, find, find_action_of_type, full_name, resolve,
 };
-use schema_types::{FoundCommon, QualifiedType, RawType, SchemaFault};
+use schema_types::{QualifiedType, RawType, ResolvedCommon, SchemaFault};
 use std::alloc::Global;
 use values::{EntityUid, SharedText, TypeName};
 
-/// An entity type by its full name.
+/// An entity type with its full name, and with the names in it resolved.
 #[derive(Drop)]
 pub struct ResolvedEntityType {
     pub name: TypeName,
@@ -33,7 +33,7 @@ pub struct ResolvedEntityType {
     pub shape: Option<QualifiedType>,
 }
 
-/// What an action applies to.
+/// What an action applies to, with resolved names.
 #[derive(Drop)]
 pub struct ResolvedUse {
     pub principals: Items<TypeName>,
@@ -41,7 +41,7 @@ pub struct ResolvedUse {
     pub context: Option<QualifiedType>,
 }
 
-/// An action by its uid.
+/// An action with its uid, and with the names in it resolved.
 #[derive(Drop)]
 pub struct ResolvedAction {
     pub uid: EntityUid,
@@ -49,15 +49,15 @@ pub struct ResolvedAction {
     pub applies_to: Option<ResolvedUse>,
 }
 
-/// The declarations of a namespace, or of a whole file.
+/// The declarations of a namespace, or of a whole file, with resolved names.
 #[derive(Drop)]
 pub struct ResolvedFile {
-    pub commons: Items<FoundCommon>,
+    pub commons: Items<ResolvedCommon>,
     pub entity_types: Items<ResolvedEntityType>,
     pub actions: Items<ResolvedAction>,
 }
 
-/// Returns the entity type that a name means.
+/// Returns the full name of the entity type that a name means in the namespace `own`, or `UnknownName` (22).
 fn qualify_name(
     alloc: Global,
     names: &Names,
@@ -72,6 +72,7 @@ fn qualify_name(
     }
 }
 
+/// Returns the full names of the entity types that the names mean, or the first error.
 fn qualify_names(
     alloc: Global,
     names: &Names,
@@ -88,7 +89,7 @@ fn qualify_names(
     Ok(found)
 }
 
-/// Returns an optional type with resolved names.
+/// Returns the type, if there is one, with resolved names.
 fn qualify_optional(
     alloc: Global,
     names: &Names,
@@ -111,13 +112,13 @@ fn qualify_common(
     names: &Names,
     own: &Option<TypeName>,
     common: &StatedCommon,
-) -> Result<FoundCommon, SchemaFault>
-    ensures { ReadsAs SchemaFault.NoMemory found_common_view result
+) -> Result<ResolvedCommon, SchemaFault>
+    ensures { ReadsAs SchemaFault.NoMemory resolved_common_view result
         (qualified_common (scope_of names.now) own.now (common_view common.now)) }
 {
     let name = full_name(alloc, own, &common.name)?;
     let (name, ty) = beside(name, resolve(alloc, names, own, &common.ty))?;
-    Ok(FoundCommon { name, ty })
+    Ok(ResolvedCommon { name, ty })
 }
 
 /// Returns an entity type of a namespace with resolved names.
@@ -166,7 +167,7 @@ fn qualify_use(
     })
 }
 
-/// Returns what an action applies to, if it is stated, with resolved names.
+/// Returns what an action applies to, if the file has it, with resolved names.
 fn qualify_optional_use(
     alloc: Global,
     names: &Names,
@@ -182,7 +183,7 @@ fn qualify_optional_use(
     }
 }
 
-/// Returns the action that a member of `memberOf` means.
+/// Returns the declared action that a member of `memberOf` means, if there is one.
 fn find_action(
     alloc: Global,
     names: &Names,
@@ -197,7 +198,7 @@ fn find_action(
     }
 }
 
-/// Returns the parent action, which must be declared.
+/// Returns the declared action that a member of `memberOf` means, or `UnknownName` (22).
 #[tactic(auto, unfolding(crate::specs::Qualifying::parent_named))]
 fn qualify_parent(
     alloc: Global,
@@ -213,6 +214,7 @@ fn qualify_parent(
     }
 }
 
+/// Returns the actions that the members of `memberOf` mean, or the first error.
 fn qualify_parents(
     alloc: Global,
     names: &Names,
@@ -265,13 +267,14 @@ fn qualify_action(
     })
 }
 
+/// Returns the common types of a namespace with resolved names.
 fn qualify_commons(
     alloc: Global,
     names: &Names,
     own: &Option<TypeName>,
     stated: &[StatedCommon],
-) -> Result<Items<FoundCommon>, SchemaFault>
-    ensures { ReadsAs SchemaFault.NoMemory (map found_common_view) result
+) -> Result<Items<ResolvedCommon>, SchemaFault>
+    ensures { ReadsAs SchemaFault.NoMemory (map resolved_common_view) result
         (qualified_commons (scope_of names.now) own.now (map common_view stated.now)) }
 {
     let mut found = Items::new(alloc);
@@ -281,6 +284,7 @@ fn qualify_commons(
     Ok(found)
 }
 
+/// Returns the entity types of a namespace with resolved names.
 fn qualify_entity_types(
     alloc: Global,
     names: &Names,
@@ -297,6 +301,7 @@ fn qualify_entity_types(
     Ok(found)
 }
 
+/// Returns the actions of a namespace with resolved names.
 fn qualify_actions(
     alloc: Global,
     names: &Names,

@@ -8,7 +8,8 @@ ghost use Rattle.schema_file.specs.StatedViews.{common_view, entity_type_view, u
 ghost use Rattle.schema_names.specs.Records.{common_meant, is_no_record, SomeIsNoRecord};
 ghost use Rattle.schema_names.specs.Qualifying.{common_in, commons_declared};
 ghost use Rattle.schema_names.specs.inner.Adding.{has_name, Declares};
-ghost use Rattle.schema_names.specs.inner.Spreading.{means_now, IsSettled, KeepsNames, Spreads, ReportsRecords};
+ghost use Rattle.schema_names.specs.inner.Spreading.{is_known_non_record, IsSettled, KeepsNames, AddsNonRecords};
+ghost use Rattle.schema_names.specs.inner.Spreading.{ReportsRecords};
 ghost use Rattle.schema_names.specs.inner.Spreading.{tried_one, tried_in_order};
 ghost use Rattle.schema_names.specs.inner.Uses.{listed_view};
 ghost use Rattle.schema_names.specs.inner.Spreading.{is_record_at, is_record_in, are_shapes, are_contexts};
@@ -25,7 +26,7 @@ use std::alloc::Global;
 use std::collections::BTreeSet;
 use values::TypeName;
 
-/// Returns the declared common type that a type names, if it names one.
+/// Returns the declared common type that a type is a name of, if it is one.
 pub(crate) fn find_common(
     alloc: Global,
     names: &Names,
@@ -48,7 +49,8 @@ pub(crate) fn find_common(
     }
 }
 
-/// Returns whether a type that names no declared common type is not a record.
+/// Returns whether a type that is not a name of a declared common type is of a form other than a record; `false` for an
+/// undeclared name, which is another error.
 fn is_no_record(
     alloc: Global,
     names: &Names,
@@ -70,15 +72,15 @@ fn is_no_record(
     }
 }
 
-/// Returns whether a type is not a record, as far as it is known which common types are not.
-fn means_none(
+/// Returns whether a type is not a record, where `known` has the common types that are known not to be records.
+fn knows_non_record(
     alloc: Global,
     names: &Names,
     known: &BTreeSet<String>,
     own: &Option<TypeName>,
     ty: &RawType,
 ) -> Result<bool, NoMemory>
-    ensures { IfOk result (λ b. b ≡ means_now (λ q. has_name known.now q) (scope_of names.now) own.now
+    ensures { IfOk result (λ b. b ≡ is_known_non_record (λ q. has_name known.now q) (scope_of names.now) own.now
         (raw_view ty.now)) }
 {
     match find_common(alloc, names, own, ty)? {
@@ -87,7 +89,7 @@ fn means_none(
     }
 }
 
-/// Adds a common type that is not a record.
+/// Adds a common type to `known` if, by `known`, it is not a record.
 fn add_if_none(
     alloc: Global,
     names: &Names,
@@ -95,10 +97,10 @@ fn add_if_none(
     common: &StatedCommon,
     known: &mut BTreeSet<String>,
 ) -> Result<(), NoMemory>
-    ensures { OnOk result (Spreads (scope_of names.now)
+    ensures { OnOk result (AddsNonRecords (scope_of names.now)
         (common_in own.now (common_view common.now) ∷ []) known.old known.new) }
 {
-    if !means_none(alloc, names, known, own, &common.ty)? {
+    if !knows_non_record(alloc, names, known, own, &common.ty)? {
         return Ok(());
     }
     let name = full_text(alloc, own, &common.name)?;
@@ -109,7 +111,7 @@ fn add_if_none(
     Ok(())
 }
 
-/// Tries each common type of a namespace once.
+/// Adds the common types of a namespace that, by `known`, are not records.
 fn spread_in(
     alloc: Global,
     names: &Names,
@@ -117,7 +119,7 @@ fn spread_in(
     commons: &[StatedCommon],
     known: &mut BTreeSet<String>,
 ) -> Result<(), NoMemory>
-    ensures { OnOk result (Spreads (scope_of names.now) (map (λ c. common_in own.now c)
+    ensures { OnOk result (AddsNonRecords (scope_of names.now) (map (λ c. common_in own.now c)
         (map common_view commons.now)) known.old known.new) }
 {
     for common in commons {
@@ -126,14 +128,14 @@ fn spread_in(
     Ok(())
 }
 
-/// Tries each common type once.
+/// Adds the common types that, by `known`, are not records.
 fn spread(
     alloc: Global,
     names: &Names,
     stated: &[StatedNamespace],
     known: &mut BTreeSet<String>,
 ) -> Result<(), NoMemory>
-    ensures { OnOk result (Spreads (scope_of names.now)
+    ensures { OnOk result (AddsNonRecords (scope_of names.now)
         (commons_declared (map namespace_view stated.now)) known.old known.new) }
 {
     for namespace in stated {
@@ -148,14 +150,14 @@ fn spread(
     Ok(())
 }
 
-/// Tries each common type once, and returns whether one was added.
+/// Adds the common types that, by `known`, are not records, and returns whether there was one.
 fn has_spread(
     alloc: Global,
     names: &Names,
     stated: &[StatedNamespace],
     known: &mut BTreeSet<String>,
 ) -> Result<bool, NoMemory>
-    ensures spreads { OnOk result (Spreads (scope_of names.now)
+    ensures spreads { OnOk result (AddsNonRecords (scope_of names.now)
         (commons_declared (map namespace_view stated.now)) known.old known.new) }
     ensures grown { IfOk result (λ b. b ≡ true → btree_set_len known.old < btree_set_len known.new) }
     ensures settled { IfOk result (λ b. b ≡ false → IsSettled (scope_of names.now) known.new
@@ -167,7 +169,7 @@ fn has_spread(
     Ok(known.len() != before)
 }
 
-/// Tries the common type at an index, if there is one.
+/// Adds the common type at an index, if there is one and, by `known`, it is not a record.
 fn spread_at(
     alloc: Global,
     names: &Names,
@@ -176,7 +178,7 @@ fn spread_at(
     known: &mut BTreeSet<String>,
 ) -> Result<(), NoMemory>
     ensures keeps { OnOk result (KeepsNames (scope_of names.now) (map listed_view commons.now) known.old known.new) }
-    ensures tries { OnOk result (Spreads (scope_of names.now)
+    ensures tries { OnOk result (AddsNonRecords (scope_of names.now)
         (tried_one (slice_get (map listed_view commons.now) place)) known.old known.new) }
 {
     if place < commons.len() {
@@ -186,7 +188,7 @@ fn spread_at(
     Ok(())
 }
 
-/// Tries the common types in this order.
+/// Adds those common types, tested in this order, that by `known` are not records.
 fn spread_in_order(
     alloc: Global,
     names: &Names,
@@ -195,7 +197,7 @@ fn spread_in_order(
     known: &mut BTreeSet<String>,
 ) -> Result<(), NoMemory>
     ensures keeps { OnOk result (KeepsNames (scope_of names.now) (map listed_view commons.now) known.old known.new) }
-    ensures tries { OnOk result (Spreads (scope_of names.now)
+    ensures tries { OnOk result (AddsNonRecords (scope_of names.now)
         (tried_in_order (map listed_view commons.now) order.now) known.old known.new) }
 {
     for at in order {
@@ -227,7 +229,7 @@ fn no_records(
     Ok(known)
 }
 
-/// Returns whether a type, if there is one, is a record.
+/// Returns whether a type, if there is one, is not found to be other than a record.
 fn is_record(
     alloc: Global,
     names: &Names,
@@ -240,11 +242,11 @@ fn is_record(
 {
     match ty {
         None => Ok(true),
-        Some(ty) => Ok(!means_none(alloc, names, known, own, ty)?),
+        Some(ty) => Ok(!knows_non_record(alloc, names, known, own, ty)?),
     }
 }
 
-/// Returns whether the context of an action, if it has one, is a record.
+/// Returns whether the context of an action, if it has one, is not found to be other than a record.
 fn is_context(
     alloc: Global,
     names: &Names,
@@ -261,6 +263,7 @@ fn is_context(
     }
 }
 
+/// Returns whether no shape of the entity types is found to be other than a record.
 fn are_shapes(
     alloc: Global,
     names: &Names,
@@ -280,6 +283,7 @@ fn are_shapes(
     Ok(true)
 }
 
+/// Returns whether no context of the actions is found to be other than a record.
 fn are_contexts(
     alloc: Global,
     names: &Names,
@@ -299,7 +303,7 @@ fn are_contexts(
     Ok(true)
 }
 
-/// Returns whether each shape and each context of a namespace is a record.
+/// Returns whether no shape and no context of a namespace is found to be other than a record.
 fn are_records_of(
     alloc: Global,
     names: &Names,
@@ -316,6 +320,7 @@ fn are_records_of(
     are_contexts(alloc, names, known, own, namespace.actions.as_slice())
 }
 
+/// Returns whether no shape and no context of the file is found to be other than a record.
 fn are_records(
     alloc: Global,
     names: &Names,
@@ -334,7 +339,8 @@ fn are_records(
     Ok(true)
 }
 
-/// Checks that each shape and each context is a record. The error is `BadShape` (21).
+/// Checks that no shape and no context means a type that is not a record. The errors are `BadShape` (21) and `NoMemory`
+/// (1).
 pub(crate) fn demand_records(
     alloc: Global,
     names: &Names,

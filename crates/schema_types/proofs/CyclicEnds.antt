@@ -4,11 +4,11 @@ use Rattle.schema_types.specs.Qualified as qualified
 use Rattle.schema_types.specs.Qualified.{Qualified, QualifiedFields}
 use Rattle.schema_types.specs.Cedar as cedar
 use Rattle.schema_types.specs.Cedar.{Cedar, CedarFields}
-use Rattle.schema_types.specs.WrittenOut as written
-use Rattle.schema_types.specs.WrittenOut.{Declarations, Declares, WrittenOut, FieldsWrittenOut}
+use Rattle.schema_types.specs.Expansions as written
+use Rattle.schema_types.specs.Expansions.{Declarations, Declares, IsExpansion, AreFieldExpansions}
 use Rattle.schema_types.specs.Mentions.{Mentions, FieldsMention, Leads, step, steps}
-use Rattle.schema_types.specs.Outcome.{SomeStandsForNone}
-use Rattle.schema_types.specs.Law.{AreClosed, WhatStandsForNoneLeadsBack, CyclesStandForNone, TypesStandForOneOrSomeForNone}
+use Rattle.schema_types.specs.Outcome.{SomeHasNoExpansion}
+use Rattle.schema_types.specs.Law.{AreClosed, WhatHasNoExpansionLeadsBack, CyclesHaveNoExpansion, TypesExpandOrSomeCommonDoesNot}
 
 -- ---- the names that are left
 
@@ -52,10 +52,10 @@ module _ (commons : Declarations) where
   along p q end (steps _ x _ r d m k) l = steps p x end r d m (along x q end k l)
 
   abbrev Ends : Qualified → Type 0
-  Ends r = (t : Cedar) × WrittenOut commons r t
+  Ends r = (t : Cedar) × IsExpansion commons r t
 
   abbrev FieldsEnd : QualifiedFields → Type 0
-  FieldsEnd rs = (ts : CedarFields) × FieldsWrittenOut commons rs ts
+  FieldsEnd rs = (ts : CedarFields) × AreFieldExpansions commons rs ts
 
   -- the name leads to one that leads back to itself
   abbrev Cycles : List ℕ → Type 0
@@ -134,8 +134,8 @@ module _ (commons : Declarations) where
       let there = next left q r d reached i x m in
       names closed n (without left q i) (omega (arith, lt, le)) x s.0 s.1 there (there x s.0 s.1)))
 
-pub what_stands_for_none_leads_back : WhatStandsForNoneLeadsBack
-what_stands_for_none_leads_back commons closed q r d none =
+pub what_has_no_expansion_leads_back : WhatHasNoExpansionLeadsBack
+what_has_no_expansion_leads_back commons closed q r d none =
     by (names commons closed (length (map (λ d. d.0) commons)) (map (λ d. d.0) commons) (omega arith) q r d (λ p s here. inl (declared_in commons p s here)) (inl (declared_in commons q r d)))
   where
     by : Ends commons (qualified.common q) ⊎ Cycles commons q → Cycles commons q
@@ -148,16 +148,16 @@ declared_first : (commons : Declarations) (p end : List ℕ) → Leads commons p
 declared_first commons p end (step _ _ r d m) = (r, d)
 declared_first commons p end (steps _ x _ r d m k) = (r, d)
 
-pub types_stand_for_one_or_some_for_none : CyclesStandForNone → TypesStandForOneOrSomeForNone
-types_stand_for_one_or_some_for_none cycles commons once closed r here = by (inside commons r named)
+pub types_expand_or_some_common_does_not : CyclesHaveNoExpansion → TypesExpandOrSomeCommonDoesNot
+types_expand_or_some_common_does_not cycles commons once closed r here = by (inside commons r named)
   where
     named : (x : List ℕ) → Mentions r x → Ends commons (qualified.common x) ⊎ Cycles commons x
     named x m =
         let s = here x m in
         names commons closed (length (map (λ d. d.0) commons)) (map (λ d. d.0) commons) (omega arith) x s.0 s.1 (λ p t there. inl (declared_in commons p t there)) (inl (declared_in commons x s.0 s.1))
 
-    by : Ends commons r ⊎ Inside commons r → Ends commons r ⊎ SomeStandsForNone commons
+    by : Ends commons r ⊎ Inside commons r → Ends commons r ⊎ SomeHasNoExpansion commons
     by (inl e) = inl e
     by (inr (x, m, (p, way, l))) =
         let s = declared_first commons p p l in
-        inr (record { name = p; type = s.0; declared = s.1; stands_for_none = cycles commons once p l })
+        inr (record { name = p; type = s.0; declared = s.1; has_no_expansion = cycles commons once p l })

@@ -2,8 +2,8 @@
 use Rattle.std.proofs.Common.{◌⊎◌, inl, inr, ℕ, List}
 use Rattle.schema_types.specs.Qualified.{Qualified, QualifiedFields}
 use Rattle.schema_types.specs.Cedar.{Cedar, CedarFields}
-use Rattle.schema_types.specs.WrittenOut as written
-use Rattle.schema_types.specs.WrittenOut.{Declarations, Declares, WrittenOut, FieldsWrittenOut}
+use Rattle.schema_types.specs.Expansions as written
+use Rattle.schema_types.specs.Expansions.{Declarations, Declares, IsExpansion, AreFieldExpansions}
 use Rattle.schema_types.specs.Mentions.{MentionsEntity, FieldsMentionEntity, NamesEntity, FieldsNameEntity}
 use Rattle.schema_types.specs.Law.{WrittenEntitiesAreNamed}
 
@@ -30,7 +30,7 @@ module _ (commons : Declarations) (q : List ℕ) where
   beside r t rs ts one more (inr m) = at_rest r rs (more m)
 
   mutual
-    named : (r : Qualified) (t : Cedar) → WrittenOut commons r t → NamesEntity t q → MentionsEntity r q ⊎ Elsewhere
+    named : (r : Qualified) (t : Cedar) → IsExpansion commons r t → NamesEntity t q → MentionsEntity r q ⊎ Elsewhere
     named _ _ written.text h = absurd h
     named _ _ written.long h = absurd h
     named _ _ written.boolean h = absurd h
@@ -41,7 +41,7 @@ module _ (commons : Declarations) (q : List ℕ) where
     named _ _ (written.entity n) h = inl h
     named _ _ (written.common p s t d w) h = inr (in_common p s d (named s t w h))
 
-    fields_named : (rs : QualifiedFields) (ts : CedarFields) → FieldsWrittenOut commons rs ts → FieldsNameEntity ts q → FieldsMentionEntity rs q ⊎ Elsewhere
+    fields_named : (rs : QualifiedFields) (ts : CedarFields) → AreFieldExpansions commons rs ts → FieldsNameEntity ts q → FieldsMentionEntity rs q ⊎ Elsewhere
     fields_named _ _ written.no_fields h = absurd h
     fields_named _ _ (written.field k r t required rs ts w ws) h = beside r t rs ts (λ m. named r t w m) (λ m. fields_named rs ts ws m) h
 

@@ -16,8 +16,8 @@ use Rattle.schema_types.specs.Forms.{form_named, keys_of}
 use Rattle.schema_types.specs.Names.{Scope, found, built_in, or_entity, or_common, any_named, entity_named, common_named, qualified_of, fields_of}
 use Rattle.schema_types.specs.Optional.{optional, required_text, closed_in}
 use Rattle.schema_types.specs.TypeShape.{type_name, name_in, reserved_type, or_path, entity_or_common, extension_named, there, by_form, formed, required_in, type_of, type_at, fields_at, attributes_of, fields_in}
-use Rattle.schema_types.specs.WrittenOut as written
-use Rattle.schema_types.specs.WrittenOut.{Declarations, WrittenOut, FieldsWrittenOut}
+use Rattle.schema_types.specs.Expansions as written
+use Rattle.schema_types.specs.Expansions.{Declarations, IsExpansion, AreFieldExpansions}
 use Rattle.schema_types.specs.declared.forms.Form.{Form}
 use Rattle.schema_types.specs.declared.forms.Form.TheVariants.{Text, Long, Boolean, Set, Record, Entity, Extension, EntityOrCommon, Common}
 use Rattle.schema_types.specs.declared.fault.SchemaFault.{SchemaFault}
@@ -236,7 +236,7 @@ mutual
 
 module _ (commons : Declarations) (all : AllAscend commons) where
   mutual
-    pub written_ascends : (r : Qualified) (t : Cedar) → WrittenOut commons r t → QualifiedAscends r → KeysAscend t
+    pub written_ascends : (r : Qualified) (t : Cedar) → IsExpansion commons r t → QualifiedAscends r → KeysAscend t
     written_ascends _ _ written.text h = tt
     written_ascends _ _ written.long h = tt
     written_ascends _ _ written.boolean h = tt
@@ -247,7 +247,7 @@ module _ (commons : Declarations) (all : AllAscend commons) where
     written_ascends _ _ (written.entity n) h = tt
     written_ascends _ _ (written.common q r t d w) h = written_ascends r t w (all q r d)
 
-    written_fields : (rs : QualifiedFields) (ts : CedarFields) → FieldsWrittenOut commons rs ts → QualifiedFieldsAscend rs → (ascending.keys_of ts ≡ qualified_keys rs) × FieldKeysAscend ts
+    written_fields : (rs : QualifiedFields) (ts : CedarFields) → AreFieldExpansions commons rs ts → QualifiedFieldsAscend rs → (ascending.keys_of ts ≡ qualified_keys rs) × FieldKeysAscend ts
     written_fields _ _ written.no_fields h = (refl, tt)
     written_fields _ _ (written.field k r t required rs ts w ws) h =
         let m = written_fields rs ts ws h.1 in

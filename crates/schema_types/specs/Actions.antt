@@ -1,12 +1,12 @@
--- Defines which action a type and an id mean.
+-- Defines which action is meant by a type and an id.
 -- Source: Cedar reference guide, "Schema JSON format": action types, `memberOf`.
--- Rules of this product: an action of the empty namespace has the type `Action`, one of another `NS::Action`; an
--- unqualified type is resolved in the own namespace and then in the empty one.
+-- Rules of this product: an action of the empty namespace has the type `Action`, one of a namespace NS the type
+-- `NS::Action`; an unqualified type is resolved in the namespace that uses it, then in the empty one.
 use Rattle.std.specs.Prelude.{ℕ, List, Bool, codes, Option, Some, None, if◌then◌else◌}
 use Rattle.values.specs.declared.entity_uid.EntityUid.{EntityUid}
 use Rattle.schema_types.specs.Names.{full_name, is_qualified}
 
--- `action_type own` is the type of the actions of the namespace `own`.
+-- `action_type own` is the type of the actions of the namespace `own`; `None` is the empty namespace.
 abbrev pub action_type : Option (List ℕ) → List ℕ
 action_type own = full_name own (codes "Action")
 
@@ -14,7 +14,8 @@ action_type own = full_name own (codes "Action")
 abbrev pub action_uid : List ℕ → List ℕ → EntityUid
 action_uid type_name id = record { type_name = type_name; id = id }
 
--- `declared_action is_action t id` is the action of this type and id, if it is declared.
+-- `declared_action is_action t id` is the action of the type `t` and the id `id`, if it is declared; `is_action` tests
+-- for declared actions.
 abbrev pub declared_action : (EntityUid → Bool) → List ℕ → List ℕ → Option EntityUid
 declared_action is_action t id = if is_action (action_uid t id) then Some (action_uid t id) else None
 
@@ -23,7 +24,8 @@ abbrev pub first_of : {A : Type 0} → Option A → Option A → Option A
 first_of (Some x) later = Some x
 first_of None later = later
 
--- `action_of_type is_action own w id` is the action of a written type: in the own namespace, then in the empty one.
+-- `action_of_type is_action own w id` is the declared action that the type `w`, written in the namespace `own`, and the
+-- id `id` mean: an unqualified type is resolved in that namespace, then in the empty one.
 unfoldable pub action_of_type : (EntityUid → Bool) → Option (List ℕ) → List ℕ → List ℕ → Option EntityUid
 action_of_type is_action own w id =
     if is_qualified w then declared_action is_action w id

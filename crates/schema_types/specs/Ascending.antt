@@ -1,4 +1,4 @@
--- Defines that in each record the keys ascend strictly by their bytes, at every depth, as in the JSON that states it.
+-- Defines that the keys of each record in a type ascend strictly by their bytes, at every depth.
 use Rattle.std.specs.Prelude.{⊤, ℕ, List, [], ◌∷◌}
 pub use Rattle.json_words.specs.Ascending.{Ascend, member_keys, DataAscends, ItemsAscend, MembersAscend}
 use Rattle.schema_types.specs.Raw as raw
@@ -10,7 +10,7 @@ use Rattle.schema_types.specs.Cedar.{entity, CedarFields, no_fields, field}
 
 -- ---- types as they are written
 
--- `raw_keys rs` are the keys of fields; `RawAscends r` holds if those of each record in `r` ascend.
+-- `raw_keys rs` are the keys of the fields `rs`; `RawAscends r` holds if the keys of each record in `r` ascend.
 abbrev pub raw_keys : RawFields → List (List ℕ)
 raw_keys raw.no_fields = []
 raw_keys (raw.field k r required rs) = k ∷ raw_keys rs
@@ -34,7 +34,8 @@ abbrev mutual
 
 -- ---- types with resolved names
 
--- `qualified_keys rs` are the keys of fields; `QualifiedAscends r` holds if those of each record in `r` ascend.
+-- `qualified_keys rs` are the keys of the fields `rs`; `QualifiedAscends r` holds if the keys of each record in `r`
+-- ascend.
 abbrev pub qualified_keys : QualifiedFields → List (List ℕ)
 qualified_keys qualified.no_fields = []
 qualified_keys (qualified.field k r required rs) = k ∷ qualified_keys rs
@@ -57,7 +58,7 @@ abbrev mutual
 
 -- ---- expanded types
 
--- `keys_of fs` are the keys of fields; `KeysAscend t` holds if those of each record in `t` ascend.
+-- `keys_of fs` are the keys of the fields `fs`; `KeysAscend t` holds if the keys of each record in `t` ascend.
 abbrev pub keys_of : CedarFields → List (List ℕ)
 keys_of no_fields = []
 keys_of (field k t required fs) = k ∷ keys_of fs

@@ -1,4 +1,5 @@
--- Defines the theorems that the keys of each record ascend, from JSON to expanded types.
+-- Defines the theorems that the keys of each record in a type ascend: as written in JSON, with resolved names, and
+-- expanded.
 use Rattle.std.specs.Prelude.{◌≡◌, ℕ, List, Bool, Option, Ok}
 use Rattle.serde_json.specs.Data.{Data}
 pub use Rattle.json_words.specs.Ascending.{JsonAscends}
@@ -7,26 +8,26 @@ use Rattle.schema_types.specs.Qualified.{Qualified}
 use Rattle.schema_types.specs.Cedar.{Cedar}
 use Rattle.schema_types.specs.Names.{Scope, qualified_of}
 use Rattle.schema_types.specs.TypeShape.{type_of}
-use Rattle.schema_types.specs.WrittenOut.{Declarations, Declares, WrittenOut}
+use Rattle.schema_types.specs.Expansions.{Declarations, Declares, IsExpansion}
 use Rattle.schema_types.specs.Ascending.{DataAscends, RawAscends, QualifiedAscends, KeysAscend}
 
--- `StatedTypesAscend`: in a type that JSON with ascending keys states, the keys ascend.
+-- `StatedTypesAscend`: if the keys of each object of JSON ascend, so do the keys in the type that the JSON describes.
 abbrev pub StatedTypesAscend : Type 0
 StatedTypesAscend =
     (is_attribute : Bool) (d : Data) (r : Raw) → type_of is_attribute d ≡ Ok r → DataAscends d → RawAscends r
 
--- `FoundTypesAscend`: they still do once the names are resolved.
+-- `FoundTypesAscend`: if the keys in a type ascend, they ascend after its names are resolved.
 abbrev pub FoundTypesAscend : Type 0
 FoundTypesAscend =
     (s : Scope) (own : Option (List ℕ)) (r : Raw) (n : Qualified) → qualified_of s own r ≡ Ok n → RawAscends r
     → QualifiedAscends n
 
--- `AllAscend commons` holds if each declared common type has ascending keys.
+-- `AllAscend commons` holds if the keys in each declared common type ascend.
 abbrev pub AllAscend : Declarations → Type 0
 AllAscend commons = (q : List ℕ) (r : Qualified) → Declares commons q r → QualifiedAscends r
 
--- `WrittenTypesAscend`: they do in the expansion, if they do in each declared common type.
+-- `WrittenTypesAscend`: if the keys in a type and in each declared common type ascend, so do those in its expansion.
 abbrev pub WrittenTypesAscend : Type 0
 WrittenTypesAscend =
-    (commons : Declarations) → AllAscend commons → (r : Qualified) (t : Cedar) → WrittenOut commons r t
+    (commons : Declarations) → AllAscend commons → (r : Qualified) (t : Cedar) → IsExpansion commons r t
     → QualifiedAscends r → KeysAscend t

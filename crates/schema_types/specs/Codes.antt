@@ -1,4 +1,4 @@
--- Defines the codes of schema errors.
+-- Defines the codes of schema errors (docs/codes.md).
 -- Rules of this product: the codes.
 use Rattle.std.specs.Prelude.{ℕ}
 use Rattle.schema_types.specs.declared.fault.SchemaFault.{SchemaFault}

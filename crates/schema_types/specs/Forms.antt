@@ -1,4 +1,4 @@
--- Defines the forms of a type's JSON, by the word at its key `type`, and the keys of each.
+-- Defines the forms of a type's JSON, by the word at its key `type`, and the keys of each form.
 -- Source: Cedar reference guide 4.0, "Schema JSON format".
 -- Rules of this product: other keys are rejected.
 use Rattle.std.specs.Prelude.{ℕ, List, [], ◌∷◌, Bool, codes, if◌then◌else◌}
@@ -7,7 +7,8 @@ use Rattle.schema_types.specs.declared.forms.Form.{Form}
 use Rattle.schema_types.specs.declared.forms.Form.TheVariants.{Text, Long, Boolean, Set, Record, Entity, Extension}
 use Rattle.schema_types.specs.declared.forms.Form.TheVariants.{EntityOrCommon, Common}
 
--- `form_named w` is the form of the word `w`; any other word names a common type.
+-- `form_named w` is the form that the word `w` selects; `Common`, the name of a common type, for any
+-- other word.
 unfoldable pub form_named : List ℕ → Form
 form_named w =
     if bytes_eq w (codes "String") then Text else
@@ -20,7 +21,7 @@ form_named w =
     if bytes_eq w (codes "Extension") then Extension else
     if bytes_eq w (codes "EntityOrCommon") then EntityOrCommon else Common
 
--- `own_keys form` are the keys of a form, other than `type` and `annotations`.
+-- `own_keys form` are the keys that are specific to the form `form`.
 abbrev pub own_keys : Form → List (List ℕ)
 own_keys Text = []
 own_keys Long = []
@@ -32,7 +33,8 @@ own_keys Extension = codes "name" ∷ []
 own_keys EntityOrCommon = codes "name" ∷ []
 own_keys Common = []
 
--- `keys_of is_attribute form` are all its keys: an attribute may have `required`.
+-- `keys_of is_attribute form` are all keys that JSON of the form `form` may have; only an attribute may have
+-- `required`.
 abbrev pub keys_of : Bool → Form → List (List ℕ)
 keys_of is_attribute form =
     codes "type" ∷ codes "annotations" ∷ (if is_attribute then codes "required" ∷ own_keys form else own_keys form)

@@ -14,7 +14,7 @@ pub mod QualifiedViews
 pub mod Raw
 pub mod TypeShape
 pub mod Views
-pub mod WrittenOut
+pub mod Expansions
 pub mod inner
 pub mod Actions
 pub mod NamesViews

@@ -1,13 +1,13 @@
--- Defines which common types and entity types a type names.
+-- Defines which common types and entity types are mentioned in a type.
 -- Source: Cedar reference guide 4.0, "Schema JSON format".
 use Rattle.std.specs.Prelude.{◌≡◌, ◌⊎◌, ℕ, List}
 use Rattle.schema_types.specs.Qualified as qualified
 use Rattle.schema_types.specs.Qualified.{Qualified, QualifiedFields}
 use Rattle.schema_types.specs.Cedar as cedar
 use Rattle.schema_types.specs.Cedar.{Cedar, CedarFields}
-use Rattle.schema_types.specs.WrittenOut.{Declarations, Declares}
+use Rattle.schema_types.specs.Expansions.{Declarations, Declares}
 
--- `Mentions r q` holds if the common type `q` is named in `r`.
+-- `Mentions r q` holds if the common type `q` is mentioned in `r`.
 abbrev mutual
   pub Mentions : Qualified → List ℕ → Type 0
   Mentions qualified.text q = ⊥
@@ -24,7 +24,7 @@ abbrev mutual
   FieldsMention qualified.no_fields q = ⊥
   FieldsMention (qualified.field k r b rs) q = Mentions r q ⊎ FieldsMention rs q
 
--- `MentionsEntity r q` holds if the entity type `q` is named in `r`.
+-- `MentionsEntity r q` holds if the entity type `q` is mentioned in `r`.
 abbrev mutual
   pub MentionsEntity : Qualified → List ℕ → Type 0
   MentionsEntity qualified.text q = ⊥
@@ -41,7 +41,7 @@ abbrev mutual
   FieldsMentionEntity qualified.no_fields q = ⊥
   FieldsMentionEntity (qualified.field k r b rs) q = MentionsEntity r q ⊎ FieldsMentionEntity rs q
 
--- `NamesEntity t q` is the same for an expanded type.
+-- `NamesEntity t q` holds if the entity type `q` is mentioned in the expanded type `t`.
 abbrev mutual
   pub NamesEntity : Cedar → List ℕ → Type 0
   NamesEntity cedar.text q = ⊥
@@ -57,12 +57,12 @@ abbrev mutual
   FieldsNameEntity cedar.no_fields q = ⊥
   FieldsNameEntity (cedar.field k t b ts) q = NamesEntity t q ⊎ FieldsNameEntity ts q
 
--- `IsClosed commons r` holds if each common type named in `r` is declared.
+-- `IsClosed commons r` holds if each common type that is mentioned in `r` is declared.
 abbrev pub IsClosed : Declarations → Qualified → Type 0
 IsClosed commons r = (q : List ℕ) → Mentions r q → (s : Qualified) × Declares commons q s
 
--- `Leads commons p q` holds if one or more steps lead from the common type `p` to `q`, each to a name in the
--- declaration of the one before.
+-- `Leads commons p q` holds if one or more steps lead from the common type `p` to `q`: a step leads from a common type
+-- to one that its declaration mentions.
 pub data Leads (commons : Declarations) : List ℕ → List ℕ → Type 0 where
   step : (p q : List ℕ) (r : Qualified) → Declares commons p r → Mentions r q → Leads commons p q
   steps : (p q end : List ℕ) (r : Qualified) → Declares commons p r → Mentions r q → Leads commons q end

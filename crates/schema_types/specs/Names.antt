@@ -1,7 +1,7 @@
--- Defines the one declaration that a name means, and the types of a schema with resolved names.
+-- Defines the one declaration that a name means, and the resolution of all names in a type.
 -- Source: Cedar reference guide, "Schema JSON format": namespaces, `EntityOrCommon`.
--- Rules of this product: an unqualified name is resolved in its own namespace and then in the empty one; a common
--- type goes before an entity type, and that before a primitive.
+-- Rules of this product: an unqualified name is resolved in the namespace that uses it, then in the empty one; a common
+-- type takes precedence over an entity type, and an entity type over a primitive or an extension type.
 use Prim.Native.Char.{code}
 use Rattle.std.specs.Prelude.{ℕ, List, ◌++◌, ◌==◌, Bool, codes, Option, Some, None, Result, Ok, if◌then◌else◌}
 use Rattle.std.specs.List.{list_any}
@@ -14,16 +14,16 @@ use Rattle.schema_types.specs.Qualified.{Qualified, QualifiedFields}
 use Rattle.schema_types.specs.declared.fault.SchemaFault.{SchemaFault}
 use Rattle.schema_types.specs.declared.fault.SchemaFault.TheVariants.{UnknownName}
 
--- A `Scope` has the full names that are declared.
+-- A `Scope` has tests of the full names of the declared common types and entity types.
 pub record Scope : Type 0 where
   pub commons : List ℕ → Bool
   pub entities : List ℕ → Bool
 
--- `is_qualified w` tests for a name with a namespace in it.
+-- `is_qualified w` tests whether the name `w` contains a namespace, that is, a colon.
 abbrev pub is_qualified : List ℕ → Bool
 is_qualified w = list_any (λ b. b == code ":") w
 
--- `full_name own w` is the name `w` in its namespace, a Path or `None`, the empty one.
+-- `full_name own w` is the full name of `w` in the namespace `own`, a Path; `None` is the empty namespace.
 abbrev pub full_name : Option (List ℕ) → List ℕ → List ℕ
 full_name None w = w
 full_name (Some namespace) w = namespace ++ codes "::" ++ w
@@ -32,13 +32,14 @@ full_name (Some namespace) w = namespace ++ codes "::" ++ w
 unfoldable pub as_declared : (List ℕ → Bool) → List ℕ → Option (List ℕ)
 as_declared declared w = if declared w then Some w else None
 
--- `found declared own w` resolves a name: an unqualified one in its own namespace, then in the empty one.
+-- `found declared own w` is the full name of the declaration that `w`, written in the namespace `own`, means: an
+-- unqualified name is resolved in that namespace, then in the empty one.
 unfoldable pub found : (List ℕ → Bool) → Option (List ℕ) → List ℕ → Option (List ℕ)
 found declared own w =
     if is_qualified w then as_declared declared w else
     if declared (full_name own w) then Some (full_name own w) else as_declared declared w
 
--- `built_in w` is a primitive or an extension type by its name.
+-- `built_in w` is the primitive or extension type with the name `w`, if there is one.
 unfoldable pub built_in : List ℕ → Option Qualified
 built_in w =
     if bytes_eq w (codes "String") then Some qualified.text else
@@ -58,23 +59,23 @@ abbrev pub or_common : Option (List ℕ) → Option Qualified → Option Qualifi
 or_common (Some q) later = Some (qualified.common q)
 or_common None later = later
 
--- `any_named s own w` is a common type, else an entity type, else a primitive or an extension type.
+-- `any_named s own w` is the common type that `w` means, else the entity type, else the primitive or extension type.
 unfoldable pub any_named : Scope → Option (List ℕ) → List ℕ → Option Qualified
 any_named s own w = or_common (found s.commons own w) (or_entity (found s.entities own w) (built_in w))
 
--- `entity_named s own w` is the entity type that `w` means, or an error.
+-- `entity_named s own w` is the entity type that `w` means, or `UnknownName`.
 unfoldable pub entity_named : Scope → Option (List ℕ) → List ℕ → Result Qualified SchemaFault
 entity_named s own w = do
   q ← or_fault UnknownName (found s.entities own w)
   Ok (qualified.entity q)
 
--- `common_named s own w` is the common type that `w` means, or an error.
+-- `common_named s own w` is the common type that `w` means, or `UnknownName`.
 unfoldable pub common_named : Scope → Option (List ℕ) → List ℕ → Result Qualified SchemaFault
 common_named s own w = do
   q ← or_fault UnknownName (found s.commons own w)
   Ok (qualified.common q)
 
--- `qualified_of s own r` is the type `r` with resolved names, or the error.
+-- `qualified_of s own r` is the type `r`, written in the namespace `own`, with resolved names, or the first error.
 unfoldable mutual
   pub qualified_of : Scope → Option (List ℕ) → Raw → Result Qualified SchemaFault
   qualified_of s own raw.text = Ok qualified.text

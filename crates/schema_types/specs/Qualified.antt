@@ -2,7 +2,7 @@
 -- Source: Cedar reference guide 4.0, "Schema JSON format".
 use Rattle.std.specs.Prelude.{ℕ, List, Bool}
 
--- A `Qualified` is a type whose names are full names.
+-- A `Qualified` is a type in which each name is a full name.
 mutual
   pub data Qualified : Type 0 where
     text : Qualified

@@ -1,18 +1,18 @@
--- Defines the abstract value of a type with resolved names (a `Qualified` for a `QualifiedType`).
+-- Defines the abstract value of a type with resolved names: a `Qualified` for a `QualifiedType` of the code.
 use Rattle.std.specs.Prelude.{ℕ, List, [], ◌∷◌, map, Bool, String, string_bytes}
 use Rattle.std.specs.declared.alloc.Global.{Global}
 use Rattle.schema_types.specs.Qualified.{Qualified, text, long, boolean, decimal, ipaddr, set, record_of, entity}
 use Rattle.schema_types.specs.Qualified.{common, QualifiedFields, no_fields, field}
 use Rattle.schema_types.specs.declared.qualified.QualifiedType.{QualifiedType, fold-QualifiedType}
-use Rattle.schema_types.specs.declared.qualified.FoundCommon.{FoundCommon}
+use Rattle.schema_types.specs.declared.qualified.ResolvedCommon.{ResolvedCommon}
 use Rattle.schema_types.specs.declared.qualified.QualifiedType.TheOpen.{QualifiedType-F}
 
--- `fields_of fs` is the list `fs` as the fields of a record type.
+-- `fields_of fs` are the fields of a record type that the list `fs` has.
 abbrev pub fields_of : List (String Global × Qualified × Bool) → QualifiedFields
 fields_of [] = no_fields
 fields_of (f ∷ fs) = field (string_bytes f.0) f.1 f.2 (fields_of fs)
 
--- `qualified_step t` is the abstract value of the node `t`, given those of its parts.
+-- `qualified_step t` is the abstract value of the node `t`, whose parts are replaced by their abstract values.
 abbrev pub qualified_step : QualifiedType-F Qualified → Qualified
 qualified_step QualifiedType-F.Text = text
 qualified_step QualifiedType-F.Long = long
@@ -28,10 +28,10 @@ qualified_step (QualifiedType-F.Common n) = common n
 abbrev pub qualified_view : QualifiedType → Qualified
 qualified_view = fold-QualifiedType Qualified qualified_step
 
--- `qualified_fields_view fs` is the abstract value of the fields `fs`.
+-- `qualified_fields_view fs` are the abstract values of the fields `fs`.
 abbrev pub qualified_fields_view : List (String Global × QualifiedType × Bool) → QualifiedFields
 qualified_fields_view fs = fields_of (map (λ f. (f.0, qualified_view f.1, f.2)) fs)
 
--- `found_common_view c` is the common type `c` of the code, with its name.
-abbrev pub found_common_view : FoundCommon → List ℕ × Qualified
-found_common_view c = (c.name, qualified_view c.ty)
+-- `resolved_common_view c` is the declaration of the common type `c`: its name and its type.
+abbrev pub resolved_common_view : ResolvedCommon → List ℕ × Qualified
+resolved_common_view c = (c.name, qualified_view c.ty)

@@ -2,7 +2,7 @@
 -- Source: Cedar reference guide 4.0, "Schema JSON format".
 use Rattle.std.specs.Prelude.{ℕ, List, Bool}
 
--- A `Raw` is a type as written.
+-- A `Raw` is a type as written in a schema.
 mutual
   pub data Raw : Type 0 where
     text : Raw
@@ -12,7 +12,7 @@ mutual
     ipaddr : Raw
     set : Raw → Raw
     record_of : RawFields → Raw
-    -- an entity type, a common type, and a name that may be either
+    -- an entity type, a common type, and a name that may be either of these or a primitive or extension type
     entity : List ℕ → Raw
     common : List ℕ → Raw
     entity_or_common : List ℕ → Raw

@@ -1,4 +1,4 @@
--- Defines the type that JSON states, in all its forms, before names are resolved.
+-- Defines the type that JSON describes, in all its forms, before names are resolved.
 -- Source: Cedar reference guide, "Schema JSON format": types `String`, `Long`, `Boolean`, `Set`, `Record`, `Entity`,
 -- `Extension`, `EntityOrCommon`, names of common types.
 -- Rules of this product: other keys are rejected, `annotations` has any value, null at an optional key counts as
@@ -20,19 +20,19 @@ use Rattle.schema_types.specs.declared.forms.Form.TheVariants.{EntityOrCommon, C
 use Rattle.schema_types.specs.declared.fault.SchemaFault.{SchemaFault}
 use Rattle.schema_types.specs.declared.fault.SchemaFault.TheVariants.{BadShape}
 
--- `type_name w` checks that a name is a Path without whitespace or comments.
+-- `type_name w` is the name `w`, or `BadShape` if it is not a Path without whitespace or comments.
 unfoldable pub type_name : List ℕ → Result (List ℕ) SchemaFault
 type_name w = do
   path ← demand BadShape (is_path w)
   Ok w
 
--- `name_in d` is the name at the key `name`.
+-- `name_in d` is the name of `d` at the key `name`, or an error.
 abbrev pub name_in : Data → Result (List ℕ) SchemaFault
 name_in d = do
   w ← required_text (codes "name") d
   type_name w
 
--- `reserved_type w` is a primitive or an extension type, after `__cedar::`.
+-- `reserved_type w` is the primitive or extension type that `w` names with the prefix `__cedar::`, if it names one.
 unfoldable pub reserved_type : List ℕ → Option Raw
 reserved_type w =
     if bytes_eq w (codes "__cedar::String") then Some raw.text else
@@ -42,30 +42,31 @@ reserved_type w =
     if bytes_eq w (codes "__cedar::ipaddr") then Some raw.ipaddr else
     if bytes_eq w (codes "__cedar::decimal") then Some raw.decimal else None
 
--- `or_path o w` is the type `o`, or that of the name `w` if `o` is `None`.
+-- `or_path o w` is the type in `o`, or the type with the unresolved name `w` if `o` is `None`.
 abbrev pub or_path : Option Raw → List ℕ → Result Raw SchemaFault
 or_path (Some t) w = Ok t
 or_path None w = do
   n ← type_name w
   Ok (raw.entity_or_common n)
 
--- `entity_or_common w` is the type of the name of an `EntityOrCommon`, before it is resolved.
+-- `entity_or_common w` is the type with the name `w` at an `EntityOrCommon`, before it is resolved.
 abbrev pub entity_or_common : List ℕ → Result Raw SchemaFault
 entity_or_common w = or_path (reserved_type w) w
 
--- `extension_named w` is the extension type `w`.
+-- `extension_named w` is the extension type with the name `w`, if there is one.
 unfoldable pub extension_named : List ℕ → Option Raw
 extension_named w =
     if bytes_eq w (codes "ipaddr") then Some raw.ipaddr else
     if bytes_eq w (codes "decimal") then Some raw.decimal else None
 
--- `there o` is the result at a required key.
+-- `there o` is the result at a required key, or `BadShape` if the key is missing.
 abbrev pub there : {A : Type 0} → Option (Result A SchemaFault) → Result A SchemaFault
 there None = Err BadShape
 there (Some read) = read
 
--- `by_form form w d element fields` is the type of one form. The parts of `d` that are types are given: `element`,
--- and the `fields` of `attributes`.
+-- `by_form form w d element fields` is the type that `d` describes, or the first error, where `form` is its form and
+-- `w` its word at `type`. The types within `d` are already read: `element` at that key, and `fields` at the key
+-- `attributes`.
 abbrev pub by_form : Form → List ℕ → Data → Option (Result Raw SchemaFault) → Option (Result RawFields SchemaFault)
     → Result Raw SchemaFault
 by_form Text w d element fields = Ok raw.text
@@ -91,7 +92,8 @@ by_form Common w d element fields = do
   n ← type_name w
   Ok (raw.common n)
 
--- `formed is_attribute d element fields` is the type that `d` states, whose keys must be those of its form.
+-- `formed is_attribute d element fields` is the type that `d` describes, or the first error. The keys of `d` must be
+-- those of its form; `element` and `fields` are as in `by_form`.
 unfoldable pub formed : Bool → Data → Option (Result Raw SchemaFault) → Option (Result RawFields SchemaFault)
     → Result Raw SchemaFault
 formed is_attribute d element fields = do
@@ -99,11 +101,13 @@ formed is_attribute d element fields = do
   keys ← demand BadShape (has_only (keys_of is_attribute (form_named w)) d)
   by_form (form_named w) w d element fields
 
--- `required_in d` is whether the attribute `d` is required: its boolean `required`, true if that is absent.
+-- `required_in d` is whether the attribute `d` is required: its boolean at the key `required`, true if that is missing.
 abbrev pub required_in : Data → Result Bool SchemaFault
 required_in d = truth_or true (optional (codes "required") d)
 
 unfoldable mutual
+  -- `type_of is_attribute d` is the type that `d` describes, or the first error. If `is_attribute`, the type is an
+  -- attribute's, and may have the key `required`.
   pub type_of : Bool → Data → Result Raw SchemaFault
   type_of is_attribute null = Err BadShape
   type_of is_attribute (boolean b) = Err BadShape
@@ -113,7 +117,7 @@ unfoldable mutual
   type_of is_attribute (object ms) =
       formed is_attribute (object ms) (type_at (codes "element") ms) (fields_at (codes "attributes") ms)
 
-  -- the type, and the attributes, at a key of an object
+  -- the type, and the attributes, at the key `k` of an object, if it has this key
   pub type_at : List ℕ → Members → Option (Result Raw SchemaFault)
   type_at k no_members = None
   type_at k (member l d ms) = if bytes_eq k l then Some (type_of false d) else type_at k ms
@@ -122,6 +126,7 @@ unfoldable mutual
   fields_at k no_members = None
   fields_at k (member l d ms) = if bytes_eq k l then Some (attributes_of d) else fields_at k ms
 
+  -- the fields that the object at the key `attributes` describes
   pub attributes_of : Data → Result RawFields SchemaFault
   attributes_of null = Err BadShape
   attributes_of (boolean b) = Err BadShape

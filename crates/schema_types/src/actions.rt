@@ -1,4 +1,4 @@
-//! The action that a type and an id mean.
+//! The action that is meant by a type and an id.
 ghost use Rattle.std.specs.Prelude.{◌≡◌, IfOk};
 ghost use Rattle.schema_types.specs.Actions.{action_type, action_uid, declared_action, action_of_type};
 ghost use Rattle.schema_types.specs.NamesViews.{is_action_of};
@@ -8,7 +8,7 @@ use plain::{NoMemory, Text};
 use std::alloc::Global;
 use values::{EntityUid, SharedText, TypeName};
 
-/// Returns the type of the actions of a namespace.
+/// Returns the type of the actions of a namespace; `None` is the empty namespace. The only error is `NoMemory`.
 pub fn action_type(alloc: Global, own: &Option<TypeName>) -> Result<TypeName, NoMemory>
     ensures { IfOk result (λ t. t ≡ action_type own.now) }
 {
@@ -16,6 +16,7 @@ pub fn action_type(alloc: Global, own: &Option<TypeName>) -> Result<TypeName, No
     full_name(alloc, own, &word)
 }
 
+/// Returns the uid with this type and a copy of this id.
 fn action_uid(alloc: Global, type_name: TypeName, id: &Text) -> Result<EntityUid, NoMemory>
     ensures { IfOk result (λ u. u ≡ action_uid type_name id.now) }
 {
@@ -23,7 +24,7 @@ fn action_uid(alloc: Global, type_name: TypeName, id: &Text) -> Result<EntityUid
     Ok(EntityUid { type_name, id })
 }
 
-/// Returns the action of this type and id, if it is declared.
+/// Returns the action of this type and id, if it is declared. The only error is `NoMemory`.
 pub fn declared_action(
     alloc: Global,
     names: &Names,
@@ -39,7 +40,8 @@ pub fn declared_action(
     Ok(None)
 }
 
-/// Returns the action that a written type and an id mean: in the own namespace, then in the empty one.
+/// Returns the declared action that a written type and an id mean. An unqualified type is resolved in the namespace
+/// `own`, then in the empty one. The only error is `NoMemory`.
 #[tactic(auto, unfolding(crate::specs::Actions::action_of_type))]
 pub fn find_action_of_type(
     alloc: Global,

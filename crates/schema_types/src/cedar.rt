@@ -1,6 +1,6 @@
 //! Expanded types.
 ghost use Rattle.std.specs.Prelude.{◌≡◌, IfOk, IfErr};
-ghost use Rattle.schema_types.specs.Cedar.{HoldsOthers};
+ghost use Rattle.schema_types.specs.Cedar.{HasSharedContent};
 ghost use Rattle.schema_types.specs.CedarViews.{cedar_view};
 
 use plain::{Items, NoMemory, Shared, Text};
@@ -13,10 +13,15 @@ use values::TypeName;
 /// Source: Cedar reference guide, "Schema JSON format".
 #[derive(Drop)]
 pub enum CedarType {
+    /// The type `String`.
     Text,
+    /// The type `Long`.
     Long,
+    /// The type `Boolean`, also written `Bool`.
     Boolean,
+    /// The extension type `decimal`.
     Decimal,
+    /// The extension type `ipaddr`.
     Ipaddr,
     /// A set of values of one type.
     Set(Shared<CedarType>),
@@ -27,13 +32,15 @@ pub enum CedarType {
 }
 
 impl CedarType {
-    /// Returns a copy of the type, or `NoMemory`. Only the name of an entity type allocates.
+    /// Returns a copy of the type, which shares its content. Does not allocate.
     ///
-    /// A set or a record is `NoMemory` only if the count of references to its content would overflow; a primitive or
-    /// extension type never is.
+    /// # Errors
+    ///
+    /// - `NoMemory`: the count of references to the content of a set or a record, or to the name of an entity type,
+    ///   would overflow. Copies of other types never fail.
     pub fn copy(&self) -> Result<CedarType, NoMemory>
         ensures same { IfOk result (λ ty. ty ≡ self.now) }
-        ensures memory { IfErr result (λ e. HoldsOthers (cedar_view self.now)) }
+        ensures memory { IfErr result (λ e. HasSharedContent (cedar_view self.now)) }
     {
         match self {
             CedarType::Text => Ok(CedarType::Text),

@@ -5,7 +5,7 @@ use plain::NoMemory;
 use std::alloc::AllocFailed;
 use thiserror::Error;
 
-/// The first error of bytes as a schema.
+/// The first error of the bytes of a schema.
 #[derive(Clone, Copy, PartialEq, Eq, Debug, Error)]
 pub enum SchemaFault {
     /// An allocation failed.
@@ -17,7 +17,7 @@ pub enum SchemaFault {
     /// The JSON does not have the form of a schema.
     #[error("schema 21: JSON without the form of a schema")]
     BadShape,
-    /// A name is not declared.
+    /// A name is not declared where it is used.
     #[error("schema 22: name of no declared type or action")]
     UnknownName,
     /// A common type refers to itself, directly or indirectly.

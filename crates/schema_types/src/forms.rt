@@ -7,21 +7,30 @@ ghost use Rattle.schema_types.specs.Forms.{form_named as form_of, keys_of};
 use json_words::only_keys;
 use serde_json::Value;
 
-/// The form at the key `type`.
+/// The form of a type's JSON, by the word at its key `type`.
 #[derive(Clone, Copy)]
 pub enum Form {
+    /// The word `String`.
     Text,
+    /// The word `Long`.
     Long,
+    /// The word `Boolean` or `Bool`.
     Boolean,
+    /// The word `Set`.
     Set,
+    /// The word `Record`.
     Record,
+    /// The word `Entity`.
     Entity,
+    /// The word `Extension`.
     Extension,
+    /// The word `EntityOrCommon`.
     EntityOrCommon,
+    /// Any other word: the name of a common type.
     Common,
 }
 
-/// Returns the form that a word names; any other word names a common type.
+/// Returns the form that a word selects; [`Form::Common`], the name of a common type, for any other word.
 #[tactic(auto, unfolding(crate::specs::Forms::form_named))]
 pub fn form_named(word: &str) -> Form
     ensures { result ≡ form_of word.now }
@@ -49,7 +58,7 @@ pub fn form_named(word: &str) -> Form
     }
 }
 
-/// Returns whether a value has only the keys of its form; only an attribute may have `required`.
+/// Returns whether a value has only keys that its form allows; only an attribute may have `required`.
 pub(crate) fn has_keys_of(value: &Value, is_attribute: bool, form: Form) -> bool
     ensures { result ≡ has_only (keys_of is_attribute form) (view value.now) }
 {

@@ -1,4 +1,4 @@
-//! Optional keys, and required strings.
+//! Reading of optional keys, and of required strings.
 ghost use Rattle.std.specs.Prelude.{◌≡◌, option_map};
 ghost use Rattle.serde_json.specs.View.{view};
 ghost use Rattle.json_words.specs.ReadsAs.{AlwaysReadsAs};
@@ -8,7 +8,7 @@ ghost use Rattle.schema_types.specs.Optional.{closed_in};
 use crate::SchemaFault;
 use serde_json::Value;
 
-/// Returns the value at a key; null counts as missing.
+/// Returns the value at a key; `None` if it is absent or null.
 pub fn optional<'v>(value: &'v Value, key: &str) -> Option<&'v Value>
     ensures { option_map (λ v. view v.now) result ≡ optional_of key.now (view value.now) }
 {
@@ -19,7 +19,7 @@ pub fn optional<'v>(value: &'v Value, key: &str) -> Option<&'v Value>
     }
 }
 
-/// Returns the string at a key.
+/// Returns the string at a key, or `BadShape` (21) otherwise.
 pub fn required_text<'v>(value: &'v Value, key: &str) -> Result<&'v str, SchemaFault>
     ensures { AlwaysReadsAs (λ s. s.now) result (text_of key.now (view value.now)) }
 {
@@ -32,7 +32,7 @@ pub fn required_text<'v>(value: &'v Value, key: &str) -> Result<&'v str, SchemaF
     }
 }
 
-/// Returns the boolean of a value, or `missing` if `value` is `None`.
+/// Returns the boolean `value`, `missing` if it is `None`, or `BadShape` (21) if it is not a boolean.
 pub(crate) fn truth_or(missing: bool, value: Option<&Value>) -> Result<bool, SchemaFault>
     ensures { AlwaysReadsAs (λ b. b) result (truth_of missing (option_map (λ v. view v.now) value.entry)) }
 {
@@ -45,7 +45,8 @@ pub(crate) fn truth_or(missing: bool, value: Option<&Value>) -> Result<bool, Sch
     }
 }
 
-/// Rejects a record that would allow further attributes.
+/// Checks that a record allows no further attributes: its `additionalAttributes` is absent or `false`. The error is
+/// `BadShape` (21).
 pub(crate) fn demand_closed(additional: Option<&Value>) -> Result<(), SchemaFault>
     ensures { AlwaysReadsAs (λ u. tt) result (closed_in (option_map (λ v. view v.now) additional.entry)) }
 {

@@ -1,5 +1,5 @@
-//! Types of a schema: as JSON writes them, with resolved names (the declaration that each name means in its
-//! namespace, and which action), and expanded; with the theorems about all three.
+//! Types of a schema, in three stages: as JSON writes them, with resolved names (the declaration that each name means
+//! in its namespace, and which action), and expanded; with the theorems about all three.
 #![tactic(auto)]
 
 mod actions;
@@ -19,11 +19,11 @@ pub use fault::SchemaFault;
 pub use forms::{Form, form_named};
 pub use keys::{optional, required_text};
 pub use laws::{
-    cycles_stand_for_none, found_names_are_declared, keys_ascend, one_written,
-    types_stand_for_one_or_some_for_none, what_stands_for_none_leads_back,
+    cycles_have_no_expansion, found_names_are_declared, keys_ascend, one_written,
+    types_expand_or_some_common_does_not, what_has_no_expansion_leads_back,
     written_entities_are_named,
 };
 pub use names::{Names, built_in, find, full_name, is_other, is_qualified, resolve};
-pub use qualified::{FoundCommon, QualifiedType};
+pub use qualified::{QualifiedType, ResolvedCommon};
 pub use raw::RawType;
 pub use types::{read_type, read_type_name};

@@ -19,22 +19,25 @@ use std::alloc::Global;
 use std::collections::BTreeSet;
 use values::{EntityUid, TypeName};
 
-/// The declarations of a schema: the full names of its common types and of its entity types, and its actions.
+/// The declared names of a schema: the full names of its common types and of its entity types, and its actions.
 #[derive(Drop)]
 pub struct Names {
+    /// The full names of the common types.
     pub commons: BTreeSet<String>,
+    /// The full names of the entity types.
     pub entities: BTreeSet<String>,
+    /// The uids of the actions.
     pub actions: BTreeSet<EntityUid>,
 }
 
-/// Returns whether a name is qualified by a namespace.
+/// Returns whether a name contains a namespace.
 pub fn is_qualified(word: &str) -> bool
     ensures { result ≡ is_in_namespace word.now }
 {
     word.as_bytes().iter().any(|byte| *byte == b':')
 }
 
-/// Returns the full name of a name in its namespace; `None` is the empty namespace.
+/// Returns the full name of a name in the namespace `own`; `None` is the empty namespace. The only error is `NoMemory`.
 pub fn full_name(
     alloc: Global,
     own: &Option<TypeName>,
@@ -48,6 +51,7 @@ pub fn full_name(
     }
 }
 
+/// Returns the name, if it is declared.
 #[tactic(auto, unfolding(crate::specs::Names::as_declared))]
 fn as_declared(declared: &BTreeSet<String>, word: &TypeName) -> Result<Option<TypeName>, NoMemory>
     ensures { IfOk result (λ o. o ≡ as_declared (λ q. contains_text declared.now q) word.now) }
@@ -58,7 +62,8 @@ fn as_declared(declared: &BTreeSet<String>, word: &TypeName) -> Result<Option<Ty
     Ok(None)
 }
 
-/// Returns the full name of the declaration that a name means in its namespace.
+/// Returns the full name of the declaration that a name in the namespace `own` means, if there is one. The only error
+/// is `NoMemory`.
 #[tactic(auto, unfolding(crate::specs::Names::found))]
 pub fn find(
     alloc: Global,
@@ -100,7 +105,8 @@ pub fn built_in(word: &str) -> Option<QualifiedType>
     }
 }
 
-/// Returns whether a name means an entity type, a primitive or an extension type.
+/// Returns whether a name means an entity type, a primitive or an extension type, common types aside. The only error is
+/// `NoMemory`.
 pub fn is_other(
     alloc: Global,
     names: &Names,
@@ -117,6 +123,7 @@ pub fn is_other(
     }
 }
 
+/// Returns the type that a name means, if there is one: a common type, else an entity type, else a built-in one.
 #[tactic(auto, unfolding(crate::specs::Names::any_named))]
 fn find_any(
     alloc: Global,
@@ -135,6 +142,7 @@ fn find_any(
     Ok(built_in(word.as_str()))
 }
 
+/// Returns the entity type that a name means, or `UnknownName` (22).
 #[tactic(auto, unfolding(crate::specs::Names::entity_named))]
 fn resolve_entity(
     alloc: Global,
@@ -150,6 +158,7 @@ fn resolve_entity(
     }
 }
 
+/// Returns the common type that a name means, or `UnknownName` (22).
 #[tactic(auto, unfolding(crate::specs::Names::common_named))]
 fn resolve_common(
     alloc: Global,
@@ -165,7 +174,7 @@ fn resolve_common(
     }
 }
 
-/// Returns the type with resolved names, for a type in the namespace `own`.
+/// Returns a type with resolved names, given the type as written in the namespace `own`.
 ///
 /// # Errors
 ///
@@ -204,6 +213,7 @@ pub fn resolve(
     }
 }
 
+/// Returns the fields with resolved names.
 #[cycle(resolve)]
 fn resolve_fields(
     alloc: Global,

@@ -5,21 +5,31 @@ use values::TypeName;
 /// A type in which each name is a full name.
 #[derive(Drop)]
 pub enum QualifiedType {
+    /// The type `String`.
     Text,
+    /// The type `Long`.
     Long,
+    /// The type `Boolean`, also written `Bool`.
     Boolean,
+    /// The extension type `decimal`.
     Decimal,
+    /// The extension type `ipaddr`.
     Ipaddr,
+    /// A set of values of one type.
     Set(Box<QualifiedType>),
     /// Each key with its type, and whether it is required.
     Record(Vec<(String, QualifiedType, bool)>),
+    /// Entities of the type with this full name.
     Entity(TypeName),
+    /// The common type with this full name.
     Common(TypeName),
 }
 
-/// A common type by its full name.
+/// The declaration of a common type, with its full name.
 #[derive(Drop)]
-pub struct FoundCommon {
+pub struct ResolvedCommon {
+    /// Its full name.
     pub name: TypeName,
+    /// Its definition, with resolved names.
     pub ty: QualifiedType,
 }

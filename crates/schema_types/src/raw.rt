@@ -1,22 +1,28 @@
-//! Types as a schema writes them.
+//! Types as a schema writes them, before names are resolved.
 
 use values::TypeName;
 
-/// A type before its names are resolved.
+/// A type as written in a schema.
 #[derive(Drop)]
 pub enum RawType {
+    /// The type `String`.
     Text,
+    /// The type `Long`.
     Long,
+    /// The type `Boolean`, also written `Bool`.
     Boolean,
+    /// The extension type `decimal`.
     Decimal,
+    /// The extension type `ipaddr`.
     Ipaddr,
+    /// A set of values of one type.
     Set(Box<RawType>),
     /// Each key with its type, and whether it is required.
     Record(Vec<(String, RawType, bool)>),
-    /// An entity type.
+    /// Entities of the type with this name.
     Entity(TypeName),
-    /// A common type.
+    /// The common type with this name.
     Common(TypeName),
-    /// A name that may be either, or a primitive or an extension type.
+    /// A name that may be a common type, an entity type, or a primitive or extension type.
     EntityOrCommon(TypeName),
 }

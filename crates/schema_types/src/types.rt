@@ -1,4 +1,4 @@
-//! The type that JSON states.
+//! The type that JSON describes.
 ghost use Rattle.std.specs.Prelude.{◌≡◌, option_map};
 ghost use Rattle.serde_json.specs.View.{view, members_view};
 ghost use Rattle.json_words.specs.ReadsAs.{ReadsAs, AlwaysReadsAs};
@@ -16,7 +16,7 @@ use serde_json::{Map, Value};
 use std::alloc::Global;
 use values::{TypeName, paths_are_told};
 
-/// Returns the type name of a string.
+/// Returns the type name of a string, or `BadShape` (21) if it is not a Path.
 pub fn read_type_name(alloc: Global, word: &str) -> Result<TypeName, SchemaFault>
     ensures { ReadsAs SchemaFault.NoMemory (λ t. t) result (type_name word.now) }
 {
@@ -27,7 +27,7 @@ pub fn read_type_name(alloc: Global, word: &str) -> Result<TypeName, SchemaFault
     }
 }
 
-/// Returns the name at the key `name`.
+/// Returns the name at the key `name`, or `BadShape` (21).
 fn name_in(alloc: Global, value: &Value) -> Result<TypeName, SchemaFault>
     ensures { ReadsAs SchemaFault.NoMemory (λ t. t) result (name_in (view value.now)) }
 {
@@ -35,7 +35,7 @@ fn name_in(alloc: Global, value: &Value) -> Result<TypeName, SchemaFault>
     read_type_name(alloc, word)
 }
 
-/// Returns a primitive or an extension type by its name after `__cedar::`.
+/// Returns the primitive or extension type that a word names with the prefix `__cedar::`, if it names one.
 #[tactic(auto, unfolding(crate::specs::TypeShape::reserved_type))]
 fn reserved_type(word: &str) -> Option<RawType>
     ensures { option_map raw_view result ≡ reserved_type word.now }
@@ -61,7 +61,7 @@ fn reserved_type(word: &str) -> Option<RawType>
     None
 }
 
-/// Returns the type of the name of an `EntityOrCommon`, before it is resolved.
+/// Returns the type with this name at an `EntityOrCommon`, before it is resolved.
 fn entity_or_common(alloc: Global, word: &str) -> Result<RawType, SchemaFault>
     ensures { ReadsAs SchemaFault.NoMemory raw_view result (entity_or_common word.now) }
 {
@@ -71,6 +71,7 @@ fn entity_or_common(alloc: Global, word: &str) -> Result<RawType, SchemaFault>
     }
 }
 
+/// Returns the extension type with this name, if there is one.
 #[tactic(auto, unfolding(crate::specs::TypeShape::extension_named))]
 fn extension_named(word: &str) -> Option<RawType>
     ensures { option_map raw_view result ≡ extension_of word.now }
@@ -84,18 +85,19 @@ fn extension_named(word: &str) -> Option<RawType>
     None
 }
 
-/// Returns whether an attribute is required, which is the default.
+/// Returns whether an attribute is required, as it is by default; `BadShape` (21) if its `required` is not a boolean.
 fn is_required(value: &Value) -> Result<bool, SchemaFault>
     ensures { AlwaysReadsAs (λ b. b) result (required_in (view value.now)) }
 {
     truth_or(true, optional(value, "required"))
 }
 
-/// Returns the type that a value states, which may be an attribute's.
+/// Returns the type that a value describes. If `is_attribute`, the type is an attribute's, and may have the key
+/// `required`.
 ///
 /// # Errors
 ///
-/// - `BadShape` (21): the value does not have any of the forms.
+/// - `BadShape` (21): the value, or a part of it, does not have any of the forms.
 /// - `NoMemory` (1): an allocation failed; possible at any point.
 #[cycle(read_type)]
 pub fn read_type(alloc: Global, value: &Value, is_attribute: bool) -> Result<RawType, SchemaFault>
@@ -104,6 +106,7 @@ pub fn read_type(alloc: Global, value: &Value, is_attribute: bool) -> Result<Raw
     read_formed(alloc, value, is_attribute)
 }
 
+/// Returns the type that a value describes, by its form.
 #[cycle(read_type)]
 #[tactic(auto, unfolding(crate::specs::TypeShape::formed))]
 fn read_formed(alloc: Global, value: &Value, is_attribute: bool) -> Result<RawType, SchemaFault>
@@ -145,6 +148,7 @@ fn read_formed(alloc: Global, value: &Value, is_attribute: bool) -> Result<RawTy
     }
 }
 
+/// Returns the fields of a record that a value describes.
 #[cycle(read_type)]
 #[tactic(auto, unfolding(crate::specs::TypeShape::type_of))]
 fn read_attributes(
@@ -161,6 +165,7 @@ fn read_attributes(
     }
 }
 
+/// Returns the fields of a record, one for each member of an object.
 #[cycle(read_type)]
 fn read_fields(
     alloc: Global,

@@ -7,7 +7,7 @@ use Rattle.schema_types.specs.declared.qualified.QualifiedType.{QualifiedType}
 use Rattle.schema_types.specs.Cedar.{CedarFields, no_fields, field}
 use Rattle.schema_types.specs.QualifiedViews.{qualified_view, qualified_fields_view}
 use Rattle.schema_types.specs.CedarViews.{cedar_view, cedar_fields_view}
-use Rattle.schema_written_types.specs.Knowledge.{Knowledge}
+use Rattle.schema_written_types.specs.TypeTables.{TypeTable}
 use Rattle.schema_written_types.specs.inner.Table.{written_in, fields_in}
 
 abbrev pub Field : Type 0
@@ -37,20 +37,20 @@ after_push : (front : List Field) (f : Field) (o : Option CedarFields) → after
 after_push front f (Some later) = ap (λ (l : CedarFields). Some l) (sym (before_push front f later))
 after_push front f None = refl
 
-pub wrote : (known : Knowledge) (total : Option CedarFields) (front : List Field) (f : Field) (fs : List QualifiedField) (i : ℕ) (g : QualifiedField) → i < length fs → g ≡ get_or fs i g
+pub wrote : (known : TypeTable) (total : Option CedarFields) (front : List Field) (f : Field) (fs : List QualifiedField) (i : ℕ) (g : QualifiedField) → i < length fs → g ≡ get_or fs i g
     → f.0 ≡ string_bytes g.0 → Some (cedar_view f.1) ≡ written_in known (qualified_view g.1) → f.2 ≡ g.2
     → total ≡ after front (fields_in known (qualified_fields_view (drop i fs))) → total ≡ after (front ++ f ∷ []) (fields_in known (qualified_fields_view (drop (i + 1) fs)))
 unfolding written_in
 wrote known total front f fs i g lt at key type required so_far =
     so_far ∙ ap (λ (l : List QualifiedField). after front (fields_in known (qualified_fields_view l))) (cut fs i g lt at) ∙ rw (← key, ← type, ← required) (after_push front f (fields_in known (qualified_fields_view (drop (i + 1) fs))))
 
-pub lacks : (known : Knowledge) (total : Option CedarFields) (front : List Field) (fs : List QualifiedField) (i : ℕ) (g : QualifiedField) → i < length fs → g ≡ get_or fs i g
+pub lacks : (known : TypeTable) (total : Option CedarFields) (front : List Field) (fs : List QualifiedField) (i : ℕ) (g : QualifiedField) → i < length fs → g ≡ get_or fs i g
     → None ≡ written_in known (qualified_view g.1) → total ≡ after front (fields_in known (qualified_fields_view (drop i fs))) → None ≡ total
 unfolding written_in
 lacks known total front fs i g lt at missing so_far =
     sym (so_far ∙ ap (λ (l : List QualifiedField). after front (fields_in known (qualified_fields_view l))) (cut fs i g lt at) ∙ rw (← missing) refl)
 
-pub all_wrote : (known : Knowledge) (total : Option CedarFields) (front : List Field) (fs : List QualifiedField) (i : ℕ) → length fs ≤ i
+pub all_wrote : (known : TypeTable) (total : Option CedarFields) (front : List Field) (fs : List QualifiedField) (i : ℕ) → length fs ≤ i
     → total ≡ after front (fields_in known (qualified_fields_view (drop i fs))) → Some (cedar_fields_view front) ≡ total
 unfolding written_in
 all_wrote known total front fs i le so_far =

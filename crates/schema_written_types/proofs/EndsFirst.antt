@@ -3,7 +3,7 @@ use Rattle.std.proofs.Common.{◌≡◌, ◌∙◌, ℕ, ◌+◌, ◌-◌, ◌<�
 use Rattle.std.specs.Prelude.{◌⊎◌, Contains, slice_index_or, slice_index}
 use Rattle.std.proofs.lemmas.List.{length-set, length-replicate}
 use Rattle.schema_written_types.specs.declared.place_order.Step.{Step}
-use Rattle.schema_written_types.specs.Orders.{Graph, graph_of, ends_of, Leads, edge, edges, one_if_same, times, IsBehind, AreBehind, IsEndsFirst}
+use Rattle.schema_written_types.specs.Orders.{Graph, graph_of, ends_of, Leads, edge, edges, one_if_same, times, IsBehind, ComeAfterSuccessors, IsSuccessorsFirst}
 use Rattle.schema_written_types.specs.inner.Ordering.{is_new, one_if_seen, times_on, entered, AreFollowed, IsEdgeTo, IsPath, IsWalk, KeepsSeen, unseen_effort, path_effort, effort, WalksOn}
 
 -- ---- numbers and lists
@@ -174,8 +174,8 @@ path_listed g order p (s ∷ path) h = (
   path_longer g order p (Some s.place) path h.2,
 )
 
-behind_push : (g : Graph) (before order : List ℕ) (p : ℕ) → AreBehind g before order → IsBehind g (before ++ order) p
-    → AreBehind g before (order ++ p ∷ [])
+behind_push : (g : Graph) (before order : List ℕ) (p : ℕ) → ComeAfterSuccessors g before order → IsBehind g (before ++ order) p
+    → ComeAfterSuccessors g before (order ++ p ∷ [])
 behind_push g before [] p h here = (subst (λ (xs : List ℕ). IsBehind g xs p) (append-nil before) here, tt)
 behind_push g before (x ∷ order) p h here = (
   h.0,
@@ -312,7 +312,7 @@ module _ (g : Graph) where
       (subst (λ (ss : List Bool). IsWalk g [] ss []) (sym (marks ∙ ap (λ (k : ℕ). replicate k false) same)) nothing_walked)
 
   pub all_walked : (seen : List Bool) (order : List ℕ) → IsWalk g [] seen order → ((a : ℕ) → a < length g → one_if_seen seen a ≡ 1)
-      → IsEndsFirst g order
+      → IsSuccessorsFirst g order
   all_walked seen order w all = record {
     once = λ a lt. let counted = w.counts a in let one = all a lt in omega (arith, counted, one);
     inside = λ a le. let counted = w.counts a in let none = seen_past seen a (omega (arith, le, w.len)) in omega (arith, counted, none);

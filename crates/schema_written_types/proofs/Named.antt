@@ -5,13 +5,13 @@ use Rattle.std.specs.Str.{bytes_eq}
 use Rattle.std.specs.BTreeMap.{get_by_text, Updates}
 use Rattle.std.proofs.lemmas.Map.Text.{btree_map_updates_text}
 use Rattle.json_words.proofs.EachSame.{cut}
-use Rattle.schema_written_types.specs.Orders.{graph_of, IsEndsFirst}
+use Rattle.schema_written_types.specs.Orders.{graph_of, IsSuccessorsFirst}
 use Rattle.schema_types.specs.Qualified as qualified
 use Rattle.schema_types.specs.Qualified.{Qualified, QualifiedFields}
-use Rattle.schema_types.specs.WrittenOut.{Declarations}
-use Rattle.schema_types.specs.QualifiedViews.{qualified_view, qualified_fields_view, found_common_view}
+use Rattle.schema_types.specs.Expansions.{Declarations}
+use Rattle.schema_types.specs.QualifiedViews.{qualified_view, qualified_fields_view, resolved_common_view}
 use Rattle.schema_types.specs.declared.qualified.QualifiedType.{QualifiedType}
-use Rattle.schema_types.specs.declared.qualified.FoundCommon.{FoundCommon}
+use Rattle.schema_types.specs.declared.qualified.ResolvedCommon.{ResolvedCommon}
 use Rattle.schema_written_types.specs.inner.Order.{listed, places_named, fields_name, place_from, place_of, uses}
 
 abbrev pub Field : Type 0
@@ -42,39 +42,39 @@ fields_done place fields i found all le before =
 abbrev Map : Type 0
 Map = BTreeMap (String Global) ℕ
 
-pub place_step : (commons : List FoundCommon) (i : ℕ) (x : FoundCommon) (q : List ℕ) (old new : Map) (key : String Global) (all : Option ℕ)
+pub place_step : (commons : List ResolvedCommon) (i : ℕ) (x : ResolvedCommon) (q : List ℕ) (old new : Map) (key : String Global) (all : Option ℕ)
     → i < length commons → x ≡ get_or commons i x → string_bytes key ≡ x.name → Updates string_cmp old new key (Some i)
-    → all ≡ place_from i (map found_common_view (drop i commons)) q (get_by_text old q)
-    → all ≡ place_from (i + 1) (map found_common_view (drop (i + 1) commons)) q (get_by_text new q)
+    → all ≡ place_from i (map resolved_common_view (drop i commons)) q (get_by_text old q)
+    → all ≡ place_from (i + 1) (map resolved_common_view (drop (i + 1) commons)) q (get_by_text new q)
 place_step commons i x q old new key all lt at named updates before =
-    before ∙ ap (λ (xs : List FoundCommon). place_from i (map found_common_view xs) q (get_by_text old q)) (cut commons i x lt at)
-    ∙ ap (λ (o : Option ℕ). place_from (i + 1) (map found_common_view (drop (i + 1) commons)) q o) (sym now)
+    before ∙ ap (λ (xs : List ResolvedCommon). place_from i (map resolved_common_view xs) q (get_by_text old q)) (cut commons i x lt at)
+    ∙ ap (λ (o : Option ℕ). place_from (i + 1) (map resolved_common_view (drop (i + 1) commons)) q o) (sym now)
   where
     now : get_by_text new q ≡ cond (bytes_eq x.name q) (Some i) (get_by_text old q)
     now = btree_map_updates_text (string_bytes key) old new (Some i) updates q ∙ ap (λ (bs : List ℕ). cond (bytes_eq bs q) (Some i) (get_by_text old q)) named
 
-pub place_done : (commons : List FoundCommon) (i : ℕ) (q : List ℕ) (found all : Option ℕ) → length commons ≤ i
-    → all ≡ place_from i (map found_common_view (drop i commons)) q found → found ≡ all
-place_done commons i q found all le before = sym (before ∙ ap (λ (xs : List FoundCommon). place_from i (map found_common_view xs) q found) (drop_all i commons le))
+pub place_done : (commons : List ResolvedCommon) (i : ℕ) (q : List ℕ) (found all : Option ℕ) → length commons ≤ i
+    → all ≡ place_from i (map resolved_common_view (drop i commons)) q found → found ≡ all
+place_done commons i q found all le before = sym (before ∙ ap (λ (xs : List ResolvedCommon). place_from i (map resolved_common_view xs) q found) (drop_all i commons le))
 
 -- ---- the graph
 
-abbrev pub uses_by : (List ℕ → Option ℕ) → List FoundCommon → List (List ℕ)
-uses_by place xs = map (λ d. places_named place d.1) (map found_common_view xs)
+abbrev pub uses_by : (List ℕ → Option ℕ) → List ResolvedCommon → List (List ℕ)
+uses_by place xs = map (λ d. places_named place d.1) (map resolved_common_view xs)
 
-pub uses_step : (place : List ℕ → Option ℕ) (commons : List FoundCommon) (i : ℕ) (x : FoundCommon) (edges edges' : List (Vec ℕ Global)) (named : Vec ℕ Global) (all : List (List ℕ))
+pub uses_step : (place : List ℕ → Option ℕ) (commons : List ResolvedCommon) (i : ℕ) (x : ResolvedCommon) (edges edges' : List (Vec ℕ Global)) (named : Vec ℕ Global) (all : List (List ℕ))
     → i < length commons → x ≡ get_or commons i x → named.items ≡ places_named place (qualified_view x.ty) → edges' ≡ edges ++ named ∷ []
     → all ≡ graph_of edges ++ uses_by place (drop i commons) → all ≡ graph_of edges' ++ uses_by place (drop (i + 1) commons)
 uses_step place commons i x edges edges' named all lt at is more before =
-    before ∙ ap (λ (xs : List FoundCommon). graph_of edges ++ uses_by place xs) (cut commons i x lt at)
+    before ∙ ap (λ (xs : List ResolvedCommon). graph_of edges ++ uses_by place xs) (cut commons i x lt at)
     ∙ ap (λ (l : List ℕ). graph_of edges ++ l ∷ uses_by place (drop (i + 1) commons)) (sym is)
     ∙ sym (append_assoc (graph_of edges) (named.items ∷ []) (uses_by place (drop (i + 1) commons)))
     ∙ ap (λ (l : List (List ℕ)). l ++ uses_by place (drop (i + 1) commons)) (sym (ap (λ (es : List (Vec ℕ Global)). graph_of es) more ∙ map-append (λ v. v.items) edges (named ∷ [])))
 
-pub uses_done : (place : List ℕ → Option ℕ) (commons : List FoundCommon) (i : ℕ) (edges : List (Vec ℕ Global)) (all : List (List ℕ)) → length commons ≤ i
+pub uses_done : (place : List ℕ → Option ℕ) (commons : List ResolvedCommon) (i : ℕ) (edges : List (Vec ℕ Global)) (all : List (List ℕ)) → length commons ≤ i
     → all ≡ graph_of edges ++ uses_by place (drop i commons) → graph_of edges ≡ all
 uses_done place commons i edges all le before =
-    sym (before ∙ ap (λ (xs : List FoundCommon). graph_of edges ++ uses_by place xs) (drop_all i commons le) ∙ append-nil (graph_of edges))
+    sym (before ∙ ap (λ (xs : List ResolvedCommon). graph_of edges ++ uses_by place xs) (drop_all i commons le) ∙ append-nil (graph_of edges))
 
 -- ---- one place for another
 

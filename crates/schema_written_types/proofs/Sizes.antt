@@ -3,8 +3,8 @@ use Rattle.std.proofs.Common.{◌≡◌, ◌∙◌, ◌⊎◌, inl, inr, ℕ, Li
 use Rattle.std.specs.Prelude.{◌&&◌, nat_lt}
 use Rattle.schema_types.specs.Qualified.{Qualified}
 use Rattle.schema_types.specs.Cedar.{Cedar, IsTooLarge}
-use Rattle.schema_types.specs.WrittenOut.{Declarations, Declares}
-use Rattle.schema_written_types.specs.Knowledge.{Extent, size_of, Knowledge, AreWritten, AreWhole}
+use Rattle.schema_types.specs.Expansions.{Declarations, Declares}
+use Rattle.schema_written_types.specs.TypeTables.{Extent, size_of, TypeTable, AreWritten, AreWhole}
 use Rattle.schema_written_types.specs.inner.Table.{IsWithin, fits, size_in, IsCounted, is_small_at, all_small}
 use Rattle.schema_types.specs.Outcome.{SomeIsTooLarge}
 
@@ -48,18 +48,18 @@ fits_large s t is large = by (fits s) refl
     by true e = absurd (not_large s t is (within s e) large)
     by false e = e
 
-small_at : (known : Knowledge) (ds : Declarations) → all_small known ds ≡ true → (q : List ℕ) (r : Qualified) → Declares ds q r → is_small_at (known q) ≡ true
+small_at : (known : TypeTable) (ds : Declarations) → all_small known ds ≡ true → (q : List ℕ) (r : Qualified) → Declares ds q r → is_small_at (known q) ≡ true
 small_at known [] all q r here = absurd here
 small_at known (d ∷ ds) all q r (inl p) = subst (λ x. is_small_at (known x) ≡ true) p.0 (first_true _ _ all)
 small_at known (d ∷ ds) all q r (inr p) = small_at known ds (second_true _ _ all) q r p
 
-pub are_whole : (commons : Declarations) (known : Knowledge) → AreWritten commons known → all_small known commons ≡ true → AreWhole commons known
+pub are_whole : (commons : Declarations) (known : TypeTable) → AreWritten commons known → all_small known commons ≡ true → AreWhole commons known
 are_whole commons known w all = λ q r here k at.
     let s = w.table q k at in
     let small = sym (ap is_small_at at) ∙ small_at known commons all q r here in
     (s.type, s.is_written, s.at_hand (not_large k.size s.type s.size_is (within k.size small)), not_large k.size s.type s.size_is (within k.size small))
 
-large_at : (known : Knowledge) (ds : Declarations) → all_small known ds ≡ false → (q : List ℕ) × (r : Qualified) × Declares ds q r × (is_small_at (known q) ≡ false)
+large_at : (known : TypeTable) (ds : Declarations) → all_small known ds ≡ false → (q : List ℕ) × (r : Qualified) × Declares ds q r × (is_small_at (known q) ≡ false)
 large_at known [] lacks = absurd (true≢false lacks)
 large_at known (d ∷ ds) lacks = at_first (λ rest. large_at known ds rest) (one_false _ _ lacks)
   where
@@ -71,7 +71,7 @@ large_at known (d ∷ ds) lacks = at_first (λ rest. large_at known ds rest) (on
     at_first more (inl large) = (d.0, d.1, inl (refl, refl), large)
     at_first more (inr rest) = later (more rest)
 
-pub some_large : (commons : Declarations) (known : Knowledge) → AreWritten commons known → all_small known commons ≡ false → SomeIsTooLarge commons
+pub some_large : (commons : Declarations) (known : TypeTable) → AreWritten commons known → all_small known commons ≡ false → SomeIsTooLarge commons
 some_large commons known w lacks =
     let p = large_at known commons lacks in
     let k = w.all p.0 p.1 p.2 in
@@ -82,12 +82,12 @@ some_large commons known w lacks =
       too_large = too_large k.0.size s.type s.size_is (one_false _ _ (sym (ap is_small_at k.1) ∙ p.3));
     }
 
-pub large_left : (known : Knowledge) (d : List ℕ × Qualified) (ds : Declarations) → is_small_at (known d.0) ≡ false → all_small known (d ∷ ds) ≡ false
+pub large_left : (known : TypeTable) (d : List ℕ × Qualified) (ds : Declarations) → is_small_at (known d.0) ≡ false → all_small known (d ∷ ds) ≡ false
 large_left known d ds large = rw large refl
 
-pub small_left : (known : Knowledge) (d : List ℕ × Qualified) (ds : Declarations) → is_small_at (known d.0) ≡ true → all_small known (d ∷ ds) ≡ all_small known ds
+pub small_left : (known : TypeTable) (d : List ℕ × Qualified) (ds : Declarations) → is_small_at (known d.0) ≡ true → all_small known (d ∷ ds) ≡ all_small known ds
 small_left known d ds small = rw small refl
 
 -- a type whose size is known to be within was counted
-pub counted : (known : Knowledge) (r : Qualified) (s : Extent) → Some s ≡ size_in known r → true ≡ fits s → IsCounted known r
+pub counted : (known : TypeTable) (r : Qualified) (s : Extent) → Some s ≡ size_in known r → true ≡ fits s → IsCounted known r
 counted known r s is small = record { size = s; is = sym is; small = sym small }

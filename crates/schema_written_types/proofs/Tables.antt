@@ -4,15 +4,15 @@ use Rattle.schema_types.specs.Qualified as qualified
 use Rattle.schema_types.specs.Qualified.{Qualified, QualifiedFields}
 use Rattle.schema_types.specs.Cedar as cedar
 use Rattle.schema_types.specs.Cedar.{Cedar, CedarFields}
-use Rattle.schema_types.specs.WrittenOut as written
-use Rattle.schema_types.specs.WrittenOut.{Declarations, Declares, WrittenOut, FieldsWrittenOut}
-use Rattle.schema_written_types.specs.Knowledge.{Extent, size_of, KnownType, Knowledge, IsTable}
+use Rattle.schema_types.specs.Expansions as written
+use Rattle.schema_types.specs.Expansions.{Declarations, Declares, IsExpansion, AreFieldExpansions}
+use Rattle.schema_written_types.specs.TypeTables.{Extent, size_of, TableEntry, TypeTable, IsTable}
 use Rattle.schema_written_types.specs.inner.Table.{IsWithin, leaf_size, no_size, above, beside, size_in, sizes_in, written_in, fields_in, AreSettled}
 use Rattle.schema_written_types.proofs.Sizes.{not_large}
 
 -- ---- nothing that a settled table lacks has an end
 
-settled : (known : Knowledge) (ds : Declarations) → AreSettled known ds → (q : List ℕ) (r : Qualified) → Declares ds q r → known q ≡ None → size_in known r ≡ None
+settled : (known : TypeTable) (ds : Declarations) → AreSettled known ds → (q : List ℕ) (r : Qualified) → Declares ds q r → known q ≡ None → size_in known r ≡ None
 settled known [] h q r (d) none = absurd d
 settled known (d ∷ ds) h q r (inl p) none = subst (λ x. size_in known x ≡ None) p.1 (h.0 (ap known p.0 ∙ none))
 settled known (d ∷ ds) h q r (inr p) none = settled known ds h.1 q r p none
@@ -24,7 +24,7 @@ pub known_or : {A : Type 0} (o : Option A) → (o ≡ None) ⊎ ((x : A) × (o �
 known_or None = inl refl
 known_or (Some x) = inr (x, refl)
 
-name_has_size : (known : Knowledge) (q : List ℕ) → (known q ≡ None) ⊎ ((k : KnownType) × (known q ≡ Some k)) → (r : Qualified) (s : Extent) → size_in known r ≡ Some s → (known q ≡ None → size_in known r ≡ None)
+name_has_size : (known : TypeTable) (q : List ℕ) → (known q ≡ None) ⊎ ((k : TableEntry) × (known q ≡ Some k)) → (r : Qualified) (s : Extent) → size_in known r ≡ Some s → (known q ≡ None → size_in known r ≡ None)
     → (s : Extent) × (size_in known (qualified.common q) ≡ Some s)
 unfolding size_in
 name_has_size known q (inl none) r s sized lacks = absurd (none_some (sym (lacks none) ∙ sized))
@@ -33,7 +33,7 @@ name_has_size known q (inr p) r s sized lacks = (p.0.size, rw p.1 refl)
 mutual
   unfolding size_in
 
-  pub has_size : (commons : Declarations) (known : Knowledge) → AreSettled known commons → (r : Qualified) (t : Cedar) → WrittenOut commons r t → (s : Extent) × (size_in known r ≡ Some s)
+  pub has_size : (commons : Declarations) (known : TypeTable) → AreSettled known commons → (r : Qualified) (t : Cedar) → IsExpansion commons r t → (s : Extent) × (size_in known r ≡ Some s)
   has_size commons known h _ _ written.text = (leaf_size, refl)
   has_size commons known h _ _ written.long = (leaf_size, refl)
   has_size commons known h _ _ written.boolean = (leaf_size, refl)
@@ -47,7 +47,7 @@ mutual
   has_size commons known h _ _ (written.common q r t d w) =
       let p = has_size commons known h r t w in name_has_size known q (known_or (known q)) r p.0 p.1 (settled known commons h q r d)
 
-  pub have_sizes : (commons : Declarations) (known : Knowledge) → AreSettled known commons → (total : Extent) (rs : QualifiedFields) (ts : CedarFields) → FieldsWrittenOut commons rs ts → (s : Extent) × (sizes_in known total rs ≡ Some s)
+  pub have_sizes : (commons : Declarations) (known : TypeTable) → AreSettled known commons → (total : Extent) (rs : QualifiedFields) (ts : CedarFields) → AreFieldExpansions commons rs ts → (s : Extent) × (sizes_in known total rs ≡ Some s)
   have_sizes commons known h total _ _ written.no_fields = (total, refl)
   have_sizes commons known h total _ _ (written.field k r t b rs ts w ws) =
       let p = has_size commons known h r t w in
@@ -55,15 +55,15 @@ mutual
 
 -- ---- what a table gives is so
 
-pub record Found (commons : Declarations) (known : Knowledge) (r : Qualified) (s : Extent) : Type 0 where
+pub record Found (commons : Declarations) (known : TypeTable) (r : Qualified) (s : Extent) : Type 0 where
   pub type : Cedar
-  pub is_written : WrittenOut commons r type
+  pub is_written : IsExpansion commons r type
   pub size_is : s ≡ size_of type
   pub at_hand : IsWithin s → written_in known r ≡ Some type
 
-record FieldsFound (commons : Declarations) (known : Knowledge) (total : Extent) (rs : QualifiedFields) (s : Extent) : Type 0 where
+record FieldsFound (commons : Declarations) (known : TypeTable) (total : Extent) (rs : QualifiedFields) (s : Extent) : Type 0 where
   types : CedarFields
-  are_written : FieldsWrittenOut commons rs types
+  are_written : AreFieldExpansions commons rs types
   parts_are : s.parts ≡ min (total.parts + cedar.field_parts types) 10001
   depth_is : s.deep ≡ min (max total.deep (cedar.field_depth types)) 65
   at_hand : IsWithin s → fields_in known rs ≡ Some types
@@ -83,10 +83,10 @@ chained_some : {A B : Type 0} (f : A → Option B) (o : Option A) (y : B) → op
 chained_some f (Some x) y e = (x, refl, e)
 chained_some f None y e = absurd (none_some e)
 
-leaf : (commons : Declarations) (known : Knowledge) (r : Qualified) (t : Cedar) (s : Extent) → WrittenOut commons r t → size_of t ≡ leaf_size → written_in known r ≡ Some t → Some leaf_size ≡ Some s → Found commons known r s
+leaf : (commons : Declarations) (known : TypeTable) (r : Qualified) (t : Cedar) (s : Extent) → IsExpansion commons r t → size_of t ≡ leaf_size → written_in known r ≡ Some t → Some leaf_size ≡ Some s → Found commons known r s
 leaf commons known r t s w sized made e = let is : leaf_size ≡ s = cc e in record { type = t; is_written = w; size_is = sym is ∙ sym sized; at_hand = λ h. made }
 
-name_written : (known : Knowledge) (q : List ℕ) (k : KnownType) (t : Cedar) → known q ≡ Some k → k.whole ≡ Some t → written_in known (qualified.common q) ≡ Some t
+name_written : (known : TypeTable) (q : List ℕ) (k : TableEntry) (t : Cedar) → known q ≡ Some k → k.whole ≡ Some t → written_in known (qualified.common q) ≡ Some t
 unfolding written_in
 name_written known q k t e w = rw e w
 
@@ -96,7 +96,7 @@ within_above x s e w = let a = ap (λ (y : Extent). y.parts) e in let b = ap (λ
 mutual
   unfolding size_in written_in
 
-  pub sound : (commons : Declarations) (known : Knowledge) → IsTable commons known → (r : Qualified) (s : Extent) → size_in known r ≡ Some s → Found commons known r s
+  pub sound : (commons : Declarations) (known : TypeTable) → IsTable commons known → (r : Qualified) (s : Extent) → size_in known r ≡ Some s → Found commons known r s
   sound commons known h qualified.text s e = leaf commons known qualified.text cedar.text s written.text refl refl e
   sound commons known h qualified.long s e = leaf commons known qualified.long cedar.long s written.long refl refl e
   sound commons known h qualified.boolean s e = leaf commons known qualified.boolean cedar.boolean s written.boolean refl refl e
@@ -124,7 +124,7 @@ mutual
       }
   sound commons known h (qualified.entity n) s e = leaf commons known (qualified.entity n) (cedar.entity n) s (written.entity n) refl refl e
   sound commons known h (qualified.common q) s e =
-      let p = mapped_some (λ (k : KnownType). k.size) (known q) s e in
+      let p = mapped_some (λ (k : TableEntry). k.size) (known q) s e in
       let f = h q p.0 p.1 in record {
         type = f.type;
         is_written = f.is_written;
@@ -132,7 +132,7 @@ mutual
         at_hand = λ w. name_written known q p.0 f.type p.1 (f.at_hand (not_large p.0.size f.type f.size_is (subst IsWithin (sym p.2) w)));
       }
 
-  sound_fields : (commons : Declarations) (known : Knowledge) → IsTable commons known → (total : Extent) (rs : QualifiedFields) (s : Extent) → IsCapped total → sizes_in known total rs ≡ Some s → FieldsFound commons known total rs s
+  sound_fields : (commons : Declarations) (known : TypeTable) → IsTable commons known → (total : Extent) (rs : QualifiedFields) (s : Extent) → IsCapped total → sizes_in known total rs ≡ Some s → FieldsFound commons known total rs s
   sound_fields commons known h total qualified.no_fields s capped e = let is : total ≡ s = cc e in let a = ap (λ (x : Extent). x.parts) is in let b = ap (λ (x : Extent). x.deep) is in record {
     types = cedar.no_fields;
     are_written = written.no_fields;

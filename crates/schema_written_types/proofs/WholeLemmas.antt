@@ -2,8 +2,8 @@
 use Rattle.std.proofs.Common.{◌≡◌, ◌∙◌, true, false, Option, Some, None, sym, subst}
 use Rattle.schema_types.specs.Qualified.{Qualified}
 use Rattle.schema_types.specs.Cedar.{Cedar, IsTooLarge}
-use Rattle.schema_types.specs.WrittenOut.{Declarations, WrittenOut}
-use Rattle.schema_written_types.specs.Knowledge.{Extent, Knowledge, IsTable}
+use Rattle.schema_types.specs.Expansions.{Declarations, IsExpansion}
+use Rattle.schema_written_types.specs.TypeTables.{Extent, TypeTable, IsTable}
 use Rattle.schema_written_types.specs.inner.Table.{size_in, written_in, fits, HasSize}
 use Rattle.schema_types.specs.Outcome.{IsWhole, IsLarge}
 use Rattle.schema_written_types.proofs.Tables.{sound, none_some}
@@ -15,10 +15,10 @@ some x = Some x
 some_same : {A : Type 0} (x y : A) → some x ≡ some y → x ≡ y
 some_same x y e = cc
 
-pub has_one : {B : Type 0} (known : Knowledge) (r : Qualified) → HasSize known r → None ≡ size_in known r → B
+pub has_one : {B : Type 0} (known : TypeTable) (r : Qualified) → HasSize known r → None ≡ size_in known r → B
 has_one known r h e = absurd (none_some (e ∙ h.is))
 
-module _ (commons : Declarations) (known : Knowledge) (h : IsTable commons known) (r : Qualified) (s : Extent) (sized : some s ≡ size_in known r) where
+module _ (commons : Declarations) (known : TypeTable) (h : IsTable commons known) (r : Qualified) (s : Extent) (sized : some s ≡ size_in known r) where
   pub is_large : fits s ≡ false → IsLarge commons r
   is_large e = let f = sound commons known h r s (sym sized) in record { type = f.type; is_written = f.is_written; large = too_large s f.type f.size_is (one_false _ _ e) }
 
@@ -26,7 +26,7 @@ module _ (commons : Declarations) (known : Knowledge) (h : IsTable commons known
   is_whole e t wrote =
       let f = sound commons known h r s (sym sized) in
       let same : f.type ≡ t = sym (some_same t f.type (wrote ∙ f.at_hand (within s e))) in
-      record { is_written = subst (λ (x : Cedar). WrittenOut commons r x) same f.is_written; small = subst (λ (x : Cedar). IsTooLarge x → ⊥) same (not_large s f.type f.size_is (within s e)) }
+      record { is_written = subst (λ (x : Cedar). IsExpansion commons r x) same f.is_written; small = subst (λ (x : Cedar). IsTooLarge x → ⊥) same (not_large s f.type f.size_is (within s e)) }
 
   pub is_there : {B : Type 0} → fits s ≡ true → None ≡ written_in known r → B
   is_there e wrote = let f = sound commons known h r s (sym sized) in absurd (none_some (wrote ∙ f.at_hand (within s e)))

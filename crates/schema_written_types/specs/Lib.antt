@@ -1,4 +1,4 @@
 pub mod Orders
 pub mod inner
-pub mod Knowledge
+pub mod TypeTables
 pub mod TableViews

@@ -3,13 +3,13 @@ ghost use Rattle.std.specs.Prelude.{◌≡◌, ◌≢◌, ◌<◌, ◌^◌, OnOk
 ghost use Rattle.std.specs.Prelude.{true};
 ghost use Rattle.std.specs.BTreeMap.{btree_map_len};
 ghost use Rattle.schema_types.specs.CedarViews.{cedar_view};
-ghost use Rattle.schema_written_types.specs.Knowledge.{AreWritten, AreWhole};
+ghost use Rattle.schema_written_types.specs.TypeTables.{AreWritten, AreWhole};
 ghost use Rattle.schema_written_types.specs.inner.Table.{size_in, built_of, AreSettled, all_known, is_small_at};
 ghost use Rattle.schema_written_types.specs.inner.Table.{all_small};
 ghost use Rattle.schema_types.specs.Outcome.{CommonsRefused, SizesRefused};
-ghost use Rattle.schema_written_types.specs.TableViews.{size_view, knowledge};
+ghost use Rattle.schema_written_types.specs.TableViews.{size_view, type_table};
 ghost use Rattle.schema_written_types.specs.inner.Rounds.{KeepsTable, Steps, Rounds};
-ghost use Rattle.schema_types.specs.QualifiedViews.{qualified_view, found_common_view};
+ghost use Rattle.schema_types.specs.QualifiedViews.{qualified_view, resolved_common_view};
 ghost use Rattle.schema_types.specs.declared.fault.SchemaFault.TheVariants as SchemaFault;
 
 use crate::order::order_of;
@@ -17,11 +17,11 @@ use crate::size::{is_within, size_of};
 use crate::write::write;
 use crate::{Known, Size, Table};
 use plain::NoMemory;
-use schema_types::{CedarType, FoundCommon, QualifiedType, SchemaFault};
+use schema_types::{CedarType, QualifiedType, ResolvedCommon, SchemaFault};
 use std::alloc::Global;
 use std::collections::BTreeMap;
 
-/// Returns a type whose size was computed, unless it is too large: then nothing is built.
+/// Returns the expansion of a type of the size `size`, or `None` if it is too large; then nothing is built.
 #[tactic(auto, using(crate::proofs::Sizes::counted))]
 fn write_within(
     alloc: Global,
@@ -29,9 +29,9 @@ fn write_within(
     size: Size,
     table: &Table,
 ) -> Result<Option<CedarType>, NoMemory>
-    requires { Some (size_view size) ≡ size_in (knowledge table.now) (qualified_view ty.now) }
+    requires { Some (size_view size) ≡ size_in (type_table table.now) (qualified_view ty.now) }
     ensures { IfOk result (λ o. option_map cedar_view o
-        ≡ built_of (knowledge table.now) (size_view size) (qualified_view ty.now)) }
+        ≡ built_of (type_table table.now) (size_view size) (qualified_view ty.now)) }
 {
     if !is_within(size) {
         return Ok(None);
@@ -39,7 +39,7 @@ fn write_within(
     write(alloc, ty, table)
 }
 
-/// Adds the expansion of a common type, once each name in it is known.
+/// Adds an entry for a common type, if it has none and each name in it has one.
 fn add_if_ready(
     alloc: Global,
     name: &str,
@@ -60,14 +60,14 @@ fn add_if_ready(
     Ok(())
 }
 
-/// Tries the declaration at an index, if there is one.
+/// Adds an entry for the declaration at an index, if there is such a declaration and it is ready.
 fn add_at(
     alloc: Global,
-    commons: &[FoundCommon],
+    commons: &[ResolvedCommon],
     place: usize,
     table: &mut Table,
 ) -> Result<(), NoMemory>
-    ensures { OnOk result (KeepsTable (map found_common_view commons.now) table.old table.new) }
+    ensures { OnOk result (KeepsTable (map resolved_common_view commons.now) table.old table.new) }
 {
     if place < commons.len() {
         let common = &commons[place];
@@ -76,14 +76,14 @@ fn add_at(
     Ok(())
 }
 
-/// Tries the declarations at these indices, in order.
+/// Adds entries for the declarations at these indices, in order, as far as they are ready.
 fn add_in_order(
     alloc: Global,
-    commons: &[FoundCommon],
+    commons: &[ResolvedCommon],
     order: &[usize],
     table: &mut Table,
 ) -> Result<(), NoMemory>
-    ensures { OnOk result (KeepsTable (map found_common_view commons.now) table.old table.new) }
+    ensures { OnOk result (KeepsTable (map resolved_common_view commons.now) table.old table.new) }
 {
     for place in order {
         add_at(alloc, commons, *place, table)?;
@@ -91,9 +91,9 @@ fn add_in_order(
     Ok(())
 }
 
-/// Tries each declaration once.
-fn round(alloc: Global, commons: &[FoundCommon], table: &mut Table) -> Result<(), NoMemory>
-    ensures { OnOk result (Rounds (map found_common_view commons.now) table.old table.new) }
+/// Adds an entry for each declaration that is ready.
+fn round(alloc: Global, commons: &[ResolvedCommon], table: &mut Table) -> Result<(), NoMemory>
+    ensures { OnOk result (Rounds (map resolved_common_view commons.now) table.old table.new) }
 {
     for common in commons {
         add_if_ready(alloc, common.name.as_str(), &common.ty, table)?;
@@ -101,12 +101,12 @@ fn round(alloc: Global, commons: &[FoundCommon], table: &mut Table) -> Result<()
     Ok(())
 }
 
-/// Tries each declaration once, and returns whether one was added.
-fn has_grown(alloc: Global, commons: &[FoundCommon], table: &mut Table) -> Result<bool, NoMemory>
-    ensures rounds { OnOk result (Rounds (map found_common_view commons.now) table.old table.new) }
+/// Adds an entry for each declaration that is ready, and returns whether there was one.
+fn has_grown(alloc: Global, commons: &[ResolvedCommon], table: &mut Table) -> Result<bool, NoMemory>
+    ensures rounds { OnOk result (Rounds (map resolved_common_view commons.now) table.old table.new) }
     ensures grown { IfOk result (λ b. b ≡ true → btree_map_len table.old < btree_map_len table.new) }
     ensures settled { IfOk result (λ b. b ≡ false
-        → AreSettled (knowledge table.new) (map found_common_view commons.now)) }
+        → AreSettled (type_table table.new) (map resolved_common_view commons.now)) }
     ensures small { OnOk result (btree_map_len table.new < 2 ^ 63) }
 {
     let before = table.len();
@@ -114,8 +114,9 @@ fn has_grown(alloc: Global, commons: &[FoundCommon], table: &mut Table) -> Resul
     Ok(table.len() != before)
 }
 
+/// Returns whether the table has an entry for a name.
 fn is_known(name: &str, table: &Table) -> bool
-    ensures { result ≡ is_some (knowledge table.now name.now) }
+    ensures { result ≡ is_some (type_table table.now name.now) }
 {
     match table.get(name) {
         Some(_) => true,
@@ -123,8 +124,9 @@ fn is_known(name: &str, table: &Table) -> bool
     }
 }
 
-fn are_all_known(commons: &[FoundCommon], table: &Table) -> bool
-    ensures { result ≡ all_known (knowledge table.now) (map found_common_view commons.now) }
+/// Returns whether the table has an entry for each declared name.
+fn are_all_known(commons: &[ResolvedCommon], table: &Table) -> bool
+    ensures { result ≡ all_known (type_table table.now) (map resolved_common_view commons.now) }
 {
     for common in commons {
         if !is_known(common.name.as_str(), table) {
@@ -134,15 +136,15 @@ fn are_all_known(commons: &[FoundCommon], table: &Table) -> bool
     true
 }
 
-/// Returns each common type with its size, and expanded if it is not too large.
+/// Returns the table of the common types: the size of each expansion, and the expansion unless it is too large.
 ///
 /// # Errors
 ///
-/// - `TypeCycle` (23): a common type refers to itself.
+/// - `TypeCycle` (23): a common type has no expansion; if all names are declared, some common type refers to itself.
 /// - `NoMemory` (1): an allocation failed; possible at any point.
-pub fn write_commons(alloc: Global, commons: &[FoundCommon]) -> Result<Table, SchemaFault>
-    ensures { MatchResult result (λ table. AreWritten (map found_common_view commons.now) (knowledge table))
-        (λ f. f ≢ SchemaFault.NoMemory → CommonsRefused (map found_common_view commons.now) f) }
+pub fn write_commons(alloc: Global, commons: &[ResolvedCommon]) -> Result<Table, SchemaFault>
+    ensures { MatchResult result (λ table. AreWritten (map resolved_common_view commons.now) (type_table table))
+        (λ f. f ≢ SchemaFault.NoMemory → CommonsRefused (map resolved_common_view commons.now) f) }
 {
     let mut table = BTreeMap::new(alloc);
     let order = order_of(alloc, commons)?;
@@ -154,8 +156,9 @@ pub fn write_commons(alloc: Global, commons: &[FoundCommon]) -> Result<Table, Sc
     Ok(table)
 }
 
+/// Returns whether the expansion of a name, if it has an entry, is not too large.
 fn is_small(name: &str, table: &Table) -> bool
-    ensures { result ≡ is_small_at (knowledge table.now name.now) }
+    ensures { result ≡ is_small_at (type_table table.now name.now) }
 {
     match table.get(name) {
         Some(known) => is_within(known.size),
@@ -163,8 +166,9 @@ fn is_small(name: &str, table: &Table) -> bool
     }
 }
 
-fn are_all_small(commons: &[FoundCommon], table: &Table) -> bool
-    ensures { result ≡ all_small (knowledge table.now) (map found_common_view commons.now) }
+/// Returns whether no expansion of a declared name is too large.
+fn are_all_small(commons: &[ResolvedCommon], table: &Table) -> bool
+    ensures { result ≡ all_small (type_table table.now) (map resolved_common_view commons.now) }
 {
     for common in commons {
         if !is_small(common.name.as_str(), table) {
@@ -174,11 +178,11 @@ fn are_all_small(commons: &[FoundCommon], table: &Table) -> bool
     true
 }
 
-/// Checks that no common type, expanded, is too large. The error is `TypeTooLarge` (25).
-pub fn demand_sizes(commons: &[FoundCommon], table: &Table) -> Result<(), SchemaFault>
-    requires { AreWritten (map found_common_view commons.now) (knowledge table.now) }
-    ensures { MatchResult result (λ u. AreWhole (map found_common_view commons.now) (knowledge table.now))
-        (λ f. SizesRefused (map found_common_view commons.now) f) }
+/// Checks that the expansion of no common type is too large. The error is `TypeTooLarge` (25).
+pub fn demand_sizes(commons: &[ResolvedCommon], table: &Table) -> Result<(), SchemaFault>
+    requires { AreWritten (map resolved_common_view commons.now) (type_table table.now) }
+    ensures { MatchResult result (λ u. AreWhole (map resolved_common_view commons.now) (type_table table.now))
+        (λ f. SizesRefused (map resolved_common_view commons.now) f) }
 {
     if !are_all_small(commons, table) {
         return Err(SchemaFault::TypeTooLarge);

@@ -1,5 +1,5 @@
 //! The expansion of a schema's types: their sizes, and the expanded types; and an order of a graph's nodes in which
-//! each comes after its successors.
+//! each node comes after its successors.
 #![tactic(auto)]
 
 mod commons;
@@ -11,6 +11,6 @@ mod whole;
 mod write;
 
 pub use commons::{demand_sizes, write_commons};
-pub use place_order::ends_first;
+pub use place_order::successors_first;
 pub use table::{Known, Size, Table};
 pub use whole::write_whole;

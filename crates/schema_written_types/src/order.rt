@@ -1,17 +1,18 @@
-//! An order of common types that saves rounds: a common type comes after those that it names.
+//! An order of common types in which each comes after those that it mentions, so that one round expands each that has
+//! an expansion.
 ghost use Rattle.std.specs.Prelude.{◌≡◌, ◌++◌, ℕ, List, IfOk, OnOk, map};
 ghost use Rattle.std.specs.BTreeMap.{get_by_text};
-ghost use Rattle.schema_written_types.specs.Orders.{graph_of, IsEndsFirst};
-ghost use Rattle.schema_types.specs.QualifiedViews.{qualified_view, qualified_fields_view, found_common_view};
+ghost use Rattle.schema_written_types.specs.Orders.{graph_of, IsSuccessorsFirst};
+ghost use Rattle.schema_types.specs.QualifiedViews.{qualified_view, qualified_fields_view, resolved_common_view};
 ghost use Rattle.schema_written_types.specs.inner.Order.{places_named, fields_name, place_of, listed, uses};
 
-use crate::place_order::ends_first;
+use crate::place_order::successors_first;
 use plain::NoMemory;
-use schema_types::{FoundCommon, QualifiedType};
+use schema_types::{QualifiedType, ResolvedCommon};
 use std::alloc::Global;
 use std::collections::BTreeMap;
 
-/// Adds the indices of the common types that a type names.
+/// Appends the indices of the common types that a type mentions.
 #[cycle(add_named)]
 #[tactic(auto, unfolding(crate::specs::inner::Order::places_named))]
 fn add_named(
@@ -35,6 +36,7 @@ fn add_named(
     }
 }
 
+/// Appends the indices of the common types that the types of fields mention.
 #[cycle(add_named)]
 #[tactic(auto, unfolding(crate::specs::inner::Order::places_named))]
 fn add_all_named(
@@ -51,12 +53,14 @@ fn add_all_named(
     Ok(())
 }
 
+/// Returns the index of a name, if it is declared.
 fn place_at(name: &str, places: &BTreeMap<String, usize>) -> Option<usize>
     ensures { result ≡ get_by_text places.now name.now }
 {
     places.get(name).copied()
 }
 
+/// Appends the index, if there is one.
 fn add_place(place: Option<usize>, found: &mut Vec<usize>) -> Result<(), NoMemory>
     ensures { OnOk result (found.new.items ≡ found.old.items ++ listed place) }
 {
@@ -66,10 +70,10 @@ fn add_place(place: Option<usize>, found: &mut Vec<usize>) -> Result<(), NoMemor
     Ok(())
 }
 
-/// Returns the index of each declared name; for one that is declared twice, the last.
-fn places_of(alloc: Global, commons: &[FoundCommon]) -> Result<BTreeMap<String, usize>, NoMemory>
+/// Returns the index of each declared name; the last one for a name that is declared twice.
+fn places_of(alloc: Global, commons: &[ResolvedCommon]) -> Result<BTreeMap<String, usize>, NoMemory>
     ensures { IfOk result (λ places. (q : List ℕ)
-        → get_by_text places q ≡ place_of (map found_common_view commons.now) q) }
+        → get_by_text places q ≡ place_of (map resolved_common_view commons.now) q) }
 {
     let mut places = BTreeMap::new(alloc);
     for place in 0..commons.len() {
@@ -79,7 +83,7 @@ fn places_of(alloc: Global, commons: &[FoundCommon]) -> Result<BTreeMap<String, 
     Ok(places)
 }
 
-/// Returns the indices of the common types that a type names.
+/// Returns the indices of the common types that a type mentions.
 fn named_in(
     alloc: Global,
     ty: &QualifiedType,
@@ -93,14 +97,14 @@ fn named_in(
     Ok(named)
 }
 
-/// Returns for each common type the indices of those that it names.
+/// Returns for each common type the indices of the common types that it mentions.
 fn uses_of(
     alloc: Global,
-    commons: &[FoundCommon],
+    commons: &[ResolvedCommon],
     places: &BTreeMap<String, usize>,
 ) -> Result<Vec<Vec<usize>>, NoMemory>
     ensures { IfOk result (λ edges. graph_of edges.items
-        ≡ map (λ d. places_named (λ q. get_by_text places.now q) d.1) (map found_common_view commons.now)) }
+        ≡ map (λ d. places_named (λ q. get_by_text places.now q) d.1) (map resolved_common_view commons.now)) }
 {
     let mut edges = Vec::new(alloc);
     for common in commons {
@@ -110,12 +114,12 @@ fn uses_of(
     Ok(edges)
 }
 
-/// Returns the indices of common types, without duplicates, each after those of the common types that it names,
-/// except those that lead back to it: in this order one round expands each that has an expansion.
-pub(crate) fn order_of(alloc: Global, commons: &[FoundCommon]) -> Result<Vec<usize>, NoMemory>
-    ensures { IfOk result (λ order. IsEndsFirst (uses (map found_common_view commons.now)) order.items) }
+/// Returns the indices of the common types, without duplicates, each after those of the types that it mentions, except
+/// those that lead back to it. In this order one round expands each type that has an expansion.
+pub(crate) fn order_of(alloc: Global, commons: &[ResolvedCommon]) -> Result<Vec<usize>, NoMemory>
+    ensures { IfOk result (λ order. IsSuccessorsFirst (uses (map resolved_common_view commons.now)) order.items) }
 {
     let places = places_of(alloc, commons)?;
     let edges = uses_of(alloc, commons, &places)?;
-    ends_first(alloc, edges.as_slice())
+    successors_first(alloc, edges.as_slice())
 }

@@ -1,20 +1,20 @@
-//! An order of the nodes of a graph in which each comes after its successors.
+//! An order of the nodes of a graph in which each node comes after its successors.
 ghost use Rattle.std.specs.Prelude.{◌≡◌, ◌∷◌, ◌<◌, [], true, false, length, replicate, slice_set, IfOk, OnOk};
-ghost use Rattle.schema_written_types.specs.Orders.{graph_of, ends_of as ends_at, IsEndsFirst};
+ghost use Rattle.schema_written_types.specs.Orders.{graph_of, ends_of as ends_at, IsSuccessorsFirst};
 ghost use Rattle.schema_written_types.specs.inner.Ordering.{is_new, entered, IsWalk, WalksOn, KeepsSeen, one_if_seen};
 
 use plain::NoMemory;
 use std::alloc::Global;
 use std::collections::VecDeque;
 
-/// A node on the path, and how many of its edges were followed.
+/// A node on the path of the search, and how many of its edges were followed.
 #[derive(Clone, Copy)]
 pub(crate) struct Step {
     place: usize,
     followed: usize,
 }
 
-/// Returns the successors of a node; none past the end.
+/// Returns the successors of a node; an empty slice past the end.
 fn ends_of(edges: &[Vec<usize>], place: usize) -> &[usize]
     ensures { result.now ≡ ends_at (graph_of edges.now) place }
 {
@@ -25,7 +25,7 @@ fn ends_of(edges: &[Vec<usize>], place: usize) -> &[usize]
     }
 }
 
-/// Returns whether a node was not seen before, and marks it as seen; no-op past the end.
+/// Returns whether a node was not seen before, and marks it as seen. Past the end, returns `false` and marks nothing.
 fn mark(seen: &mut Vec<bool>, place: usize) -> bool
     ensures new { result ≡ is_new seen.old.items place }
     ensures marks { seen.new.items ≡ slice_set seen.old.items place true }
@@ -38,7 +38,7 @@ fn mark(seen: &mut Vec<bool>, place: usize) -> bool
     !was_seen
 }
 
-/// Pushes a node that was not seen before.
+/// Puts a node at the end of the path and marks it, if it was not seen before.
 fn enter(place: usize, path: &mut VecDeque<Step>, seen: &mut Vec<bool>) -> Result<(), NoMemory>
     ensures path { OnOk result (path.new.items ≡ entered seen.old.items place path.old.items) }
     ensures seen { OnOk result (seen.new.items ≡ slice_set seen.old.items place true) }
@@ -49,7 +49,8 @@ fn enter(place: usize, path: &mut VecDeque<Step>, seen: &mut Vec<bool>) -> Resul
     Ok(())
 }
 
-/// Follows the next edge of a node that was last on the path, or appends the node to the order if none is left.
+/// Follows the next edge of the step `step`, which was removed from the end of the path, or appends its node to the
+/// order if no edge is left.
 fn go_on(
     edges: &[Vec<usize>],
     step: Step,
@@ -75,7 +76,7 @@ fn go_on(
     Ok(())
 }
 
-/// Appends the nodes that are reachable from a node and were not seen before, depth first.
+/// Appends the nodes that are reachable from a node and were not seen before, each after its successors.
 fn add_from(
     alloc: Global,
     edges: &[Vec<usize>],
@@ -97,18 +98,18 @@ fn add_from(
     Ok(())
 }
 
-/// Returns `places` marks: no node was visited.
+/// Returns marks for `places` nodes, none of which was seen.
 fn none_seen(alloc: Global, places: usize) -> Result<Vec<bool>, NoMemory>
     ensures { IfOk result (λ seen. seen.items ≡ replicate places false) }
 {
     Ok(vec![in alloc; false; places]?)
 }
 
-/// Returns the nodes of a graph, without duplicates, each after its successors, except those that lead back to it.
+/// Returns the nodes of a graph, without duplicates, each after its successors except those that lead back to it.
 ///
 /// An edge past the end is ignored. Takes time linear in nodes and edges. The only error is `NoMemory`.
-pub fn ends_first(alloc: Global, edges: &[Vec<usize>]) -> Result<Vec<usize>, NoMemory>
-    ensures { IfOk result (λ order. IsEndsFirst (graph_of edges.now) order.items) }
+pub fn successors_first(alloc: Global, edges: &[Vec<usize>]) -> Result<Vec<usize>, NoMemory>
+    ensures { IfOk result (λ order. IsSuccessorsFirst (graph_of edges.now) order.items) }
 {
     let mut seen = none_seen(alloc, edges.len())?;
     let mut order = Vec::new(alloc);

@@ -1,33 +1,36 @@
-//! The size of an expanded type.
+//! The size of an expanded type, up to one more than the limits of 10,000 nodes and a depth of 64.
 ghost use Rattle.std.specs.Prelude.{◌≡◌, option_map};
 ghost use Rattle.schema_written_types.specs.inner.Table.{leaf_size, no_size as none_of, above as above_of};
 ghost use Rattle.schema_written_types.specs.inner.Table.{beside as beside_of};
 ghost use Rattle.schema_written_types.specs.inner.Table.{fits, size_in, sizes_in};
-ghost use Rattle.schema_written_types.specs.TableViews.{size_view, knowledge};
+ghost use Rattle.schema_written_types.specs.TableViews.{size_view, type_table};
 ghost use Rattle.schema_types.specs.QualifiedViews.{qualified_view, qualified_fields_view};
 
 use crate::{Size, Table};
 use schema_types::QualifiedType;
 
-/// Returns whether a type of this size is not too large.
+/// Returns whether a type of this size is within the limits.
 pub(crate) fn is_within(size: Size) -> bool
     ensures { result ≡ fits (size_view size) }
 {
     size.parts <= 10000 && size.deep <= 64
 }
 
+/// Returns the size of a type without parts.
 fn leaf() -> Size
     ensures { size_view result ≡ leaf_size }
 {
     Size { parts: 1, deep: 1 }
 }
 
+/// Returns the size of no fields.
 fn nothing() -> Size
     ensures { size_view result ≡ none_of }
 {
     Size { parts: 0, deep: 0 }
 }
 
+/// Returns the size of a node whose parts together have this size.
 fn above(size: Size) -> Size
     ensures { size_view result ≡ above_of (size_view size) }
 {
@@ -37,6 +40,7 @@ fn above(size: Size) -> Size
     }
 }
 
+/// Returns the size of two parts together.
 fn beside(size: Size, other: Size) -> Size
     ensures { size_view result ≡ beside_of (size_view size) (size_view other) }
 {
@@ -46,8 +50,9 @@ fn beside(size: Size, other: Size) -> Size
     }
 }
 
+/// Returns the size of a common type, if the table has it.
 fn known_size(name: &str, table: &Table) -> Option<Size>
-    ensures { option_map size_view result ≡ option_map (λ k. k.size) (knowledge table.now name.now) }
+    ensures { option_map size_view result ≡ option_map (λ k. k.size) (type_table table.now name.now) }
 {
     match table.get(name) {
         Some(known) => Some(known.size),
@@ -55,11 +60,11 @@ fn known_size(name: &str, table: &Table) -> Option<Size>
     }
 }
 
-/// Returns the size of a type, if each common type in it is known.
+/// Returns the size of a type's expansion, if the table has each common type in it.
 #[cycle(size_of)]
 #[tactic(auto, unfolding(crate::specs::inner::Table::size_in))]
 pub(crate) fn size_of(ty: &QualifiedType, table: &Table) -> Option<Size>
-    ensures { option_map size_view result ≡ size_in (knowledge table.now) (qualified_view ty.now) }
+    ensures { option_map size_view result ≡ size_in (type_table table.now) (qualified_view ty.now) }
 {
     match ty {
         QualifiedType::Text
@@ -80,11 +85,12 @@ pub(crate) fn size_of(ty: &QualifiedType, table: &Table) -> Option<Size>
     }
 }
 
+/// Returns the size of the fields together, if the table has each common type in them.
 #[cycle(size_of)]
 #[tactic(auto, unfolding(crate::specs::inner::Table::size_in))]
 fn size_of_fields(fields: &Vec<(String, QualifiedType, bool)>, table: &Table) -> Option<Size>
     ensures { option_map size_view result
-        ≡ sizes_in (knowledge table.now) none_of (qualified_fields_view fields.now.items) }
+        ≡ sizes_in (type_table table.now) none_of (qualified_fields_view fields.now.items) }
 {
     let mut total = nothing();
     for field in fields {

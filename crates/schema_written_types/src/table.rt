@@ -1,21 +1,25 @@
-//! The table of expanded common types.
+//! The table of common types with their expansions.
 
 use schema_types::CedarType;
 use std::collections::BTreeMap;
 
-/// A size; each part saturates at one beyond its limit.
+/// The size of an expanded type: its nodes and its depth, each at most one more than its limit.
 #[derive(Clone, Copy)]
 pub struct Size {
+    /// The number of its nodes.
     pub parts: u32,
+    /// Its depth; a leaf is 1 deep.
     pub deep: u32,
 }
 
-/// The size of a common type, and its expansion unless it is too large.
+/// An entry of the table: the size of a common type's expansion, and the expansion unless it is too large.
 #[derive(Drop)]
 pub struct Known {
+    /// The size of the expansion.
     pub size: Size,
+    /// The expansion; `None` if it is too large.
     pub whole: Option<CedarType>,
 }
 
-/// The common types of a schema by their full names.
+/// The entries of common types, by their full names.
 pub type Table = BTreeMap<String, Known>;

@@ -1,10 +1,10 @@
-//! Expanded types.
+//! The expansion of any type, by the table of common types.
 ghost use Rattle.std.specs.Prelude.{◌≢◌, MatchResult};
 ghost use Rattle.schema_types.specs.QualifiedViews.{qualified_view};
 ghost use Rattle.schema_types.specs.CedarViews.{cedar_view};
-ghost use Rattle.schema_types.specs.WrittenOut.{Declarations};
-ghost use Rattle.schema_written_types.specs.Knowledge.{AreWritten};
-ghost use Rattle.schema_written_types.specs.TableViews.{knowledge};
+ghost use Rattle.schema_types.specs.Expansions.{Declarations};
+ghost use Rattle.schema_written_types.specs.TypeTables.{AreWritten};
+ghost use Rattle.schema_written_types.specs.TableViews.{type_table};
 ghost use Rattle.schema_types.specs.Outcome.{IsWhole, TypeRefused};
 ghost use Rattle.schema_types.specs.Mentions.{IsClosed};
 ghost use Rattle.schema_types.specs.declared.fault.SchemaFault.TheVariants as SchemaFault;
@@ -15,11 +15,11 @@ use crate::write::write;
 use schema_types::{CedarType, QualifiedType, SchemaFault};
 use std::alloc::Global;
 
-/// Returns the expansion of a type whose common types are all declared.
+/// Returns the expansion of a type whose common types are all in the table.
 ///
 /// # Errors
 ///
-/// - `TypeTooLarge` (25): the expansion has over 10,000 parts or is over 64 deep.
+/// - `TypeTooLarge` (25): the expansion has over 10,000 nodes or is over 64 deep.
 /// - `NoMemory` (1): an allocation failed; possible at any point.
 pub fn write_whole(
     alloc: Global,
@@ -27,7 +27,7 @@ pub fn write_whole(
     table: &Table,
 ) -> Result<CedarType, SchemaFault>
     ghost commons: { Declarations }
-    requires table { AreWritten commons (knowledge table.now) }
+    requires table { AreWritten commons (type_table table.now) }
     requires closed { IsClosed commons (qualified_view ty.now) }
     ensures { MatchResult result (λ t. IsWhole commons (qualified_view ty.now) (cedar_view t))
         (λ f. f ≢ SchemaFault.NoMemory → TypeRefused commons (qualified_view ty.now) f) }

@@ -1,7 +1,7 @@
 //! The replacement of each common type by its definition.
 ghost use Rattle.std.specs.Prelude.{◌≡◌, IfOk, option_map, option_and_then};
 ghost use Rattle.schema_written_types.specs.inner.Table.{IsCounted, written_in, fields_in};
-ghost use Rattle.schema_written_types.specs.TableViews.{knowledge};
+ghost use Rattle.schema_written_types.specs.TableViews.{type_table};
 ghost use Rattle.schema_types.specs.QualifiedViews.{qualified_view, qualified_fields_view};
 ghost use Rattle.schema_types.specs.CedarViews.{cedar_view, cedar_fields_view};
 
@@ -10,10 +10,10 @@ use plain::{Items, NoMemory, Shared, Text};
 use schema_types::{CedarType, QualifiedType};
 use std::alloc::Global;
 
-/// Returns the expansion of a common type, if it is in the table.
+/// Returns the expansion of a common type, if the table has it.
 fn known_type(name: &str, table: &Table) -> Result<Option<CedarType>, NoMemory>
     ensures { IfOk result (λ o. option_map cedar_view o
-        ≡ option_and_then (λ k. k.whole) (knowledge table.now name.now)) }
+        ≡ option_and_then (λ k. k.whole) (type_table table.now name.now)) }
 {
     match table.get(name) {
         Some(known) => match &known.whole {
@@ -24,21 +24,21 @@ fn known_type(name: &str, table: &Table) -> Result<Option<CedarType>, NoMemory>
     }
 }
 
-/// Returns the type with each common type in it replaced, or `None` if one of them is not in the table.
+/// Returns the expansion of a type, or `None` if the table lacks the expansion of a common type in it.
 ///
-/// The caller has computed the size of the result, so that no type that is too large is built.
+/// The size of the expansion must be within the limits, so that no type that is too large is built.
 pub(crate) fn write(
     alloc: Global,
     ty: &QualifiedType,
     table: &Table,
 ) -> Result<Option<CedarType>, NoMemory>
-    requires { IsCounted (knowledge table.now) (qualified_view ty.now) }
-    ensures { IfOk result (λ o. option_map cedar_view o ≡ written_in (knowledge table.now) (qualified_view ty.now)) }
+    requires { IsCounted (type_table table.now) (qualified_view ty.now) }
+    ensures { IfOk result (λ o. option_map cedar_view o ≡ written_in (type_table table.now) (qualified_view ty.now)) }
 {
     write_type(alloc, ty, table)
 }
 
-/// Returns the type with each common type in it replaced, or `None` if one of them is not in the table.
+/// Returns the expansion of a type, or `None` if the table lacks the expansion of a common type in it.
 #[cycle(write_type)]
 #[tactic(auto, unfolding(crate::specs::inner::Table::written_in))]
 fn write_type(
@@ -46,7 +46,7 @@ fn write_type(
     ty: &QualifiedType,
     table: &Table,
 ) -> Result<Option<CedarType>, NoMemory>
-    ensures { IfOk result (λ o. option_map cedar_view o ≡ written_in (knowledge table.now) (qualified_view ty.now)) }
+    ensures { IfOk result (λ o. option_map cedar_view o ≡ written_in (type_table table.now) (qualified_view ty.now)) }
 {
     match ty {
         QualifiedType::Text => Ok(Some(CedarType::Text)),
@@ -67,6 +67,7 @@ fn write_type(
     }
 }
 
+/// Returns the expansions of the fields, or `None` if the table lacks the expansion of a common type in them.
 #[cycle(write_type)]
 #[tactic(auto, unfolding(crate::specs::inner::Table::written_in))]
 fn write_fields(
@@ -75,7 +76,7 @@ fn write_fields(
     table: &Table,
 ) -> Result<Option<Items<(Text, CedarType, bool)>>, NoMemory>
     ensures { IfOk result (λ o. option_map (λ fs. cedar_fields_view fs) o
-        ≡ fields_in (knowledge table.now) (qualified_fields_view fields.now.items)) }
+        ≡ fields_in (type_table table.now) (qualified_fields_view fields.now.items)) }
 {
     let mut written = Vec::new(alloc);
     for field in fields {

@@ -17,8 +17,8 @@ use Rattle.std.specs.declared.string.String.{String}
 use Rattle.policy_grammar.specs.declared.policy.Policy.{Policy}
 use Rattle.scope_index.specs.declared.buckets.Buckets.{Buckets}
 use Rattle.scope_index.specs.Keys.{IndexKey, Always, Principal, Resource, index_key, Kept, kept_at}
-use Rattle.scope_index.specs.Buckets.{Bucket, Named, Under, held_in, held_at, held_under, bucket_of, is_text, is_key, in_bucket}
-use Rattle.scope_index.specs.Buckets.{Turns, TurnsNamed, TurnsAt, IsSameUnder, IsSameNamed, AreSame, AreEmpty, due_in, AreFiled}
+use Rattle.scope_index.specs.Buckets.{Bucket, Named, Under, policy_in_bucket, policy_of_entity_id, policy_of_uid, bucket_of, is_text, is_key, in_bucket}
+use Rattle.scope_index.specs.Buckets.{IsSetAtUid, IsSetAtId, IsSetAtKey, IsSameUnder, IsSameNamed, AreSame, AreEmpty, policy_with_key, AreFiled}
 
 -- ---- the policies under one entity of a type
 
@@ -27,44 +27,44 @@ same_text a b h = tells_apart text_cmp-IsAntisymmetric a b h
 
 pub turned : (entity id : List ℕ) (there : Option Policy) (m n : Named) (w : Bucket)
     → ((e : List ℕ) → get text_cmp n e ≡ cond (is_text entity e) (Some w) (get text_cmp m e))
-    → ((q : List ℕ) → kept_at w.entries q ≡ cond (bytes_eq id q) there (held_at m entity q))
-    → TurnsNamed entity id there m n
+    → ((q : List ℕ) → kept_at w.entries q ≡ cond (bytes_eq id q) there (policy_of_entity_id m entity q))
+    → IsSetAtId entity id there m n
 turned entity id there m n w at has e q =
     elim (is_text entity e) as (λ b. is_text entity e ≡ b → get text_cmp n e ≡ cond b (Some w) (get text_cmp m e)
-    → held_at n e q ≡ cond (b && bytes_eq id q) there (held_at m e q)) [
-      | true ↦ λ same is. ap (λ o. held_in o q) is ∙ has q
-          ∙ ap (λ x. cond (bytes_eq id q) there (held_at m x q)) (same_text entity e same)
-      | false ↦ λ apart is. ap (λ o. held_in o q) is
+    → policy_of_entity_id n e q ≡ cond (b && bytes_eq id q) there (policy_of_entity_id m e q)) [
+      | true ↦ λ same is. ap (λ o. policy_in_bucket o q) is ∙ has q
+          ∙ ap (λ x. cond (bytes_eq id q) there (policy_of_entity_id m x q)) (same_text entity e same)
+      | false ↦ λ apart is. ap (λ o. policy_in_bucket o q) is
     ] refl (at e)
 
 pub emptied : (entity : List ℕ) (m n : Named)
     → ((e : List ℕ) → get text_cmp n e ≡ cond (is_text entity e) None (get text_cmp m e))
-    → ((q : List ℕ) → held_at m entity q ≡ None) → IsSameNamed m n
+    → ((q : List ℕ) → policy_of_entity_id m entity q ≡ None) → IsSameNamed m n
 emptied entity m n at none e q =
     elim (is_text entity e) as (λ b. is_text entity e ≡ b → get text_cmp n e ≡ cond b None (get text_cmp m e)
-    → held_at n e q ≡ held_at m e q) [
-      | true ↦ λ same is. ap (λ o. held_in o q) is ∙ sym (subst (λ x. held_at m x q ≡ None) (same_text entity e same) (none q))
-      | false ↦ λ apart is. ap (λ o. held_in o q) is
+    → policy_of_entity_id n e q ≡ policy_of_entity_id m e q) [
+      | true ↦ λ same is. ap (λ o. policy_in_bucket o q) is ∙ sym (subst (λ x. policy_of_entity_id m x q ≡ None) (same_text entity e same) (none q))
+      | false ↦ λ apart is. ap (λ o. policy_in_bucket o q) is
     ] refl (at e)
 
 -- what is written under an entity is what was there
 pub same_written : (entity : List ℕ) (m n : Named) (w : Bucket)
     → ((e : List ℕ) → get text_cmp n e ≡ cond (is_text entity e) (Some w) (get text_cmp m e))
-    → ((q : List ℕ) → kept_at w.entries q ≡ held_at m entity q) → IsSameNamed m n
+    → ((q : List ℕ) → kept_at w.entries q ≡ policy_of_entity_id m entity q) → IsSameNamed m n
 same_written entity m n w at has e q =
     elim (is_text entity e) as (λ b. is_text entity e ≡ b → get text_cmp n e ≡ cond b (Some w) (get text_cmp m e)
-    → held_at n e q ≡ held_at m e q) [
-      | true ↦ λ same is. ap (λ o. held_in o q) is ∙ has q ∙ ap (λ x. held_at m x q) (same_text entity e same)
-      | false ↦ λ apart is. ap (λ o. held_in o q) is
+    → policy_of_entity_id n e q ≡ policy_of_entity_id m e q) [
+      | true ↦ λ same is. ap (λ o. policy_in_bucket o q) is ∙ has q ∙ ap (λ x. policy_of_entity_id m x q) (same_text entity e same)
+      | false ↦ λ apart is. ap (λ o. policy_in_bucket o q) is
     ] refl (at e)
 
 -- nothing is under the entity
-pub nothing_there : (entity id : List ℕ) (m : Named) → get text_cmp m entity ≡ None → TurnsNamed entity id None m m
+pub nothing_there : (entity id : List ℕ) (m : Named) → get text_cmp m entity ≡ None → IsSetAtId entity id None m m
 nothing_there entity id m none e q =
-    elim (is_text entity e) as (λ b. is_text entity e ≡ b → held_at m e q ≡ cond (b && bytes_eq id q) None (held_at m e q)) [
+    elim (is_text entity e) as (λ b. is_text entity e ≡ b → policy_of_entity_id m e q ≡ cond (b && bytes_eq id q) None (policy_of_entity_id m e q)) [
       | true ↦ λ same.
-          let absent : held_at m e q ≡ None = subst (λ x. held_at m x q ≡ None) (same_text entity e same) (ap (λ o. held_in o q) none) in
-          elim (bytes_eq id q) as (λ t. held_at m e q ≡ cond t None (held_at m e q)) [ true ↦ absent | false ↦ refl ]
+          let absent : policy_of_entity_id m e q ≡ None = subst (λ x. policy_of_entity_id m x q ≡ None) (same_text entity e same) (ap (λ o. policy_in_bucket o q) none) in
+          elim (bytes_eq id q) as (λ t. policy_of_entity_id m e q ≡ cond t None (policy_of_entity_id m e q)) [ true ↦ absent | false ↦ refl ]
       | false ↦ λ apart. refl
     ] refl
 
@@ -72,53 +72,53 @@ nothing_there entity id m none e q =
 
 pub turned_type : (uid : EntityUid) (id : List ℕ) (there : Option Policy) (m n : Under) (w : Named)
     → ((t : List ℕ) → get text_cmp n t ≡ cond (is_text uid.type_name t) (Some w) (get text_cmp m t))
-    → ((e q : List ℕ) → held_at w e q
-    ≡ cond (is_text uid.id e && bytes_eq id q) there (held_in (bucket_of (get text_cmp m uid.type_name) e) q))
-    → Turns uid id there m n
+    → ((e q : List ℕ) → policy_of_entity_id w e q
+    ≡ cond (is_text uid.id e && bytes_eq id q) there (policy_in_bucket (bucket_of (get text_cmp m uid.type_name) e) q))
+    → IsSetAtUid uid id there m n
 turned_type uid id there m n w at has u q =
     elim (text_cmp uid.type_name u.type_name) as (λ o. text_cmp uid.type_name u.type_name ≡ o
     → get text_cmp n u.type_name ≡ cond (is_eq o) (Some w) (get text_cmp m u.type_name)
-    → held_under n u q ≡ cond (is_eq (ordering_then o (text_cmp uid.id u.id)) && bytes_eq id q) there (held_under m u q)) [
-      | Less ↦ λ apart e. ap (λ o. held_in (bucket_of o u.id) q) e
-      | Equal ↦ λ same e. ap (λ o. held_in (bucket_of o u.id) q) e ∙ has u.id q
-          ∙ ap (λ t. cond (is_text uid.id u.id && bytes_eq id q) there (held_in (bucket_of (get text_cmp m t) u.id) q))
+    → policy_of_uid n u q ≡ cond (is_eq (ordering_then o (text_cmp uid.id u.id)) && bytes_eq id q) there (policy_of_uid m u q)) [
+      | Less ↦ λ apart e. ap (λ o. policy_in_bucket (bucket_of o u.id) q) e
+      | Equal ↦ λ same e. ap (λ o. policy_in_bucket (bucket_of o u.id) q) e ∙ has u.id q
+          ∙ ap (λ t. cond (is_text uid.id u.id && bytes_eq id q) there (policy_in_bucket (bucket_of (get text_cmp m t) u.id) q))
           (text_cmp-IsAntisymmetric uid.type_name u.type_name same)
-      | Greater ↦ λ apart e. ap (λ o. held_in (bucket_of o u.id) q) e
+      | Greater ↦ λ apart e. ap (λ o. policy_in_bucket (bucket_of o u.id) q) e
     ] refl (at u.type_name)
 
 pub emptied_type : (uid : EntityUid) (m n : Under)
     → ((t : List ℕ) → get text_cmp n t ≡ cond (is_text uid.type_name t) None (get text_cmp m t))
-    → ((u : EntityUid) (q : List ℕ) → IsTrue (is_text uid.type_name u.type_name) → held_under m u q ≡ None) → IsSameUnder m n
+    → ((u : EntityUid) (q : List ℕ) → IsTrue (is_text uid.type_name u.type_name) → policy_of_uid m u q ≡ None) → IsSameUnder m n
 emptied_type uid m n at none u q =
     elim (is_text uid.type_name u.type_name) as (λ b. is_text uid.type_name u.type_name ≡ b
-    → get text_cmp n u.type_name ≡ cond b None (get text_cmp m u.type_name) → held_under n u q ≡ held_under m u q) [
-      | true ↦ λ same e. ap (λ o. held_in (bucket_of o u.id) q) e ∙ sym (none u q same)
-      | false ↦ λ apart e. ap (λ o. held_in (bucket_of o u.id) q) e
+    → get text_cmp n u.type_name ≡ cond b None (get text_cmp m u.type_name) → policy_of_uid n u q ≡ policy_of_uid m u q) [
+      | true ↦ λ same e. ap (λ o. policy_in_bucket (bucket_of o u.id) q) e ∙ sym (none u q same)
+      | false ↦ λ apart e. ap (λ o. policy_in_bucket (bucket_of o u.id) q) e
     ] refl (at u.type_name)
 
 -- what is written under a type is what was there
 pub same_type_written : (uid : EntityUid) (m n : Under) (w : Named)
     → ((t : List ℕ) → get text_cmp n t ≡ cond (is_text uid.type_name t) (Some w) (get text_cmp m t))
-    → ((e q : List ℕ) → held_at w e q ≡ held_in (bucket_of (get text_cmp m uid.type_name) e) q) → IsSameUnder m n
+    → ((e q : List ℕ) → policy_of_entity_id w e q ≡ policy_in_bucket (bucket_of (get text_cmp m uid.type_name) e) q) → IsSameUnder m n
 same_type_written uid m n w at has u q =
     elim (is_text uid.type_name u.type_name) as (λ b. is_text uid.type_name u.type_name ≡ b
-    → get text_cmp n u.type_name ≡ cond b (Some w) (get text_cmp m u.type_name) → held_under n u q ≡ held_under m u q) [
-      | true ↦ λ same e. ap (λ o. held_in (bucket_of o u.id) q) e ∙ has u.id q
-          ∙ ap (λ t. held_in (bucket_of (get text_cmp m t) u.id) q) (same_text uid.type_name u.type_name same)
-      | false ↦ λ apart e. ap (λ o. held_in (bucket_of o u.id) q) e
+    → get text_cmp n u.type_name ≡ cond b (Some w) (get text_cmp m u.type_name) → policy_of_uid n u q ≡ policy_of_uid m u q) [
+      | true ↦ λ same e. ap (λ o. policy_in_bucket (bucket_of o u.id) q) e ∙ has u.id q
+          ∙ ap (λ t. policy_in_bucket (bucket_of (get text_cmp m t) u.id) q) (same_text uid.type_name u.type_name same)
+      | false ↦ λ apart e. ap (λ o. policy_in_bucket (bucket_of o u.id) q) e
     ] refl (at u.type_name)
 
 -- nothing is under the type
-pub nothing_of_type : (uid : EntityUid) (id : List ℕ) (m : Under) → get text_cmp m uid.type_name ≡ None → Turns uid id None m m
+pub nothing_of_type : (uid : EntityUid) (id : List ℕ) (m : Under) → get text_cmp m uid.type_name ≡ None → IsSetAtUid uid id None m m
 nothing_of_type uid id m none u q =
     elim (text_cmp uid.type_name u.type_name) as (λ o. text_cmp uid.type_name u.type_name ≡ o
-    → held_under m u q ≡ cond (is_eq (ordering_then o (text_cmp uid.id u.id)) && bytes_eq id q) None (held_under m u q)) [
+    → policy_of_uid m u q ≡ cond (is_eq (ordering_then o (text_cmp uid.id u.id)) && bytes_eq id q) None (policy_of_uid m u q)) [
       | Less ↦ λ apart. refl
       | Equal ↦ λ same.
-          let absent : held_under m u q ≡ None =
-          subst (λ t. held_in (bucket_of (get text_cmp m t) u.id) q ≡ None) (text_cmp-IsAntisymmetric uid.type_name u.type_name same)
-          (ap (λ o. held_in (bucket_of o u.id) q) none) in
-          elim (is_text uid.id u.id && bytes_eq id q) as (λ t. held_under m u q ≡ cond t None (held_under m u q)) [
+          let absent : policy_of_uid m u q ≡ None =
+          subst (λ t. policy_in_bucket (bucket_of (get text_cmp m t) u.id) q ≡ None) (text_cmp-IsAntisymmetric uid.type_name u.type_name same)
+          (ap (λ o. policy_in_bucket (bucket_of o u.id) q) none) in
+          elim (is_text uid.id u.id && bytes_eq id q) as (λ t. policy_of_uid m u q ≡ cond t None (policy_of_uid m u q)) [
             | true ↦ absent
             | false ↦ refl
           ]
@@ -172,36 +172,36 @@ struck false p = refl
 -- one id's policy is now another or none, and the buckets say so; nothing else changed
 module _ (kept kept' : Kept) (b b' : Buckets) (id : List ℕ) (filed : AreFiled kept b) where
   carried : (k : IndexKey) (q : List ℕ) → in_bucket b' k q ≡ in_bucket b k q → kept_at kept' q ≡ kept_at kept q
-      → in_bucket b' k q ≡ due_in k (kept_at kept' q)
-  carried k q bucket same = bucket ∙ filed k q ∙ ap (due_in k) (sym same)
+      → in_bucket b' k q ≡ policy_with_key k (kept_at kept' q)
+  carried k q bucket same = bucket ∙ filed k q ∙ ap (policy_with_key k) (sym same)
 
   pub forgotten : (p : Policy) → kept_at kept id ≡ Some p
       → ((q : List ℕ) → kept_at kept' q ≡ cond (bytes_eq id q) None (kept_at kept q))
-      → TurnsAt (index_key p.scope) id None b b' → AreFiled kept' b'
+      → IsSetAtKey (index_key p.scope) id None b b' → AreFiled kept' b'
   forgotten p was at turns k q =
       elim (bytes_eq id q) as (λ t. bytes_eq id q ≡ t → kept_at kept' q ≡ cond t None (kept_at kept q)
-      → in_bucket b' k q ≡ due_in k (kept_at kept' q)) [
+      → in_bucket b' k q ≡ policy_with_key k (kept_at kept' q)) [
         | true ↦ λ is e.
             let key = index_key p.scope in
             let there : kept_at kept q ≡ Some p = subst (λ i. kept_at kept i ≡ Some p) ((bytes_eq-Decides id q).0 is) was in
-            let before : in_bucket b k q ≡ cond (is_key key k) (Some p) None = filed k q ∙ ap (due_in k) there in
+            let before : in_bucket b k q ≡ cond (is_key key k) (Some p) None = filed k q ∙ ap (policy_with_key k) there in
             here b b' key k None q (bytes_eq id q) is (turns k q)
-            ∙ ap (λ o. cond (is_key key k) None o) before ∙ struck (is_key key k) p ∙ sym (ap (due_in k) e)
+            ∙ ap (λ o. cond (is_key key k) None o) before ∙ struck (is_key key k) p ∙ sym (ap (policy_with_key k) e)
         | false ↦ λ is e. carried k q (elsewhere b b' (index_key p.scope) k None q (bytes_eq id q) is (turns k q)) e
       ] refl (at q)
 
   pub entered : (p : Policy) → kept_at kept id ≡ None
       → ((q : List ℕ) → kept_at kept' q ≡ cond (bytes_eq id q) (Some p) (kept_at kept q))
-      → TurnsAt (index_key p.scope) id (Some p) b b' → AreFiled kept' b'
+      → IsSetAtKey (index_key p.scope) id (Some p) b b' → AreFiled kept' b'
   entered p was at turns k q =
       elim (bytes_eq id q) as (λ t. bytes_eq id q ≡ t → kept_at kept' q ≡ cond t (Some p) (kept_at kept q)
-      → in_bucket b' k q ≡ due_in k (kept_at kept' q)) [
+      → in_bucket b' k q ≡ policy_with_key k (kept_at kept' q)) [
         | true ↦ λ is e.
             let key = index_key p.scope in
             let there : kept_at kept q ≡ None = subst (λ i. kept_at kept i ≡ None) ((bytes_eq-Decides id q).0 is) was in
-            let before : in_bucket b k q ≡ None = filed k q ∙ ap (due_in k) there in
+            let before : in_bucket b k q ≡ None = filed k q ∙ ap (policy_with_key k) there in
             here b b' key k (Some p) q (bytes_eq id q) is (turns k q)
-            ∙ ap (λ o. cond (is_key key k) (Some p) o) before ∙ sym (ap (due_in k) e)
+            ∙ ap (λ o. cond (is_key key k) (Some p) o) before ∙ sym (ap (policy_with_key k) e)
         | false ↦ λ is e. carried k q (elsewhere b b' (index_key p.scope) k (Some p) q (bytes_eq id q) is (turns k q)) e
       ] refl (at q)
 
@@ -250,11 +250,11 @@ of_err (Err e) P is h = h
 module _ {E : Type 0} (r : Result (Unit {0}) E) (uid : EntityUid) (m n : Under) (was w : Named)
     (held : get text_cmp m uid.type_name ≡ Some was)
     (at : (t : List ℕ) → get text_cmp n t ≡ cond (is_text uid.type_name t) (Some w) (get text_cmp m t)) where
-  before : (e q : List ℕ) → held_at was e q ≡ held_in (bucket_of (get text_cmp m uid.type_name) e) q
-  before e q = ap (λ o. held_in (bucket_of o e) q) (sym held)
+  before : (e q : List ℕ) → policy_of_entity_id was e q ≡ policy_in_bucket (bucket_of (get text_cmp m uid.type_name) e) q
+  before e q = ap (λ o. policy_in_bucket (bucket_of o e) q) (sym held)
 
-  pub ok_turned : (id : List ℕ) (there : Option Policy) → OnOk r (TurnsNamed uid.id id there was w) → OnOk r (Turns uid id there m n)
-  ok_turned id there h = elim r as (λ x. OnOk x (TurnsNamed uid.id id there was w) → OnOk x (Turns uid id there m n)) [
+  pub ok_turned : (id : List ℕ) (there : Option Policy) → OnOk r (IsSetAtId uid.id id there was w) → OnOk r (IsSetAtUid uid id there m n)
+  ok_turned id there h = elim r as (λ x. OnOk x (IsSetAtId uid.id id there was w) → OnOk x (IsSetAtUid uid id there m n)) [
     | Ok u ↦ λ k. turned_type uid id there m n w at
         (λ e q. k e q ∙ ap (λ o. cond (is_text uid.id e && bytes_eq id q) there o) (before e q))
     | Err e ↦ λ k. tt
@@ -270,33 +270,33 @@ module _ {E : Type 0} (r : Result (Unit {0}) E) (uid : EntityUid) (m n : Under) 
 module _ (b : Buckets) (key : IndexKey) (id : List ℕ) (there : Option Policy) where
   pub always_turned : (w : Bucket) → Always ≡ key
       → ((q : List ℕ) → kept_at w.entries q ≡ cond (bytes_eq id q) there (kept_at b.always.entries q))
-      → TurnsAt key id there b (record { always = w; principals = b.principals; resources = b.resources })
+      → IsSetAtKey key id there b (record { always = w; principals = b.principals; resources = b.resources })
   always_turned w is has =
-      subst (λ z. TurnsAt z id there b (record { always = w; principals = b.principals; resources = b.resources })) is by_kind
+      subst (λ z. IsSetAtKey z id there b (record { always = w; principals = b.principals; resources = b.resources })) is by_kind
     where
-      by_kind : TurnsAt Always id there b (record { always = w; principals = b.principals; resources = b.resources })
+      by_kind : IsSetAtKey Always id there b (record { always = w; principals = b.principals; resources = b.resources })
       by_kind Always q = has q
       by_kind (Principal u) q = refl
       by_kind (Resource u) q = refl
 
   pub principals_turned : (m : Under) (uid : EntityUid)
-      → Principal uid ≡ key → Turns uid id there b.principals m
-      → TurnsAt key id there b (record { always = b.always; principals = m; resources = b.resources })
+      → Principal uid ≡ key → IsSetAtUid uid id there b.principals m
+      → IsSetAtKey key id there b (record { always = b.always; principals = m; resources = b.resources })
   principals_turned m uid is turns =
-      subst (λ z. TurnsAt z id there b (record { always = b.always; principals = m; resources = b.resources })) is by_kind
+      subst (λ z. IsSetAtKey z id there b (record { always = b.always; principals = m; resources = b.resources })) is by_kind
     where
-      by_kind : TurnsAt (Principal uid) id there b (record { always = b.always; principals = m; resources = b.resources })
+      by_kind : IsSetAtKey (Principal uid) id there b (record { always = b.always; principals = m; resources = b.resources })
       by_kind Always q = refl
       by_kind (Principal u) q = turns u q
       by_kind (Resource u) q = refl
 
   pub resources_turned : (m : Under) (uid : EntityUid)
-      → Resource uid ≡ key → Turns uid id there b.resources m
-      → TurnsAt key id there b (record { always = b.always; principals = b.principals; resources = m })
+      → Resource uid ≡ key → IsSetAtUid uid id there b.resources m
+      → IsSetAtKey key id there b (record { always = b.always; principals = b.principals; resources = m })
   resources_turned m uid is turns =
-      subst (λ z. TurnsAt z id there b (record { always = b.always; principals = b.principals; resources = m })) is by_kind
+      subst (λ z. IsSetAtKey z id there b (record { always = b.always; principals = b.principals; resources = m })) is by_kind
     where
-      by_kind : TurnsAt (Resource uid) id there b (record { always = b.always; principals = b.principals; resources = m })
+      by_kind : IsSetAtKey (Resource uid) id there b (record { always = b.always; principals = b.principals; resources = m })
       by_kind Always q = refl
       by_kind (Principal u) q = refl
       by_kind (Resource u) q = turns u q
@@ -325,9 +325,9 @@ resources_same (Err e) b m h = by_kind
 pub all_empty : (b : Buckets) → b.always.entries ≡ [] → b.principals.entries ≡ [] → b.resources.entries ≡ [] → AreEmpty b
 all_empty b none no_principals no_resources Always q = ap (λ es. kept_at es q) none
 all_empty b none no_principals no_resources (Principal u) q =
-    ap (λ es. held_in (bucket_of (lookup (is_at (text_cmp u.type_name)) es) u.id) q) no_principals
+    ap (λ es. policy_in_bucket (bucket_of (lookup (is_at (text_cmp u.type_name)) es) u.id) q) no_principals
 all_empty b none no_principals no_resources (Resource u) q =
-    ap (λ es. held_in (bucket_of (lookup (is_at (text_cmp u.type_name)) es) u.id) q) no_resources
+    ap (λ es. policy_in_bucket (bucket_of (lookup (is_at (text_cmp u.type_name)) es) u.id) q) no_resources
 
 pub none_filed : (kept : Kept) (b : Buckets) → kept ≡ [] → AreEmpty b → AreFiled kept b
-none_filed kept b none empty k q = empty k q ∙ sym (ap (λ es. due_in k (kept_at es q)) none)
+none_filed kept b none empty k q = empty k q ∙ sym (ap (λ es. policy_with_key k (kept_at es q)) none)

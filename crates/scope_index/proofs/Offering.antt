@@ -13,7 +13,7 @@ use Rattle.std.specs.declared.alloc.Global.{Global}
 use Rattle.std.specs.declared.string.String.{String}
 use Rattle.std.specs.Borrow.{Bor}
 use Rattle.std.specs.Map.Iter.{deref_pair}
-use Rattle.ancestor_search.specs.Hierarchy.{Parents, IsIn, IsAllAbove, names}
+use Rattle.ancestor_search.specs.Hierarchy.{Parents, IsIn, AreAllAncestorsOf, names}
 use Rattle.std.proofs.lemmas.List.Elements.{Contains-push, Contains-push_cases, Contains-append_left, All-head, All-tail}
 use Rattle.values.specs.declared.entity_uid.EntityUid.{EntityUid}
 use Rattle.values.specs.Names.{text_cmp, text_cmp-IsAntisymmetric}
@@ -24,7 +24,7 @@ use Rattle.policy_grammar.specs.declared.policy.Policy.{Policy}
 use Rattle.scope_index.specs.declared.buckets.Buckets.{Buckets}
 use Rattle.scope_index.specs.Keys.{IndexKey, Always, Principal, Resource, index_key, IsMet, Kept, kept_at, Offer, ids, lent, IsOffered}
 use Rattle.scope_index.specs.Scopes.{IsScopeTrue}
-use Rattle.scope_index.specs.Buckets.{Bucket, held_in, is_key, in_bucket, due_in, AreFiled, HaveOnePolicy, AreOneAmong, AreOneAtEach, IsUnder}
+use Rattle.scope_index.specs.Buckets.{Bucket, policy_in_bucket, is_key, in_bucket, policy_with_key, AreFiled, HaveOnePolicy, AreOneAmong, AreOneAtEach, IsUnder}
 use Rattle.scope_index.proofs.Filing.{key_self, key_same}
 use Rattle.scope_index.proofs.Meeting.{scope_meets}
 
@@ -205,7 +205,7 @@ one_entity_more Has xs x o =
 
 -- an entity and those above it
 pub it_and_above : (parents : Parents) (Has : EntityUid → Offer → Type 0) (uid : EntityUid) (above : List EntityUid)
-    → IsAllAbove parents uid above → (o : Offer)
+    → AreAllAncestorsOf parents uid above → (o : Offer)
     → (Has uid o ⊎ ((e : EntityUid) × Contains above e × Has e o)) ↔ ((e : EntityUid) × IsIn parents uid e × Has e o)
 it_and_above parents Has uid above all o = (
   (λ s. elim s [ inl t ↦ (uid, inl refl, t) | inr f ↦ (f.0, inr ((all f.0).0 f.1), f.2) ]),
@@ -218,13 +218,13 @@ it_and_above parents Has uid above all o = (
 -- ---- the calls
 
 pub offered_under : {E : Type 0} (r : Result (Unit {0}) E) (held : Option Bucket) (w : Bucket) → held ≡ Some w → (before after : List Offer)
-    → OnOk r (Offers (λ o. kept_at w.entries o.0 ≡ Some o.1) before after) → OnOk r (Offers (λ o. held_in held o.0 ≡ Some o.1) before after)
-offered_under (Ok u) held w is before after h = subst (λ x. Offers (λ o. held_in x o.0 ≡ Some o.1) before after) (sym is) h
+    → OnOk r (Offers (λ o. kept_at w.entries o.0 ≡ Some o.1) before after) → OnOk r (Offers (λ o. policy_in_bucket held o.0 ≡ Some o.1) before after)
+offered_under (Ok u) held w is before after h = subst (λ x. Offers (λ o. policy_in_bucket x o.0 ≡ Some o.1) before after) (sym is) h
 offered_under (Err e) held w is before after h = tt
 
-pub none_under : (held : Option Bucket) → held ≡ None → (before : List Offer) → Offers (λ o. held_in held o.0 ≡ Some o.1) before before
-none_under held none before = nothing_more (λ o. held_in held o.0 ≡ Some o.1) before
-    (λ o e. let both : None ≡ Some o.1 = sym (ap (λ h. held_in h o.0) none) ∙ e in cc (both))
+pub none_under : (held : Option Bucket) → held ≡ None → (before : List Offer) → Offers (λ o. policy_in_bucket held o.0 ≡ Some o.1) before before
+none_under held none before = nothing_more (λ o. policy_in_bucket held o.0 ≡ Some o.1) before
+    (λ o e. let both : None ≡ Some o.1 = sym (ap (λ h. policy_in_bucket h o.0) none) ∙ e in cc (both))
 
 -- what is under the keys that a request finds
 abbrev pub IsFound : Parents → Request → Buckets → Offer → Type 0
@@ -289,7 +289,7 @@ module _ (parents : Parents) (q : Request) (b : Buckets) (none others always : L
 
 -- ---- what is in a bucket is kept, under its key
 
-due_is : (k : IndexKey) (o : Option Policy) (p : Policy) → due_in k o ≡ Some p → (o ≡ Some p) × (index_key p.scope ≡ k)
+due_is : (k : IndexKey) (o : Option Policy) (p : Policy) → policy_with_key k o ≡ Some p → (o ≡ Some p) × (index_key p.scope ≡ k)
 due_is k None p e = absurd (cc (e))
 due_is k (Some x) p e =
     elim (is_key (index_key x.scope) k) as (λ t. is_key (index_key x.scope) k ≡ t → cond t (Some x) None ≡ Some p
@@ -301,7 +301,7 @@ due_is k (Some x) p e =
     one : (x : Policy) → Some x ≡ Some p → x ≡ p
     one x f = cc (f)
 
-is_due : (p : Policy) → due_in (index_key p.scope) (Some p) ≡ Some p
+is_due : (p : Policy) → policy_with_key (index_key p.scope) (Some p) ≡ Some p
 is_due p = ap (λ t. cond t (Some p) None) (key_self (index_key p.scope))
 
 pub have_one : (seen kept : Kept) (b : Buckets) → kept ≡ seen → AreFiled kept b → HaveOnePolicy b
@@ -330,7 +330,7 @@ exactly_offered parents q seen kept b is filed (Ok ps) h = λ o.
       (λ s. (h o).1 (
         index_key o.1.scope,
         s.met,
-        filed_seen (index_key o.1.scope) o.0 ∙ ap (due_in (index_key o.1.scope)) s.is_kept ∙ is_due o.1,
+        filed_seen (index_key o.1.scope) o.0 ∙ ap (policy_with_key (index_key o.1.scope)) s.is_kept ∙ is_due o.1,
       )),
     )
 exactly_offered parents q seen kept b is filed (Err e) h = tt

@@ -18,14 +18,14 @@ use Rattle.policy_grammar.specs.declared.policy.EntityScope.TheVariants.{Any, Eq
 use Rattle.policy_grammar.specs.declared.policy.Scope.{Scope}
 use Rattle.policy_grammar.specs.declared.policy.Policy.{Policy}
 
--- An `IndexKey` matches every request; or those whose principal, or whose resource, is this entity or a descendant of
--- it.
+-- `Always` matches every request. `Principal e` matches the requests whose principal is `e` or a descendant of `e`, and
+-- `Resource e` those whose resource is.
 pub data IndexKey : Type 0 where
   Always : IndexKey
   Principal : EntityUid → IndexKey
   Resource : EntityUid → IndexKey
 
--- `entity_named part` is the entity that a part of a scope names by `==` or `in`.
+-- `entity_named part` is the entity that the part `part` of a scope names by `==` or `in`, if it names one.
 abbrev pub entity_named : EntityScope → Option EntityUid
 entity_named Any = None
 entity_named (Equal e) = Some e
@@ -49,27 +49,27 @@ IsMet parents q Always = Unit {0}
 IsMet parents q (Principal e) = IsIn parents q.principal e
 IsMet parents q (Resource e) = IsIn parents q.resource e
 
--- `Kept` are the policies of an index, by their ids.
+-- `Kept` is the type of the policies of an index, with their ids.
 abbrev pub Kept : Type 0
 Kept = List (String Global × Policy)
 
--- `kept_at kept id` is the policy whose id has these bytes.
+-- `kept_at kept id` is the policy of `kept` whose id has the bytes `id`, if there is one.
 abbrev pub kept_at : Kept → List ℕ → Option Policy
 kept_at kept id = lookup (is_at (λ k. slice_cmp nat_cmp id (string_bytes k))) kept
 
--- An `Offer` is a policy with its id.
+-- An `Offer` is an id with its policy.
 abbrev pub Offer : Type 0
 Offer = List ℕ × Policy
 
--- `lent ps` are the ids and policies `ps` without their borrows.
+-- `lent ps` are the ids and policies to which the references `ps` point.
 abbrev pub lent : List (Bor (List ℕ) × Bor Policy) → List Offer
 lent ps = map (λ p. (p.0.now, p.1.now)) ps
 
--- `ids os` are the ids of the policies `os`.
+-- `ids os` are the ids of `os`.
 abbrev pub ids : List Offer → List (List ℕ)
 ids os = map (λ o. o.0) os
 
--- `IsOffered kept parents q o` holds if the policy `o` is in the index, and its key matches the request `q`.
+-- `IsOffered kept parents q o` holds if `o` is a policy of the index `kept`, and its key matches the request `q`.
 pub record IsOffered (kept : Kept) (parents : Parents) (q : Request) (o : Offer) : Type 0 where
   pub is_kept : kept_at kept o.0 ≡ Some o.1
   pub met : IsMet parents q (index_key o.1.scope)

@@ -3,17 +3,18 @@ ghost use Rattle.std.specs.Prelude.{◌≡◌, ◌&&◌, IsTrue, IfOk, OnOk, OnE
 ghost use Rattle.std.specs.Str.{bytes_eq};
 ghost use Rattle.scope_index.specs.Keys.{index_key, kept_at};
 ghost use Rattle.values.specs.declared.entity_uid.EntityUid.{EntityUid as PlainUid};
-ghost use Rattle.scope_index.specs.Buckets.{held_at, held_under, is_text, Turns, TurnsNamed, TurnsAt};
+ghost use Rattle.scope_index.specs.Buckets.{policy_of_entity_id, policy_of_uid, is_text, IsSetAtUid, IsSetAtId};
+ghost use Rattle.scope_index.specs.Buckets.{IsSetAtKey};
 ghost use Rattle.scope_index.specs.Buckets.{IsSameUnder, IsSameNamed, AreSame, AreEmpty};
 
-use crate::found_by::{FoundBy, key_of};
+use crate::scope_key::{ScopeKey, key_of};
 use plain::{NoMemory, beside};
 use policy_grammar::{Policy, Scope};
 use std::alloc::Global;
 use std::collections::BTreeMap;
 use values::{EntityUid, SharedText, TypeName};
 
-/// The buckets of entities of one type, by their ids.
+/// The buckets of the entities of one type, by their ids.
 pub(crate) type Named = BTreeMap<SharedText, BTreeMap<String, Policy>>;
 
 /// The buckets of entities, by their types and then by their ids: a look-up compares types once, and not at each
@@ -23,8 +24,11 @@ pub(crate) type Under = BTreeMap<TypeName, Named>;
 /// Policies by id, in a bucket for each key.
 #[derive(Drop)]
 pub(crate) struct Buckets {
+    /// The policies whose scope names no entity for the principal or the resource.
     pub(crate) always: BTreeMap<String, Policy>,
+    /// The policies by the entity that their scope names for the principal.
     pub(crate) principals: Under,
+    /// The other policies, by the entity that their scope names for the resource.
     pub(crate) resources: Under,
 }
 
@@ -38,7 +42,7 @@ fn alone(alloc: Global, id: String, policy: Policy) -> Result<BTreeMap<String, P
     Ok(bucket)
 }
 
-// Puts a policy into the bucket of the entity of this id, of one type.
+// Puts a policy into the bucket of an entity, given the buckets of its type and its id.
 fn put_named(
     alloc: Global,
     named: &mut Named,
@@ -46,7 +50,7 @@ fn put_named(
     id: String,
     policy: Policy,
 ) -> Result<(), NoMemory>
-    ensures ok { OnOk result (TurnsNamed entity.now (string_bytes id) (Some policy) named.old named.new) }
+    ensures ok { OnOk result (IsSetAtId entity.now (string_bytes id) (Some policy) named.old named.new) }
     ensures err { OnErr result (IsSameNamed named.old named.new) }
 {
     if let Some(bucket) = named.get_mut(entity) {
@@ -58,9 +62,9 @@ fn put_named(
     Ok(())
 }
 
-// Returns the buckets of a type in which one entity has one policy.
+// Returns the buckets of a type in which only one entity has a bucket, with one policy.
 fn only(alloc: Global, entity: &SharedText, id: String, policy: Policy) -> Result<Named, NoMemory>
-    ensures { IfOk result (λ named. (e q : List ℕ) → held_at named e q
+    ensures { IfOk result (λ named. (e q : List ℕ) → policy_of_entity_id named e q
         ≡ cond (is_text entity.now e && bytes_eq (string_bytes id) q) (Some policy) None) }
 {
     let mut named = BTreeMap::new(alloc);
@@ -76,7 +80,7 @@ fn put_under(
     id: String,
     policy: Policy,
 ) -> Result<(), NoMemory>
-    ensures ok { OnOk result (Turns uid.now (string_bytes id) (Some policy) under.old under.new) }
+    ensures ok { OnOk result (IsSetAtUid uid.now (string_bytes id) (Some policy) under.old under.new) }
     ensures err { OnErr result (IsSameUnder under.old under.new) }
 {
     if let Some(named) = under.get_mut(&uid.type_name) {
@@ -87,10 +91,11 @@ fn put_under(
     Ok(())
 }
 
-// Removes the policy of an id from the bucket of an entity of one type; returns whether the bucket is then empty.
+// Removes the policy of an id from the bucket of an entity, given the buckets of its type; returns whether this leaves
+// an empty bucket.
 fn strike(named: &mut Named, entity: &SharedText, id: &str) -> bool
-    ensures turns { TurnsNamed entity.now id.now None named.old named.new }
-    ensures none { IsTrue result → (q : List ℕ) → held_at named.new entity.now q ≡ None }
+    ensures turns { IsSetAtId entity.now id.now None named.old named.new }
+    ensures none { IsTrue result → (q : List ℕ) → policy_of_entity_id named.new entity.now q ≡ None }
 {
     match named.get_mut(entity) {
         Some(bucket) => {
@@ -101,20 +106,22 @@ fn strike(named: &mut Named, entity: &SharedText, id: &str) -> bool
     }
 }
 
-// Removes the policy of an id from the bucket of an entity of one type; an empty bucket is removed too.
+// Removes the policy of an id from the bucket of an entity, given the buckets of its type, and the bucket if it is then
+// empty.
 fn take_named(named: &mut Named, entity: &SharedText, id: &str)
-    ensures { TurnsNamed entity.now id.now None named.old named.new }
+    ensures { IsSetAtId entity.now id.now None named.old named.new }
 {
     if strike(named, entity, id) {
         named.remove(entity);
     }
 }
 
-// Removes the policy of an id from the bucket of an entity; returns whether its type then has an entry without buckets.
+// Removes the policy of an id from the bucket of an entity; returns whether this leaves an entry of the entity's type
+// without buckets.
 fn strike_type(under: &mut Under, uid: &EntityUid, id: &str) -> bool
-    ensures turns { Turns uid.now id.now None under.old under.new }
+    ensures turns { IsSetAtUid uid.now id.now None under.old under.new }
     ensures none { IsTrue result → (u : PlainUid) (q : List ℕ) → IsTrue (is_text uid.now.type_name u.type_name)
-        → held_under under.new u q ≡ None }
+        → policy_of_uid under.new u q ≡ None }
 {
     match under.get_mut(&uid.type_name) {
         Some(named) => {
@@ -125,9 +132,9 @@ fn strike_type(under: &mut Under, uid: &EntityUid, id: &str) -> bool
     }
 }
 
-// Removes the policy of an id from the bucket of an entity; a bucket or type that is then empty is removed too.
+// Removes the policy of an id from the bucket of an entity, and the bucket and its type if they are then empty.
 fn take_under(under: &mut Under, uid: &EntityUid, id: &str)
-    ensures { Turns uid.now id.now None under.old under.new }
+    ensures { IsSetAtUid uid.now id.now None under.old under.new }
 {
     if strike_type(under, uid, id) {
         under.remove(&uid.type_name);
@@ -155,28 +162,29 @@ pub(crate) fn put(
     id: String,
     policy: Policy,
 ) -> Result<(), NoMemory>
-    ensures ok { OnOk result (TurnsAt (index_key scope.now) (string_bytes id) (Some policy) buckets.old buckets.new) }
+    ensures ok { OnOk result (IsSetAtKey (index_key scope.now) (string_bytes id) (Some policy) buckets.old
+        buckets.new) }
     ensures err { OnErr result (AreSame buckets.old buckets.new) }
 {
     match key_of(scope) {
-        FoundBy::Always => {
+        ScopeKey::Always => {
             buckets.always.insert(id, policy)?;
             Ok(())
         }
-        FoundBy::Principal(uid) => put_under(alloc, &mut buckets.principals, uid, id, policy),
-        FoundBy::Resource(uid) => put_under(alloc, &mut buckets.resources, uid, id, policy),
+        ScopeKey::Principal(uid) => put_under(alloc, &mut buckets.principals, uid, id, policy),
+        ScopeKey::Resource(uid) => put_under(alloc, &mut buckets.resources, uid, id, policy),
     }
 }
 
 /// Removes the policy of an id from the bucket of a scope's key. Does not allocate.
 pub(crate) fn take(buckets: &mut Buckets, scope: &Scope, id: &str)
-    ensures { TurnsAt (index_key scope.now) id.now None buckets.old buckets.new }
+    ensures { IsSetAtKey (index_key scope.now) id.now None buckets.old buckets.new }
 {
     match key_of(scope) {
-        FoundBy::Always => {
+        ScopeKey::Always => {
             buckets.always.remove(id);
         }
-        FoundBy::Principal(uid) => take_under(&mut buckets.principals, uid, id),
-        FoundBy::Resource(uid) => take_under(&mut buckets.resources, uid, id),
+        ScopeKey::Principal(uid) => take_under(&mut buckets.principals, uid, id),
+        ScopeKey::Resource(uid) => take_under(&mut buckets.resources, uid, id),
     }
 }

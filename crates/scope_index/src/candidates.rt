@@ -1,4 +1,4 @@
-//! The candidate policies of a request.
+//! The candidate policies of a request: those in the buckets of the keys that it matches.
 ghost use Rattle.std.specs.Prelude.{◌≡◌, ◌↔◌, ◌⊎◌, Some, Contains, IfOk, OnOk};
 ghost use Rattle.std.specs.Option.{option_copied};
 ghost use Rattle.std.specs.List.Sorted.{IsPermutation, IsSortedByKey, IsStrictlySortedBy};
@@ -8,7 +8,7 @@ ghost use Rattle.ancestor_search.specs.Hierarchy.{IsIn, names};
 ghost use Rattle.policy_grammar.specs.declared.policy.Policy.{Policy as PlainPolicy};
 ghost use Rattle.scope_index.specs.Keys.{IndexKey, IsMet, Offer, ids, kept_at, lent};
 ghost use Rattle.scope_index.specs.Buckets.{HaveOnePolicy, AreOneAmong, AreOneAtEach, IsUnder};
-ghost use Rattle.scope_index.specs.Buckets.{bucket_at, held_under, in_bucket};
+ghost use Rattle.scope_index.specs.Buckets.{bucket_at, policy_of_uid, in_bucket};
 
 use crate::buckets::{Buckets, Under};
 use ancestor_search::Ancestry;
@@ -18,13 +18,15 @@ use std::alloc::Global;
 use std::collections::BTreeMap;
 use values::{EntityUid, Request};
 
-// If at least this many policies are candidates of every request, they keep their order and are not sorted.
+// If at least this many policies are candidates of every request, they are listed in the order of their bucket, and the
+// other candidates are added to them. Only the time depends on this number, not the result.
 const MANY: usize = 64;
 
-// At most this many other candidates are placed among them one by one.
+// The greatest number of other candidates that are inserted one by one. Only the time depends on this number, not the
+// result.
 const FEW: usize = 128;
 
-// Adds the policies of a bucket.
+// Appends the policies of a bucket to the candidates.
 fn offer<'a>(
     bucket: &'a BTreeMap<String, Policy>,
     found: &mut Vec<(&'a str, &'a Policy)>,
@@ -39,7 +41,7 @@ fn offer<'a>(
     Ok(())
 }
 
-// Returns the bucket of an entity.
+// Returns the bucket of an entity, if it has one.
 fn bucket_at<'a>(under: &'a Under, uid: &EntityUid) -> Option<&'a BTreeMap<String, Policy>>
     ensures { option_copied result ≡ bucket_at under.now uid.now }
 {
@@ -49,14 +51,14 @@ fn bucket_at<'a>(under: &'a Under, uid: &EntityUid) -> Option<&'a BTreeMap<Strin
     }
 }
 
-// Adds the policies under an entity.
+// Appends the policies in the bucket of an entity to the candidates.
 fn offer_under<'a>(
     under: &'a Under,
     uid: &EntityUid,
     found: &mut Vec<(&'a str, &'a Policy)>,
 ) -> Result<(), NoMemory>
     ensures { OnOk result ((o : Offer) → Contains (lent found.new.items) o
-        ↔ Contains (lent found.old.items) o ⊎ (held_under under.now uid.now o.0 ≡ Some o.1)) }
+        ↔ Contains (lent found.old.items) o ⊎ (policy_of_uid under.now uid.now o.0 ≡ Some o.1)) }
 {
     match bucket_at(under, uid) {
         Some(bucket) => offer(bucket, found),
@@ -64,7 +66,7 @@ fn offer_under<'a>(
     }
 }
 
-// Adds the policies that are candidates of every request.
+// Appends the policies that are candidates of every request.
 fn offer_unbound<'a>(
     buckets: &'a Buckets,
     found: &mut Vec<(&'a str, &'a Policy)>,
@@ -75,19 +77,19 @@ fn offer_unbound<'a>(
     offer(&buckets.always, found)
 }
 
-// Adds the policies under the entity itself.
+// Appends the policies in the bucket of the entity itself.
 fn offer_own<'a>(
     under: &'a Under,
     uid: &EntityUid,
     found: &mut Vec<(&'a str, &'a Policy)>,
 ) -> Result<(), NoMemory>
     ensures { OnOk result ((o : Offer) → Contains (lent found.new.items) o
-        ↔ Contains (lent found.old.items) o ⊎ (held_under under.now uid.now o.0 ≡ Some o.1)) }
+        ↔ Contains (lent found.old.items) o ⊎ (policy_of_uid under.now uid.now o.0 ≡ Some o.1)) }
 {
     offer_under(under, uid, found)
 }
 
-// Adds the policies under each of these entities.
+// Appends the policies in the bucket of each of these entities.
 fn offer_each<'a>(
     under: &'a Under,
     entities: &[&EntityUid],
@@ -95,7 +97,7 @@ fn offer_each<'a>(
 ) -> Result<(), NoMemory>
     ensures { OnOk result ((o : Offer) → Contains (lent found.new.items) o
         ↔ Contains (lent found.old.items) o
-        ⊎ ((e : PlainUid) × Contains (names entities.now) e × (held_under under.now e o.0 ≡ Some o.1))) }
+        ⊎ ((e : PlainUid) × Contains (names entities.now) e × (policy_of_uid under.now e o.0 ≡ Some o.1))) }
 {
     for entity in entities {
         offer_under(under, entity, found)?;
@@ -103,7 +105,7 @@ fn offer_each<'a>(
     Ok(())
 }
 
-// Adds the policies under an entity and under each of its ancestors.
+// Appends the policies in the buckets of an entity and of each of its ancestors.
 fn offer_above<'a, A: Ancestry>(
     under: &'a Under,
     ancestry: &A,
@@ -112,7 +114,7 @@ fn offer_above<'a, A: Ancestry>(
 ) -> Result<(), NoMemory>
     ensures { OnOk result ((o : Offer) → Contains (lent found.new.items) o
         ↔ Contains (lent found.old.items) o
-        ⊎ ((e : PlainUid) × IsIn (A.parents ancestry.now) uid.now e × (held_under under.now e o.0 ≡ Some o.1))) }
+        ⊎ ((e : PlainUid) × IsIn (A.parents ancestry.now) uid.now e × (policy_of_uid under.now e o.0 ≡ Some o.1))) }
 {
     offer_own(under, uid, found)?;
     let ancestors = ancestry.ancestors(uid)?;
@@ -120,7 +122,7 @@ fn offer_above<'a, A: Ancestry>(
     Ok(())
 }
 
-// Adds the policies under the principal and under the resource of a request, and under each of their ancestors.
+// Appends the policies in the buckets of the request's principal and resource and of each of their ancestors.
 fn offer_bound<'a, A: Ancestry>(
     buckets: &'a Buckets,
     request: &Request,
@@ -151,8 +153,8 @@ fn found_by<'a, A: Ancestry>(
     Ok(found)
 }
 
-// Sorts candidates by their ids. Those of a bucket are in this order already, so whole buckets are merged; if there is
-// no memory for that, they are sorted in place.
+// Sorts candidates by their ids. Those of a bucket are in this order already, so the stable sort merges whole buckets.
+// If it cannot allocate, the candidates are sorted in place.
 fn sort_by_id<'a>(policies: &mut Vec<(&'a str, &'a Policy)>)
     ensures permutation { IsPermutation policies.old.items policies.new.items }
     ensures sorted { IsSortedByKey (λ p. p.0.now) text_cmp policies.new.items }
@@ -163,7 +165,7 @@ fn sort_by_id<'a>(policies: &mut Vec<(&'a str, &'a Policy)>)
     }
 }
 
-// Returns these policies, ascending and without duplicates.
+// Returns the policies `found`, ascending by id and without duplicates.
 fn in_order<'a>(found: Vec<(&'a str, &'a Policy)>) -> Vec<(&'a str, &'a Policy)>
     requires { AreOneAtEach (lent found.items) }
     ensures same { (o : Offer) → Contains (lent result.items) o ↔ Contains (lent found.entry.items) o }
@@ -175,7 +177,7 @@ fn in_order<'a>(found: Vec<(&'a str, &'a Policy)>) -> Vec<(&'a str, &'a Policy)>
     policies
 }
 
-// Returns the policies of a bucket, ascending, in a list with room for a few more.
+// Returns the policies of a bucket, ascending, in a list with capacity for `FEW` more.
 fn all_of<'a>(
     alloc: Global,
     bucket: &'a BTreeMap<String, Policy>,
@@ -191,7 +193,7 @@ fn all_of<'a>(
     Ok(all)
 }
 
-// Puts a policy at its place in an ascending list, unless the list has it.
+// Inserts a policy at its position in an ascending list, unless the list has it.
 fn place<'a>(
     all: &mut Vec<(&'a str, &'a Policy)>,
     id: &'a str,
@@ -212,7 +214,7 @@ fn place<'a>(
     }
 }
 
-// Puts policies at their places in an ascending list.
+// Inserts policies at their positions in an ascending list.
 fn place_each<'a>(
     all: &mut Vec<(&'a str, &'a Policy)>,
     policies: &[(&'a str, &'a Policy)],
@@ -229,12 +231,13 @@ fn place_each<'a>(
     Ok(())
 }
 
-// Returns whether placing the others one by one costs less than sorting all: each moves those that follow it.
+// Returns whether the others are few enough to be inserted one by one: at most `FEW`, and at most a quarter of `all`.
+// Each insertion moves the policies after it; if there are more others, all are sorted instead.
 fn are_few(others: usize, all: usize) -> bool {
     others <= FEW && others <= all / 4
 }
 
-// Returns the policies of an ascending list and others, ascending and without duplicates.
+// Returns the policies of the ascending list `all` and the others, ascending and without duplicates.
 fn joined<'a>(
     all: Vec<(&'a str, &'a Policy)>,
     others: &[(&'a str, &'a Policy)],
@@ -254,7 +257,8 @@ fn joined<'a>(
     Ok(in_order(all))
 }
 
-// Returns the candidate policies of a request, ascending by id, where many are candidates of every request.
+// Returns the candidate policies of a request, ascending by id. It is meant for the case that many policies are
+// candidates of every request.
 fn offered_among<'a, A: Ancestry>(
     alloc: Global,
     buckets: &'a Buckets,

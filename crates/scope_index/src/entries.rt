@@ -1,4 +1,4 @@
-//! The policies of the index by id, with the buckets.
+//! Adding and removing a policy, in the index's map by id and in its buckets.
 ghost use Rattle.std.specs.Prelude.{◌≡◌, ℕ, List, Some, None, cond, IfOk, OnOk, OnErr, string_bytes};
 ghost use Rattle.std.specs.Str.{bytes_eq};
 ghost use Rattle.scope_index.specs.Keys.{kept_at};
@@ -22,7 +22,8 @@ pub(crate) fn forget(kept: &mut BTreeMap<String, Policy>, buckets: &mut Buckets,
     }
 }
 
-// Adds a policy whose id is new: `own` and `second` are its id and a shared reference to it.
+// Adds a policy whose id is new. `own` and `second` are its id with a shared reference to it, twice: for the map by id
+// and for the bucket. If an allocation fails, the index is unchanged.
 fn enter(
     alloc: Global,
     kept: &mut BTreeMap<String, Policy>,
@@ -53,7 +54,7 @@ fn enter(
     filed
 }
 
-// Returns an id and a shared reference to its policy, to be added.
+// Returns an id with a shared reference to its policy, to be added.
 fn entry_of(alloc: Global, id: &str, policy: &Policy) -> Result<(String, Policy), NoMemory>
     ensures id { IfOk result (λ entry. string_bytes entry.0 ≡ id.now) }
     ensures share { IfOk result (λ entry. entry.1 ≡ policy.now) }

@@ -7,8 +7,8 @@
 mod buckets;
 mod candidates;
 mod entries;
-mod found_by;
 mod index;
+mod scope_key;
 
 pub use index::ScopeIndex;
 pub use policy_grammar::{

@@ -23,8 +23,8 @@ use Rattle.site.specs.Sites.{SiteName, first_sites, numbered, set_numbered, Sent
 use Rattle.site.specs.Sites.{start}
 use Rattle.site.specs.Worlds.{HasTexts, input_of, answer_among, message_bytes, summary_bytes, message_made}
 use Rattle.site.specs.Worlds.{summary_made, after, HappensAt, Happens, Leads}
-use Rattle.site.specs.Played.{IsSiteOf, AreSitesOf, IsShown, IsPlayed}
-use Rattle.site.specs.inner.Playing.{input_among, AnswersOperation, Plays}
+use Rattle.site.specs.Played.{IsSiteOf, AreSitesOf, IsViewOf, IsRunTo}
+use Rattle.site.specs.inner.Playing.{input_among, AnswersOperation, IsEventStep}
 
 -- ---- the sites
 site_at : (schema : StatedSchema) (ns : List SiteName) (ss : List Store) (bs : List SiteView) (k : ℕ) (a : SiteView) → AreSitesOf schema ns ss bs → slice_get bs k ≡ Some a
@@ -122,7 +122,7 @@ map_back : {X Y : Type 0} (f : X → Y) (g : Y → X) → ((x : X) → g (f x) �
 map_back f g h [] = refl
 map_back f g h (x ∷ xs) = λ i. h x i ∷ map_back f g h xs i
 
-module _ (schema : StatedSchema) (ns : List SiteName) (bs : List SiteView) (ms sms : List (List ℕ)) (w : World) (shown : IsShown schema ns bs ms sms w) (e : Event) (texts : HasTexts e.operation) where
+module _ (schema : StatedSchema) (ns : List SiteName) (bs : List SiteView) (ms sms : List (List ℕ)) (w : World) (shown : IsViewOf schema ns bs ms sms w) (e : Event) (texts : HasTexts e.operation) where
   input_is : input_of w e.operation ≡ input_among ms sms e.operation
   input_is =
       sym (input_same w e.operation)
@@ -133,7 +133,7 @@ module _ (schema : StatedSchema) (ns : List SiteName) (bs : List SiteView) (ms s
   not_there : (o : Option SiteName) (p : Option Store) (q : Option Input) → HappensAt (Step schema) w e None p q Unknown w
   not_there o p q = (refl, refl)
 
-  pub plays_nowhere : numbered ns e.site ≡ None → (v : World) × Happens (Step schema) ns w e Unknown v × IsShown schema ns bs ms sms v
+  pub plays_nowhere : numbered ns e.site ≡ None → (v : World) × Happens (Step schema) ns w e Unknown v × IsViewOf schema ns bs ms sms v
   plays_nowhere h = (
     w,
     record {
@@ -163,11 +163,11 @@ module _ (schema : StatedSchema) (ns : List SiteName) (bs : List SiteView) (ms s
 
     -- what the event names was not made
     pub plays_unknown : AnswersOperation (schema_of a) a.name (store_in a) (input_among ms sms e.operation) None (store_in b)
-        → (v : World) × Happens (Step schema) ns w e Unknown v × IsShown schema ns (set bs k b) ms sms v
+        → (v : World) × Happens (Step schema) ns w e Unknown v × IsViewOf schema ns (set bs k b) ms sms v
     plays_unknown h = by_input (input_among ms sms e.operation) refl h
       where
         by_input : (q : Option Input) → input_among ms sms e.operation ≡ q → AnswersOperation (schema_of a) a.name (store_in a) q None (store_in b)
-            → (v : World) × Happens (Step schema) ns w e Unknown v × IsShown schema ns (set bs k b) ms sms v
+            → (v : World) × Happens (Step schema) ns w e Unknown v × IsViewOf schema ns (set bs k b) ms sms v
         by_input None is t = (
           w,
           happens_by None Unknown w (input_is ∙ is) (refl, refl),
@@ -184,14 +184,14 @@ module _ (schema : StatedSchema) (ns : List SiteName) (bs : List SiteView) (ms s
     -- the site replied
     pub plays_step : (r : Reply) (c : EventReply) → AnswersOperation (schema_of a) a.name (store_in a) (input_among ms sms e.operation) (Some r) (store_in b)
         → c ≡ answer_among (length ms) (length sms) e.operation r
-        → (v : World) × Happens (Step schema) ns w e c v × IsShown schema ns (set bs k b) (ms ++ message_bytes e.operation r) (sms ++ summary_bytes e.operation r) v
+        → (v : World) × Happens (Step schema) ns w e c v × IsViewOf schema ns (set bs k b) (ms ++ message_bytes e.operation r) (sms ++ summary_bytes e.operation r) v
     plays_step r c h answer = by_input (input_among ms sms e.operation) refl h
       where
         count : {X : Type 0} (f : X → List ℕ) (xs : List X) (ys : List (List ℕ)) → ys ≡ map f xs → length ys ≡ length xs
         count f xs ys is = ap length is ∙ length-map xs f
 
         by_input : (q : Option Input) → input_among ms sms e.operation ≡ q → AnswersOperation (schema_of a) a.name (store_in a) q (Some r) (store_in b)
-            → (v : World) × Happens (Step schema) ns w e c v × IsShown schema ns (set bs k b) (ms ++ message_bytes e.operation r) (sms ++ summary_bytes e.operation r) v
+            → (v : World) × Happens (Step schema) ns w e c v × IsViewOf schema ns (set bs k b) (ms ++ message_bytes e.operation r) (sms ++ summary_bytes e.operation r) v
         by_input None is t = absurd t
         by_input (Some i) is t = (
           after w e (store_in a) r (store_in b),
@@ -224,7 +224,7 @@ leads_push schema ns w (x ∷ es) [] m e c v h k = absurd h
 leads_push schema ns w (x ∷ es) (r ∷ rs) m e c v h k = (h.0, h.1, leads_push schema ns h.0 es rs m e c v h.2 k)
 
 pub played_next : (schema : StatedSchema) (ns : List SiteName) (es : List Event) (rs : List EventReply) (bs bs2 : List SiteView) (ms ms2 sms sms2 : List (List ℕ)) (e : Event) (c : EventReply)
-    → IsPlayed schema ns es rs bs ms sms → Plays bs ms sms e c bs2 ms2 sms2 → IsPlayed schema ns (es ++ e ∷ []) (rs ++ c ∷ []) bs2 ms2 sms2
+    → IsRunTo schema ns es rs bs ms sms → IsEventStep bs ms sms e c bs2 ms2 sms2 → IsRunTo schema ns (es ++ e ∷ []) (rs ++ c ∷ []) bs2 ms2 sms2
 played_next schema ns es rs bs bs2 ms ms2 sms sms2 e c h plays =
     let next = plays schema ns h.world h.shown in
     record {
@@ -233,7 +233,7 @@ played_next schema ns es rs bs bs2 ms ms2 sms sms2 e c h plays =
       shown = next.2;
     }
 
-pub played_none : (schema : StatedSchema) (ns : List SiteName) (bs : List SiteView) (ms sms : List (List ℕ)) → IsShown schema ns bs ms sms (start ns) → IsPlayed schema ns [] [] bs ms sms
+pub played_none : (schema : StatedSchema) (ns : List SiteName) (bs : List SiteView) (ms sms : List (List ℕ)) → IsViewOf schema ns bs ms sms (start ns) → IsRunTo schema ns [] [] bs ms sms
 played_none schema ns bs ms sms h = record { world = start ns; leads = refl; shown = h }
 
 -- ---- by the number of a site, counted from 1
@@ -241,10 +241,10 @@ numbered_place : {X : Type 0} (xs : List X) (n : ℕ) → (n ≡ 0 → ⊥) → 
 numbered_place xs zero h = absurd (h refl)
 numbered_place xs (suc k) h = let same : k ≡ suc k - 1 = omega arith in ap (slice_get xs) same
 
-pub plays_at_zero : (bs : List SiteView) (ms sms : List (List ℕ)) (e : Event) → HasTexts e.operation → e.site ≡ 0 → Plays bs ms sms e Unknown bs ms sms
+pub plays_at_zero : (bs : List SiteView) (ms sms : List (List ℕ)) (e : Event) → HasTexts e.operation → e.site ≡ 0 → IsEventStep bs ms sms e Unknown bs ms sms
 plays_at_zero bs ms sms e texts h = λ schema ns w shown. plays_nowhere schema ns bs ms sms w shown e texts (ap (numbered ns) h)
 
-pub plays_beyond : (bs : List SiteView) (ms sms : List (List ℕ)) (e : Event) → HasTexts e.operation → (e.site ≡ 0 → ⊥) → length bs < e.site → Plays bs ms sms e Unknown bs ms sms
+pub plays_beyond : (bs : List SiteView) (ms sms : List (List ℕ)) (e : Event) → HasTexts e.operation → (e.site ≡ 0 → ⊥) → length bs < e.site → IsEventStep bs ms sms e Unknown bs ms sms
 plays_beyond bs ms sms e texts some h = λ schema ns w shown.
     plays_nowhere schema ns bs ms sms w shown e texts
     (numbered_place ns e.site some ∙ no_site schema ns w.stores bs (e.site - 1) shown.hold (slice_get_past bs (e.site - 1) (omega arith)))
@@ -266,7 +266,7 @@ module _ (bs : List SiteView) (ms sms ms1 sms1 : List (List ℕ)) (e : Event) (a
       below (suc n) m h k = omega arith
 
   pub plays_unmade : AnswersOperation (schema_of a) a.name (store_in a) (input_among ms1 sms1 e.operation) None (store_in b)
-      → Plays bs ms sms e Unknown (set bs (e.site - 1) b) ms sms
+      → IsEventStep bs ms sms e Unknown (set bs (e.site - 1) b) ms sms
   plays_unmade h = λ schema ns w shown. plays_unknown schema ns bs ms sms w shown e texts (e.site - 1) place a b at same
       (subst (λ xs. AnswersOperation (schema_of a) a.name (store_in a) (input_among xs sms e.operation) None (store_in b)) m_is
       (subst (λ ys. AnswersOperation (schema_of a) a.name (store_in a) (input_among ms1 ys e.operation) None (store_in b)) s_is h))
@@ -274,10 +274,10 @@ module _ (bs : List SiteView) (ms sms ms1 sms1 : List (List ℕ)) (e : Event) (a
   pub plays_replied : (r : Reply) (c : EventReply) (ms2 sms2 : List (List ℕ))
       → AnswersOperation (schema_of a) a.name (store_in a) (input_among ms1 sms1 e.operation) (Some r) (store_in b)
       → c ≡ answer_among (length ms) (length sms) e.operation r → ms2 ≡ ms ++ message_bytes e.operation r → sms2 ≡ sms ++ summary_bytes e.operation r
-      → Plays bs ms sms e c (set bs (e.site - 1) b) ms2 sms2
+      → IsEventStep bs ms sms e c (set bs (e.site - 1) b) ms2 sms2
   plays_replied r c ms2 sms2 h answer made noted = λ schema ns w shown.
-      subst (λ xs. (v : World) × Happens (Step schema) ns w e c v × IsShown schema ns (set bs (e.site - 1) b) xs sms2 v) (sym made)
-      (subst (λ ys. (v : World) × Happens (Step schema) ns w e c v × IsShown schema ns (set bs (e.site - 1) b) (ms ++ message_bytes e.operation r) ys v) (sym noted)
+      subst (λ xs. (v : World) × Happens (Step schema) ns w e c v × IsViewOf schema ns (set bs (e.site - 1) b) xs sms2 v) (sym made)
+      (subst (λ ys. (v : World) × Happens (Step schema) ns w e c v × IsViewOf schema ns (set bs (e.site - 1) b) (ms ++ message_bytes e.operation r) ys v) (sym noted)
       (plays_step schema ns bs ms sms w shown e texts (e.site - 1) place a b at same r c
       (subst (λ xs. AnswersOperation (schema_of a) a.name (store_in a) (input_among xs sms e.operation) (Some r) (store_in b)) m_is
       (subst (λ ys. AnswersOperation (schema_of a) a.name (store_in a) (input_among ms1 ys e.operation) (Some r) (store_in b)) s_is h)) answer))

@@ -21,7 +21,7 @@ use Rattle.site_steps.specs.declared.reply.Reply.{Reply}
 use Rattle.site_steps.specs.declared.reply.Reply.TheVariants as reply
 use Rattle.site_steps.specs.sync_messages.Messages.{IsMessageOf}
 use Rattle.site_steps.specs.Runs.{Step, took_by, updates_of_message}
-use Rattle.site_steps.specs.Outcomes.{HadMemoryForAll, InputsHaveOneOutcome}
+use Rattle.site_steps.specs.Outcomes.{ReportsNoFailedAllocationForAll, InputsHaveOneOutcome}
 use Rattle.site.specs.declared.event.Operation.TheVariants as operation
 use Rattle.site.specs.declared.event.Event.{Event}
 use Rattle.site.specs.declared.event.EventReply.{EventReply}
@@ -146,7 +146,7 @@ module _ (schema : StatedSchema) (sites : List SiteName) (are : AreSites sites) 
     never_both f c h = absurd cc
 
     refused_not : {G : Type 0} (k : ℕ) (m : SentMessage) (n : SiteName) (s t : Store) (f : SiteFault) → slice_get w.messages k ≡ Some m
-        → Step schema n s (input.Take m.bytes) (reply.Taken (Err f)) t → HadMemoryForAll (Err f) → G
+        → Step schema n s (input.Take m.bytes) (reply.Taken (Err f)) t → ReportsNoFailedAllocationForAll (Err f) → G
     refused_not k m n s t f h step memory =
         let read = is_message k m h in
         let us = plain_updates read.0 in

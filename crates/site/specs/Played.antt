@@ -1,4 +1,4 @@
--- Defines a system as the code has it: the sites themselves, and the bytes of the messages and summaries.
+-- Defines the view of a system as the code has it: the sites themselves, and the bytes of messages and summaries.
 use Rattle.std.specs.Prelude.{◌≡◌, ℕ, List, [], ◌∷◌, map}
 use Rattle.site_steps.specs.schema.Schemas.{StatedSchema}
 use Rattle.site_steps.specs.stamped_store.Store.{Store}
@@ -21,18 +21,18 @@ AreSitesOf schema [] [] [] = Unit {0}
 AreSitesOf schema (n ∷ ns) (s ∷ ss) (a ∷ rest) = IsSiteOf schema n s a × AreSitesOf schema ns ss rest
 AreSitesOf schema _ _ _ = ⊥
 
--- `IsShown schema sites seen ms ss w` holds if the sites `seen`, and the bytes `ms` and `ss` of messages and
--- summaries, are those of `w`.
-pub record IsShown (schema : StatedSchema) (sites : List SiteName) (seen : List SiteView) (ms ss : List (List ℕ))
+-- `IsViewOf schema sites seen ms ss w` holds if `seen` are sites of `schema` with the names `sites` and the stores of
+-- the state `w`, and `ms` and `ss` are the bytes of its messages and summaries.
+pub record IsViewOf (schema : StatedSchema) (sites : List SiteName) (seen : List SiteView) (ms ss : List (List ℕ))
     (w : World) : Type 0 where
   pub hold : AreSitesOf schema sites w.stores seen
   pub messages : ms ≡ map (λ m. m.bytes) w.messages
   pub summaries : ss ≡ map (λ m. m.bytes) w.summaries
 
--- `IsPlayed schema sites es rs seen messages summaries` holds if these are of a state after the events `es` with the
--- replies `rs`.
-pub record IsPlayed (schema : StatedSchema) (sites : List SiteName) (es : List Event) (rs : List EventReply)
+-- `IsRunTo schema sites es rs seen messages summaries` holds if the sites `seen` and the bytes `messages` and
+-- `summaries` are those of a state to which the events `es` with the replies `rs` lead.
+pub record IsRunTo (schema : StatedSchema) (sites : List SiteName) (es : List Event) (rs : List EventReply)
     (seen : List SiteView) (messages summaries : List (List ℕ)) : Type 0 where
   pub world : World
   pub leads : IsWorld (Step schema) sites es rs world
-  pub shown : IsShown schema sites seen messages summaries world
+  pub shown : IsViewOf schema sites seen messages summaries world

@@ -1,6 +1,6 @@
 -- Defines what holds in every system at every moment, whatever is delivered, in whatever order and however often.
--- Rules of this product. That deltas may be exchanged in place of states is from "Delta state replicated data types"
--- (Almeida, Shoker, Baquero 2018).
+-- Source: "Delta state replicated data types" (Almeida, Shoker, Baquero 2018), for deltas in place of states.
+-- Rules of this product: the other promises.
 use Rattle.std.specs.Prelude.{◌≡◌, ℕ, List, slice_get, Some, Ok, Err, Contains}
 use Rattle.site_steps.specs.schema.Schemas.{StatedSchema}
 use Rattle.site_steps.specs.schema.SchemaEntries.{SchemaEntries}
@@ -23,12 +23,13 @@ use Rattle.site.specs.declared.event.EventReply.TheVariants.{Replied}
 use Rattle.site.specs.Sites.{SiteName, AreSites, numbered, SentSummary, SentMessage, World, content}
 use Rattle.site.specs.Worlds.{Happens, IsWorld, WasIssued, issued_by}
 
--- Of a system: `Steps n s i r t` states what one step of a site may be, `States bytes us` which bytes are a message
--- with the updates `us`, and `Issues d r u` that the operation `d` with the reply `r` issues the update `u`.
+-- The promises have three relations as parameters. `Steps n s i r t`: the site named `n` with the store `s` may reply
+-- `r` to the input `i` and then have the store `t`. `States bytes us`: `bytes` are a message with the updates `us`.
+-- `Issues d r u`: the operation `d` with the reply `r` issues the update `u`.
 module _ (Steps : SiteName → Store → Input → Reply → Store → Type 0) (States : List ℕ → List Update → Type 0)
     (Issues : Operation → Reply → Update → Type 0) where
-  -- `KeepsPromises sites es rs w` holds if these promises hold in the state `w`, after the events `es` with the
-  -- replies `rs`.
+  -- `KeepsPromises sites es rs w` holds if each promise below holds in the state `w` of a system of the sites `sites`,
+  -- after the events `es` with the replies `rs`.
   pub record KeepsPromises (sites : List SiteName) (es : List Event) (rs : List EventReply) (w : World) : Type 0 where
     -- No entry is invented: each entry in a store, and each entry in a message, was issued by a local command whose
     -- reply was its stamp, at the site that the stamp names.
@@ -46,46 +47,48 @@ module _ (Steps : SiteName → Store → Input → Reply → Store → Type 0) (
         (Replied (reply.Taken (Ok (All c)))) v
         → slice_get w.messages k ≡ Some m → m.since ≡ Some old → old.site ≡ i → numbered w.stores i ≡ Some s
         → numbered v.stores i ≡ Some (joined_stores s m.whole)
-    -- Messages are faithful: a message states the store that it was made from, or for a delta the missing entries.
+    -- Messages are faithful: a state has the updates of the store that it was made from, and a delta those of the
+    -- entries whose names the summary lacks or has with a smaller stamp.
     pub read : (k : ℕ) (m : SentMessage) → slice_get w.messages k ≡ Some m → States m.bytes (updates (content m))
-    -- Messages are understood: a message is rejected, at any site and over any store, only for `NoMemory`, and so is a
-    -- summary.
+    -- Messages are understood: a message that was made is rejected, at any site and over any store, only for
+    -- `NoMemory`, and so is a summary that was made.
     pub taken : (k : ℕ) (m : SentMessage) (n : SiteName) (s t : Store) (f : SiteFault)
         → slice_get w.messages k ≡ Some m → Steps n s (input.Take m.bytes) (reply.Taken (Err f)) t → f ≡ NoMemory
     pub answered : (k : ℕ) (m : SentSummary) (n : SiteName) (s t : Store) (f : SiteFault)
         → slice_get w.summaries k ≡ Some m → Steps n s (input.Delta m.bytes) (reply.Written (Err f)) t → f ≡ NoMemory
 
-  -- `AlwaysKeepsPromises sites es rs` holds if the promises hold in each state that these events with these replies
-  -- lead to.
+  -- `AlwaysKeepsPromises sites es rs` holds if the promises hold in each state to which the events `es` with the
+  -- replies `rs` lead.
   abbrev pub AlwaysKeepsPromises : List SiteName → List Event → List EventReply → Type 0
   AlwaysKeepsPromises sites es rs = (w : World) → IsWorld Steps sites es rs w → KeepsPromises sites es rs w
 
-  -- `SystemsKeepPromises`: the promises hold for all sites with distinct names, and for all events in any order; at
-  -- every moment, since each beginning of a list of events is a list of events.
+  -- `SystemsKeepPromises`: the promises hold for all sites with distinct names and all lists of events, and so at every
+  -- moment, since the events up to a moment are such a list too.
   abbrev pub SystemsKeepPromises : Type 0
   SystemsKeepPromises = (sites : List SiteName) → AreSites sites → (es : List Event) (rs : List EventReply)
       → AlwaysKeepsPromises sites es rs
 
 -- ---- by the functions that the contracts of a site cite
 
--- `StatesBy schema bytes us` holds if the parsing function gives the updates `us` for the message `bytes`.
+-- `StatesBy schema bytes us` holds if the parsing function `updates_stated` gives the updates `us` for the message
+-- `bytes` of `schema`.
 abbrev pub StatesBy : StatedSchema → List ℕ → List Update → Type 0
 StatesBy schema bytes us = updates_stated schema.label bytes ≡ Ok us
 
--- `IssuesBy schema d r u` holds if `u` is among the updates that `d` with the reply `r` got a stamp for.
+-- `IssuesBy schema d r u` holds if `u` is the update that the operation `d` with the reply `r` got a stamp for.
 abbrev pub IssuesBy : StatedSchema → Operation → Reply → Update → Type 0
 IssuesBy schema d r u = Contains (issued_by schema d r) u
 
--- `WorldKeepsPromises schema sites es rs` holds if the promises hold in each state of sites of this schema that these
--- events with these replies lead to.
+-- `WorldKeepsPromises schema sites es rs` holds if the promises hold in each state of sites of `schema` to which the
+-- events `es` with the replies `rs` lead.
 abbrev pub WorldKeepsPromises : StatedSchema → List SiteName → List Event → List EventReply → Type 0
 WorldKeepsPromises schema sites es rs =
     AlwaysKeepsPromises (Step schema) (StatesBy schema) (IssuesBy schema) sites es rs
 
--- `WorldsKeepPromises schema`: the promises hold for all sites of `schema`.
+-- `WorldsKeepPromises schema`: the promises hold for all sites of `schema` with distinct names and all lists of events.
 abbrev pub WorldsKeepPromises : StatedSchema → Type 0
 WorldsKeepPromises schema = SystemsKeepPromises (Step schema) (StatesBy schema) (IssuesBy schema)
 
--- `AllWorldsKeepPromises`: the promises hold for all sites of each schema that bytes state.
+-- `AllWorldsKeepPromises`: the promises hold for all sites, with distinct names, of each schema that bytes describe.
 abbrev pub AllWorldsKeepPromises : Type 0
 AllWorldsKeepPromises = (schema : SchemaEntries) → IsStated schema → WorldsKeepPromises (schema_view schema)

@@ -1,5 +1,4 @@
 -- Defines the state of a system of sites: the store of each site, and each message and summary that was made so far.
--- Each may be delivered to any site, again and in any order.
 -- Rules of this product: messages and summaries are numbered from 0, sites from 1.
 use Rattle.std.specs.Prelude.{◌≡◌, ℕ, zero, suc, List, [], ◌∷◌, ◌++◌, map, set, slice_get, Option, Some, None}
 use Rattle.std.specs.FinMap.{empty}
@@ -18,8 +17,7 @@ pub record AreSites (sites : List SiteName) : Type 0 where
   pub named : (k : ℕ) (n : SiteName) → slice_get sites k ≡ Some n → IsSiteName n
   pub distinct : (j k : ℕ) (n : SiteName) → slice_get sites j ≡ Some n → slice_get sites k ≡ Some n → j ≡ k
 
--- `first_sites n` is the list of the names of `n` sites without names of their own: the five digits of 1, 2 and so
--- on.
+-- `first_sites n` is the list of the default names of `n` sites: the five digits of 1, 2 and so on.
 abbrev pub first_sites : ℕ → List SiteName
 first_sites zero = []
 first_sites (suc n) = first_sites n ++ five_digits (suc n) ∷ []
@@ -29,7 +27,7 @@ abbrev pub numbered : {X : Type 0} → List X → ℕ → Option X
 numbered xs zero = None
 numbered xs (suc k) = slice_get xs k
 
--- `set_numbered xs k x` is `xs` with `x` in place of that item.
+-- `set_numbered xs k x` is `xs` with `x` in place of the item with the number `k`, from 1.
 abbrev pub set_numbered : {X : Type 0} → List X → ℕ → X → List X
 set_numbered xs zero x = xs
 set_numbered xs (suc k) x = set xs k x
@@ -49,19 +47,20 @@ pub record SentMessage : Type 0 where
   pub whole : Store
   pub since : Option SentSummary
 
--- A `World` is the store of each site, in the order of the sites, and what was made so far, in the order in which it
--- was made.
+-- A `World` is the state of a system: the store of each site, in the order of the sites, and the messages and summaries
+-- that were made so far, in the order in which they were made.
 pub record World : Type 0 where
   pub stores : List Store
   pub messages : List SentMessage
   pub summaries : List SentSummary
 
--- `part_since s since` is what was sent of the store `s`: all of it, or the delta against the summary `since`.
+-- `part_since s since` is the part of the store `s` that a message has: all of it for a state, or the delta against the
+-- summary `since`.
 abbrev pub part_since : Store → Option SentSummary → Store
 part_since s None = s
 part_since s (Some old) = delta s (summary_of old.store)
 
--- `content m` is what the message `m` sent of its store.
+-- `content m` is the part of its store that the message `m` has.
 abbrev pub content : SentMessage → Store
 content m = part_since m.whole m.since
 

@@ -1,7 +1,7 @@
--- Defines the runs of a system of sites: each event is one step of one site. What it makes is added to the messages
--- and summaries, and a message that was made may be delivered to any site, again and in any order.
--- Rules of this product: an event that names a site, a message or a summary that does not exist gets the reply 30 and
--- changes nothing; there is no promise of time or order, or that a message is delivered.
+-- Defines the runs of a system of sites: each event is one step of one site. A message or summary that it makes is
+-- added to those of the system, and may be delivered to any site, again and in any order.
+-- Rules of this product: an event that names a site, a message or a summary that does not exist gets the reply
+-- `Unknown` (30) and changes nothing; there is no promise of time or order, or that a message is delivered.
 use Rattle.std.specs.Prelude.{◌≡◌, ℕ, List, [], ◌∷◌, ◌++◌, length, map, slice_get}
 use Rattle.std.specs.Prelude.{Option, Some, None, option_map, Ok, Err}
 use Rattle.std.specs.Str.{IsUtf8}
@@ -21,14 +21,14 @@ use Rattle.site.specs.Sites.{SiteName, numbered, set_numbered, SentSummary, Sent
 
 -- ---- events
 
--- `HasTexts d` holds if the id and text of a policy that `d` puts are UTF-8, as all strings in the code are. (JSON
--- and bytes have no condition.)
+-- `HasTexts d` holds if the id and the text of a policy that the operation `d` puts are UTF-8, as all strings in the
+-- code are. Other operations have no condition.
 abbrev pub HasTexts : Operation → Type 0
 HasTexts (operation.PutPolicy id text) = IsUtf8 id × IsUtf8 text
 HasTexts _ = Unit {0}
 
--- `input_by message summary d` is the input of the operation `d` to its site, given the messages and summaries by
--- number; `None` if the one that `d` names does not exist.
+-- `input_by message summary d` is the input that the operation `d` gives its site, where `message` and `summary` give
+-- the bytes of messages and summaries by number; `None` if the one that `d` names does not exist.
 abbrev pub input_by : (ℕ → Option (List ℕ)) → (ℕ → Option (List ℕ)) → Operation → Option Input
 input_by message summary (operation.PutPolicy id text) = Some (input.PutPolicy id text)
 input_by message summary (operation.DeletePolicy id) = Some (input.DeletePolicy id)
@@ -40,14 +40,15 @@ input_by message summary operation.Offer = Some input.State
 input_by message summary (operation.OfferDelta k) = option_map input.Delta (summary k)
 input_by message summary (operation.Deliver k) = option_map input.Take (message k)
 
--- `input_of w d` is that input, given the messages and summaries of `w`.
+-- `input_of w d` is the input that the operation `d` gives its site in the state `w`; `None` if `d` names a message or
+-- summary that does not exist.
 abbrev pub input_of : World → Operation → Option Input
 input_of w d =
     input_by (λ k. option_map (λ m. m.bytes) (slice_get w.messages k))
     (λ k. option_map (λ m. m.bytes) (slice_get w.summaries k)) d
 
--- `answer_among m n d r` is the event's reply to the operation `d` for the site's reply `r`: the number of what was
--- made, after m messages and n summaries.
+-- `answer_among m n d r` is the event's reply for the operation `d` with the site's reply `r`, where `m` messages and
+-- `n` summaries were made before: the number of the message or summary that was made, else the site's reply.
 abbrev pub answer_among : ℕ → ℕ → Operation → Reply → EventReply
 answer_among m n operation.Summary (reply.Written (Ok bytes)) = Summary (Ok n)
 answer_among m n operation.Summary (reply.Written (Err f)) = Summary (Err f)
@@ -57,37 +58,38 @@ answer_among m n (operation.OfferDelta k) (reply.Written (Ok bytes)) = Message (
 answer_among m n (operation.OfferDelta k) (reply.Written (Err f)) = Message (Err f)
 answer_among m n _ r = Replied r
 
--- `answer_of w d r` is that reply, after the messages and summaries of `w`.
+-- `answer_of w d r` is the event's reply in the state `w` for the operation `d` with the site's reply `r`.
 abbrev pub answer_of : World → Operation → Reply → EventReply
 answer_of w d r = answer_among (length w.messages) (length w.summaries) d r
 
--- `message_bytes d r` is the list of the bytes of the message that `d` with the reply `r` made, if it made one.
+-- `message_bytes d r` is the list of the bytes of the message that the operation `d` with the reply `r` made, if any.
 abbrev pub message_bytes : Operation → Reply → List (List ℕ)
 message_bytes operation.Offer (reply.Written (Ok bytes)) = bytes ∷ []
 message_bytes (operation.OfferDelta k) (reply.Written (Ok bytes)) = bytes ∷ []
 message_bytes _ r = []
 
--- `summary_bytes d r` is the list of the bytes of the summary that `d` with the reply `r` made, if it made one.
+-- `summary_bytes d r` is the list of the bytes of the summary that the operation `d` with the reply `r` made, if any.
 abbrev pub summary_bytes : Operation → Reply → List (List ℕ)
 summary_bytes operation.Summary (reply.Written (Ok bytes)) = bytes ∷ []
 summary_bytes _ r = []
 
--- `since_of w d` is the summary that `d` makes a delta against, if it makes one.
+-- `since_of w d` is the summary of the state `w` against which the operation `d` makes a delta, if it makes one.
 abbrev pub since_of : World → Operation → Option SentSummary
 since_of w (operation.OfferDelta k) = slice_get w.summaries k
 since_of w _ = None
 
--- `message_made w d s r` is the list of the message that `d` with the reply `r` made of the store `s`, if it made
--- one.
+-- `message_made w d s r` is the list of the message that the operation `d` with the reply `r` made from the store `s`
+-- in the state `w`, if any.
 abbrev pub message_made : World → Operation → Store → Reply → List SentMessage
 message_made w d s r = map (λ bytes. record { bytes = bytes; whole = s; since = since_of w d }) (message_bytes d r)
 
--- `summary_made i d s r` is the list of the summary that `d` with the reply `r` made at the site with the number `i`,
--- if it made one.
+-- `summary_made i d s r` is the list of the summary that the operation `d` with the reply `r` made from the store `s`
+-- of the site with the number `i`, if any.
 abbrev pub summary_made : ℕ → Operation → Store → Reply → List SentSummary
 summary_made i d s r = map (λ bytes. record { bytes = bytes; site = i; store = s }) (summary_bytes d r)
 
--- `after w e s r t` is the state after the event `e` in `w`: the site that held `s` and replied `r` now holds `t`.
+-- `after w e s r t` is the state after the event `e` in the state `w`: its site, which had the store `s` and replied
+-- `r`, now has the store `t`.
 abbrev pub after : World → Event → Store → Reply → Store → World
 after w e s r t = record {
   stores = set_numbered w.stores e.site t;
@@ -95,10 +97,11 @@ after w e s r t = record {
   summaries = w.summaries ++ summary_made e.site e.operation s r;
 }
 
--- `Steps n s i r t` states whether, at the site named `n` with store `s`, input `i` may yield reply `r` and store `t`.
+-- The runs have a relation as a parameter. `Steps n s i r t`: at the site named `n` with the store `s`, the input `i`
+-- may yield the reply `r` and the store `t`.
 module _ (Steps : SiteName → Store → Input → Reply → Store → Type 0) where
-  -- `IsStepAt w e n s i a v` holds if one step of the site named `n`, which held `s`, with the input `i`, leads from
-  -- `w` to `v` with the reply `a`.
+  -- `IsStepAt w e n s i a v` holds if the event `e` leads from the state `w` to the state `v` with the reply `a`, by
+  -- one step of its site, which is named `n` and has the store `s`, with the input `i`.
   pub record IsStepAt (w : World) (e : Event) (n : SiteName) (s : Store) (i : Input) (a : EventReply) (v : World)
       : Type 0 where
     pub reply : Reply
@@ -107,29 +110,31 @@ module _ (Steps : SiteName → Store → Input → Reply → Store → Type 0) w
     pub answer : a ≡ answer_of w e.operation reply
     pub leaves : v ≡ after w e s reply store
 
-  -- `HappensAt w e n s i a v` holds if there are a site's name `n`, its store `s` and an input `i`, and such a step;
-  -- or one of these is absent, the reply `a` is `Unknown`, and `v` is `w`.
+  -- `HappensAt w e n s i a v` is the same where the name `n`, the store `s` or the input `i` may be absent; then the
+  -- reply `a` is `Unknown`, and `v` is `w`.
   abbrev pub HappensAt : World → Event → Option SiteName → Option Store → Option Input → EventReply → World → Type 0
   HappensAt w e (Some n) (Some s) (Some i) a v = IsStepAt w e n s i a v
   HappensAt w e _ _ _ a v = (a ≡ Unknown) × (v ≡ w)
 
-  -- `Happens sites w e a v` holds if in `w` the event `e` may get the reply `a`, and lead to `v`.
+  -- `Happens sites w e a v` holds if in the state `w` of the sites `sites` the event `e` may get the reply `a` and lead
+  -- to the state `v`.
   pub record Happens (sites : List SiteName) (w : World) (e : Event) (a : EventReply) (v : World) : Type 0 where
     pub texts : HasTexts e.operation
     pub happens : HappensAt w e (numbered sites e.site) (numbered w.stores e.site) (input_of w e.operation) a v
 
-  -- `Leads sites w es rs v` holds if the events `es` with the replies `rs` lead from `w` to `v`.
+  -- `Leads sites w es rs v` holds if the events `es` with the replies `rs` lead from the state `w` to the state `v`.
   abbrev pub Leads : List SiteName → World → List Event → List EventReply → World → Type 0
   Leads sites w [] [] v = v ≡ w
   Leads sites w [] (a ∷ rs) v = ⊥
   Leads sites w (e ∷ es) [] v = ⊥
   Leads sites w (e ∷ es) (a ∷ rs) v = (m : World) × Happens sites w e a m × Leads sites m es rs v
 
-  -- `IsWorld sites es rs w` holds if `w` is the state of a system of sites with these names, each empty at the start,
-  -- after the events `es` with the replies `rs`. An example: sites `00001` and `00002` under one schema. 1 makes a
-  -- summary (number 0), puts a policy `p` with the stamp (1, `00001`) and offers its state (message 0), which is
-  -- delivered to 2: 2 applies one update. 2 deletes `p` with the stamp (2, `00002`) and offers a delta against the
-  -- summary 0 (message 1). Message 1 is delivered to 1, and message 0 once more: both sites hold the deletion.
+  -- `IsWorld sites es rs w` holds if `w` is the state of a system of sites with the names `sites`, each empty at the
+  -- start, after the events `es` with the replies `rs`. For example, take sites `00001` and `00002` under one schema.
+  -- Site 1 makes a summary (number 0), puts a policy `p` with the stamp (1, `00001`), and makes its state (message 0).
+  -- Message 0 is delivered to site 2, which applies one update. Site 2 deletes `p` with the stamp (2, `00002`), and
+  -- makes a delta against the summary 0 (message 1). Message 1 and then again message 0 are delivered to site 1. At the
+  -- end both sites have the tombstone of `p`.
   abbrev pub IsWorld : List SiteName → List Event → List EventReply → World → Type 0
   IsWorld sites es rs w = Leads sites (start sites) es rs w
 
@@ -140,8 +145,8 @@ AnswersFixWorlds = (schema : StatedSchema) (sites : List SiteName) (es : List Ev
 
 -- ---- what was issued
 
--- `WasIssued Issues sites es rs u` holds if one of the events `es`, with its reply of `rs`, issued the update `u` at
--- the site that the stamp of `u` names. `Issues d r u` states whether the operation `d` with the reply `r` issues `u`.
+-- `WasIssued Issues sites es rs u` holds if one of the events `es`, with its reply in `rs`, issued the update `u` at
+-- the site that the stamp of `u` names, where `Issues d r u` says that the operation `d` with the reply `r` issues `u`.
 pub record WasIssued (Issues : Operation → Reply → Update → Type 0) (sites : List SiteName) (es : List Event)
     (rs : List EventReply) (u : Update) : Type 0 where
   pub place : ℕ
@@ -152,7 +157,8 @@ pub record WasIssued (Issues : Operation → Reply → Update → Type 0) (sites
   pub named : numbered sites event.site ≡ Some u.1.site
   pub issues : Issues event.operation reply u
 
--- `issued_by schema d r` is the list of the updates that the local command `d` with the reply `r` got a stamp for.
+-- `issued_by schema d r` is the list of the update that the operation `d` with the reply `r` got a stamp for, if `d` is
+-- a local command that got one.
 abbrev pub issued_by : StatedSchema → Operation → Reply → List Update
 issued_by schema (operation.PutPolicy id text) r = took_by schema (input.PutPolicy id text) r
 issued_by schema (operation.DeletePolicy id) r = took_by schema (input.DeletePolicy id) r

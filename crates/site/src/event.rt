@@ -9,21 +9,21 @@ use values::EntityUid;
 pub enum Operation {
     /// Puts a policy: its id, and its text.
     PutPolicy(Text, Text),
-    /// Deletes the policy of this id.
+    /// Deletes the policy with this id.
     DeletePolicy(Text),
     /// Puts an entity: its JSON, as bytes.
     PutEntity(Items<u8>),
-    /// Deletes the entity of this uid.
+    /// Deletes the entity with this uid.
     DeleteEntity(EntityUid),
     /// Decides a request: its JSON, as bytes.
     Authorize(Items<u8>),
-    /// Makes a summary.
+    /// Makes a summary of the store.
     Summary,
-    /// Makes a state.
+    /// Makes a message of the whole store, a state.
     Offer,
-    /// Makes a delta against the summary of this number.
+    /// Makes a delta against the summary with this number.
     OfferDelta(usize),
-    /// Applies the message of this number.
+    /// Applies the message with this number.
     Deliver(usize),
 }
 
@@ -39,9 +39,9 @@ pub struct Event {
 /// The reply to an event.
 #[derive(Drop)]
 pub enum EventReply {
-    /// No site, message or summary has the number that the event names (30). Nothing changed.
+    /// No site, message or summary has the number that the event names (code 30). Nothing changed.
     Unknown,
-    /// The site's reply to a command, a request or a message.
+    /// The site's reply to a command, a request or a delivered message.
     Replied(Reply),
     /// The number of the message that was made, from 0.
     Message(Result<usize, SiteFault>),

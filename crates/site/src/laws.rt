@@ -1,4 +1,4 @@
-//! Theorems about systems of sites; their functions do nothing.
+//! Theorems about systems of sites. The functions are no-ops.
 ghost use Rattle.std.specs.Prelude.{◌<◌, ℕ};
 ghost use Rattle.site.specs.Sites.{AreSites, first_sites};
 ghost use Rattle.site.specs.Promises.{AllWorldsKeepPromises};
@@ -6,21 +6,21 @@ ghost use Rattle.site.specs.Worlds.{AnswersFixWorlds};
 
 use site_steps::{
     Entity, Policy, SchemaTexts, deltas_are_joined, inputs_have_one_outcome, json_texts_are_utf8,
-    messages_read_back, names_read_back, runs_leave_what_they_took, site_names_are_told,
+    messages_read_back, names_read_back, runs_leave_what_they_took, site_names_are_recognized,
     stamps_are_issued, stated_schemas_are_well_formed, summaries_read_back, updates_have_one_store,
     valid_messages_are_read,
 };
 
-/// Proves what holds in each system of sites with distinct names under a schema that bytes describe,
-/// whatever was delivered, in whatever order and however often:
+/// Proves what holds in each system of sites with distinct names under a schema that bytes describe. No-op.
+///
+/// Whatever was delivered, in whatever order and however often:
 ///
 /// - Each entry in a store or a message was issued by a local command at the site that its stamp names.
 /// - Equal stamps mean equal updates.
-/// - A site that applies all of a delta, made from a store against an earlier summary of this site, then holds the
-///   join of its store and that store.
-/// - A message that was made states its content; it, and a summary that was made, is rejected only for `NoMemory`.
-///
-/// No-op.
+/// - A site that applies all of a delta, made from a store against an earlier summary of this site, then has the join
+///   of its store and that store.
+/// - A state has the updates of its store, and a delta those of the missing entries. A message or summary that was made
+///   is rejected only for `NoMemory`.
 pub fn worlds_keep_promises()
     ensures { AllWorldsKeepPromises }
 {
@@ -47,10 +47,11 @@ pub fn answers_fix_worlds()
     runs_leave_what_they_took();
 }
 
-/// Proves that the five digits of 1, 2 and so on are distinct site names, for up to 99,999 sites, and so for the 65,535
-/// that messages of version 1 can name. No-op.
+/// Proves that the five digits of 1, 2 and so on are distinct site names, for up to 99,999 sites. No-op.
+///
+/// Messages of version 1 can name 65,535 of these.
 pub fn first_sites_are_distinct()
     ensures { (count : ℕ) → count < 100000 → AreSites (first_sites count) }
 {
-    site_names_are_told();
+    site_names_are_recognized();
 }

@@ -1,7 +1,7 @@
 //! A system of sites: sites of one schema that exchange messages.
 //!
-//! Each message and summary that was made may be delivered to any site, again and in any order. Theorems state what
-//! holds in all systems at every moment; [`simulate`] runs one event by event.
+//! Each message and summary that was made may be delivered to any site, again and in any order. Theorems prove what
+//! holds in all systems at every moment. [`simulate`] runs a system event by event.
 #![tactic(auto)]
 
 mod event;
@@ -16,6 +16,7 @@ pub use site_steps::{
     EntityFault, Found, Input, Put, Reply, Scratch, Site, SiteFault, SiteName, Stamp, Taken,
     answer, entity_texts_are_read_as_stated, inputs_have_one_outcome, is_site_name,
     messages_are_read_as_stated, run, runs_are_sound, runs_leave_what_they_took,
-    site_names_are_told, summaries_are_read_as_stated, take_bytes, updates_are_read_as_stated,
+    site_names_are_recognized, summaries_are_read_as_stated, take_bytes,
+    updates_are_read_as_stated,
 };
 pub use world::{World, simulate};

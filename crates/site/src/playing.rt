@@ -1,12 +1,12 @@
-//! Runs one event of a system of sites.
+//! The run of a system of sites, event by event.
 ghost use Rattle.site_steps.specs.schema.Schemas.{StatedSchema};
 ghost use Rattle.site.specs.Sites.{SiteName, start};
 ghost use Rattle.std.specs.Prelude.{◌≡◌, List, ◌++◌, IfOk, OnOk, length, option_map};
 ghost use Rattle.site_steps.specs.SiteViews.{schema_of, store_in, IsSameSite};
 ghost use Rattle.site_steps.specs.Inputs.{input_of};
 ghost use Rattle.site.specs.Worlds.{HasTexts, answer_among, message_bytes, summary_bytes as bytes_made};
-ghost use Rattle.site.specs.Played.{IsPlayed, IsShown};
-ghost use Rattle.site.specs.inner.Playing.{input_among, AnswersOperation, Plays};
+ghost use Rattle.site.specs.Played.{IsRunTo, IsViewOf};
+ghost use Rattle.site.specs.inner.Playing.{input_among, AnswersOperation, IsEventStep};
 
 use crate::event::{Event, EventReply, Operation};
 use plain::{Items, NoMemory};
@@ -23,7 +23,7 @@ pub(crate) fn has_texts(operation: &Operation)
     }
 }
 
-/// Returns the input that an operation gives its site, with the messages and summaries that were made; `None` if it
+/// Returns the input that an operation gives its site, by the messages and summaries that were made, or `None` if it
 /// names one that was not made yet.
 fn input_by<'a>(
     operation: &'a Operation,
@@ -51,7 +51,7 @@ fn input_by<'a>(
     }
 }
 
-/// Returns a site's reply to an operation; `None` if the message or summary that it names was not made yet.
+/// Returns a site's reply to an operation, or `None` if the operation names a message or summary that was not made yet.
 pub(crate) fn step(
     alloc: Global,
     scratch: &mut Scratch,
@@ -70,7 +70,7 @@ pub(crate) fn step(
     }
 }
 
-/// Stores the message that was made, and returns its number.
+/// Appends the message in a site's reply to `messages`, and returns the event's reply: its number, or the error.
 fn keep_message(messages: &mut Vec<Items<u8>>, reply: Reply) -> Result<EventReply, NoMemory>
     ensures answer { IfOk result (λ a. a ≡ answer_among (length messages.old.items) 0 Operation.Offer reply) }
     ensures kept { OnOk result (messages.new.items ≡ messages.old.items ++ message_bytes Operation.Offer reply) }
@@ -86,7 +86,7 @@ fn keep_message(messages: &mut Vec<Items<u8>>, reply: Reply) -> Result<EventRepl
     }
 }
 
-/// Stores the summary that was made, and returns its number.
+/// Appends the summary in a site's reply to `summaries`, and returns the event's reply: its number, or the error.
 fn keep_summary(summaries: &mut Vec<Items<u8>>, reply: Reply) -> Result<EventReply, NoMemory>
     ensures answer { IfOk result (λ a. a ≡ answer_among 0 (length summaries.old.items) Operation.Summary reply) }
     ensures kept { OnOk result (summaries.new.items ≡ summaries.old.items ++ bytes_made Operation.Summary reply) }
@@ -102,7 +102,7 @@ fn keep_summary(summaries: &mut Vec<Items<u8>>, reply: Reply) -> Result<EventRep
     }
 }
 
-/// Stores what an operation with this reply made, and returns the event's reply.
+/// Stores the message or summary that an operation with this reply made, if any, and returns the event's reply.
 pub(crate) fn keep(
     messages: &mut Vec<Items<u8>>,
     summaries: &mut Vec<Items<u8>>,
@@ -122,7 +122,8 @@ pub(crate) fn keep(
     }
 }
 
-/// Runs one event; nothing changes if it names a site, a message or a summary that does not exist.
+/// Runs one event, and returns its reply. Nothing changes if it names a site, a message or a summary that does not
+/// exist.
 fn play_one(
     alloc: Global,
     scratch: &mut Scratch,
@@ -131,8 +132,8 @@ fn play_one(
     summaries: &mut Vec<Items<u8>>,
     event: &Event,
 ) -> Result<EventReply, NoMemory>
-    ensures { IfOk result (λ a. Plays sites.old.items messages.old.items summaries.old.items event.now a sites.new.items
-        messages.new.items summaries.new.items) }
+    ensures { IfOk result (λ a. IsEventStep sites.old.items messages.old.items summaries.old.items event.now a
+        sites.new.items messages.new.items summaries.new.items) }
 {
     has_texts(&event.operation);
     if event.site == 0 {
@@ -156,7 +157,7 @@ fn play_one(
     Ok(answer)
 }
 
-/// Runs events one after another.
+/// Runs events one after another, and returns their replies.
 pub(crate) fn play(
     alloc: Global,
     sites: &mut Vec<Site>,
@@ -165,8 +166,8 @@ pub(crate) fn play(
     events: &[Event],
 ) -> Result<Vec<EventReply>, NoMemory>
     ensures { IfOk result (λ rs. (schema : StatedSchema) (names : List SiteName)
-        → IsShown schema names sites.old.items messages.old.items summaries.old.items (start names)
-        → IsPlayed schema names events.now rs.items sites.new.items messages.new.items summaries.new.items) }
+        → IsViewOf schema names sites.old.items messages.old.items summaries.old.items (start names)
+        → IsRunTo schema names events.now rs.items sites.new.items messages.new.items summaries.new.items) }
 {
     let mut replies = Vec::new(alloc);
     let mut scratch = Scratch::new(alloc);

@@ -1,4 +1,4 @@
-//! A system of sites, run from its events.
+//! A system of sites, run from a list of events.
 ghost use Rattle.std.specs.Prelude.{◌≤◌, IfOk, List, []};
 ghost use Rattle.site_steps.specs.schema.Schemas.{StatedSchema};
 ghost use Rattle.site_steps.specs.schema.Views.{schema_view};
@@ -6,7 +6,7 @@ ghost use Rattle.site_steps.specs.stamped_store.SiteNames.{five_digits};
 ghost use Rattle.site_steps.specs.stamped_store.Store.{store_of};
 ghost use Rattle.site.specs.Sites.{SiteName as Named, first_sites, start};
 ghost use Rattle.site.specs.Promises.{WorldKeepsPromises};
-ghost use Rattle.site.specs.Played.{IsSiteOf, AreSitesOf, IsPlayed};
+ghost use Rattle.site.specs.Played.{IsSiteOf, AreSitesOf, IsRunTo};
 
 use crate::event::{Event, EventReply};
 use crate::laws::{first_sites_are_distinct, worlds_keep_promises};
@@ -24,15 +24,15 @@ pub struct World {
     pub messages: Vec<Items<u8>>,
     /// The summaries that were made so far, as bytes, numbered from 0.
     pub summaries: Vec<Items<u8>>,
-    /// The reply to each event.
+    /// The reply to each event, in the order of the events.
     pub replies: Vec<EventReply>,
 }
 
-/// Runs events at empty sites of one schema, each with its name.
+/// Runs events at these sites, which are empty sites of one schema.
 fn simulate_at(alloc: Global, mut sites: Vec<Site>, events: &[Event]) -> Result<World, NoMemory>
     ensures { IfOk result (λ w. (schema : StatedSchema) (names : List Named)
         → AreSitesOf schema names (start names).stores sites.items
-        → IsPlayed schema names events.now w.replies.items w.sites.items w.messages.items w.summaries.items) }
+        → IsRunTo schema names events.now w.replies.items w.sites.items w.messages.items w.summaries.items) }
 {
     let mut messages = Vec::new(alloc);
     let mut summaries = Vec::new(alloc);
@@ -53,7 +53,7 @@ fn new_site(alloc: Global, schema: &Shared<Schema>, number: u16) -> Result<Site,
     Ok(Site::new(alloc, schema.share()?, name.as_str()))
 }
 
-/// Creates `count` empty sites of a schema: `00001`, `00002` and so on.
+/// Creates `count` empty sites of a schema, named `00001`, `00002` and so on.
 fn new_sites(alloc: Global, schema: &Shared<Schema>, count: u16) -> Result<Vec<Site>, NoMemory>
     ensures { IfOk result (λ sites. AreSitesOf (schema_view schema.now) (first_sites count)
         (start (first_sites count)).stores sites.items) }
@@ -67,12 +67,13 @@ fn new_sites(alloc: Global, schema: &Shared<Schema>, count: u16) -> Result<Vec<S
 
 /// Runs events at `count` empty sites of a schema, named `00001`, `00002` and so on.
 ///
-/// The result is a system as the theorems describe it ([`worlds_keep_promises`]).
+/// `count` must be from 1 to 64. The result is the state of a system to which the theorems apply
+/// ([`worlds_keep_promises`]).
 ///
 /// # Errors
 ///
-/// `NoMemory` if an allocation fails for the sites, or to store a message, a summary or a reply. Any other failed
-/// allocation is the reply to its event.
+/// - `NoMemory`: an allocation failed for the sites, or to store a message, a summary or a reply. Any other failed
+///   allocation is reported in the reply to its event.
 pub fn simulate(
     alloc: Global,
     schema: &Shared<Schema>,
@@ -80,7 +81,7 @@ pub fn simulate(
     events: &[Event],
 ) -> Result<World, NoMemory>
     requires { (1 ≤ count) × (count ≤ 64) }
-    ensures played { IfOk result (λ w. IsPlayed (schema_view schema.now) (first_sites count) events.now
+    ensures played { IfOk result (λ w. IsRunTo (schema_view schema.now) (first_sites count) events.now
         w.replies.items w.sites.items w.messages.items w.summaries.items) }
     ensures promised { IfOk result (λ w. WorldKeepsPromises (schema_view schema.now) (first_sites count) events.now
         w.replies.items) }

@@ -19,14 +19,14 @@ use Rattle.site_calls.specs.site_steps.Inputs as input
 use Rattle.site_calls.specs.site_steps.declared.reply.Reply.{Reply}
 use Rattle.site_calls.specs.site_steps.declared.reply.Reply.TheVariants as reply
 use Rattle.site_calls.specs.Replies.{fault_reply}
-use Rattle.site_calls.specs.Asked.{Asked, gives, rejects, put_asked, removal_asked, not_text}
+use Rattle.site_calls.specs.SiteRequest.{SiteRequest, gives, rejects, put_asked, removal_asked, not_text}
 use Rattle.site_calls.specs.Calls.{upon}
-use Rattle.site_calls.specs.inner.Reporting.{Reports, lacking}
+use Rattle.site_calls.specs.inner.Reporting.{Reports, no_memory_reply}
 use Rattle.site_calls.specs.Answers.{Appends}
 
 -- a query may be answered by `NoMemory`
 step_lacks : (schema : StatedSchema) (n : List ℕ) (s : Store) (i : Input) (r : Reply) (t : Store) → Step schema n s i r t
-    → Step schema n s i (lacking r) t
+    → Step schema n s i (no_memory_reply r) t
 step_lacks schema n s i (reply.Put r) t h = h
 step_lacks schema n s i (reply.Stamped r) t h = h
 step_lacks schema n s i (reply.Taken r) t h = h
@@ -67,7 +67,7 @@ pub answered : (old new : SiteView) (i : Input) (r : Reply) (status : StatusCode
     → Reports r status before after → Appends old (gives i) status before after new
 answered old new i r status before after step same (body, f, inl h) = (body, f, (r, step, same, h))
 answered old new i r status before after step same (body, f, inr h) =
-    (body, f, (lacking r, step_lacks (schema_of old) old.name (store_in old) i r (store_in new) step, same, h))
+    (body, f, (no_memory_reply r, step_lacks (schema_of old) old.name (store_in old) i r (store_in new) step, same, h))
 
 -- an error that is found before
 rejected : (old : SiteView) (f : SiteFault) (status : StatusCode) (before after : List ℕ) → status ≡ (fault_reply f).0
@@ -77,13 +77,13 @@ rejected old f status before after e g =
 
 -- ---- ids and texts that are UTF-8, and others
 
-pub of_text : (old new : SiteView) (bytes text : List ℕ) (asks : List ℕ → Asked) (status : StatusCode) (before after : List ℕ)
+pub of_text : (old new : SiteView) (bytes text : List ℕ) (asks : List ℕ → SiteRequest) (status : StatusCode) (before after : List ℕ)
     → is_utf8 bytes ≡ true → text ≡ bytes → Appends old (asks text) status before after new
     → Appends old (upon bytes asks) status before after new
 of_text old new bytes text asks status before after utf8 e h =
     rw utf8 (subst (λ (t : List ℕ). Appends old (asks t) status before after new) e h)
 
-pub of_no_text : (old : SiteView) (bytes : List ℕ) (asks : List ℕ → Asked) (status : StatusCode) (before after : List ℕ)
+pub of_no_text : (old : SiteView) (bytes : List ℕ) (asks : List ℕ → SiteRequest) (status : StatusCode) (before after : List ℕ)
     → is_utf8 bytes ≡ false → status ≡ (fault_reply (fault.Policy BadId)).0
     → after ≡ before ++ (fault_reply (fault.Policy BadId)).1 → Appends old (upon bytes asks) status before after old
 of_no_text old bytes asks status before after other f g =

@@ -1,5 +1,5 @@
 -- Defines the calls of a site over bytes, and the input that each asks for.
--- Source: docs/formats.md, of the bodies of the routes that ask for the same.
+-- Source: docs/formats.md, "Routes of a site".
 -- Rules of this product: bytes that are not UTF-8 are not an id.
 use Rattle.std.specs.Prelude.{ℕ, List, option_and_then, if◌then◌else◌}
 use Rattle.std.specs.Str.{is_utf8}
@@ -8,31 +8,31 @@ use Rattle.site_calls.specs.entity_uids.Uids.{uid_in}
 use Rattle.site_calls.specs.policy_grammar.declared.fault.ReadFault.TheVariants.{BadId}
 use Rattle.site_calls.specs.site_steps.declared.fault.SiteFault.TheVariants as fault
 use Rattle.site_calls.specs.site_steps.Inputs as input
-use Rattle.site_calls.specs.Asked.{Asked, gives, rejects, put_asked, removal_asked}
+use Rattle.site_calls.specs.SiteRequest.{SiteRequest, gives, rejects, put_asked, removal_asked}
 use Rattle.site_calls.specs.declared.call.Call as code
 use Rattle.site_calls.specs.declared.call.Call.TheVariants as borrowed
 
 -- A `Call` is a call of a site, with its bytes.
 pub data Call : Type 0 where
-  -- a request is decided: its JSON
+  -- decides the request with this JSON
   Authorize : List ℕ → Call
-  -- a policy is put: its id, and its text
+  -- puts a policy with this id and this text
   PutPolicy : List ℕ → List ℕ → Call
-  -- the policy of this id is looked up
+  -- looks up the policy with this id
   GetPolicy : List ℕ → Call
-  -- the policy of this id is deleted
+  -- deletes the policy with this id
   DeletePolicy : List ℕ → Call
-  -- an entity is put: its JSON
+  -- puts the entity with this JSON
   PutEntity : List ℕ → Call
-  -- an entity is deleted: the JSON of its uid
+  -- deletes the entity with the uid in this JSON
   DeleteEntity : List ℕ → Call
-  -- the state is written
+  -- writes the state
   State : Call
-  -- the summary is written
+  -- writes the summary
   Summary : Call
-  -- the entries that a site is missing are written: that site's summary
+  -- writes the entries that the site with this summary is missing
   Delta : List ℕ → Call
-  -- the updates of a message are applied
+  -- applies the updates of this message
   Merge : List ℕ → Call
 
 -- `call_of c` is the call `c` of the code, without its borrows.
@@ -48,12 +48,12 @@ call_of borrowed.Summary = Summary
 call_of (borrowed.Delta summary) = Delta summary.now
 call_of (borrowed.Merge message) = Merge message.now
 
--- `upon id asks`: `asks` of the policy with this id; bytes that are not UTF-8 are not an id.
-abbrev pub upon : List ℕ → (List ℕ → Asked) → Asked
+-- `upon id asks` is what `asks` gives for the policy id `id`; bytes that are not UTF-8 are not an id.
+abbrev pub upon : List ℕ → (List ℕ → SiteRequest) → SiteRequest
 upon id asks = if is_utf8 id then asks id else rejects (fault.Policy BadId)
 
 -- `asked c` is what the call `c` asks of a site.
-abbrev pub asked : Call → Asked
+abbrev pub asked : Call → SiteRequest
 asked (Authorize request) = gives (input.Authorize request)
 asked (PutPolicy id text) = upon id (put_asked text)
 asked (GetPolicy id) = upon id (λ id. gives (input.GetPolicy id))

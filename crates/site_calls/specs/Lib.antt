@@ -1,5 +1,5 @@
 pub mod inner
-pub mod Asked
+pub mod SiteRequest
 pub mod Calls
 pub mod Reports
 pub mod Answers

@@ -1,5 +1,5 @@
 -- Defines the bodies of replies.
--- Source: RFC 8259; docs/formats.md, of the routes.
+-- Source: RFC 8259; docs/formats.md, "Routes of a site".
 -- Rules of this product: compact JSON with ascending keys, each of which is always present.
 use Rattle.std.specs.Prelude.{ℕ, Bool, List, Option, codes}
 use Rattle.serde_json.specs.Data.{Data, boolean, number, unsigned, string, object, no_members, member}
@@ -25,14 +25,14 @@ put_line s impossible = compact_text (object
 unfoldable pub taken_line : ℕ → List ℕ
 taken_line count = compact_text (object (member (codes "taken") (number (unsigned count)) no_members))
 
--- `found_json text s` is the text of a policy with its stamp, as JSON, and `found_line text s` that JSON as a line:
--- {"count":1,"site":"00001","text":"permit(principal, action, resource);"}
+-- `found_json text s` is the text of a policy with its stamp, as JSON.
 abbrev pub found_json : List ℕ → Stamp → Data
 found_json text s = object
     (member (codes "count") (number (unsigned s.count))
     (member (codes "site") (string s.site)
     (member (codes "text") (string text) no_members)))
 
+-- `found_line text s` is that JSON as a line: {"count":1,"site":"00001","text":"permit(principal, action, resource);"}
 unfoldable pub found_line : List ℕ → Stamp → List ℕ
 found_line text s = compact_text (found_json text s)
 

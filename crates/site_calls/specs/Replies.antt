@@ -1,5 +1,5 @@
 -- Defines the reply, a status and a body, to each outcome of a request.
--- Source: docs/formats.md, of the routes.
+-- Source: docs/formats.md, "Routes of a site".
 use Rattle.std.specs.Prelude.{◌≡◌, ◌⊎◌, ℕ, List, Option, Some, None, Result, Ok, Err}
 use Rattle.http.specs.declared.status.StatusCode.{StatusCode}
 use Rattle.site.specs.site_steps.stamped_store.declared.entry.Stamp.{Stamp}
@@ -32,8 +32,8 @@ abbrev pub stamp_reply : Result Stamp SiteFault → StatusCode × List ℕ
 stamp_reply (Ok stamp) = (200, stamp_line stamp)
 stamp_reply (Err f) = fault_reply f
 
--- `taken_reply r` is the reply to a message: the number of applied updates. If memory ran out on the way, the error's
--- place is that number.
+-- `taken_reply r` is the reply to a message: the number of applied updates. If memory ran out on the way, it is the
+-- error of code 1 with that number as its place.
 abbrev pub taken_reply : Result Taken SiteFault → StatusCode × List ℕ
 taken_reply (Ok (All count)) = (200, taken_line count)
 taken_reply (Ok (Short count)) = (503, fault_line 1 (Some count) None)
@@ -44,7 +44,8 @@ abbrev pub answer_reply : Result Answer SiteFault → StatusCode × List ℕ
 answer_reply (Ok answer) = (200, answer_line answer)
 answer_reply (Err f) = fault_reply f
 
--- `found_reply o` is the reply to a query for a policy: its text and stamp, or the error that it has no text.
+-- `found_reply o` is the reply to a query for a policy: its text and stamp, or the error that there is no such policy
+-- (60).
 abbrev pub found_reply : Option (List ℕ × Stamp) → StatusCode × List ℕ
 found_reply (Some found) = (200, found_line found.0 found.1)
 found_reply None = fault_reply fault.NotThere
@@ -54,8 +55,8 @@ abbrev pub message_reply : Result (List ℕ) SiteFault → StatusCode × List �
 message_reply (Ok bytes) = (200, bytes)
 message_reply (Err f) = fault_reply f
 
--- `IsReplyOrNoMemory reply told body` holds if status `told` and `body` are those of `reply`; or, if `reply` is not an
--- error, those of `NoMemory`.
+-- `IsReplyOrNoMemory reply told body` holds if the status `told` and `body` are those of `reply`; or, if `reply` is not
+-- an error, those of `NoMemory`.
 abbrev pub IsReplyOrNoMemory : StatusCode × List ℕ → StatusCode → List ℕ → Type 0
 IsReplyOrNoMemory reply told body =
     ((told, body) ≡ reply) ⊎ ((reply.0 ≡ 200) × ((told, body) ≡ fault_reply fault.NoMemory))

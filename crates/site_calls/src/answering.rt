@@ -1,7 +1,6 @@
 //! Calls of a site, each answered by a status and a body.
-ghost use Rattle.std.specs.Prelude.{◌≡◌, ◌≤◌, ◌+◌, ℕ, List, IfOk, MatchOption, vec_len, true, false};
+ghost use Rattle.std.specs.Prelude.{◌≡◌, ◌≤◌, ◌+◌, ℕ, List, IfOk, vec_len};
 ghost use Rattle.std.specs.Prelude.{option_and_then, option_map};
-ghost use Rattle.std.specs.Str.{is_utf8};
 ghost use Rattle.std.specs.Vec.{vec_capacity};
 ghost use Rattle.serde_json.specs.View.{view};
 ghost use Rattle.json_words.specs.Json.{json_of};
@@ -9,7 +8,7 @@ ghost use Rattle.site_calls.specs.entity_uids.Uids.{uid_in};
 ghost use Rattle.site_calls.specs.site_steps.Inputs.{input_of, Authorize, GetPolicy, DeletePolicy};
 ghost use Rattle.site_calls.specs.site_steps.SiteViews.{schema_of, store_in};
 ghost use Rattle.site_calls.specs.site_steps.Steps.{Answers};
-ghost use Rattle.site_calls.specs.Asked.{gives, put_asked, removal_asked, not_text};
+ghost use Rattle.site_calls.specs.SiteRequest.{gives, put_asked, removal_asked, not_text};
 ghost use Rattle.site_calls.specs.Calls.{asked, call_of, upon};
 ghost use Rattle.site_calls.specs.Answers.{Appends};
 
@@ -26,8 +25,8 @@ use serde_json::Value;
 use std::alloc::Global;
 use values::EntityUid;
 
-/// Gives an input to the site, and appends the body of its reply to a text. Returns the status. What the scratch held
-/// before has no effect.
+/// Gives an input to the site, appends the body of its reply to `text`, and returns the status. `scratch` is reused
+/// memory; its earlier content has no effect.
 pub fn reply_to(
     alloc: Global,
     scratch: &mut Scratch,
@@ -53,8 +52,8 @@ fn decided(site: &Site, json: &Option<Value>) -> Result<Answer, SiteFault>
     }
 }
 
-/// Answers a request whose body was parsed as `json`, `None` if it is not JSON, and appends the body of the reply.
-/// Returns the status.
+/// Answers a request whose body was parsed as `json`, `None` if it is not JSON: appends the body of the reply to
+/// `text`, and returns the status.
 ///
 /// For each such body, the reply is one that [`reply_to`] may give. A caller that uses the JSON too can thus parse the
 /// body once.
@@ -74,17 +73,7 @@ pub fn reply_to_request(
     report_reply(alloc, text, &reply)
 }
 
-/// Returns bytes as text, if they are UTF-8.
-fn text_of(bytes: &[u8]) -> Option<&str>
-    ensures { MatchOption result (is_utf8 bytes.now ≡ false) (λ t. (is_utf8 bytes.now ≡ true) × (t.now ≡ bytes.now)) }
-{
-    match str::from_utf8(bytes) {
-        Ok(text) => Some(text),
-        Err(_) => None,
-    }
-}
-
-/// Returns the first error of a policy whose text is not UTF-8.
+/// Returns the first error of a policy whose text is not UTF-8: its id (19), its length (18), else its bytes (10).
 fn not_text(id: &str, text: &[u8]) -> ReadFault
     ensures { result ≡ not_text id.now text.now }
 {
@@ -111,13 +100,13 @@ pub fn put_text(
     ensures reply { Appends site.old (put_asked policy.now id.now) result text.old.items text.new.items site.new }
     ensures kept { vec_capacity text.old ≤ vec_capacity text.new }
 {
-    match text_of(policy) {
-        Some(policy) => reply_to(alloc, scratch, site, &Input::PutPolicy(id, policy), text),
-        None => report_fault(text, SiteFault::Policy(not_text(id, policy))),
+    match str::from_utf8(policy) {
+        Ok(policy) => reply_to(alloc, scratch, site, &Input::PutPolicy(id, policy), text),
+        Err(_) => report_fault(text, SiteFault::Policy(not_text(id, policy))),
     }
 }
 
-/// Puts a policy under the id `id`.
+/// Puts a policy under the id `id`; an id that is not UTF-8 is the error `BadId` (19).
 fn put_policy(
     alloc: Global,
     scratch: &mut Scratch,
@@ -131,13 +120,13 @@ fn put_policy(
         site.new }
     ensures kept { vec_capacity text.old ≤ vec_capacity text.new }
 {
-    match text_of(id) {
-        Some(id) => put_text(alloc, scratch, site, id, policy, text),
-        None => report_fault(text, SiteFault::Policy(ReadFault::BadId)),
+    match str::from_utf8(id) {
+        Ok(id) => put_text(alloc, scratch, site, id, policy, text),
+        Err(_) => report_fault(text, SiteFault::Policy(ReadFault::BadId)),
     }
 }
 
-/// Looks up the policy with the id `id`.
+/// Looks up the policy with the id `id`; an id that is not UTF-8 is the error `BadId` (19).
 fn get_policy(
     alloc: Global,
     scratch: &mut Scratch,
@@ -150,13 +139,13 @@ fn get_policy(
         site.new }
     ensures kept { vec_capacity text.old ≤ vec_capacity text.new }
 {
-    match text_of(id) {
-        Some(id) => reply_to(alloc, scratch, site, &Input::GetPolicy(id), text),
-        None => report_fault(text, SiteFault::Policy(ReadFault::BadId)),
+    match str::from_utf8(id) {
+        Ok(id) => reply_to(alloc, scratch, site, &Input::GetPolicy(id), text),
+        Err(_) => report_fault(text, SiteFault::Policy(ReadFault::BadId)),
     }
 }
 
-/// Deletes the policy with the id `id`.
+/// Deletes the policy with the id `id`; an id that is not UTF-8 is the error `BadId` (19).
 fn delete_policy(
     alloc: Global,
     scratch: &mut Scratch,
@@ -169,9 +158,9 @@ fn delete_policy(
         site.new }
     ensures kept { vec_capacity text.old ≤ vec_capacity text.new }
 {
-    match text_of(id) {
-        Some(id) => reply_to(alloc, scratch, site, &Input::DeletePolicy(id), text),
-        None => report_fault(text, SiteFault::Policy(ReadFault::BadId)),
+    match str::from_utf8(id) {
+        Ok(id) => reply_to(alloc, scratch, site, &Input::DeletePolicy(id), text),
+        Err(_) => report_fault(text, SiteFault::Policy(ReadFault::BadId)),
     }
 }
 
@@ -209,8 +198,8 @@ pub fn delete_entity(
     }
 }
 
-/// Answers a call: at most one step of the site, whose reply is appended to a text. What the scratch held before has no
-/// effect. Out of memory is a reply too (503).
+/// Answers a call: makes at most one step of the site, appends the body of the reply to `text`, and returns the status.
+/// `scratch` is reused memory; its earlier content has no effect. Out of memory is a reply too (503).
 pub fn answer_call(
     alloc: Global,
     scratch: &mut Scratch,

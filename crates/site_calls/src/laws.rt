@@ -1,17 +1,17 @@
-//! Theorems of replies, each the contract of a function that does nothing.
+//! Theorems about replies, each the contract of a function that does nothing.
 ghost use Rattle.std.specs.Prelude.{◌≡◌, ◌++◌, ℕ, Bool, None, codes, decimal, if◌then◌else◌};
 ghost use Rattle.http_streams.specs.ReplyText.{error_line};
 ghost use Rattle.site.specs.site_steps.stamped_store.SiteNames.{IsSiteName};
 ghost use Rattle.site.specs.site_steps.stamped_store.declared.entry.Stamp.{Stamp};
 ghost use Rattle.site_calls.specs.Lines.{fault_line, put_line, stamp_line};
 
-/// Proves that an error that is a status alone has one line, whether the request is rejected before it is complete or
-/// by the service.
+/// Proves that an error without a code of its own, which is reported by its status, has one line, whether the request
+/// is rejected before it is complete or by the service. No-op.
 pub fn errors_have_one_line()
     ensures { (n : ℕ) → fault_line n None None ≡ error_line n }
 {}
 
-/// Proves that the line of a stamp has the bytes of the site's name between quotes: a site name needs no escape.
+/// Proves that the line of a stamp has the bytes of the site's name between quotes: a site name needs no escape. No-op.
 pub fn stamps_have_plain_lines()
     ensures stamp { (s : Stamp) → IsSiteName s.site → stamp_line s
         ≡ codes "{\"count\":" ++ decimal s.count ++ codes ",\"site\":\"" ++ s.site ++ codes "\"}" }

@@ -1,8 +1,8 @@
 //! The calls of a site over bytes, each answered by a status and a body; and the reply to each outcome of a request.
 //!
-//! A call is at most one step of the site, and its reply is that of the route which asks the same. No route and no
-//! stream is in it. A body is one line of compact JSON. Replies to changes, and errors of any kind, allocate nothing:
-//! they are appended to a text that has room for them.
+//! A call is at most one step of the site, and its reply is that of the route which asks for the same. Routes and
+//! streams are not in this crate. A body is one line of compact JSON. Replies to changes, and errors of any kind,
+//! allocate nothing: they are appended to a text that has room for them.
 #![tactic(auto)]
 
 mod answering;
@@ -27,7 +27,7 @@ pub use reporting::{
 pub use site::{
     EntityFault, Event, EventReply, Found, Input, Operation, Put, Reply, Scratch, Site, SiteFault,
     SiteName, Stamp, Taken, World, answer, inputs_have_one_outcome, is_site_name, run,
-    runs_are_sound, runs_leave_what_they_took, simulate, site_names_are_told, take_bytes,
+    runs_are_sound, runs_leave_what_they_took, simulate, site_names_are_recognized, take_bytes,
 };
 
 /// The greatest length in bytes of the body of a reply to a change, or of an error.

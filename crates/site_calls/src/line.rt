@@ -1,4 +1,4 @@
-//! Lines that allocate nothing: each is appended to a text that has room for it.
+//! Appends the lines that need no allocation, to a text that has room for them.
 ghost use Rattle.std.specs.Prelude.{◌≡◌, ◌≤◌, ◌+◌, ◌++◌, length, vec_len, decimal};
 ghost use Rattle.std.specs.Vec.{vec_capacity};
 ghost use Rattle.site_calls.specs.Lines.{fault_line, put_line, stamp_line, taken_line};
@@ -57,7 +57,7 @@ fn append_or_null(text: &mut Vec<u8>, number: Option<u64>)
     }
 }
 
-/// Appends the end of the line of a stamp: the site's name, which needs no escape.
+/// Appends the end of the line of a stamp: 11 bytes, and the site's name, of at most 32 bytes, which needs no escape.
 fn append_site(text: &mut Vec<u8>, site: &SiteName)
     requires room { vec_len text.old + 43 ≤ vec_capacity text.old }
     ensures items { text.new.items ≡ text.old.items ++ site_end site.now }
@@ -93,7 +93,7 @@ pub(crate) fn append_put(text: &mut Vec<u8>, stamp: Stamp, impossible: bool)
     append_site(text, &stamp.site);
 }
 
-/// Appends the line of applied updates.
+/// Appends the line with the number of applied updates.
 pub(crate) fn append_taken(text: &mut Vec<u8>, count: usize)
     requires room { vec_len text.old + LINE_ROOM ≤ vec_capacity text.old }
     ensures items { text.new.items ≡ text.old.items ++ taken_line count }

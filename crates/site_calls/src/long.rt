@@ -1,4 +1,4 @@
-//! Bodies that may allocate. If that fails, the text is unchanged.
+//! Appends the bodies that may need an allocation. If it fails, the text is unchanged.
 ghost use Rattle.std.specs.Prelude.{◌≡◌, ◌≤◌, ◌++◌, IfOk, OnOk, OnErr, vec_len};
 ghost use Rattle.std.specs.Vec.{vec_capacity};
 ghost use Rattle.serde_json.specs.View.{view};
@@ -12,16 +12,6 @@ use serde_json::{Value, json};
 use site::Stamp;
 use std::alloc::Global;
 
-/// Appends bytes.
-pub(crate) fn append_bytes(text: &mut Vec<u8>, bytes: &[u8]) -> Result<(), NoMemory>
-    ensures ok { OnOk result (text.new.items ≡ text.old.items ++ bytes.now) }
-    ensures err { OnErr result (text.new.items ≡ text.old.items) }
-    ensures len { OnErr result (vec_len text.new ≡ vec_len text.old) }
-    ensures kept { vec_capacity text.old ≤ vec_capacity text.new }
-{
-    text.extend_from_slice(bytes)
-}
-
 /// Appends the line of an answer.
 pub(crate) fn append_answer(
     alloc: Global,
@@ -34,7 +24,7 @@ pub(crate) fn append_answer(
     ensures kept { vec_capacity text.old ≤ vec_capacity text.new }
 {
     match answer_line(alloc, answer) {
-        Ok(line) => append_bytes(text, line.as_slice()),
+        Ok(line) => text.extend_from_slice(line.as_slice()),
         Err(error) => Err(error),
     }
 }
@@ -67,7 +57,7 @@ pub(crate) fn append_found(
     ensures kept { vec_capacity text.old ≤ vec_capacity text.new }
 {
     match found_line(alloc, policy, stamp) {
-        Ok(line) => append_bytes(text, line.as_slice()),
+        Ok(line) => text.extend_from_slice(line.as_slice()),
         Err(error) => Err(error),
     }
 }

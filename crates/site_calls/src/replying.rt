@@ -10,7 +10,7 @@ use crate::{
 use http::StatusCode;
 use std::alloc::Global;
 
-/// Reports a policy that was looked up.
+/// Reports the result of looking up a policy.
 fn report_policy(alloc: Global, text: &mut Vec<u8>, found: &Option<Found>) -> StatusCode
     requires room { vec_len text.old + LINE_ROOM ≤ vec_capacity text.old }
     ensures reply { Reports (Reply.Found (Ok found.now)) result text.old.items text.new.items }
@@ -25,8 +25,8 @@ fn report_policy(alloc: Global, text: &mut Vec<u8>, found: &Option<Found>) -> St
     }
 }
 
-/// Appends the body of a reply, and returns its status. If there is no memory for the body of a query's reply, that is
-/// reported in its place.
+/// Appends the body of a reply, and returns its status. If the body of a query's reply cannot be allocated, appends
+/// that error in its place.
 pub(crate) fn report_reply(alloc: Global, text: &mut Vec<u8>, reply: &Reply) -> StatusCode
     requires room { vec_len text.old + LINE_ROOM ≤ vec_capacity text.old }
     ensures reply { Reports reply.now result text.old.items text.new.items }

@@ -1,7 +1,7 @@
-//! The reply to each outcome: its body is appended to a text, and its status returned.
+//! Reports each outcome: appends the body of its reply to a text, and returns its status.
 //!
-//! Each function demands room for a short line. One that needs more memory, and lacks it, says so in that room, so that
-//! there is always a reply; the text keeps its memory.
+//! Each function demands room for a short line. If a longer body cannot be allocated, the error of code 1 (out of
+//! memory) is appended in that room, so there is always a reply. The text keeps its memory.
 ghost use Rattle.std.specs.Prelude.{◌≡◌, ◌≤◌, ◌+◌, ◌++◌, List, ℕ, OnOk, OnErr, option_map, vec_len};
 ghost use Rattle.std.specs.Vec.{vec_capacity};
 ghost use Rattle.site_calls.specs.Replies.{answer_reply, fault_reply, found_reply, message_reply, put_reply};
@@ -9,7 +9,7 @@ ghost use Rattle.site_calls.specs.Replies.{stamp_reply, status_reply, taken_repl
 
 use crate::LINE_ROOM;
 use crate::line::{append_fault, append_put, append_stamp, append_taken};
-use crate::long::{append_answer, append_bytes, append_found};
+use crate::long::{append_answer, append_found};
 use crate::status::refusal_status;
 use answer_lines::Answer;
 use http::StatusCode;
@@ -17,7 +17,7 @@ use plain::{Items, NoMemory};
 use site::{Put, SiteFault, Stamp, Taken};
 use std::alloc::Global;
 
-/// Appends an error of the site: its code, its place and the code inside. Allocates nothing.
+/// Appends an error of the site: its code, its place and the code of the error inside. Allocates nothing.
 pub fn report_fault(text: &mut Vec<u8>, fault: SiteFault) -> StatusCode
     requires room { vec_len text.old + LINE_ROOM ≤ vec_capacity text.old }
     ensures status { result ≡ (fault_reply fault).0 }
@@ -71,8 +71,8 @@ pub fn report_stamp(text: &mut Vec<u8>, outcome: Result<Stamp, SiteFault>) -> St
     }
 }
 
-/// Appends the outcome of a message: `{"taken":3}`, or, if memory ran out at an update, 503, with the number of applied
-/// updates as its place. Allocates nothing.
+/// Appends the outcome of a message: `{"taken":3}`, or, if memory ran out at an update, the error 1 (503), with the
+/// number of applied updates as its place. Allocates nothing.
 pub fn report_taken(text: &mut Vec<u8>, outcome: Result<Taken, SiteFault>) -> StatusCode
     requires room { vec_len text.old + LINE_ROOM ≤ vec_capacity text.old }
     ensures status { result ≡ (taken_reply outcome).0 }
@@ -92,7 +92,7 @@ pub fn report_taken(text: &mut Vec<u8>, outcome: Result<Taken, SiteFault>) -> St
     }
 }
 
-/// Returns the status of a body that was appended; if memory was lacking for it, appends that error in its place.
+/// Returns 200 if a body was appended. If it could not be allocated, appends the error 1 in its place, and returns 503.
 fn status_or_no_memory(text: &mut Vec<u8>, appended: Result<(), NoMemory>) -> StatusCode
     requires room { OnErr appended (vec_len text.old + LINE_ROOM ≤ vec_capacity text.old) }
     ensures ok { OnOk appended ((result ≡ 200) × (text.new.items ≡ text.old.items)) }
@@ -128,7 +128,7 @@ pub fn report_answer(
 }
 
 /// Appends a policy's text and stamp, `{"count":1,"site":"00001","text":"permit(principal, action, resource);"}`, or
-/// the error that it has no text (60).
+/// the error that there is no such policy (60).
 pub fn report_found(alloc: Global, text: &mut Vec<u8>, found: &Option<(&str, Stamp)>) -> StatusCode
     requires room { vec_len text.old + LINE_ROOM ≤ vec_capacity text.old }
     ensures reply { (body : List ℕ) × (text.new.items ≡ text.old.items ++ body)
@@ -144,7 +144,7 @@ pub fn report_found(alloc: Global, text: &mut Vec<u8>, found: &Option<(&str, Sta
     }
 }
 
-/// Appends a message that was written, or the error.
+/// Appends a message that was written, or its error.
 pub fn report_message(text: &mut Vec<u8>, outcome: &Result<Items<u8>, SiteFault>) -> StatusCode
     requires room { vec_len text.old + LINE_ROOM ≤ vec_capacity text.old }
     ensures reply { (body : List ℕ) × (text.new.items ≡ text.old.items ++ body)
@@ -153,7 +153,7 @@ pub fn report_message(text: &mut Vec<u8>, outcome: &Result<Items<u8>, SiteFault>
 {
     match outcome {
         Ok(bytes) => {
-            let appended = append_bytes(text, bytes.as_slice());
+            let appended = text.extend_from_slice(bytes.as_slice());
             status_or_no_memory(text, appended)
         }
         Err(fault) => report_fault(text, *fault),

@@ -1,7 +1,7 @@
 -- Defines the load of a file of policies and an array of entities into a site, and its errors.
--- Rules of this product: the policies come first, each under its name in the file and with its own text from the
--- file; then the entities, in their order. Each of the two is read whole before any of it is put, and is rejected as
--- for a decision if it is not such a file.
+-- Rules of this product: the policies are put first, each under its name in the file and with its own text from the
+-- file; then the entities, in their order. Each of the two is parsed whole before any of it is put; if it has an error,
+-- this is the error that a decision reports.
 use Rattle.std.specs.Prelude.{◌≡◌, ℕ, List, [], ◌∷◌, length, map, Option, None, Some, option_and_then, option_map}
 use Rattle.std.specs.Prelude.{Ok, Err}
 use Rattle.serde_json.specs.Data.{Data}
@@ -23,14 +23,14 @@ use Rattle.site_loading.specs.Puts.{Operation, policy_put, entity_put, AcceptsAl
 -- ---- policies
 
 -- `AreNamedTexts bytes names texts` holds if `names` and `texts` are the names and the texts of the policies in the
--- file `bytes`: equally many, each as in the file.
+-- file `bytes`, in their order.
 pub record AreNamedTexts (bytes : List ℕ) (names texts : List (List ℕ)) : Type 0 where
   pub policies : List Policy
   pub file : ArePoliciesOf bytes names policies
   pub cut : AreTextsOf bytes texts
   pub as_many : length texts ≡ length names
 
--- `policy_puts names texts` is the list of the puts of each text under its name.
+-- `policy_puts names texts` is the list of the puts of each of `texts` under its name in `names`.
 abbrev pub policy_puts : List (List ℕ) → List (List ℕ) → List Operation
 policy_puts [] texts = []
 policy_puts (name ∷ names) [] = []
@@ -38,42 +38,44 @@ policy_puts (name ∷ names) (text ∷ texts) = policy_put name text ∷ policy_
 
 -- ---- entities
 
--- `items_of bytes` is the list of the items of the JSON array `bytes`; `None` if `bytes` is not one.
+-- `items_of bytes` is the list of the members of the JSON array `bytes`, or `None` if `bytes` are not a JSON array.
 abbrev pub items_of : List ℕ → Option (List Data)
 items_of bytes = option_map list_of (option_and_then as_array (json_of bytes))
 
 -- ---- a file that may be absent
 
--- `LoadsIfNamed Loads s bytes t` holds if `Loads` leads from `s` to `t`, or `bytes` is absent and nothing changes.
+-- `LoadsIfNamed Loads s bytes t` holds if `Loads` leads from the store `s` to the store `t` by the file `bytes`, or the
+-- file is absent and `t` is `s`.
 abbrev pub LoadsIfNamed : (Store → List ℕ → Store → Type 0) → Store → Option (List ℕ) → Store → Type 0
 LoadsIfNamed Loads s None t = t ≡ s
 LoadsIfNamed Loads s (Some bytes) t = Loads s bytes t
 
--- `RefusesIfNamed Refuses s bytes refusal` holds if `bytes` is present and rejected with this error.
+-- `RefusesIfNamed Refuses s bytes refusal` holds if the file `bytes` is present, and `Refuses` rejects it over the
+-- store `s` with the error `refusal`.
 abbrev pub RefusesIfNamed : (Store → List ℕ → Refusal → Type 0) → Store → Option (List ℕ) → Refusal → Type 0
 RefusesIfNamed Refuses s None refusal = ⊥
 RefusesIfNamed Refuses s (Some bytes) refusal = Refuses s bytes refusal
 
--- ---- for the site named n
+-- ---- for a site of the schema `schema`, named `n`
 
 module _ (schema : StatedSchema) (n : List ℕ) where
-  -- `LoadsPolicies s bytes t` holds if the site accepts all policies of the file `bytes`, which leads from `s` to
-  -- `t`.
+  -- `LoadsPolicies s bytes t` holds if the site accepts all policies of the file `bytes`, which leads from the store
+  -- `s` to the store `t`.
   pub record LoadsPolicies (s : Store) (bytes : List ℕ) (t : Store) : Type 0 where
     pub names : List (List ℕ)
     pub texts : List (List ℕ)
     pub are : AreNamedTexts bytes names texts
     pub puts : AcceptsAll schema n s (policy_puts names texts) t
 
-  -- `RefusesPolicies s bytes refusal` holds if this is the error of the file `bytes`, or of its first policy that is
-  -- rejected.
+  -- `RefusesPolicies s bytes refusal` holds if `refusal` is the error of the file `bytes`, or of its first policy that
+  -- the site rejects.
   pub data RefusesPolicies (s : Store) (bytes : List ℕ) (refusal : Refusal) : Type 0 where
     by_file : ArePoliciesRefused bytes refusal → RefusesPolicies s bytes refusal
     by_put : (names texts : List (List ℕ)) → AreNamedTexts bytes names texts
         → RefusesFirst schema n s 0 (policy_puts names texts) refusal → RefusesPolicies s bytes refusal
 
-  -- `LoadsEntities s bytes t` holds if the site accepts all entities of the array `bytes`, which leads from `s` to
-  -- `t`.
+  -- `LoadsEntities s bytes t` holds if the site accepts all entities of the array `bytes`, which leads from the store
+  -- `s` to the store `t`.
   pub record LoadsEntities (s : Store) (bytes : List ℕ) (t : Store) : Type 0 where
     pub entities : List Entity
     pub read : entities_of (reading_under schema) bytes ≡ Ok entities
@@ -81,16 +83,16 @@ module _ (schema : StatedSchema) (n : List ℕ) where
     pub array : items_of bytes ≡ Some items
     pub puts : AcceptsAll schema n s (map entity_put items) t
 
-  -- `RefusesEntities s bytes refusal` holds if this is the error of the array `bytes`, or of its first entity that is
-  -- rejected.
+  -- `RefusesEntities s bytes refusal` holds if `refusal` is the error of the array `bytes`, or of its first entity that
+  -- the site rejects.
   pub data RefusesEntities (s : Store) (bytes : List ℕ) (refusal : Refusal) : Type 0 where
     by_array : entities_of (reading_under schema) bytes ≡ Err refusal → RefusesEntities s bytes refusal
     by_stored : (entities : List Entity) (items : List Data) → entities_of (reading_under schema) bytes ≡ Ok entities
         → items_of bytes ≡ Some items → RefusesFirst schema n s 0 (map entity_put items) refusal
         → RefusesEntities s bytes refusal
 
-  -- `IsLoadedState s policies entities bytes` holds if the policies and then the entities are put, as far as they are
-  -- present, and `bytes` is the state then, which is read back as the store's updates.
+  -- `IsLoadedState s policies entities bytes` holds if the site accepts the file `policies` and then the array
+  -- `entities`, as far as they are present, and `bytes` are its state then, which is parsed as the store's updates.
   pub record IsLoadedState (s : Store) (policies entities : Option (List ℕ)) (bytes : List ℕ) : Type 0 where
     pub between : Store
     pub last : Store
@@ -99,7 +101,8 @@ module _ (schema : StatedSchema) (n : List ℕ) where
     pub bytes_are : bytes ≡ state_text schema.label last
     pub reads_back : updates_stated schema.label bytes ≡ Ok (updates last)
 
-  -- `IsRefused s policies entities refusal` holds if this is the error of the policies, or else of the entities.
+  -- `IsRefused s policies entities refusal` holds if `refusal` is the error of the file `policies` or, if that is
+  -- loaded or absent, of the array `entities`.
   pub data IsRefused (s : Store) (policies entities : Option (List ℕ)) (refusal : Refusal) : Type 0 where
     by_policies : RefusesIfNamed RefusesPolicies s policies refusal → IsRefused s policies entities refusal
     by_entities : (between : Store) → LoadsIfNamed LoadsPolicies s policies between

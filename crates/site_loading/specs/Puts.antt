@@ -1,5 +1,5 @@
 -- Defines puts of policies and entities into a site, one after another, up to the first that is rejected.
--- Rules of this product: each is accepted or rejected as by a put of its own.
+-- Rules of this product: each is accepted or rejected like a single put.
 use Rattle.std.specs.Prelude.{◌≡◌, ◌⊎◌, ℕ, suc, List, [], ◌∷◌, Some, Ok, Err}
 use Rattle.serde_json.specs.Data.{Data}
 use Rattle.schema_decisions.specs.schema.Schemas.{StatedSchema}
@@ -13,40 +13,43 @@ use Rattle.site_steps.specs.declared.outcome.Put.{Put}
 use Rattle.site_steps.specs.Faults.{code_of, within_of}
 use Rattle.site_steps.specs.Steps.{PutsPolicy, PutsEntity}
 
--- An `Operation` puts a policy's text under its id, or the entity that JSON states.
+-- An `Operation` is the put of a policy's text under its id, or of the entity that JSON describes.
 pub data Operation : Type 0 where
   policy_put : List ℕ → List ℕ → Operation
   entity_put : Data → Operation
 
--- `put_refusal place f` is the error `f` of a put, at the index `place` in its file.
+-- `put_refusal place f` is the report on the error `f` of the put at the index `place` of its file; `NoMemory` has no
+-- place.
 abbrev pub put_refusal : ℕ → SiteFault → Refusal
 put_refusal place NoMemory = no_memory
 put_refusal place f = record { code = code_of f; place = Some place; within = within_of f }
 
--- for the site named n
+-- for a site of the schema `schema`, named `n`
 module _ (schema : StatedSchema) (n : List ℕ) where
-  -- `Accepts s operation t` holds if the site with store `s` accepts `operation`, which leads to `t`.
+  -- `Accepts s operation t` holds if the site with the store `s` accepts `operation`, which leads to the store `t`.
   abbrev pub Accepts : Store → Operation → Store → Type 0
   Accepts s (policy_put id text) t = (put : Put) × PutsPolicy schema n s id text (Ok put) t
   Accepts s (entity_put json) t = (stamp : Stamp) × PutsEntity schema n s (Some json) (Ok stamp) t
 
-  -- `Refuses s operation f` holds if the site rejects `operation` with the error `f`.
+  -- `Refuses s operation f` holds if the site with the store `s` rejects `operation` with the error `f`.
   abbrev pub Refuses : Store → Operation → SiteFault → Type 0
   Refuses s (policy_put id text) f = PutsPolicy schema n s id text (Err f) s
   Refuses s (entity_put json) f = PutsEntity schema n s (Some json) (Err f) s
 
-  -- `RefusesAt s place operation refusal` holds if the site rejects `operation`, at the index `place`, with this
-  -- error.
+  -- `RefusesAt s place operation refusal` holds if the site with the store `s` rejects `operation`, at the index
+  -- `place` of its file, and `refusal` reports the error.
   abbrev pub RefusesAt : Store → ℕ → Operation → Refusal → Type 0
   RefusesAt s place operation refusal = (f : SiteFault) × Refuses s operation f × (refusal ≡ put_refusal place f)
 
-  -- `AcceptsAll s operations t` holds if the site accepts all of `operations`, one after another.
+  -- `AcceptsAll s operations t` holds if the site accepts all of `operations`, one after another, which leads from the
+  -- store `s` to the store `t`.
   abbrev pub AcceptsAll : Store → List Operation → Store → Type 0
   AcceptsAll s [] t = t ≡ s
   AcceptsAll s (operation ∷ operations) t = (m : Store) × Accepts s operation m × AcceptsAll m operations t
 
-  -- `RefusesFirst s place operations refusal` holds if the site accepts the first of `operations` and rejects the
-  -- next with this error, where `place` is the index of the first of all.
+  -- `RefusesFirst s place operations refusal` holds if the site, from the store `s`, accepts some first ones of
+  -- `operations`, or none, and rejects the next, and `refusal` reports the error, where `operations` begin at the index
+  -- `place` of their file.
   abbrev pub RefusesFirst : Store → ℕ → List Operation → Refusal → Type 0
   RefusesFirst s place [] refusal = ⊥
   RefusesFirst s place (operation ∷ operations) refusal = RefusesAt s place operation refusal

@@ -11,13 +11,13 @@ ghost use Rattle.site_loading.specs.Loads.{LoadsEntities, RefusesEntities};
 
 use crate::refusal::put_refusal;
 use schema_decisions::{
-    Member, Members, Refusal, Scratch, UnderSchema, judge_entities, members_of,
+    Member, Members, Refusal, Scratch, UnderSchema, check_entities, members_of,
 };
 use serde_json::Value;
 use site_steps::Site;
 use std::alloc::Global;
 
-/// Puts one entity.
+/// Puts one entity, and reports an error at the index `place`.
 fn put_entity(site: &mut Site, place: usize, value: &Value) -> Result<(), Refusal>
     ensures accepted { OnOk result (Accepts (schema_of site.old) site.old.name (store_in site.old)
         (entity_put (view value.now)) (store_in site.new)) }
@@ -32,7 +32,7 @@ fn put_entity(site: &mut Site, place: usize, value: &Value) -> Result<(), Refusa
     }
 }
 
-/// Puts the remaining entities of an array, in their order, up to the first that is rejected.
+/// Puts the remaining entities of an array, in their order, up to the first that is rejected. Those before it stay put.
 fn put_each(alloc: Global, site: &mut Site, members: &mut Members<'_>) -> Result<(), Refusal>
     requires few { length members.old.reader < 2 ^ 63 }
     requires json { (ds : List Data) × (to_come members.old ≡ Some ds) }
@@ -55,14 +55,15 @@ fn put_each(alloc: Global, site: &mut Site, members: &mut Members<'_>) -> Result
     }
 }
 
-/// Puts the entities of an array, one after another. The array is read twice, one member's JSON at a time.
+/// Puts the entities of an array, one after another. Parses the array twice: to check it as a whole, and to put its
+/// entities. Each time only one member's JSON value is in memory.
 ///
 /// # Errors
 ///
 /// In this order:
 ///
-/// - 30 to 38, at the entity's index in the array: the array, as it is read for a decision; 30 without a place if
-///   there is no array.
+/// - 30 to 38, at the entity's index in the array: the first error of the array, as for a decision; 30 without a place
+///   if the bytes are not an array.
 /// - The error of the first rejected put, at the entity's index.
 /// - `NoMemory` (1): an allocation failed; possible at any point.
 pub(crate) fn load_entities(alloc: Global, site: &mut Site, bytes: &[u8]) -> Result<(), Refusal>
@@ -73,7 +74,7 @@ pub(crate) fn load_entities(alloc: Global, site: &mut Site, bytes: &[u8]) -> Res
     ensures same { IsSameSite site.old site.new }
 {
     let schema = site.schema();
-    judge_entities(alloc, &UnderSchema { schema }, bytes)?;
+    check_entities(alloc, &UnderSchema { schema }, bytes)?;
     let mut scratch = Scratch::new(alloc);
     let Some(mut members) = members_of(&mut scratch, bytes)? else {
         unreachable!();

@@ -1,4 +1,4 @@
-//! Loads a file of policies and an array of entities into a site by single puts.
+//! The load of a file of policies and an array of entities into a site, by single puts.
 #![tactic(auto)]
 
 mod entity_file;

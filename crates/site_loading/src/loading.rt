@@ -52,20 +52,22 @@ fn load_entities_if_named(
     }
 }
 
-/// Puts the given policies of a file and entities of an array into a site, and returns its state as a message.
+/// Puts the policies of a file and the entities of an array, as far as they are given, into a site, and returns its
+/// state as a message.
 ///
 /// Each policy is put under its name in the file with its own text from the file, then each entity. The result is
-/// that of [`Site::state`] after these puts, and reads back as the store's updates.
+/// that of [`Site::state`] after these puts, and is parsed as the store's updates.
 ///
 /// # Errors
 ///
 /// The first of these, in this order; there is then no state:
 ///
-/// - 10 to 19, at a byte offset: the file of policies.
-/// - At the policy's index in the file: the first rejected put of a policy (18 for a text of over 262,144 bytes, 40
-///   to 46, 62).
-/// - 30 to 38, at the entity's index in the array: the array of entities; 30 without a place if there is no array.
-/// - At the entity's index: the first rejected put of an entity (61, 62).
+/// - 10 to 19, at a byte offset: the file of policies is rejected.
+/// - 18, 40 to 46 or 62, at the policy's index in the file: the first rejected put of a policy (18: its own text has
+///   over 262,144 bytes; 40 to 46: it does not pass validation; 62: no stamp is left).
+/// - 30 to 38, at the entity's index in the array: the array of entities is rejected; 30 without a place if the bytes
+///   are not an array.
+/// - 61 or 62, at the entity's index: the first rejected put of an entity (61: a cycle; 62: no stamp is left).
 /// - `NoMemory` (1): an allocation failed; possible at any point.
 pub fn loaded_state(
     alloc: Global,

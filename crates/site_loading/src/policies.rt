@@ -11,7 +11,7 @@ ghost use Rattle.site_loading.specs.inner.Steps.{HasTokens};
 use crate::refusal::put_refusal;
 use grammar_files::{LexFault, files_are_cut_by_policies, lexing_is_unique, policy_texts};
 use plain::NoMemory;
-use schema_decisions::{Policy, Refusal, policies_in};
+use schema_decisions::{Policy, Refusal, policies_of_file};
 use site_steps::Site;
 use std::alloc::Global;
 
@@ -30,7 +30,7 @@ fn put_policy(site: &mut Site, place: usize, id: &str, text: &str) -> Result<(),
     }
 }
 
-/// Returns the texts of the policies of a file that is UTF-8 and has tokens.
+/// Returns the texts of the policies of a file, in order. The file must be UTF-8 and have tokens.
 fn texts_of<'t>(alloc: Global, bytes: &'t [u8]) -> Result<Vec<&'t str>, NoMemory>
     requires { HasTokens bytes.now }
     ensures { IfOk result (λ texts. AreTextsOf bytes.now (map (λ t. t.now) texts.items)) }
@@ -69,7 +69,7 @@ fn put_each(site: &mut Site, policies: &[(String, Policy)], texts: &[&str]) -> R
 ///
 /// In this order:
 ///
-/// - 10 to 19, at a byte offset: the file.
+/// - 10 to 19, at a byte offset: the file is rejected.
 /// - The error of the first rejected put, at the policy's index in the file.
 /// - `NoMemory` (1): an allocation failed; possible at any point.
 pub(crate) fn load_policies(alloc: Global, site: &mut Site, bytes: &[u8]) -> Result<(), Refusal>
@@ -80,7 +80,7 @@ pub(crate) fn load_policies(alloc: Global, site: &mut Site, bytes: &[u8]) -> Res
     ensures same { IsSameSite site.old site.new }
 {
     files_are_cut_by_policies();
-    let policies = policies_in(alloc, bytes)?;
+    let policies = policies_of_file(alloc, bytes)?;
     let texts = texts_of(alloc, bytes)?;
     put_each(site, &policies, &texts)
 }

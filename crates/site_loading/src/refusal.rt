@@ -1,4 +1,4 @@
-//! The errors of puts.
+//! The errors of puts, as a [`Refusal`].
 ghost use Rattle.std.specs.Prelude.{◌≡◌};
 ghost use Rattle.site_loading.specs.Puts.{put_refusal};
 
@@ -6,7 +6,8 @@ use plain::NoMemory;
 use schema_decisions::Refusal;
 use site_steps::SiteFault;
 
-/// Converts the error of a put; its place is the index in the file of what was put. `NoMemory` has no place.
+/// Converts the error of a put to a [`Refusal`] whose place is the index of the policy or entity in its file.
+/// `NoMemory` has no place.
 pub(crate) fn put_refusal(place: usize, fault: SiteFault) -> Refusal
     ensures { result ≡ put_refusal place fault }
 {

@@ -11,7 +11,7 @@ use Rattle.entity_hierarchy.specs.schema.Schemas.{StatedSchema}
 use Rattle.entity_hierarchy.specs.entity_data.declared.entity.Entity.{Entity}
 use Rattle.stamped_store.specs.Store.{StoreEntries, updates, abstract_store, abstract_updates}
 use Rattle.stamped_store.specs.Reading.{AreEntriesRead}
-use Rattle.site_meaning.specs.StoreMeaning.{world_under, parents_with, IsAnswerOver, MakesCycle, MakesNoCycle}
+use Rattle.site_meaning.specs.StoreMeaning.{entity_data_under, parents_with, IsAnswerOver, MakesCycle, MakesNoCycle}
 use Rattle.site_meaning.specs.TextsRead.{policies_read, entity_at}
 use Rattle.site_meaning.proofs.PolicyLemmas.{policies_are}
 use Rattle.site_meaning.proofs.EntityLemmas.{entities_are}
@@ -19,7 +19,7 @@ use Rattle.site_meaning.proofs.EntityLemmas.{entities_are}
 module _ {R E : Type 0} (Policies : R → List ℕ → List ℕ → Policy → Type 0) (Entities : R → EntityUid → List ℕ → Entity → Type 0)
     (schema : StatedSchema) (k : StoreEntries Policy Entity) (in_order : updates (abstract_store k) ≡ abstract_updates k) where
   pub answer_said : (q : Request) (result : Result Answer E)
-      → IfOk result (IsAnswer (world_under schema (entity_at k.entities)) q (policies_read k.policies))
+      → IfOk result (IsAnswer (entity_data_under schema (entity_at k.entities)) q (policies_read k.policies))
       → IfOk result (λ a. (r : R) → AreEntriesRead (Policies r) (Entities r) k
       → IsAnswerOver (Policies r) (Entities r) schema (abstract_store k) q a)
   answer_said q (Ok a) is = λ r h. record {

@@ -16,7 +16,7 @@ use Rattle.entity_hierarchy.specs.entity_data.declared.data.EntityData.{EntityDa
 use Rattle.entity_hierarchy.specs.entity_data.Entities.{kept_parents, action_or}
 use Rattle.stamped_store.specs.Store.{Store, entity_name}
 use Rattle.stamped_store.specs.Contents.{text_under, entities_of}
-use Rattle.site_meaning.specs.StoreMeaning.{ArePolicies, IsReadFrom, AreEntities, HaveOneReading, data_of, world_under}
+use Rattle.site_meaning.specs.StoreMeaning.{ArePolicies, IsReadFrom, AreEntities, HaveOneReading, data_of, entity_data_under}
 use Rattle.site_meaning.specs.StoreMeaning.{IsAnswerOver}
 use Rattle.site_meaning.proofs.PolicyLemmas.{one_policies}
 use Rattle.site_meaning.proofs.EntityLemmas.{one_entities}
@@ -53,7 +53,7 @@ module _ (Entities : EntityUid → List ℕ → Entity → Type 0) (schema : Sta
   with_parents_of s = firsts (entities_of s) ++ schema.actions
 
   all_parents : (s : Store) (es : EntityUid → Option Entity) → AreEntities Entities s es
-      → HaveAllParents (world_under schema es).parents (with_parents_of s)
+      → HaveAllParents (entity_data_under schema es).parents (with_parents_of s)
   unfolding with_parents_of
   all_parents s es are b a h = parent_of (schema.member_of b) (option_map data_of (es b)) a h
       (λ us is. Contains-append_right (firsts (entities_of s)) schema.actions b
@@ -63,8 +63,8 @@ module _ (Entities : EntityUid → List ℕ → Entity → Type 0) (schema : Sta
       Contains-append_left (firsts (entities_of s)) schema.actions b (first_in (entities_of s) (b, found.0) ((stand s b found.0).1 found.1)))
 
   module _ (Policies : List ℕ → List ℕ → Policy → Type 0) (finite : OneAnswerInFiniteHierarchies) where
-    answer_in : (s : Store) (es : EntityUid → Option Entity) → AreEntities Entities s es → HasOneAnswer (world_under schema es)
-    answer_in s es are = finite (world_under schema es) (with_parents_of s) (all_parents s es are)
+    answer_in : (s : Store) (es : EntityUid → Option Entity) → AreEntities Entities s es → HasOneAnswer (entity_data_under schema es)
+    answer_in s es are = finite (entity_data_under schema es) (with_parents_of s) (all_parents s es are)
 
     pub some_answer : (s : Store) (ps : List NamedPolicy) (es : EntityUid → Option Entity) (q : Request) → ArePolicies Policies s ps
         → AreEntities Entities s es → (a : Answer) × IsAnswerOver Policies Entities schema s q a
@@ -77,8 +77,8 @@ module _ (Entities : EntityUid → List ℕ → Entity → Type 0) (schema : Sta
     one_answer one_policy one_entity s q a b h k =
         let policies : k.policies ≡ h.policies = one_policies Policies one_policy s k.policies h.policies k.are_policies h.are_policies in
         let entities : k.entities ≡ h.entities = one_entities Entities one_entity s k.entities h.entities k.are_entities h.are_entities in
-        let same : IsAnswer (world_under schema h.entities) q h.policies b =
-        subst (λ (es : EntityUid → Option Entity). IsAnswer (world_under schema es) q h.policies b) entities
-        (subst (λ (ps : List NamedPolicy). IsAnswer (world_under schema k.entities) q ps b) policies k.is_answer) in
+        let same : IsAnswer (entity_data_under schema h.entities) q h.policies b =
+        subst (λ (es : EntityUid → Option Entity). IsAnswer (entity_data_under schema es) q h.policies b) entities
+        (subst (λ (ps : List NamedPolicy). IsAnswer (entity_data_under schema k.entities) q ps b) policies k.is_answer) in
         let found = answer_in s h.entities h.are_entities q h.policies in
         found.2 a h.is_answer ∙ sym (found.2 b same)

@@ -1,5 +1,6 @@
--- Defines answers and cycles over a store in which each action has only the parents that its `memberOf` states. A
--- theorem of this crate shows that they are those of the contracts, which take the parents from the schema's answers.
+-- Defines answers and cycles over a store in which each action has only the parents that its `memberOf` names in the
+-- schema's bytes. A theorem of this crate, `stored_actions_answer_alike`, shows that they are the answers and cycles of
+-- StoreMeaning.antt, which takes the parents from the view of the schema (`member_of`).
 -- Source: Cedar reference guide 4.0, "Schema JSON format", `actions` and `memberOf`.
 use Rattle.std.specs.Prelude.{◌↔◌, ℕ, List, Option}
 use Rattle.values.specs.declared.entity_uid.EntityUid.{EntityUid}
@@ -15,21 +16,21 @@ use Rattle.entity_hierarchy.specs.Laws.{stated_world}
 use Rattle.stamped_store.specs.Store.{Store}
 use Rattle.site_meaning.specs.StoreMeaning.{ArePolicies, AreEntities, data_in, IsAnswerOver, MakesCycle, MakesNoCycle}
 
--- ---- the meaning of a store, under a schema that bytes state
+-- ---- the meaning of a store, under a schema that bytes describe
 
 module _ {bytes : List ℕ} {schema : StatedSchema} (stated : IsSchemaOf bytes schema) where
-  -- `stated_world_under entities` is the entity data of evaluation: the attributes of `entities`, their parents, and
-  -- of each action of the schema the parents that its `memberOf` states.
+  -- `stated_world_under entities` is the entity data for evaluation: the attributes and parents of `entities`, and the
+  -- parents that the `memberOf` of each action of the schema names.
   abbrev pub stated_world_under : (EntityUid → Option Entity) → Entities
   stated_world_under entities = stated_world stated.named schema (data_in entities)
 
-  -- `stated_parents_with entities e` is the parent relation of that data, but the parents of `e` are those that `e`
-  -- states.
+  -- `stated_parents_with entities e` is the parent relation of that data with the entity `e` put: the parents of its
+  -- uid are those of `e`.
   abbrev pub stated_parents_with : (EntityUid → Option Entity) → Entity → Parents
   stated_parents_with entities e = with_parents (stated_world_under entities).parents e.uid e.parents
 
-  -- `IsAnswerByMemberOf Policies Entities s q a` holds if `a` is an answer to the request `q` over the store `s` with
-  -- that data.
+  -- `IsAnswerByMemberOf Policies Entities s q a` holds if `a` is an answer to the request `q` over the store `s`, where
+  -- each action has the parents that its `memberOf` names.
   pub record IsAnswerByMemberOf (Policies : List ℕ → List ℕ → Policy → Type 0)
       (Entities : EntityUid → List ℕ → Entity → Type 0) (s : Store) (q : Request) (a : Answer) : Type 0 where
     pub policies : List NamedPolicy
@@ -38,38 +39,41 @@ module _ {bytes : List ℕ} {schema : StatedSchema} (stated : IsSchemaOf bytes s
     pub are_entities : AreEntities Entities s entities
     pub is_answer : IsAnswer (stated_world_under entities) q policies a
 
-  -- `MakesCycleByMemberOf Entities s e` holds if putting the entity `e` into the store `s` makes `e` cyclic in that
-  -- data.
+  -- `MakesCycleByMemberOf Entities s e` holds if putting the entity `e` into the store `s` makes `e` cyclic, where each
+  -- action has the parents that its `memberOf` names.
   pub record MakesCycleByMemberOf (Entities : EntityUid → List ℕ → Entity → Type 0) (s : Store) (e : Entity) : Type 0
     where
       pub entities : EntityUid → Option Entity
       pub are_entities : AreEntities Entities s entities
       pub cycle : IsOnCycle (stated_parents_with entities e) e.uid
 
-  -- `MakesNoCycleByMemberOf Entities s e` holds if putting the entity `e` into the store `s` does not make it cyclic.
+  -- `MakesNoCycleByMemberOf Entities s e` holds if putting the entity `e` into the store `s` does not make `e` cyclic,
+  -- where each action has the parents that its `memberOf` names.
   pub record MakesNoCycleByMemberOf (Entities : EntityUid → List ℕ → Entity → Type 0) (s : Store) (e : Entity) : Type 0
     where
       pub entities : EntityUid → Option Entity
       pub are_entities : AreEntities Entities s entities
       pub none : IsOnCycle (stated_parents_with entities e) e.uid → ⊥
 
--- ---- theorems, for any way to parse the texts of the store
+-- ---- theorems, whatever the texts of the store are parsed as
 
--- `StoredActionsAnswerAlike Policies Entities`: the answers over a store are those by `memberOf`.
+-- `StoredActionsAnswerAlike Policies Entities`: the answers over a store are those where each action has the parents
+-- that its `memberOf` names.
 abbrev pub StoredActionsAnswerAlike : (List ℕ → List ℕ → Policy → Type 0) → (EntityUid → List ℕ → Entity → Type 0)
     → Type 0
 StoredActionsAnswerAlike Policies Entities =
     (bytes : List ℕ) (schema : StatedSchema) (stated : IsSchemaOf bytes schema) (s : Store) (q : Request) (a : Answer)
     → IsAnswerOver Policies Entities schema s q a ↔ IsAnswerByMemberOf stated Policies Entities s q a
 
--- `StoredActionsCycleAlike Entities`: an entity makes a cycle when it is put if and only if it makes one by `memberOf`.
+-- `StoredActionsCycleAlike Entities`: an entity becomes cyclic when it is put if and only if it does so where each
+-- action has the parents that its `memberOf` names.
 abbrev pub StoredActionsCycleAlike : (EntityUid → List ℕ → Entity → Type 0) → Type 0
 StoredActionsCycleAlike Entities =
     (bytes : List ℕ) (schema : StatedSchema) (stated : IsSchemaOf bytes schema) (s : Store) (e : Entity)
     → MakesCycle Entities schema s e ↔ MakesCycleByMemberOf stated Entities s e
 
--- `StoredActionsAllowAlike Entities`: an entity makes no cycle when it is put if and only if it makes none by
--- `memberOf`.
+-- `StoredActionsAllowAlike Entities`: an entity does not become cyclic when it is put if and only if it does not where
+-- each action has the parents that its `memberOf` names.
 abbrev pub StoredActionsAllowAlike : (EntityUid → List ℕ → Entity → Type 0) → Type 0
 StoredActionsAllowAlike Entities =
     (bytes : List ℕ) (schema : StatedSchema) (stated : IsSchemaOf bytes schema) (s : Store) (e : Entity)

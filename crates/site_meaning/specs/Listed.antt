@@ -1,4 +1,4 @@
--- Proves that the uids listed of entries are those that have an entity.
+-- Proves that `uids_read` lists exactly the uids for which the entries have an entity.
 use Rattle.std.specs.Prelude.{◌≡◌, List, [], ◌∷◌, Contains, Option, Some, None, IsSome, is_some, Bool, true, false}
 use Rattle.std.specs.Prelude.{cond, refl, option_and_then, option_map}
 use Rattle.std.proofs.Common.{subst, sym, ◌∙◌, inl, inr}
@@ -17,6 +17,7 @@ use Rattle.stamped_store.specs.Stored.{value_at}
 use Rattle.site_meaning.specs.StoreMeaning.{data_of, data_in}
 use Rattle.site_meaning.specs.TextsRead.{entity_at, uids_read}
 
+-- each member of a filtered list is a member of the list, and has the property
 out_of_filter : (p : EntityUid → Bool) (xs : List EntityUid) (u : EntityUid) → Contains (filter p xs) u
     → Contains xs u × (p u ≡ true)
 out_of_filter p [] u h = Contains-none u h
@@ -30,6 +31,7 @@ out_of_filter p (x ∷ xs) u h =
       | false ↦ λ is m. let rest = out_of_filter p xs u m in (Contains-there x xs u rest.0, rest.1)
     ] refl h
 
+-- each member of a list that has the property is a member of the filtered list
 into_filter : (p : EntityUid → Bool) (xs : List EntityUid) (u : EntityUid) → Contains xs u → p u ≡ true
     → Contains (filter p xs) u
 into_filter p [] u h is = Contains-none u h
@@ -44,6 +46,7 @@ into_filter p (x ∷ xs) u h is = elim (Contains-cases x xs u h) [
       ]
 ]
 
+-- each uid at which the entries have a value is one of their keys
 key_at : (es : List (EntityUid × Entry Entity)) (u : EntityUid) → IsSome (value_at uid_cmp es u)
     → Contains (keys_of es) u
 key_at [] u h = cc h
@@ -64,6 +67,7 @@ some_mapped : {A B : Type 0} (f : A → B) (o : Option A) → is_some (option_ma
 some_mapped f None = refl
 some_mapped f (Some x) = refl
 
+-- `entities_listed es`: the uids with an entity among the entries `es` are exactly those in `uids_read es`.
 pub entities_listed : (es : List (EntityUid × Entry Entity)) → AreListed (data_in (entity_at es)) (uids_read es)
 entities_listed es u = (
   (λ m. some_mapped data_of (entity_at es u) ∙ (out_of_filter (λ uid. is_some (entity_at es uid)) (keys_of es) u m).1),

@@ -1,5 +1,5 @@
 -- Defines the meaning of a store: its policies, its entities, and the answers over them.
--- Rules of this product: these are the policies and entities whose body is a text, each parsed from its text; a deleted
+-- Rules of this product: the policies and entities are those whose entry has a text, each parsed from it; a deleted
 -- name has no policy and no entity; the schema's actions are added to the entities. The relation `Reads` between a
 -- name, a text and what the text may be parsed as is a parameter of these definitions.
 use Rattle.std.specs.Prelude.{◌≡◌, ℕ, List, Option, Some, None, option_map}
@@ -14,7 +14,7 @@ use Rattle.entity_hierarchy.specs.authoriser.Answers.{NamedPolicy, IsAnswer}
 use Rattle.entity_hierarchy.specs.schema.Schemas.{StatedSchema}
 use Rattle.entity_hierarchy.specs.entity_data.declared.entity.Entity.{Entity}
 use Rattle.entity_hierarchy.specs.entity_data.declared.data.EntityData.{EntityData}
-use Rattle.entity_hierarchy.specs.entity_data.Entities.{EntityMap, with_actions, world_in}
+use Rattle.entity_hierarchy.specs.entity_data.Entities.{EntityMap, with_actions, entity_data_in}
 use Rattle.stamped_store.specs.Store.{Store, entity_name}
 use Rattle.stamped_store.specs.Contents.{text_under, policies_of}
 
@@ -34,40 +34,40 @@ IsReadFrom Reads None (Some e) = ⊥
 IsReadFrom Reads (Some text) None = ⊥
 IsReadFrom Reads (Some text) (Some e) = Reads text e
 
--- `AreEntities Reads s entities` holds if `entities` are those of the store `s`: at each uid with a text a value of
--- that text by `Reads`, and nothing at any other uid.
+-- `AreEntities Reads s entities` holds if `entities` are the entities of the store `s`: at each uid with a text a value
+-- of that text by `Reads`, and nothing at any other uid.
 abbrev pub AreEntities : (EntityUid → List ℕ → Entity → Type 0) → Store → (EntityUid → Option Entity) → Type 0
 AreEntities Reads s entities =
     (uid : EntityUid) → IsReadFrom (Reads uid) (text_under s (entity_name uid)) (entities uid)
 
--- `data_of e` is the attributes and parents of the entity `e`.
+-- `data_of e` has the attributes and parents of the entity `e`.
 abbrev pub data_of : Entity → EntityData
 data_of e = record { attrs = e.attrs; parents = e.parents }
 
--- `data_in entities` is the map of the attributes and parents of `entities`.
+-- `data_in entities` is the map from uids to the attributes and parents of `entities`.
 abbrev pub data_in : (EntityUid → Option Entity) → EntityMap
 data_in entities uid = option_map data_of (entities uid)
 
--- `world_under schema entities` is the entity data of evaluation: the attributes of `entities`, and the parents of
--- these and of the schema's actions; an action's are those of its `memberOf` (specs/ByMemberOf.antt). A theorem of
--- `entity_hierarchy` shows that all ancestors of an action could be its parents, with the same answers and the same
--- cycles.
-abbrev pub world_under : StatedSchema → (EntityUid → Option Entity) → Entities
-world_under schema entities = world_in (with_actions schema.member_of (data_in entities))
+-- `entity_data_under schema entities` is the entity data for evaluation: the attributes and parents of `entities`, and
+-- the parents of the schema's actions, which are those that its `memberOf` names (ByMemberOf.antt). A theorem of
+-- `entity_hierarchy` shows that answers and cycles stay the same if each action has all of its ancestors as parents.
+abbrev pub entity_data_under : StatedSchema → (EntityUid → Option Entity) → Entities
+entity_data_under schema entities = entity_data_in (with_actions schema.member_of (data_in entities))
 
--- `IsAnswerOver Policies Entities schema s q a` holds if `a` is an answer to the request `q` over the store `s`.
+-- `IsAnswerOver Policies Entities schema s q a` holds if `a` is an answer to the request `q` over the policies and
+-- entities of the store `s` and the actions of `schema`.
 pub record IsAnswerOver (Policies : List ℕ → List ℕ → Policy → Type 0) (Entities : EntityUid → List ℕ → Entity → Type 0)
     (schema : StatedSchema) (s : Store) (q : Request) (a : Answer) : Type 0 where
   pub policies : List NamedPolicy
   pub are_policies : ArePolicies Policies s policies
   pub entities : EntityUid → Option Entity
   pub are_entities : AreEntities Entities s entities
-  pub is_answer : IsAnswer (world_under schema entities) q policies a
+  pub is_answer : IsAnswer (entity_data_under schema entities) q policies a
 
--- `parents_with schema entities e` is the parent relation among `entities` and the actions, but the parents of `e`
--- are those that `e` states.
+-- `parents_with schema entities e` is the parent relation of `entities` and the actions of `schema` with the entity `e`
+-- put: the parents of its uid are those of `e`.
 abbrev pub parents_with : StatedSchema → (EntityUid → Option Entity) → Entity → Parents
-parents_with schema entities e = with_parents (world_under schema entities).parents e.uid e.parents
+parents_with schema entities e = with_parents (entity_data_under schema entities).parents e.uid e.parents
 
 -- `MakesCycle Entities schema s e` holds if putting the entity `e` into the store `s` makes `e` cyclic.
 pub record MakesCycle (Entities : EntityUid → List ℕ → Entity → Type 0) (schema : StatedSchema) (s : Store)
@@ -76,7 +76,7 @@ pub record MakesCycle (Entities : EntityUid → List ℕ → Entity → Type 0) 
   pub are_entities : AreEntities Entities s entities
   pub cycle : IsOnCycle (parents_with schema entities e) e.uid
 
--- `MakesNoCycle Entities schema s e` holds if putting the entity `e` into the store `s` does not make it cyclic.
+-- `MakesNoCycle Entities schema s e` holds if putting the entity `e` into the store `s` does not make `e` cyclic.
 pub record MakesNoCycle (Entities : EntityUid → List ℕ → Entity → Type 0) (schema : StatedSchema) (s : Store)
     (e : Entity) : Type 0 where
   pub entities : EntityUid → Option Entity

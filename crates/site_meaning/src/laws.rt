@@ -1,4 +1,4 @@
-//! Theorems about the meaning of a store; their functions do nothing.
+//! Theorems about the meaning of a store. The functions are no-ops.
 ghost use Rattle.std.specs.Prelude.{◌≡◌, ◌↔◌, ℕ, List, Option, Some, Contains, map};
 ghost use Rattle.values.specs.declared.entity_uid.EntityUid.{EntityUid};
 ghost use Rattle.values.specs.declared.request.Request.{Request as PlainRequest};
@@ -15,13 +15,12 @@ ghost use Rattle.site_meaning.specs.ByMemberOf.{StoredActionsAllowAlike};
 
 use entity_hierarchy::{Entity, Policy, actions_may_be_closed, answers_are_lawful};
 use stamped_store::Readings;
-use stamped_store::laws::contents_are_told;
+use stamped_store::laws::contents_are_the_texts;
 
 /// Proves that a store has at most one list of policies and at most one entity at each uid, if a text has at most one
-/// value under its name.
+/// value under its name. No-op.
 ///
 /// The policies and entities are then exactly the values of the texts in the store. The ids of the policies ascend.
-/// No-op.
 pub fn stores_have_one_reading<R: Readings<Policy, Entity>>()
     ensures policies { (r : R) (s : Store) (ps qs : List NamedPolicy) → HaveOneReading (R.reads_policy r)
         → ArePolicies (R.reads_policy r) s ps → ArePolicies (R.reads_policy r) s qs → ps ≡ qs }
@@ -38,11 +37,13 @@ pub fn stores_have_one_reading<R: Readings<Policy, Entity>>()
     ensures ascending { (r : R) (s : Store) (ps : List NamedPolicy) → ArePolicies (R.reads_policy r) s ps
         → AreIdsAscending (map (λ p. p.id) ps) }
 {
-    contents_are_told();
+    contents_are_the_texts();
 }
 
-/// Proves that a request has one answer over a store, under a schema that bytes state: at least one if each text has a
-/// value, and at most one if a text has at most one value. So equal stores give equal answers. No-op.
+/// Proves that a request has one answer over a store, under a schema that bytes describe: at least one if each text has
+/// a value, and at most one if a text has at most one value under its name. No-op.
+///
+/// So equal stores give equal answers.
 pub fn requests_have_one_answer<R: Readings<Policy, Entity>>()
     ensures some { (r : R) (bytes : List ℕ) (schema : StatedSchema) (s : Store) (ps : List NamedPolicy)
         (es : EntityUid → Option PlainEntity) (q : PlainRequest) → IsSchemaOf bytes schema
@@ -54,15 +55,15 @@ pub fn requests_have_one_answer<R: Readings<Policy, Entity>>()
         → IsAnswerOver (R.reads_policy r) (R.reads_entity r) schema s q b → a ≡ b }
 {
     answers_are_lawful();
-    contents_are_told();
+    contents_are_the_texts();
 }
 
-/// Proves that answers and cycles are those over the entity data in which each action has only the parents that its
-/// `memberOf` states.
+/// Proves that answers and cycles over a store are those over the entity data in which each action has only the parents
+/// that its `memberOf` names. No-op.
 ///
-/// Under a schema that bytes state, an answer over a store is an answer over that data, and the converse; and putting
-/// an entity makes a cycle, or makes none, if and only if it does so there. This holds for any way to parse the texts,
-/// and for any uid. No-op.
+/// Under a schema that bytes describe, an answer over a store is an answer over that data, and conversely. An entity
+/// becomes cyclic when it is put if and only if it does so there. Both hold whatever the texts are parsed as, and for
+/// any uid.
 pub fn stored_actions_answer_alike<R: Readings<Policy, Entity>>()
     ensures answers { (r : R) → StoredActionsAnswerAlike (R.reads_policy r) (R.reads_entity r) }
     ensures cycles { (r : R) → StoredActionsCycleAlike (R.reads_entity r) }

@@ -1,7 +1,7 @@
 //! The meaning of a store of stamped texts: its policies, its entities, and the one answer to each request.
 //!
-//! The store holds each text with its parsed form. The relation between a text and its parsed form is a parameter of
-//! the contracts. `site_store` answers requests by these definitions.
+//! The store has each text with its parsed value. The relation between a text and its value is a parameter of the
+//! contracts. `site_store` answers requests by these definitions.
 #![tactic(auto)]
 
 mod laws;
@@ -11,10 +11,11 @@ mod stored_entities;
 pub use entity_hierarchy::{
     Answer, Entities, Entity, EntityFault, Lookup, PreparedRequest, Schema, actions_may_be_closed,
     answers_are_lawful, canonical_text, decide_known, declarations_are_read_as_stated,
-    entities_read_back, expressions_have_one_outcome, paths_are_decided, read_entity, read_request,
-    requests_have_one_outcome, scopes_do_not_err, stated_schemas_are_well_formed, world_under,
+    entities_read_back, entity_data_under, expressions_have_one_outcome, paths_are_decided,
+    read_entity, read_request, requests_have_one_outcome, scopes_do_not_err,
+    stated_schemas_are_well_formed,
 };
 pub use laws::{requests_have_one_answer, stored_actions_answer_alike, stores_have_one_reading};
 pub use policies::policies_in;
-pub use stamped_store::laws::contents_are_told;
+pub use stamped_store::laws::contents_are_the_texts;
 pub use stored_entities::StoredEntities;

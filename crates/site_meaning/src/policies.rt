@@ -27,13 +27,13 @@ fn read_policies<'s>(
     Ok(found)
 }
 
-/// Returns the policies of a store that have a text, parsed, in ascending order of ids, as `decide` takes them.
+/// Returns the parsed policies of a store with their ids, in ascending order of ids.
 ///
-/// One pass over all names of policies.
+/// Takes one pass over all names of policies, also deleted ones.
 ///
 /// # Errors
 ///
-/// `NoMemory` alone.
+/// - `NoMemory`: an allocation failed.
 pub fn policies_in<'s>(
     alloc: Global,
     store: &'s StampedStore<Policy, Entity>,

@@ -16,7 +16,7 @@ use stamped_store::StampedStore;
 use std::alloc::Global;
 use values::{EntityUid, Record};
 
-/// The entities of a store that have a text, parsed.
+/// The parsed entities of a store, as a source of entity data. A deleted name has no entity.
 #[derive(Clone, Copy)]
 pub struct StoredEntities<'s> {
     /// The store.
@@ -32,7 +32,7 @@ impl<'s> StoredEntities<'s> {
     }
 }
 
-/// Returns the parsed entity of a uid; `None` if it has no text. Does not allocate.
+/// Returns the parsed entity of a uid, or `None` if the store has no text for it. Does not allocate.
 fn entity_in<'s>(store: &'s StampedStore<Policy, Entity>, uid: &EntityUid) -> Option<&'s Entity>
     ensures { option_copied result ≡ entity_at store.now.entities uid.now }
 {

@@ -40,7 +40,7 @@ pub(crate) fn new_site(
     Ok(Site::new(alloc, schema.share()?, name.as_str()))
 }
 
-/// Adds an empty site of this name, in place of an older one.
+/// Adds an empty site of this name, which hides an older one.
 fn add_site(
     alloc: Global,
     schema: &Shared<Schema>,

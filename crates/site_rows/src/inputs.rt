@@ -63,8 +63,8 @@ pub(crate) fn uid_of(alloc: Global, type_name: TypeName, id: &str) -> Result<Ent
     Ok(EntityUid { type_name, id })
 }
 
-/// Returns the entity to delete: its type up to a blank, and its id. Without a uid, since the type is not a path, it is
-/// an entity without the form of one, as at a served site.
+/// Returns the entity to delete: its type up to a blank, and its id. If the type is not a path, returns a put of no
+/// bytes, which has the error (30) that a served site reports for a malformed uid.
 fn entity_deleted(alloc: Global, text: &str) -> Result<Option<OwnedInput>, NoMemory> {
     let (type_name, id) = first_word(text);
     match TypeName::parse(alloc, type_name)? {

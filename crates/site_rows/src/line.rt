@@ -57,7 +57,7 @@ impl Line {
         self.push(digits.format(number).as_bytes());
     }
 
-    /// Appends what a value shows itself as.
+    /// Appends a value as its `Display` shows it.
     pub(crate) fn push_shown(&mut self, shown: &impl Display) {
         match format!(in self.alloc; "{shown}") {
             Ok(text) => self.push(text.as_bytes()),
@@ -65,7 +65,7 @@ impl Line {
         }
     }
 
-    /// Has the line print the message of an error in place of its code.
+    /// Makes the line print the message of an error in place of its code.
     pub(crate) fn print_messages(&mut self) {
         self.has_messages = true;
     }

@@ -9,8 +9,8 @@
 //!   one run, and their replies. An input is `put_policy ID TEXT`, `delete_policy ID`, `put_entity JSON`,
 //!   `delete_entity TYPE ID`, `authorize JSON`, `take MESSAGE`, `get_policy ID`, `state`, `summary` or
 //!   `delta SUMMARY`.
-//! - `prefixes NAME INPUT` gives the site each proper prefix of the bytes of an input `put_entity`, `take`,
-//!   `authorize` or `delta`, and prints the replies. ` × ` separates the number of equal ones in a row from one.
+//! - `prefixes NAME INPUT` gives the site each proper prefix of the bytes of an input `put_entity`, `take`, `authorize`
+//!   or `delta`, and prints the replies. Equal replies in a row are printed once, after their number and ` × `.
 //! - `says NAME INPUT` does as `NAME INPUT`, and prints the message of an error in place of its code.
 //! - `standing NAME` prints which caches of the site are present, its ancestors and its index of policies, and
 //!   `tried NAME` how many policies its last answer tried.
@@ -20,15 +20,15 @@
 //! - `world COUNT EVENT` executes events at COUNT empty sites, and prints the reply to each event and the state of each
 //!   site. ` ¶ ` separates events. An event is the number of a site and one of the first five inputs, or `summary`,
 //!   `offer`, `offer_delta NUMBER` or `deliver NUMBER`.
-//! - `serve STREAM` serves an empty site, `00001`, over a stream of requests, and prints the outcome and the replies.
-//!   ` ¶ ` separates the bytes of one read from those of the next. An outcome is the code of the error (`-` without
-//!   one), the number of unread bytes, the numbers of whole replies and of bytes behind them, and the site's state.
+//! - `serve STREAM` serves an empty site, `00001`, over a stream of requests, and prints the outcome and the replies. `
+//!   ¶ ` separates the bytes of one read from those of the next. An outcome is the code of the error (`-` without one),
+//!   the number of unread bytes, the numbers of whole replies and of bytes after them, and the site's state.
 //! - `reads STREAM` prints the outcome if the first read fails, if the second read fails, and so on, up to a read that
 //!   never happens. `writes SIZE STREAM` does the same for writes, each of at most SIZE bytes.
 //! - `logs SIZE STREAM` serves with a log whose first write fails, whose second write fails, and so on, up to a write
 //!   that never happens, each of at most SIZE bytes. An outcome is the code of the error, the numbers of whole replies
-//!   and of bytes behind them, and what the log has.
-//! - `cuts STREAM` prints the outcome if two reads cut the stream behind its first byte, behind its second byte, and so
+//!   and of bytes after them, and what the log has.
+//! - `cuts STREAM` prints the outcome if two reads cut the stream after its first byte, after its second byte, and so
 //!   on, as `serve` does; and then the outcome if the second of these reads fails.
 //!
 //! A case of another form has the outcome `bad row`, and one for which an allocation fails `no memory`. An error is
@@ -103,11 +103,13 @@ fn print_bytes(rt: &HostRuntime, bytes: &[u8]) -> io::Result<()> {
     out.write_all(bytes)
 }
 
+/// Prints the line for a line of standard input.
 fn print_line(rt: &HostRuntime, given: &mut Given, text: &str) -> io::Result<()> {
     let line = printed(rt.alloc(), given, text)?;
     print_bytes(rt, &line)
 }
 
+/// Prints the line for each line of standard input.
 fn print_lines(rt: &HostRuntime, given: &mut Given, text: &str) -> io::Result<()> {
     for line in text.lines() {
         print_line(rt, given, line)?;

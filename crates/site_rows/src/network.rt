@@ -2,7 +2,8 @@
 use crate::line::{BAD_ROW, Line};
 use http_service::{FetchFault, StreamFault};
 
-/// Appends the message of an error of the network: of a stream that is served behind `served`, else of a request.
+/// Appends the message of an error of the network: of a served stream if the word `served` precedes it, else of a
+/// request.
 pub(crate) fn push_network(text: &str, line: &mut Line) {
     match text {
         "served read" => line.push_shown(&StreamFault::Read),

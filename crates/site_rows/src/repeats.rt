@@ -10,7 +10,7 @@ pub(crate) struct Repeats {
 }
 
 impl Repeats {
-    /// Creates the start, without an outcome.
+    /// Creates the beginning, without an outcome.
     pub(crate) fn new(alloc: Global) -> Repeats {
         Repeats {
             count: 0,
@@ -25,7 +25,7 @@ impl Repeats {
         self.outcome = outcome;
     }
 
-    /// Adds an outcome, and appends those before it if they are others.
+    /// Adds an outcome, and appends those before it if they differ from it.
     pub(crate) fn add(&mut self, outcome: Line, line: &mut Line) {
         match outcome.ended() {
             Ok(bytes) if self.outcome == bytes => self.count = self.count.saturating_add(1),

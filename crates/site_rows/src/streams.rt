@@ -9,7 +9,7 @@ use http_service::{Fed, Kept, Plan, Site, SiteName, StreamFault, serve, serve_lo
 use plain::{NoMemory, Shared, beside};
 use std::alloc::Global;
 
-/// More calls of a device, and more replies, than a case has.
+/// The number of calls of a device, and of replies, after which a case is cut off; no case has so many.
 const MOST: u64 = 100;
 
 /// A stream of requests: its bytes, and how many of them each read returns.
@@ -28,7 +28,7 @@ struct Devices<'a> {
     /// How many bytes each write takes at most.
     writes: &'a [usize],
     failing_write: Option<u64>,
-    /// How many bytes the second of two reads returns, or 0 where the number of reads is not two.
+    /// How many bytes the second of two reads returns, or 0 if the number of reads is not two.
     second: usize,
     /// Whether the outcome shows the replies.
     is_shown: bool,
@@ -48,7 +48,7 @@ fn devices_of<'a>(word: &str, reads: &'a [usize], writes: &'a [usize], number: u
     }
 }
 
-/// Returns the devices of a stream that two reads cut, of which the second fails if it is to fail.
+/// Returns the devices of a stream that is cut into two reads, of which the second fails if `is_to_fail`.
 fn devices_of_cut<'a>(reads: &'a [usize; 2], is_to_fail: bool) -> Devices<'a> {
     Devices {
         reads,
@@ -80,7 +80,7 @@ fn stream_of(alloc: Global, text: &str) -> Result<Stream, NoMemory> {
     Ok(Stream { bytes, reads })
 }
 
-/// Returns the bytes behind the first reply, if that is whole.
+/// Returns the bytes after the first reply, if that is whole.
 fn after_reply(replies: &str) -> Option<&str> {
     let (head, rest) = replies.split_once("\r\n\r\n")?;
     let (_, length) = head.split_once("Content-Length: ")?;
@@ -89,7 +89,7 @@ fn after_reply(replies: &str) -> Option<&str> {
     Some(behind)
 }
 
-/// Appends the number of whole replies, and of the bytes behind them.
+/// Appends the number of whole replies, and of the bytes after them.
 fn push_count(line: &mut Line, replies: &str) {
     let mut rest = replies;
     for count in 0..MOST {
@@ -117,7 +117,7 @@ fn push_fault(line: &mut Line, fault: Option<StreamFault>) {
     }
 }
 
-/// Appends the number of unread bytes.
+/// Appends the number of unread bytes, or `second read` if they are those of the second of two reads.
 fn push_unread(line: &mut Line, unread: usize, second: usize) {
     if second > 0 && unread == second {
         line.push(b"second read");
@@ -127,7 +127,7 @@ fn push_unread(line: &mut Line, unread: usize, second: usize) {
     line.push(b" unread, ");
 }
 
-/// Returns whether an error is a device's.
+/// Returns whether an error is the reader's or the writer's.
 fn is_of_device(fault: Option<StreamFault>) -> bool {
     match fault {
         Some(StreamFault::Read) => true,
@@ -136,7 +136,7 @@ fn is_of_device(fault: Option<StreamFault>) -> bool {
     }
 }
 
-/// Appends the replies themselves.
+/// Appends the replies themselves, if they are to be shown.
 fn push_shown(line: &mut Line, replies: &[u8], is_shown: bool) {
     if is_shown {
         line.begin_part();
@@ -199,7 +199,7 @@ fn push_in_turn(
     }
 }
 
-/// Serves a stream once for each place at which two reads cut it.
+/// Serves a stream once for each byte after which two reads cut it.
 fn push_each_cut(
     alloc: Global,
     schema: &Shared<Schema>,

@@ -3,7 +3,7 @@ use crate::line::Line;
 use plain::{NoMemory, Text};
 use std::alloc::Global;
 
-/// Returns the first word of a string, and the string behind the blank that ends it.
+/// Returns the first word of a string, and the string after the blank that ends it.
 pub(crate) fn first_word(text: &str) -> (&str, &str) {
     text.split_once(' ').unwrap_or((text, ""))
 }

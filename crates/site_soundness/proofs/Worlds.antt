@@ -9,7 +9,7 @@ use Rattle.values.specs.declared.entity_uid.EntityUid.{EntityUid}
 use Rattle.values.specs.declared.request.Request.{Request}
 use Rattle.values.specs.Values.{record_of, fields_of}
 use Rattle.values.specs.Fields.{Field}
-use Rattle.site_meaning.specs.ancestor_search.Hierarchy.{Path, IsAncestor, IsAllAbove}
+use Rattle.site_meaning.specs.ancestor_search.Hierarchy.{Path, IsAncestor, AreAllAncestorsOf}
 use Rattle.site_meaning.specs.ancestor_search.Decided.{is_same}
 use Rattle.site_meaning.specs.ancestor_search.Deciding.{Contains-none, Contains-cases}
 use Rattle.site_meaning.specs.schema_types.Cedar.{Cedar}
@@ -33,7 +33,7 @@ use Rattle.site_meaning.specs.entity_hierarchy.Laws.{closed_world}
 use Rattle.site_meaning.specs.evaluator.Operators.{Entities}
 use Rattle.sync_messages.specs.typing.Types.{no_field_types, record_type}
 use Rattle.sync_messages.specs.typing.Membership.{Of, of_record, absent}
-use Rattle.sync_messages.specs.typing.Laws.{ParentsTellAncestors}
+use Rattle.sync_messages.specs.typing.Laws.{ParentsDetermineAncestors}
 use Rattle.sync_messages.specs.type_checker.FromSchemas.{attributes_of, shape_fields, declared_ancestors}
 use Rattle.sync_messages.specs.type_checker.FromSchemas.{typing_environment_of}
 use Rattle.site_soundness.specs.Laws.{EntitiesAreOfTheirTypes, RequestsAreOfAnEnvironment}
@@ -115,7 +115,7 @@ no_such : (b : Bool) → (b ≡ true → ⊥) → b ≡ false
 no_such true h = absurd (h refl)
 no_such false h = refl
 
-module _ (told_types : ActionTypeTestIsExact) (sets : SetsHoldTheirMembers) (typed : EntitiesAreOfTheirTypes) (tells : ParentsTellAncestors)
+module _ (told_types : ActionTypeTestIsExact) (sets : SetsHoldTheirMembers) (typed : EntitiesAreOfTheirTypes) (tells : ParentsDetermineAncestors)
     (s : StatedSchema) (wf : IsWellFormed s) (entities : EntityMap) (are_read : AreRead s entities) where
   abbrev W : Entities
   W = closed_world s entities
@@ -179,7 +179,7 @@ module _ (told_types : ActionTypeTestIsExact) (sets : SetsHoldTheirMembers) (typ
   undeclared u p (Some us) e none action h = absurd cc
   undeclared u p None e none action h = alone_at u p (entities u) refl action h
 
-  all_above_at : (u : EntityUid) → is_action_type u.type_name ≡ true → (a : Option (List EntityUid)) → s.ancestors u ≡ a → IsAllAbove W.parents u (declared_ancestors a)
+  all_above_at : (u : EntityUid) → is_action_type u.type_name ≡ true → (a : Option (List EntityUid)) → s.ancestors u ≡ a → AreAllAncestorsOf W.parents u (declared_ancestors a)
   all_above_at u action (Some us) e x = ((λ h. ([], back_at x us (s.ancestors u) (entities u) e h)), (λ h. climb u us e h.0 x h.1))
   all_above_at u action None e x = ((λ h. Contains-none x h), (λ h. let first = first_of u x h.0 h.1 in absurd (undeclared u first.0 (s.ancestors u) refl e action first.1)))
 
@@ -198,7 +198,7 @@ module _ (told_types : ActionTypeTestIsExact) (sets : SetsHoldTheirMembers) (typ
     ancestors_of_others u a plain above =
         tells (typing_environment_of s e) W.parents (λ l m n h i. wf.parents_join l m n h i) (λ v p not_action h. allowed_at v p not_action (s.ancestors v) (entities v) refl refl h) u a plain above
 
-pub what_is_read_conforms : StatedSchemasAreWellFormed → ActionTypeTestIsExact → SetsHoldTheirMembers → EntitiesAreOfTheirTypes → RequestsAreOfAnEnvironment → ParentsTellAncestors → WhatIsReadConforms
+pub what_is_read_conforms : StatedSchemasAreWellFormed → ActionTypeTestIsExact → SetsHoldTheirMembers → EntitiesAreOfTheirTypes → RequestsAreOfAnEnvironment → ParentsDetermineAncestors → WhatIsReadConforms
 what_is_read_conforms well told_types sets typed requests tells bytes s stated entities are_read d q states =
     let wf = well bytes s stated in
     let at = requests s d q states in (

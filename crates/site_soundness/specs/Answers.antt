@@ -1,7 +1,7 @@
--- Defines the errors that are possible in an answer over a store whose texts were read under a schema.
+-- Defines the errors that are possible in an answer over a store whose texts were parsed under a schema.
 -- Source: cedar-spec, cedar-lean/Cedar/Thm/Validation.lean (`validation_is_sound`: a policy that passes the validator
 -- has no error of type, attribute or extension).
--- Rules of this product: what is stored was read under the schema, so each store meets the premises of that theorem.
+-- Rules of this product: each stored text was parsed under the schema, so a store meets the premises of that theorem.
 use Rattle.std.specs.Prelude.{◌≢◌, ℕ, List, Contains, Option, true, Ok}
 use Rattle.serde_json.specs.Data.{Data}
 use Rattle.values.specs.declared.entity_uid.EntityUid.{EntityUid}
@@ -21,15 +21,15 @@ use Rattle.site_meaning.specs.entities.Requests.{StatesRequest}
 use Rattle.sync_messages.specs.validator.Passing.{IsImpossible}
 use Rattle.site_meaning.specs.stamped_store.Store.{Store}
 use Rattle.sync_messages.specs.Texts.{ReadsPolicy, ReadsEntity}
-use Rattle.site_meaning.specs.StoreMeaning.{ArePolicies, AreEntities, IsAnswerOver, world_under}
+use Rattle.site_meaning.specs.StoreMeaning.{ArePolicies, AreEntities, IsAnswerOver, entity_data_under}
 
 -- `HasPermittedErrors a` holds if each error in the answer `a` is `EntityDoesNotExist` or `ArithBoundsError`: no
 -- error of type, of an attribute or of an extension function.
 abbrev pub HasPermittedErrors : Answer → Type 0
 HasPermittedErrors a = (e : ErringPolicy) → Contains a.errors e → IsPermittedError (fault_of e.error)
 
--- `StoredPoliciesAreSound`: over a store whose texts were each parsed under a schema that bytes state, and for a
--- request that the schema allows, each policy gives a boolean, or one of these two errors; an impossible one is never
+-- `StoredPoliciesAreSound`: over a store whose texts were each parsed under a schema that bytes describe, and for a
+-- request that was parsed under it, each policy gives a boolean or one of these two errors; an impossible one is never
 -- true.
 abbrev pub StoredPoliciesAreSound : Type 0
 StoredPoliciesAreSound = (bytes : List ℕ) (schema : StatedSchema) → IsSchemaOf bytes schema → (s : Store)
@@ -37,10 +37,10 @@ StoredPoliciesAreSound = (bytes : List ℕ) (schema : StatedSchema) → IsSchema
     → (policies : List NamedPolicy) → ArePolicies (λ _. ReadsPolicy schema) s policies
     → (entities : EntityUid → Option Entity) → AreEntities (ReadsEntity schema) s entities
     → (p : NamedPolicy) → Contains policies p → (r : EvaluationResult)
-    → EvaluatesTo (world_under schema entities) q (expression_of p.policy) r
+    → EvaluatesTo (entity_data_under schema entities) q (expression_of p.policy) r
     → Fits boolean_type r × (IsImpossible schema p.policy → r ≢ Ok (boolean true))
 
--- `StoredAnswersAreSound`: an answer over such a store has no other error.
+-- `StoredAnswersAreSound`: an answer to such a request over such a store has only these two errors.
 abbrev pub StoredAnswersAreSound : Type 0
 StoredAnswersAreSound = (bytes : List ℕ) (schema : StatedSchema) → IsSchemaOf bytes schema → (s : Store)
     → (d : Data) (q : Request) → StatesRequest schema d q → (a : Answer)

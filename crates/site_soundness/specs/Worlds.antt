@@ -1,8 +1,9 @@
--- Defines the theorem that what is read under a schema conforms to it, and that validation is sound over it.
--- Sources: cedar-spec, cedar-lean/Cedar/Validation/RequestEntityValidator.lean (`validateRequest`,
+-- Defines the theorems that entities and requests parsed under a schema conform to it, and that validation is sound for
+-- them.
+-- Source: cedar-spec, cedar-lean/Cedar/Validation/RequestEntityValidator.lean (`validateRequest`,
 -- `validateEntities`, by which `InstanceOfWellFormedEnvironment` holds) and cedar-lean/Cedar/Thm/Validation.lean
 -- (`validation_is_sound`).
--- Here reading validates: there is no separate step.
+-- Here parsing under a schema checks conformance: there is no separate step.
 use Rattle.std.specs.Prelude.{◌≡◌, ◌≢◌, ℕ, List, Contains, Some, true, Ok}
 use Rattle.serde_json.specs.Data.{Data}
 use Rattle.values.specs.declared.entity_uid.EntityUid.{EntityUid}
@@ -28,20 +29,20 @@ use Rattle.sync_messages.specs.validator.Passing.{Passes, IsImpossible}
 abbrev pub entity_kept : EntityUid → EntityData → Entity
 entity_kept u kept = record { uid = u; attrs = kept.attrs; parents = kept.parents }
 
--- `AreRead s entities` holds if each of `entities` was read under the schema `s` from some JSON.
+-- `AreRead s entities` holds if each of `entities` is parsed from some JSON under the schema `s`.
 abbrev pub AreRead : StatedSchema → EntityMap → Type 0
 AreRead s entities = (u : EntityUid) (kept : EntityData) → entities u ≡ Some kept
     → (d : Data) × (entity_stated_in s d ≡ Ok (entity_kept u kept))
 
--- `WhatIsReadConforms`: under a schema that bytes state, entities that were each parsed, with the schema's actions, and
--- a request that was parsed conform to an environment of the schema.
+-- `WhatIsReadConforms`: under a schema that bytes describe, parsed entities together with the schema's actions, each of
+-- which has all of its ancestors as parents, and a parsed request conform to an environment of the schema.
 abbrev pub WhatIsReadConforms : Type 0
 WhatIsReadConforms = (bytes : List ℕ) (s : StatedSchema) → IsSchemaOf bytes s → (entities : EntityMap)
     → AreRead s entities → (d : Data) (q : Request) → StatesRequest s d q
     → (e : EnvironmentOf) × Contains s.environments e × Conforms (typing_environment_of s e) (closed_world s entities) q
 
--- `WhatIsStoredIsSound`: over finitely many such entities, and for such a request, a policy that passes validation
--- gives a boolean, `EntityDoesNotExist` or `ArithBoundsError`; if it is impossible, it is never true.
+-- `WhatIsStoredIsSound`: over finitely many such entities with these actions, and for such a request, a policy that
+-- passes validation gives a boolean, `EntityDoesNotExist` or `ArithBoundsError`; if it is impossible, it is never true.
 abbrev pub WhatIsStoredIsSound : Type 0
 WhatIsStoredIsSound = (bytes : List ℕ) (s : StatedSchema) → IsSchemaOf bytes s → (entities : EntityMap)
     → AreRead s entities → (us : List EntityUid) → AreListed entities us → (d : Data) (q : Request)

@@ -1,20 +1,21 @@
-//! Theorems about the definitions; their functions do nothing.
+//! Theorems about what is parsed under a schema, and about answers over it. The functions are no-ops.
 ghost use Rattle.site_soundness.specs.Laws.{ValuesAreOfTheirTypes, RecordsAreOfTheirTypes};
 ghost use Rattle.site_soundness.specs.Laws.{EntitiesAreOfTheirTypes, RequestsAreOfAnEnvironment};
 ghost use Rattle.site_soundness.specs.Worlds.{WhatIsReadConforms, WhatIsStoredIsSound};
 ghost use Rattle.site_soundness.specs.Answers.{StoredPoliciesAreSound, StoredAnswersAreSound};
 
 use site_meaning::{
-    actions_may_be_closed, contents_are_told, paths_are_decided, stated_schemas_are_well_formed,
+    actions_may_be_closed, contents_are_the_texts, paths_are_decided,
+    stated_schemas_are_well_formed,
 };
 use sync_messages::{
-    action_types_are_told, entities_read_back, parents_tell_ancestors, passing_policies_are_sound,
+    action_type_test_is_exact, entities_read_back, parents_determine_ancestors,
+    passing_policies_are_sound,
 };
 use values::sets_hold_their_members;
 
-/// Proves that a value parsed from JSON under a declared type has that type by the typing rules: a value, the
-/// attributes of an entity, and the context of a request, whose principal, action and resource are those of an
-/// environment of the schema. No-op.
+/// Proves that what is parsed from JSON under a schema has its declared type by the typing rules: a value, the
+/// attributes of an entity, and a request, which is of an environment of the schema. No-op.
 pub fn what_is_read_is_of_its_type()
     ensures values { ValuesAreOfTheirTypes }
     ensures records { RecordsAreOfTheirTypes }
@@ -24,21 +25,21 @@ pub fn what_is_read_is_of_its_type()
     sets_hold_their_members();
 }
 
-/// Proves that entities that were each parsed under a schema, with the schema's actions, and a request that was parsed
-/// under it conform to the schema: the premise of the soundness of validation. No-op.
+/// Proves that entities parsed under a schema together with the schema's actions, and a request parsed under it,
+/// conform to the schema. This is the premise of the soundness of validation. No-op.
 pub fn what_is_read_conforms()
     ensures { WhatIsReadConforms }
 {
     stated_schemas_are_well_formed();
-    action_types_are_told();
+    action_type_test_is_exact();
     entities_read_back();
     what_is_read_is_of_its_type();
-    parents_tell_ancestors();
+    parents_determine_ancestors();
 }
 
-/// Proves that validation is sound over what is stored: if each stored entity and the request were parsed under the
-/// schema, a policy that passes validation gives a boolean, `EntityDoesNotExist` or `ArithBoundsError`; if it is
-/// impossible, it is never true. No-op.
+/// Proves that validation is sound over parsed entities: if each of finitely many entities and the request were parsed
+/// under the schema, a policy that passes validation gives a boolean, `EntityDoesNotExist` or `ArithBoundsError`; if it
+/// is impossible, it is never true. No-op.
 pub fn what_is_stored_is_sound()
     ensures { WhatIsStoredIsSound }
 {
@@ -48,16 +49,16 @@ pub fn what_is_stored_is_sound()
     passing_policies_are_sound();
 }
 
-/// Proves that answers over a store are sound.
+/// Proves that answers over a store are sound. No-op.
 ///
-/// If each text of the store was parsed under the schema, each policy gives a boolean, `EntityDoesNotExist` or
-/// `ArithBoundsError`, and an impossible one is never true. So no answer over the store reports an error of type, of an
-/// attribute or of an extension function. No-op.
+/// If each text of the store and the request were parsed under the schema, each policy gives a boolean,
+/// `EntityDoesNotExist` or `ArithBoundsError`, and an impossible one is never true. So no answer over the store reports
+/// an error of type, of an attribute or of an extension function.
 pub fn stored_answers_are_sound()
     ensures policies { StoredPoliciesAreSound }
     ensures answers { StoredAnswersAreSound }
 {
     actions_may_be_closed();
     what_is_stored_is_sound();
-    contents_are_told();
+    contents_are_the_texts();
 }

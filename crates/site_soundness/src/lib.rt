@@ -1,8 +1,8 @@
-//! Theorems: what is read under a schema has the types that the schema declares, and validation is sound over it.
+//! Theorems: what is parsed under a schema has the types that the schema declares, and validation is sound over it.
 //!
 //! Values and the attributes of entities have their declared types, and requests are of an environment of the schema.
-//! So entities and a request that were read conform to the schema, and policies that pass validation are sound over
-//! them; so no answer over a store whose texts were read reports an error of type. The crate has no code.
+//! So parsed entities and a parsed request conform to the schema, and policies that pass validation are sound over
+//! them. So no answer over a store whose texts were parsed reports an error of type. All functions are no-ops.
 #![tactic(auto)]
 
 mod laws;

@@ -28,8 +28,8 @@ use Rattle.site_soundness.specs.type_checker.FromSchemas.{typing_environment_of}
 use Rattle.site_soundness.specs.typing.Types
 use Rattle.site_soundness.specs.typing.Types.{StaticType, boolean_type, true_type}
 use Rattle.site_soundness.specs.typing.Environment.{Environment, attribute_may_be_missing}
-use Rattle.site_soundness.specs.typing.Learned.{Capability, Pairs}
-use Rattle.site_soundness.specs.typing.Literals.{IsUnsettled}
+use Rattle.site_soundness.specs.typing.Gained.{Capability, Pairs}
+use Rattle.site_soundness.specs.typing.Literals.{UndecidedByLiterals}
 use Rattle.site_soundness.specs.typing.Literals
 use Rattle.site_soundness.specs.typing.Rows
 use Rattle.site_soundness.specs.typing.Typing
@@ -123,7 +123,7 @@ action_typed =
     Typing.types_settled binary.Equal (form.Variable variable.Action) (entity_literal view)
     (Literals.equal_literals Literals.action Literals.stated ((λ e. refl), (λ e. refl)))
 
-unsettled : (a b : Expr) → IsUnsettled env binary.Less a b
+unsettled : (a b : Expr) → UndecidedByLiterals env binary.Less a b
 unsettled a b r s = elim s [ ]
 
 nothing_known : (p : Capability) → Decides false (Contains [] p)

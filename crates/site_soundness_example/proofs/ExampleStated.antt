@@ -6,7 +6,7 @@ use Rattle.std.specs.Str.{bytes_eq}
 use Rattle.std.specs.List.Sorted.{IsStrictlySortedBy}
 use Rattle.std.proofs.lemmas.Slice.Eq.{bytes_eq-Decides}
 use Rattle.values.specs.declared.entity_uid.EntityUid.{EntityUid}
-use Rattle.site_soundness.specs.ancestor_search.Hierarchy.{Parents, IsAncestor, IsAllAbove, IsAscending}
+use Rattle.site_soundness.specs.ancestor_search.Hierarchy.{Parents, IsAncestor, AreAllAncestorsOf, IsAscending}
 use Rattle.site_soundness.specs.ancestor_search.Decided.{is_same}
 use Rattle.site_soundness.specs.ancestor_search.Deciding.{Contains-here, Contains-cases, Contains-none, same_uid}
 use Rattle.site_soundness.specs.schema_types.Raw as raw
@@ -14,7 +14,7 @@ use Rattle.site_soundness.specs.schema_types.Raw.{Raw}
 use Rattle.site_soundness.specs.schema_types.Qualified as qualified
 use Rattle.site_soundness.specs.schema_types.Qualified.{Qualified}
 use Rattle.site_soundness.specs.schema_types.Cedar.{Cedar, IsTooLarge}
-use Rattle.site_soundness.specs.schema_types.WrittenOut.{WrittenOut, FieldsWrittenOut}
+use Rattle.site_soundness.specs.schema_types.Expansions.{IsExpansion, AreFieldExpansions}
 use Rattle.site_soundness.specs.schema_types.Names.{found, as_declared, any_named, entity_named, common_named}
 use Rattle.site_soundness.specs.schema_types.Names.{qualified_of, fields_of, built_in}
 use Rattle.json_words.specs.Each.{each}
@@ -26,11 +26,11 @@ use Rattle.site_soundness.specs.schema_names.Qualifying.{qualified_commons, qual
 use Rattle.site_soundness.specs.schema_names.Qualifying.{qualified_action, qualified_use, qualified_entity_type}
 use Rattle.site_soundness.specs.schema_names.Qualifying.{qualified_common, parents_named, parent_named}
 use Rattle.site_soundness.specs.schema_names.Qualifying.{entity_types_named}
-use Rattle.site_soundness.specs.schema_names.Records.{is_no_record, common_meant, MeansNoRecord, StandsAsRecord}
+use Rattle.site_soundness.specs.schema_names.Records.{is_no_record, common_meant, MeansNoRecord, MustBeRecord}
 use Rattle.site_soundness.specs.schema_names.Records.{SomeIsNoRecord}
-use Rattle.site_soundness.specs.schema_names.Naming.{StatesNamed}
+use Rattle.site_soundness.specs.schema_names.Naming.{DescribesFile}
 use Rattle.site_soundness.specs.schema.Laws.{DeclarationsAreRead}
-use Rattle.site_soundness.specs.schema.Schemas.{IsSchemaOf, IsSound, Answers, action_parents, type_parents, StandsIn}
+use Rattle.site_soundness.specs.schema.Schemas.{IsSchemaOf, IsSound, Answers, action_parents, type_parents, IsSchemaType}
 use Rattle.site_soundness.specs.schema.Schemas.{IsWritten, IsAction, IsShape, IsEnvironment, Applies, EnvironmentOf}
 use Rattle.site_soundness.specs.schema.Schemas.{place_cmp, type_uid, IsRecordOf}
 use Rattle.site_soundness.specs.schema_names.Laws.{IsShapeOrContext}
@@ -95,7 +95,7 @@ the_stated_action = record { id = codes "view"; parents = []; applies_to = Some 
 abbrev the_namespace : NamespaceOf
 the_namespace = record { name = None; commons = []; entity_types = the_stated_type ∷ []; actions = the_stated_action ∷ [] }
 
-is_shape : (r : Raw) → StandsAsRecord the_namespace r → r ≡ raw_shape
+is_shape : (r : Raw) → MustBeRecord the_namespace r → r ≡ raw_shape
 is_shape r (inl (e, c, at)) =
     sym (some_same (subst (λ (x : EntityTypeOf). x.shape ≡ Some r) (sym (only c)) at))
 is_shape r (inr (a, c, used_by)) =
@@ -105,10 +105,10 @@ is_shape r (inr (a, c, used_by)) =
 records : SomeIsNoRecord namespaces → ⊥
 unfolding namespaces
 records s =
-    let stands : StandsAsRecord the_namespace s.type = subst (λ (n : NamespaceOf). StandsAsRecord n s.type) (sym (only s.stated)) s.stands in
+    let stands : MustBeRecord the_namespace s.type = subst (λ (n : NamespaceOf). MustBeRecord n s.type) (sym (only s.stated)) s.stands in
     no_record namespaces s.namespace.name s.type (is_shape s.type stands) s.means
 
-pub states : StatesNamed schema_text named
+pub states : DescribesFile schema_text named
 states = record { value = schema_json; namespaces = namespaces; json = json; shape = shape; named = record { records = records; found = names_found } }
 
 -- ---- no action is above itself, and the types are written out
@@ -131,8 +131,8 @@ no_path : (parents : Parents) → ((u c : EntityUid) → Contains (parents u) c 
 no_path parents none a b ([], p) = none b a p
 no_path parents none a b (c ∷ cs, p) = none b c p.0
 
-shape_written : WrittenOut [] the_shape user_shape
-shape_written = WrittenOut.record_of _ _ (FieldsWrittenOut.field _ _ _ _ _ _ WrittenOut.long FieldsWrittenOut.no_fields)
+shape_written : IsExpansion [] the_shape user_shape
+shape_written = IsExpansion.record_of _ _ (AreFieldExpansions.field _ _ _ _ _ _ IsExpansion.long AreFieldExpansions.no_fields)
 
 small : IsTooLarge user_shape → ⊥
 small (inl h) = omega arith
@@ -144,9 +144,9 @@ is_the_shape r (inr (a, c, used_by)) =
     let used : the_use ≡ used_by.0 = some_same (subst (λ (x : ResolvedAction). x.applies_to ≡ Some used_by.0) (sym (only c)) used_by.1) in
     some_none (subst (λ (x : ResolvedUse). x.context ≡ Some r) (sym used) used_by.2)
 
-is_written : (r : Qualified) → StandsIn named r → IsWritten [] r
-is_written r (StandsIn.common q s d) = absurd d
-is_written r (StandsIn.shape_or_context s h) =
+is_written : (r : Qualified) → IsSchemaType named r → IsWritten [] r
+is_written r (IsSchemaType.common q s d) = absurd d
+is_written r (IsSchemaType.shape_or_context s h) =
     subst (λ (x : Qualified). IsWritten [] x) (sym (is_the_shape r h)) (user_shape, shape_written, small)
 
 pub sound : IsSound named
@@ -170,11 +170,11 @@ unfolding IsStrictlySortedBy
 none_ascend = tt
 
 ancestors_there : (u : EntityUid) (us : List EntityUid) (b : Bool) → is_same view u ≡ b → (if b then Some [] else None) ≡ Some us
-    → IsAction named u × IsAscending us × IsAllAbove (action_parents named) u us
+    → IsAction named u × IsAscending us × AreAllAncestorsOf (action_parents named) u us
 ancestors_there u us true e h = (
   is_view u (same_uid view u e),
   subst (λ (x : List EntityUid). IsAscending x) (some_same h) none_ascend,
-  subst (λ (x : List EntityUid). IsAllAbove (action_parents named) u x) (some_same h) (λ a. ((λ m. Contains-none a m), (λ p. absurd (no_path (action_parents named) no_parent a u p)))),
+  subst (λ (x : List EntityUid). AreAllAncestorsOf (action_parents named) u x) (some_same h) (λ a. ((λ m. Contains-none a m), (λ p. absurd (no_path (action_parents named) no_parent a u p)))),
 )
 ancestors_there u us false e h = some_none h
 

@@ -1,4 +1,5 @@
--- Defines an example: a schema's text, an entity and a request that are read under it, and a policy that passes.
+-- Defines an example: the text of a schema, an entity and a request that are parsed under it, a policy that passes
+-- validation, and one that does not.
 use Rattle.std.specs.Prelude.{ℕ, List, [], ◌∷◌, ◌++◌, pos, false, codes, Some, None, if◌then◌else◌}
 use Rattle.std.specs.Str.{bytes_eq}
 use Rattle.sha2.specs.Sha256.{sha256}
@@ -28,7 +29,7 @@ schema_text =
     ++ codes "\"entityTypes\":{\"User\":{\"shape\":{\"attributes\":{\"age\":{\"required\":false,\"type\":\"Long\"}},"
     ++ codes "\"type\":\"Record\"}}}}}"
 
--- `user` is the entity type of users.
+-- `user` is the name of the entity type of users.
 abbrev pub user : List ℕ
 user = codes "User"
 
@@ -40,7 +41,7 @@ user_shape = record_of (field (codes "age") cedar.long false no_fields)
 abbrev pub viewing : EnvironmentOf
 viewing = record { place = place_of view user user; context = record_of no_fields }
 
--- `schema` is the schema that `schema_text` states.
+-- `schema` is the schema that `schema_text` describes.
 abbrev pub schema : StatedSchema
 schema = record {
   label = encode_lower (sha256 schema_text);
@@ -57,11 +58,11 @@ abbrev pub alice_json : Data
 alice_json = object (member (codes "attrs") (object (member (codes "age") (number (unsigned 30)) no_members))
     (member (codes "uid") (uid_json alice) no_members))
 
--- `alice_data` is the data of Alice.
+-- `alice_data` has the attributes and parents of Alice.
 abbrev pub alice_data : EntityData
 alice_data = record { attrs = (codes "age", long (pos 30)) ∷ []; parents = [] }
 
--- `entities` has Alice alone.
+-- `entities` is the map with Alice alone.
 abbrev pub entities : EntityMap
 entities u = if is_same alice u then Some alice_data else None
 
@@ -70,7 +71,7 @@ abbrev pub request_json : Data
 request_json = object (member (codes "action") (uid_json view) (member (codes "principal") (uid_json alice)
     (member (codes "resource") (uid_json alice) no_members)))
 
--- `request` is that request.
+-- `request` is the request in which Alice views Alice.
 abbrev pub request : Request
 request = record { principal = alice; action = view; resource = alice; context = [] }
 

@@ -1,4 +1,5 @@
--- Defines the theorem that the example meets the premises of soundness: none of them is vacuous.
+-- Defines the theorems that the example of specs/Example.antt meets the premises of soundness, so that these are not
+-- vacuous.
 use Rattle.std.specs.Prelude.{[], ◌∷◌, true, Ok}
 use Rattle.values.specs.Values.{boolean}
 use Rattle.site_soundness.specs.policy_grammar.Whole.{expression_of}
@@ -17,7 +18,7 @@ use Rattle.site_soundness.specs.Worlds.{AreRead}
 use Rattle.site_soundness_example.specs.Example.{schema_text, schema, viewing, entities, request_json, request, policy}
 use Rattle.site_soundness_example.specs.Example.{unsure_policy}
 
--- `SomethingIsStated`: the bytes state a schema.
+-- `SomethingIsStated`: the bytes `schema_text` describe `schema`.
 abbrev pub SomethingIsStated : Type 0
 SomethingIsStated = IsSchemaOf schema_text schema
 

@@ -1,4 +1,4 @@
-//! The theorem of the example; its function does nothing.
+//! The theorems about the example. The function is a no-op.
 ghost use Rattle.site_soundness_example.specs.Something.{SomethingIsStated, SomethingIsRead};
 ghost use Rattle.site_soundness_example.specs.Something.{SomethingConformsUnderASchema};
 ghost use Rattle.site_soundness_example.specs.Something.{SomethingPasses, SomethingIsRefused};
@@ -6,11 +6,11 @@ ghost use Rattle.site_soundness_example.specs.Something.{SomethingPasses, Someth
 use site_soundness::{declarations_are_read_as_stated, names_read_back, what_is_read_conforms};
 use values::paths_are_told;
 
-/// Proves that the theorems about schemas and what conforms to them are not vacuous, by an example.
+/// Proves by an example that the theorems about schemas and what conforms to them are not vacuous. No-op.
 ///
-/// These bytes state a schema; this entity and this request are read under it and conform to it. There a policy that
-/// tests for an optional attribute by `has` before it accesses it passes, and is true; without `has` it is rejected.
-/// No-op.
+/// The bytes of the example describe a schema, and its entity and request are parsed under the schema and conform to
+/// it. A policy that tests for an optional attribute by `has` before it accesses it passes validation, and is true;
+/// without `has` it is rejected.
 pub fn something_conforms_under_a_schema()
     ensures stated { SomethingIsStated }
     ensures read { SomethingIsRead }

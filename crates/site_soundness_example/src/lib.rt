@@ -1,4 +1,4 @@
-//! An example that meets the premises of the theorems about what is read under a schema.
+//! An example that meets the premises of the theorems about what is parsed under a schema.
 #![tactic(auto)]
 
 mod laws;

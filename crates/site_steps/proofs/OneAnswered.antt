@@ -27,7 +27,7 @@ use Rattle.site_steps.specs.Admitted.{IsPolicyUnder, IsEntityUnder, IsRequestOf,
 use Rattle.site_steps.specs.Steps.{Answers}
 use Rattle.site_steps.specs.declared.reply.Found.{Found}
 use Rattle.site_steps.specs.Runs.{TakesMessage, Finds, Writes, WritesDelta}
-use Rattle.site_steps.specs.Outcomes.{HadMemory, HadMemoryForAll}
+use Rattle.site_steps.specs.Outcomes.{ReportsNoFailedAllocation, ReportsNoFailedAllocationForAll}
 use Rattle.site_steps.proofs.OneStored.{same_ok, one_value, one_fault, not_both}
 
 -- ---- messages
@@ -40,7 +40,7 @@ pub data MessageComes (schema : StatedSchema) (s : Store) (bytes : List ℕ) : R
       → MessageComes schema s bytes (Err (fault.Message f)) t
 
 pub message_comes : (schema : StatedSchema) (s : Store) (bytes : List ℕ) (r : Result taking.Taken SiteFault) (t : Store)
-    → TakesMessage schema s bytes r t → HadMemoryForAll r → MessageComes schema s bytes r t
+    → TakesMessage schema s bytes r t → ReportsNoFailedAllocationForAll r → MessageComes schema s bytes r t
 message_comes schema s bytes (Ok (All k)) t h m = joined k t h.0 h.1 h.2.0 h.2.1
 message_comes schema s bytes (Ok (Short k)) t h m = absurd m
 message_comes schema s bytes (Err fault.NoMemory) t h m = absurd m
@@ -100,7 +100,7 @@ module _ (schema : StatedSchema) (one_request : OneRequest) (apart : NotBoth) (o
         → IsAnswerOver (IsPolicyUnder schema) (IsEntityUnder schema) schema s q a → AnswerComes s json (Ok a)
     unasked : (f : EntityFault) → IsNoRequest schema json f → AnswerComes s json (Err (fault.Request f))
 
-  answer_comes : (s : Store) (json : Option Data) (r : Result Answer SiteFault) → Answers schema s json r → HadMemory r
+  answer_comes : (s : Store) (json : Option Data) (r : Result Answer SiteFault) → Answers schema s json r → ReportsNoFailedAllocation r
       → AnswerComes s json r
   answer_comes s json (Ok a) h m = answered a h.0 h.1 h.2
   answer_comes s json (Err fault.NoMemory) h m = absurd m
@@ -123,8 +123,8 @@ module _ (schema : StatedSchema) (one_request : OneRequest) (apart : NotBoth) (o
   one_decided s json _ _ (unasked f h) (unasked g k) =
       ap (λ (x : EntityFault). Err (fault.Request x)) (one_unasked json f g h k)
 
-  pub one_reply : (s : Store) (json : Option Data) (x y : Result Answer SiteFault) → Answers schema s json x → HadMemory x
-      → Answers schema s json y → HadMemory y → x ≡ y
+  pub one_reply : (s : Store) (json : Option Data) (x y : Result Answer SiteFault) → Answers schema s json x → ReportsNoFailedAllocation x
+      → Answers schema s json y → ReportsNoFailedAllocation y → x ≡ y
   one_reply s json x y h m k w = one_decided s json x y (answer_comes s json x h m) (answer_comes s json y k w)
 
 -- ---- look-ups
@@ -150,7 +150,7 @@ same_found (Some a) (Some b) h =
     stamp_in None = a.stamp
     stamp_in (Some p) = p.1
 
-found_whole : (s : Store) (id : List ℕ) (f : SiteFault) → Finds s id (Err f) → HadMemory {A = Option Found} (Err f) → ⊥
+found_whole : (s : Store) (id : List ℕ) (f : SiteFault) → Finds s id (Err f) → ReportsNoFailedAllocation {A = Option Found} (Err f) → ⊥
 found_whole s id fault.NoMemory h m = m
 found_whole s id (fault.Policy f) h m = h
 found_whole s id (fault.Check f) h m = h
@@ -161,13 +161,13 @@ found_whole s id fault.WouldCycle h m = h
 found_whole s id fault.ClockFull h m = h
 found_whole s id (fault.Request f) h m = h
 
-pub one_found : (s : Store) (id : List ℕ) (x y : Result (Option Found) SiteFault) → Finds s id x → HadMemory x
-    → Finds s id y → HadMemory y → x ≡ y
+pub one_found : (s : Store) (id : List ℕ) (x y : Result (Option Found) SiteFault) → Finds s id x → ReportsNoFailedAllocation x
+    → Finds s id y → ReportsNoFailedAllocation y → x ≡ y
 one_found s id (Ok x) (Ok y) h m k w = same_ok x y (same_found x y (h ∙ sym k))
 one_found s id (Ok x) (Err g) h m k w = absurd (found_whole s id g k w)
 one_found s id (Err f) y h m k w = absurd (found_whole s id f h m)
 
-written_whole : (bytes : List ℕ) (f : SiteFault) → Writes bytes (Err f) → HadMemory {A = List ℕ} (Err f) → ⊥
+written_whole : (bytes : List ℕ) (f : SiteFault) → Writes bytes (Err f) → ReportsNoFailedAllocation {A = List ℕ} (Err f) → ⊥
 written_whole bytes fault.NoMemory h m = m
 written_whole bytes (fault.Policy f) h m = h
 written_whole bytes (fault.Check f) h m = h
@@ -178,8 +178,8 @@ written_whole bytes fault.WouldCycle h m = h
 written_whole bytes fault.ClockFull h m = h
 written_whole bytes (fault.Request f) h m = h
 
-pub one_written : (bytes : List ℕ) (x y : Result (List ℕ) SiteFault) → Writes bytes x → HadMemory x → Writes bytes y
-    → HadMemory y → x ≡ y
+pub one_written : (bytes : List ℕ) (x y : Result (List ℕ) SiteFault) → Writes bytes x → ReportsNoFailedAllocation x → Writes bytes y
+    → ReportsNoFailedAllocation y → x ≡ y
 one_written bytes (Ok x) (Ok y) h m k w = same_ok x y (h ∙ sym k)
 one_written bytes (Ok x) (Err g) h m k w = absurd (written_whole bytes g k w)
 one_written bytes (Err f) y h m k w = absurd (written_whole bytes f h m)
@@ -192,7 +192,7 @@ pub data DeltaComes (schema : StatedSchema) (s : Store) (summary : List ℕ) : R
       → DeltaComes schema s summary (Err (fault.Message f))
 
 pub delta_comes : (schema : StatedSchema) (s : Store) (summary : List ℕ) (r : Result (List ℕ) SiteFault)
-    → WritesDelta schema s summary r → HadMemory r → DeltaComes schema s summary r
+    → WritesDelta schema s summary r → ReportsNoFailedAllocation r → DeltaComes schema s summary r
 delta_comes schema s summary (Ok written) h m = told written h.0 h.1 h.2
 delta_comes schema s summary (Err fault.NoMemory) h m = absurd m
 delta_comes schema s summary (Err (fault.Policy f)) h m = absurd h

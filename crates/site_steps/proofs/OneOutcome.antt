@@ -28,7 +28,7 @@ use Rattle.site_steps.specs.declared.reply.Found.{Found}
 use Rattle.site_steps.specs.declared.reply.Reply.{Reply}
 use Rattle.site_steps.specs.declared.reply.Reply.TheVariants as reply
 use Rattle.site_steps.specs.Runs.{TakesMessage, Finds, Writes, WritesDelta, Step}
-use Rattle.site_steps.specs.Outcomes.{HadMemory, HadMemoryForAll, IsWhole}
+use Rattle.site_steps.specs.Outcomes.{ReportsNoFailedAllocation, ReportsNoFailedAllocationForAll, IsWhole}
 use Rattle.site_steps.proofs.OneStored.{policy_comes, one_policy, delete_comes, one_delete, entity_comes, one_entity}
 use Rattle.site_steps.proofs.OneAnswered.{message_comes, MessagesAreOne, one_message, one_reply, one_found, one_written}
 use Rattle.site_steps.proofs.OneAnswered.{delta_comes, one_delta}
@@ -38,7 +38,7 @@ use Rattle.site_steps.proofs.OneAnswered.{delta_comes, one_delta}
 -- the results that replies hold
 in_put : (schema : StatedSchema) (n : List ℕ) (s : Store) (id text : List ℕ) (r : Reply) (t : Store)
     → Step schema n s (input.PutPolicy id text) r t → IsWhole r
-    → (x : Result Put SiteFault) × (r ≡ reply.Put x) × PutsPolicy schema n s id text x t × HadMemory x
+    → (x : Result Put SiteFault) × (r ≡ reply.Put x) × PutsPolicy schema n s id text x t × ReportsNoFailedAllocation x
 in_put schema n s id text (reply.Put x) t h m = (x, refl, h, m)
 in_put schema n s id text (reply.Stamped x) t h m = absurd h
 in_put schema n s id text (reply.Taken x) t h m = absurd h
@@ -48,7 +48,7 @@ in_put schema n s id text (reply.Written x) t h m = absurd h
 
 in_delete_policy : (schema : StatedSchema) (n : List ℕ) (s : Store) (id : List ℕ) (r : Reply) (t : Store)
     → Step schema n s (input.DeletePolicy id) r t → IsWhole r
-    → (x : Result Stamp SiteFault) × (r ≡ reply.Stamped x) × Deletes n s (policy_name id) x t × HadMemory x
+    → (x : Result Stamp SiteFault) × (r ≡ reply.Stamped x) × Deletes n s (policy_name id) x t × ReportsNoFailedAllocation x
 in_delete_policy schema n s id (reply.Put x) t h m = absurd h
 in_delete_policy schema n s id (reply.Stamped x) t h m = (x, refl, h, m)
 in_delete_policy schema n s id (reply.Taken x) t h m = absurd h
@@ -58,7 +58,7 @@ in_delete_policy schema n s id (reply.Written x) t h m = absurd h
 
 in_put_entity : (schema : StatedSchema) (n : List ℕ) (s : Store) (bytes : List ℕ) (r : Reply) (t : Store)
     → Step schema n s (input.PutEntity bytes) r t → IsWhole r
-    → (x : Result Stamp SiteFault) × (r ≡ reply.Stamped x) × PutsEntity schema n s (json_of bytes) x t × HadMemory x
+    → (x : Result Stamp SiteFault) × (r ≡ reply.Stamped x) × PutsEntity schema n s (json_of bytes) x t × ReportsNoFailedAllocation x
 in_put_entity schema n s bytes (reply.Put x) t h m = absurd h
 in_put_entity schema n s bytes (reply.Stamped x) t h m = (x, refl, h, m)
 in_put_entity schema n s bytes (reply.Taken x) t h m = absurd h
@@ -68,7 +68,7 @@ in_put_entity schema n s bytes (reply.Written x) t h m = absurd h
 
 in_delete_entity : (schema : StatedSchema) (n : List ℕ) (s : Store) (uid : EntityUid) (r : Reply) (t : Store)
     → Step schema n s (input.DeleteEntity uid) r t → IsWhole r
-    → (x : Result Stamp SiteFault) × (r ≡ reply.Stamped x) × Deletes n s (entity_name uid) x t × HadMemory x
+    → (x : Result Stamp SiteFault) × (r ≡ reply.Stamped x) × Deletes n s (entity_name uid) x t × ReportsNoFailedAllocation x
 in_delete_entity schema n s uid (reply.Put x) t h m = absurd h
 in_delete_entity schema n s uid (reply.Stamped x) t h m = (x, refl, h, m)
 in_delete_entity schema n s uid (reply.Taken x) t h m = absurd h
@@ -78,7 +78,7 @@ in_delete_entity schema n s uid (reply.Written x) t h m = absurd h
 
 in_take : (schema : StatedSchema) (n : List ℕ) (s : Store) (bytes : List ℕ) (r : Reply) (t : Store)
     → Step schema n s (input.Take bytes) r t → IsWhole r
-    → (x : Result taking.Taken SiteFault) × (r ≡ reply.Taken x) × TakesMessage schema s bytes x t × HadMemoryForAll x
+    → (x : Result taking.Taken SiteFault) × (r ≡ reply.Taken x) × TakesMessage schema s bytes x t × ReportsNoFailedAllocationForAll x
 in_take schema n s bytes (reply.Put x) t h m = absurd h
 in_take schema n s bytes (reply.Stamped x) t h m = absurd h
 in_take schema n s bytes (reply.Taken x) t h m = (x, refl, h, m)
@@ -88,7 +88,7 @@ in_take schema n s bytes (reply.Written x) t h m = absurd h
 
 in_authorize : (schema : StatedSchema) (n : List ℕ) (s : Store) (bytes : List ℕ) (r : Reply) (t : Store)
     → Step schema n s (input.Authorize bytes) r t → IsWhole r
-    → (x : Result Answer SiteFault) × (r ≡ reply.Answered x) × (Answers schema s (json_of bytes) x × (t ≡ s)) × HadMemory x
+    → (x : Result Answer SiteFault) × (r ≡ reply.Answered x) × (Answers schema s (json_of bytes) x × (t ≡ s)) × ReportsNoFailedAllocation x
 in_authorize schema n s bytes (reply.Put x) t h m = absurd h
 in_authorize schema n s bytes (reply.Stamped x) t h m = absurd h
 in_authorize schema n s bytes (reply.Taken x) t h m = absurd h
@@ -98,7 +98,7 @@ in_authorize schema n s bytes (reply.Written x) t h m = absurd h
 
 in_get_policy : (schema : StatedSchema) (n : List ℕ) (s : Store) (id : List ℕ) (r : Reply) (t : Store)
     → Step schema n s (input.GetPolicy id) r t → IsWhole r
-    → (x : Result (Option Found) SiteFault) × (r ≡ reply.Found x) × (Finds s id x × (t ≡ s)) × HadMemory x
+    → (x : Result (Option Found) SiteFault) × (r ≡ reply.Found x) × (Finds s id x × (t ≡ s)) × ReportsNoFailedAllocation x
 in_get_policy schema n s id (reply.Put x) t h m = absurd h
 in_get_policy schema n s id (reply.Stamped x) t h m = absurd h
 in_get_policy schema n s id (reply.Taken x) t h m = absurd h
@@ -108,7 +108,7 @@ in_get_policy schema n s id (reply.Written x) t h m = absurd h
 
 in_state : (schema : StatedSchema) (n : List ℕ) (s : Store) (r : Reply) (t : Store)
     → Step schema n s input.State r t → IsWhole r
-    → (x : Result (List ℕ) SiteFault) × (r ≡ reply.Written x) × (Writes (state_text schema.label s) x × (t ≡ s)) × HadMemory x
+    → (x : Result (List ℕ) SiteFault) × (r ≡ reply.Written x) × (Writes (state_text schema.label s) x × (t ≡ s)) × ReportsNoFailedAllocation x
 in_state schema n s (reply.Put x) t h m = absurd h
 in_state schema n s (reply.Stamped x) t h m = absurd h
 in_state schema n s (reply.Taken x) t h m = absurd h
@@ -118,7 +118,7 @@ in_state schema n s (reply.Written x) t h m = (x, refl, h, m)
 
 in_summary : (schema : StatedSchema) (n : List ℕ) (s : Store) (r : Reply) (t : Store)
     → Step schema n s input.Summary r t → IsWhole r
-    → (x : Result (List ℕ) SiteFault) × (r ≡ reply.Written x) × (Writes (summary_text schema.label (deltas.summary_of s)) x × (t ≡ s)) × HadMemory x
+    → (x : Result (List ℕ) SiteFault) × (r ≡ reply.Written x) × (Writes (summary_text schema.label (deltas.summary_of s)) x × (t ≡ s)) × ReportsNoFailedAllocation x
 in_summary schema n s (reply.Put x) t h m = absurd h
 in_summary schema n s (reply.Stamped x) t h m = absurd h
 in_summary schema n s (reply.Taken x) t h m = absurd h
@@ -128,7 +128,7 @@ in_summary schema n s (reply.Written x) t h m = (x, refl, h, m)
 
 in_delta : (schema : StatedSchema) (n : List ℕ) (s : Store) (bytes : List ℕ) (r : Reply) (t : Store)
     → Step schema n s (input.Delta bytes) r t → IsWhole r
-    → (x : Result (List ℕ) SiteFault) × (r ≡ reply.Written x) × (WritesDelta schema s bytes x × (t ≡ s)) × HadMemory x
+    → (x : Result (List ℕ) SiteFault) × (r ≡ reply.Written x) × (WritesDelta schema s bytes x × (t ≡ s)) × ReportsNoFailedAllocation x
 in_delta schema n s bytes (reply.Put x) t h m = absurd h
 in_delta schema n s bytes (reply.Stamped x) t h m = absurd h
 in_delta schema n s bytes (reply.Taken x) t h m = absurd h

@@ -27,7 +27,7 @@ use Rattle.site_steps.specs.declared.fault.SiteFault.TheVariants as fault
 use Rattle.site_steps.specs.declared.outcome.Put.{Put}
 use Rattle.site_steps.specs.Admitted.{IsEntityUnder, IsAdmitted, IsNotAdmitted, bad_id, no_policy, not_passing, entity_stated}
 use Rattle.site_steps.specs.Steps.{most_count, Records, IsClockFull, PutsPolicy, PutsEntity, Deletes}
-use Rattle.site_steps.specs.Outcomes.{HadMemory}
+use Rattle.site_steps.specs.Outcomes.{ReportsNoFailedAllocation}
 
 -- ---- what is stamped and stored
 
@@ -82,7 +82,7 @@ pub data PolicyComes (schema : StatedSchema) (n : List ℕ) (s : Store) (id text
       → PolicyComes schema n s id text (Err f) t
 
 pub policy_comes : (schema : StatedSchema) (n : List ℕ) (s : Store) (id text : List ℕ) (r : Result Put SiteFault) (t : Store)
-    → PutsPolicy schema n s id text r t → HadMemory r → PolicyComes schema n s id text r t
+    → PutsPolicy schema n s id text r t → ReportsNoFailedAllocation r → PolicyComes schema n s id text r t
 policy_comes schema n s id text (Ok put) t h m = stored put t h.0 h.1 h.2 h.3
 policy_comes schema n s id text (Err fault.NoMemory) t h m = absurd m
 policy_comes schema n s id text (Err fault.ClockFull) t h m = full t h.0.0 h.0.1 h.1
@@ -154,7 +154,7 @@ pub data DeleteComes (n : List ℕ) (s : Store) (name : Name) : Result Stamp Sit
   absent : (t : Store) → text_under s name ≡ None → t ≡ s → DeleteComes n s name (Err fault.NotThere) t
 
 pub delete_comes : (n : List ℕ) (s : Store) (name : Name) (r : Result Stamp SiteFault) (t : Store) → Deletes n s name r t
-    → HadMemory r → DeleteComes n s name r t
+    → ReportsNoFailedAllocation r → DeleteComes n s name r t
 delete_comes n s name (Ok stamp) t h m = deleted stamp t h.0 h.1
 delete_comes n s name (Err fault.NoMemory) t h m = absurd m
 delete_comes n s name (Err (fault.Policy f)) t h m = absurd h
@@ -199,7 +199,7 @@ pub data EntityComes (schema : StatedSchema) (n : List ℕ) (s : Store) (json : 
       → EntityComes schema n s json (Err (fault.Entity f)) t
 
 pub entity_comes : (schema : StatedSchema) (n : List ℕ) (s : Store) (json : Option Data) (r : Result Stamp SiteFault) (t : Store)
-    → PutsEntity schema n s json r t → HadMemory r → EntityComes schema n s json r t
+    → PutsEntity schema n s json r t → ReportsNoFailedAllocation r → EntityComes schema n s json r t
 entity_comes schema n s json (Ok stamp) t h m = kept stamp t h.0 h.1 h.2 h.3
 entity_comes schema n s json (Err fault.NoMemory) t h m = absurd m
 entity_comes schema n s json (Err (fault.Policy f)) t h m = absurd h

@@ -11,7 +11,7 @@ use Rattle.site_steps.specs.Inputs.{Input}
 use Rattle.site_steps.specs.Inputs as input
 use Rattle.site_steps.specs.declared.reply.Reply.{Reply}
 use Rattle.site_steps.specs.declared.reply.Reply.TheVariants as reply
-use Rattle.site_steps.specs.Permitted.{IsPermittedReply, AreHarmlessReplies, RunsAreSound}
+use Rattle.site_steps.specs.Permitted.{IsPermittedReply, ArePermittedReplies, RunsAreSound}
 use Rattle.site_steps.specs.Runs.{Step, Run}
 
 module _ (law : StoredAnswersAreSound) (bytes : List ℕ) (schema : StatedSchema) (stated : IsSchemaOf bytes schema) where
@@ -37,7 +37,7 @@ module _ (law : StoredAnswersAreSound) (bytes : List ℕ) (schema : StatedSchema
   step_right n s i (reply.Found x) t h = tt
   step_right n s i (reply.Written x) t h = tt
 
-  run_right : (n : List ℕ) (s : Store) (is : List Input) (rs : List Reply) (t : Store) → Run schema n s is rs t → AreHarmlessReplies rs
+  run_right : (n : List ℕ) (s : Store) (is : List Input) (rs : List Reply) (t : Store) → Run schema n s is rs t → ArePermittedReplies rs
   run_right n s [] [] t h = tt
   run_right n s [] (r ∷ rs) t h = absurd h
   run_right n s (i ∷ is) [] t h = absurd h

@@ -24,7 +24,7 @@ use Rattle.site_steps.specs.declared.fault.SiteFault.TheVariants as fault
 use Rattle.site_steps.specs.Admitted.{IsEntityUnder, IsNotAdmitted, bad_id, no_policy, not_passing, entity_stated}
 use Rattle.site_steps.specs.SiteViews.{IsHeld, IsSite}
 use Rattle.site_steps.specs.Steps.{Records, PutsPolicy, PutsEntity, Deletes}
-use Rattle.site_steps.specs.inner.Recording.{RecordsOr, PutsUnless, IsNext, put_result, IsStatedBy, StatesNone, IsJudged}
+use Rattle.site_steps.specs.inner.Recording.{RecordsOr, PutsUnless, IsNext, put_result, IsStatedBy, IsNoEntityFault, IsJudged}
 use Rattle.plain.specs.Refused.{OrNoMemory}
 
 -- ---- what is always true of a site, after a call that may have found no memory
@@ -162,7 +162,7 @@ put_or_not law n s (Err e) uid text r t h =
     subst (λ q. IfOk q (λ stamp. get t (entity_name uid) ≡ Some (issued stamp (Some text)))) (sym h.0) tt
 
 pub refuses_entity : (schema : StatedSchema) (n : List ℕ) (s : Store) (json : Option Data) (f : SiteFault)
-    → OrNoMemory fault.NoMemory (StatesNone schema json) f → PutsEntity schema n s json (Err f) s
+    → OrNoMemory fault.NoMemory (IsNoEntityFault schema json) f → PutsEntity schema n s json (Err f) s
 refuses_entity schema n s json fault.NoMemory h = refl
 refuses_entity schema n s json (fault.Policy f) h = absurd (h (λ e. cc))
 refuses_entity schema n s json (fault.Check f) h = absurd (h (λ e. cc))

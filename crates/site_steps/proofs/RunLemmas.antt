@@ -29,7 +29,7 @@ use Rattle.site_steps.specs.declared.reply.Reply.{Reply}
 use Rattle.site_steps.specs.declared.reply.Reply.TheVariants as reply
 use Rattle.site_store.specs.schema.SchemaEntries.{SchemaEntries}
 use Rattle.site_soundness.specs.sync_messages.declared.texts.SchemaTexts.{SchemaTexts}
-use Rattle.site_steps.specs.Runs.{IsNoMessageOf, Step, Run, HoldsAfter, took_by, took, update_of_entity, updates_of_message}
+use Rattle.site_steps.specs.Runs.{IsNoMessageOf, Step, Run, IsLeftBy, took_by, took, update_of_entity, updates_of_message}
 
 -- updates of a message that are in range and read are valid
 pub all_valid : (schema : StatedSchema) (us : List (SentUpdate Policy Entity)) → AreInRange (plain_updates us)
@@ -208,13 +208,13 @@ texts_are_one w policies entities = record {
   entities = λ uid text. (entities w uid text).0;
 }
 
-after_run : AreStores → (schema : StatedSchema) (us : List Update) (t : Store) → HoldsAfter schema us t
+after_run : AreStores → (schema : StatedSchema) (us : List Update) (t : Store) → IsLeftBy schema us t
     → t ≡ store_of us
 after_run law schema us t h =
     run_took law schema h.name h.first h.inputs h.replies t h.run ∙ ap store_of (sym h.all)
 
-pub same_stores : AreStores → (schema : StatedSchema) (us vs : List Update) (s t : Store) → HoldsAfter schema us s
-    → HoldsAfter schema vs t → store_of us ≡ store_of vs → s ≡ t
+pub same_stores : AreStores → (schema : StatedSchema) (us vs : List Update) (s t : Store) → IsLeftBy schema us s
+    → IsLeftBy schema vs t → store_of us ≡ store_of vs → s ≡ t
 same_stores law schema us vs s t h k same = after_run law schema us s h ∙ same ∙ sym (after_run law schema vs t k)
 
 -- ---- messages

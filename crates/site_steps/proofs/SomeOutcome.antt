@@ -42,7 +42,7 @@ use Rattle.site_store.specs.stamped_store.Greatest.{IsGreatestAt, greatest_count
 use Rattle.site_store.specs.stamped_store.Store.{Store, Update, IsStoreOf, updates, store_of, issue, issued, policy_name}
 use Rattle.site_store.specs.stamped_store.Store.{entity_name}
 use Rattle.site_store.specs.site_meaning.StoreMeaning.{ArePolicies, AreEntities, IsReadFrom, IsAnswerOver, MakesCycle, MakesNoCycle}
-use Rattle.site_store.specs.site_meaning.StoreMeaning.{data_of, parents_with, world_under}
+use Rattle.site_store.specs.site_meaning.StoreMeaning.{data_of, parents_with, entity_data_under}
 use Rattle.site_soundness.specs.message_format.declared.fault.MessageFault.{MessageFault}
 use Rattle.site_soundness.specs.message_format.Summaries.{summary_text, summary_stated, IsStamped}
 use Rattle.site_soundness.specs.message_format.declared.bodies.BodyFault.{BodyFault}
@@ -66,11 +66,11 @@ use Rattle.site_steps.specs.declared.reply.Reply.{Reply}
 use Rattle.site_steps.specs.declared.reply.Reply.TheVariants as reply
 use Rattle.site_soundness.specs.sync_messages.Messages.{IsMessageOf, IsMessageFaultOf}
 use Rattle.site_steps.specs.Runs.{TakesMessage, WritesDelta}
-use Rattle.site_steps.specs.Outcomes.{HadMemory, HadMemoryForAll, IsOutcome}
+use Rattle.site_steps.specs.Outcomes.{ReportsNoFailedAllocation, ReportsNoFailedAllocationForAll, IsOutcome}
 
 -- a result that a command may have, and the store after it
 abbrev Has : {A : Type 0} → (Result A SiteFault → Store → Type 0) → Type 0
-Has {A} HasOutcome = (x : Result A SiteFault) × (t : Store) × HasOutcome x t × HadMemory x
+Has {A} HasOutcome = (x : Result A SiteFault) × (t : Store) × HasOutcome x t × ReportsNoFailedAllocation x
 
 -- ---- the clock
 
@@ -251,7 +251,7 @@ module _ (stores : LawsOfStores) (schema : StatedSchema) (s : Store) (held : IsV
     held_uids : List EntityUid
     held_uids = firsts (entities_of s) ++ schema.actions
 
-    held_parents : HaveAllParents (world_under schema entities_held).parents held_uids
+    held_parents : HaveAllParents (entity_data_under schema entities_held).parents held_uids
     unfolding held_uids
     held_parents b a h = parent_of (schema.member_of b) (option_map data_of (entities_held b)) a h
         (λ us is. Contains-append_right (firsts (entities_of s)) schema.actions b
@@ -263,7 +263,7 @@ module _ (stores : LawsOfStores) (schema : StatedSchema) (s : Store) (held : IsV
 
     module _ (e : Entity) where
       put_parents_by : (b a : EntityUid) (t : Bool) → is_eq (uid_cmp e.uid b) ≡ t
-          → Contains (if t then e.parents else (world_under schema entities_held).parents b) a
+          → Contains (if t then e.parents else (entity_data_under schema entities_held).parents b) a
           → Contains (e.uid ∷ held_uids) b
       put_parents_by b a true is m =
           subst (λ (x : EntityUid). Contains (e.uid ∷ held_uids) x) (same_uid e.uid b is) (Contains-here e.uid held_uids)
@@ -308,7 +308,7 @@ ReadsOrRefuses schema bytes = ((us : List (SentUpdate Policy Entity)) × IsMessa
     ⊎ ((f : MessageFault) × IsMessageFaultOf schema bytes f)
 
 some_take : (schema : StatedSchema) (s : Store) (bytes : List ℕ) → ReadsOrRefuses schema bytes
-    → (x : Result taking.Taken SiteFault) × (t : Store) × TakesMessage schema s bytes x t × HadMemoryForAll x
+    → (x : Result taking.Taken SiteFault) × (t : Store) × TakesMessage schema s bytes x t × ReportsNoFailedAllocationForAll x
 some_take schema s bytes o = elim o [
   | inl m ↦ (Ok (All (length (plain_updates m.0))), store_of (updates s ++ plain_updates m.0), (m.0, m.1, (refl, refl)), tt)
   | inr f ↦ (Err (fault.Message f.0), s, (f.1, refl), tt)
@@ -319,7 +319,7 @@ AnswersAll schema s = (q : Request)
     → (a : Answer) × IsAnswerOver (IsPolicyUnder schema) (IsEntityUnder schema) schema s q a
 
 some_answer : (schema : StatedSchema) (s : Store) → RequestOrRefusal → AnswersAll schema s → (json : Option Data)
-    → (x : Result Answer SiteFault) × Answers schema s json x × HadMemory x
+    → (x : Result Answer SiteFault) × Answers schema s json x × ReportsNoFailedAllocation x
 some_answer schema s asks answers None = (Err (fault.Request BadShape), refl, tt)
 some_answer schema s asks answers (Some d) = elim (asks schema d) [
   | inl asked ↦ let a = answers asked.0 in (Ok a.0, (asked.0, asked.1, a.1), tt)
@@ -337,7 +337,7 @@ found_is (Some p) = refl
 
 delta_by : (schema : StatedSchema) (s : Store) (bytes : List ℕ) (r : Result deltas.Summary MessageFault)
     → summary_stated schema.label bytes ≡ r
-    → (x : Result (List ℕ) SiteFault) × WritesDelta schema s bytes x × HadMemory x
+    → (x : Result (List ℕ) SiteFault) × WritesDelta schema s bytes x × ReportsNoFailedAllocation x
 delta_by schema s bytes (Ok m) is = (Ok (delta_text schema.label (deltas.delta s m)), (m, is, refl), tt)
 delta_by schema s bytes (Err f) is = (Err (fault.Message f), is, tt)
 

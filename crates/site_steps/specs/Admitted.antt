@@ -1,6 +1,6 @@
--- Defines which inputs a site of a schema admits: policies, entities, requests and updates. It is the same at every
--- site of that schema, whatever is stored there.
--- Sources: Cedar reference guide 4.0, "Policy validation", "Entities and context: JSON format" and "Authorization
+-- Defines which inputs a site of a schema admits: policies, entities, requests and updates. These are the same at every
+-- site of that schema, whatever its store.
+-- Source: Cedar reference guide 4.0, "Policy validation", "Entities and context: JSON format" and "Authorization
 -- request".
 -- Rules of this product: a policy's id has 1 to 256 bytes, and is checked before the text; an entity is given as
 -- JSON; the order of the errors.
@@ -32,7 +32,7 @@ use Rattle.site_steps.specs.declared.fault.SiteFault.TheVariants as fault
 -- ---- what a text in the store is parsed as
 
 -- `IsPolicyUnder schema id text p` holds if `text` is the text of the policy `p`, which passes validation, whatever
--- the id.
+-- `id` is.
 abbrev pub IsPolicyUnder : StatedSchema → List ℕ → List ℕ → Policy → Type 0
 IsPolicyUnder schema id text p = ReadsPolicy schema text p
 
@@ -43,8 +43,8 @@ IsEntityUnder schema uid text e = ReadsEntity schema uid text e
 
 -- ---- policies
 
--- `IsAdmitted schema id text p` holds if `text` may be put under `id`: it is the text of the policy `p`, which passes
--- validation.
+-- `IsAdmitted schema id text p` holds if `text` may be put under `id`: `id` has 1 to 256 bytes, and `text` is the text
+-- of the policy `p`, which passes validation.
 pub record IsAdmitted (schema : StatedSchema) (id text : List ℕ) (p : Policy) : Type 0 where
   pub named : IsId id
   pub reads : ReadsPolicy schema text p
@@ -59,8 +59,8 @@ pub data IsNotAdmitted (schema : StatedSchema) (id text : List ℕ) : SiteFault 
 
 -- ---- entities
 
--- `entity_stated schema json` is the entity that `json` states, or the first error; for bytes that are not JSON
--- (`None`) that is `BadShape`.
+-- `entity_stated schema json` is the entity that `json` describes under `schema`, or the first error; for bytes that
+-- are not JSON (`None`) that is `BadShape`.
 abbrev pub entity_stated : StatedSchema → Option Data → Result Entity EntityFault
 entity_stated schema json = do
   d ← or_fault BadShape json
@@ -68,21 +68,23 @@ entity_stated schema json = do
 
 -- ---- requests
 
--- `IsRequestOf schema json q` holds if `json` states the request `q`; bytes that are not JSON (`None`) state none.
+-- `IsRequestOf schema json q` holds if `json` describes the request `q` under `schema`; bytes that are not JSON
+-- (`None`) describe none.
 abbrev pub IsRequestOf : StatedSchema → Option Data → Request → Type 0
 IsRequestOf schema None q = ⊥
 IsRequestOf schema (Some d) q = StatesRequest schema d q
 
--- `IsNoRequest schema json f` holds if `f` is the first error of `json` as a request; for bytes that are not JSON
--- (`None`) that is `BadShape`.
+-- `IsNoRequest schema json f` holds if `f` is the first error of `json` as a request under `schema`; for bytes that are
+-- not JSON (`None`) that is `BadShape`.
 abbrev pub IsNoRequest : StatedSchema → Option Data → EntityFault → Type 0
 IsNoRequest schema None f = f ≡ BadShape
 IsNoRequest schema (Some d) f = RequestRefused schema d f
 
 -- ---- updates that another site sent
 
--- `IsValidUnder schema u` holds if the name and stamp of `u` are in their ranges, and its text, if it has one, is
--- parsed as the form stored with it. (`IsValid` of message_format is the second half alone.)
+-- `IsValidUnder schema u` holds if the name and stamp of the update `u` are in their ranges, and its text, if it has
+-- one, is parsed under `schema` as the value that `u` has with it. (`IsValid` of message_format is the second half
+-- alone.)
 pub record IsValidUnder (schema : StatedSchema) (u : Update Policy Entity) : Type 0 where
   pub in_range : IsStamped (stamped (plain_update u))
   pub is_read : IsUpdateRead (IsPolicyUnder schema) (IsEntityUnder schema) u

@@ -1,4 +1,6 @@
--- Defines the codes of a site's errors, which are a rule of this product, and its errors for those of its callees.
+-- Defines the codes of a site's errors, and a site's error for each error of the parser, the validator and messages.
+-- Source: docs/codes.md.
+-- Rules of this product: the codes.
 use Rattle.std.specs.Prelude.{ℕ, Option, Some, None}
 use Rattle.site_store.specs.policy_grammar.Faults as policy_faults
 use Rattle.site_store.specs.policy_grammar.declared.fault.ReadFault.{ReadFault}
@@ -13,8 +15,8 @@ use Rattle.site_soundness.specs.message_format.declared.fault.MessageFault.TheVa
 use Rattle.site_steps.specs.declared.fault.SiteFault.{SiteFault}
 use Rattle.site_steps.specs.declared.fault.SiteFault.TheVariants as fault
 
--- `code_of f` is the code of the error `f`: for a text, an entity or a message its own code, for a request 63, with
--- its own code inside.
+-- `code_of f` is the code of the error `f`: for a text, an entity or a message the code of the inner error, for a
+-- request 63, with the code of the inner error within.
 abbrev pub code_of : SiteFault → ℕ
 code_of fault.NoMemory = 1
 code_of (fault.Policy f) = policy_faults.code_of f
@@ -26,13 +28,14 @@ code_of fault.WouldCycle = 61
 code_of fault.ClockFull = 62
 code_of (fault.Request f) = 63
 
--- `place_of f` is the byte offset in a policy's text, or the index of a message's entry, if there is one.
+-- `place_of f` is the place of the error `f`: the byte offset in a policy's text or the index of a message's entry or
+-- stamp, if it has one.
 abbrev pub place_of : SiteFault → Option ℕ
 place_of (fault.Policy f) = policy_faults.place_of f
 place_of (fault.Message f) = message_faults.place_of f
 place_of _ = None
 
--- `within_of f` is the code of the inner error, if there is one.
+-- `within_of f` is the code that is reported within the error `f`, if there is one.
 abbrev pub within_of : SiteFault → Option ℕ
 within_of (fault.Message f) = message_faults.within_of f
 within_of (fault.Request f) = Some (entity_faults.code_of f)
@@ -48,7 +51,7 @@ abbrev pub of_checking : TypeFault → SiteFault
 of_checking checking.NoMemory = fault.NoMemory
 of_checking f = fault.Check f
 
--- `of_message f` is the site's error for the message's error `f`; `NoMemory` stays `NoMemory`.
+-- `of_message f` is the site's error for the error `f` of a message; `NoMemory` stays `NoMemory`.
 abbrev pub of_message : MessageFault → SiteFault
 of_message sending.NoMemory = fault.NoMemory
 of_message f = fault.Message f

@@ -4,7 +4,7 @@ use Rattle.values.specs.declared.entity_uid.EntityUid.{EntityUid}
 use Rattle.site_steps.specs.declared.input.Input as code
 use Rattle.site_steps.specs.declared.input.Input.TheVariants as borrowed
 
--- An `Input` has strings and bytes as lists of bytes.
+-- An `Input` is a command, a message or a query for a site; strings and bytes are lists of bytes.
 pub data Input : Type 0 where
   -- puts a policy: its id, and its text
   PutPolicy : List ℕ → List ℕ → Input
@@ -27,7 +27,7 @@ pub data Input : Type 0 where
   -- asks for a delta against another site's summary
   Delta : List ℕ → Input
 
--- `input_of i` is the input `i` without its borrows.
+-- `input_of i` is the input that the borrowed input `i` of the code represents.
 abbrev pub input_of : code.Input → Input
 input_of (borrowed.PutPolicy id text) = PutPolicy id.now text.now
 input_of (borrowed.DeletePolicy id) = DeletePolicy id.now

@@ -1,5 +1,6 @@
--- Defines the theorem that each input of a site has one outcome if there is memory: one reply, and one store.
--- Rules of this product: a failed allocation is reported as such, and nothing else is left open.
+-- Defines the theorem that each input of a site has one outcome unless the reply reports a failed allocation: one
+-- reply, and one store.
+-- Rules of this product: a failed allocation is reported as such; apart from that, reply and store are determined.
 use Rattle.std.specs.Prelude.{◌≡◌, ℕ, List, Result, Ok, Err}
 use Rattle.site_store.specs.schema.Schemas.{StatedSchema}
 use Rattle.site_store.specs.stamped_store.Store.{Store}
@@ -13,40 +14,41 @@ use Rattle.site_steps.specs.declared.reply.Reply.{Reply}
 use Rattle.site_steps.specs.declared.reply.Reply.TheVariants as reply
 use Rattle.site_steps.specs.Runs.{Step}
 
--- `HadMemory r` holds if the result `r` is not `NoMemory`.
-abbrev pub HadMemory : {A : Type 0} → Result A SiteFault → Type 0
-HadMemory (Ok a) = Unit {0}
-HadMemory (Err fault.NoMemory) = ⊥
-HadMemory (Err _) = Unit {0}
+-- `ReportsNoFailedAllocation r` holds if the result `r` is not `NoMemory`.
+abbrev pub ReportsNoFailedAllocation : {A : Type 0} → Result A SiteFault → Type 0
+ReportsNoFailedAllocation (Ok a) = Unit {0}
+ReportsNoFailedAllocation (Err fault.NoMemory) = ⊥
+ReportsNoFailedAllocation (Err _) = Unit {0}
 
--- `HadMemoryForAll r` holds if the result `r` of a message is not `NoMemory`, and not cut short.
-abbrev pub HadMemoryForAll : Result taking.Taken SiteFault → Type 0
-HadMemoryForAll (Ok (All k)) = Unit {0}
-HadMemoryForAll (Ok (Short k)) = ⊥
-HadMemoryForAll (Err fault.NoMemory) = ⊥
-HadMemoryForAll (Err _) = Unit {0}
+-- `ReportsNoFailedAllocationForAll r` holds if the result `r` of a message is not `NoMemory`, and not `Short`, which
+-- says that only the first updates were applied.
+abbrev pub ReportsNoFailedAllocationForAll : Result taking.Taken SiteFault → Type 0
+ReportsNoFailedAllocationForAll (Ok (All k)) = Unit {0}
+ReportsNoFailedAllocationForAll (Ok (Short k)) = ⊥
+ReportsNoFailedAllocationForAll (Err fault.NoMemory) = ⊥
+ReportsNoFailedAllocationForAll (Err _) = Unit {0}
 
--- `IsWhole r` holds if there was memory for the reply `r`.
+-- `IsWhole r` holds if the reply `r` reports no failed allocation.
 abbrev pub IsWhole : Reply → Type 0
-IsWhole (reply.Put r) = HadMemory r
-IsWhole (reply.Stamped r) = HadMemory r
-IsWhole (reply.Taken r) = HadMemoryForAll r
-IsWhole (reply.Answered r) = HadMemory r
-IsWhole (reply.Found r) = HadMemory r
-IsWhole (reply.Written r) = HadMemory r
+IsWhole (reply.Put r) = ReportsNoFailedAllocation r
+IsWhole (reply.Stamped r) = ReportsNoFailedAllocation r
+IsWhole (reply.Taken r) = ReportsNoFailedAllocationForAll r
+IsWhole (reply.Answered r) = ReportsNoFailedAllocation r
+IsWhole (reply.Found r) = ReportsNoFailedAllocation r
+IsWhole (reply.Written r) = ReportsNoFailedAllocation r
 
--- `IsOutcome schema n s i r t` holds if, at the site named `n` with store `s`, input `i` may yield reply `r` and
--- store `t`, and there was memory.
+-- `IsOutcome schema n s i r t` holds if, at the site named `n` with the store `s`, the input `i` may yield the reply
+-- `r` and the store `t`, and `r` reports no failed allocation.
 pub record IsOutcome (schema : StatedSchema) (n : List ℕ) (s : Store) (i : Input) (r : Reply) (t : Store) : Type 0 where
   pub step : Step schema n s i r t
   pub whole : IsWhole r
 
--- `InputsHaveAnOutcome schema`: each input has such an outcome, over any store that a site of `schema` may hold.
+-- `InputsHaveAnOutcome schema`: each input has at least one outcome, over any store that a site of `schema` may have.
 abbrev pub InputsHaveAnOutcome : StatedSchema → Type 0
 InputsHaveAnOutcome schema = (n : List ℕ) (s : Store) (i : Input) → IsValidStore schema s
     → (r : Reply) × (t : Store) × IsOutcome schema n s i r t
 
--- `InputsHaveOneOutcome schema`: each input has at most one such outcome: the reply and the store are determined.
+-- `InputsHaveOneOutcome schema`: each input has at most one outcome: the reply and the store are determined.
 abbrev pub InputsHaveOneOutcome : StatedSchema → Type 0
 InputsHaveOneOutcome schema = (n : List ℕ) (s : Store) (i : Input) (r q : Reply) (t u : Store)
     → IsOutcome schema n s i r t → IsOutcome schema n s i q u → (r ≡ q) × (t ≡ u)

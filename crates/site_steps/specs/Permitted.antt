@@ -10,18 +10,18 @@ use Rattle.site_steps.specs.declared.reply.Reply.{Reply}
 use Rattle.site_steps.specs.declared.reply.Reply.TheVariants as reply
 use Rattle.site_steps.specs.Runs.{Run}
 
--- `IsPermittedReply r` holds if `r` is not an answer to a request, or each error in that answer is
+-- `IsPermittedReply r` holds if the reply `r` is not an answer to a request, or each error in the answer is
 -- `EntityDoesNotExist` or `ArithBoundsError`.
 abbrev pub IsPermittedReply : Reply → Type 0
 IsPermittedReply (reply.Answered (Ok a)) = HasPermittedErrors a
 IsPermittedReply _ = Unit {0}
 
--- `AreHarmlessReplies replies` holds if `IsPermittedReply` does for each of `replies`.
-abbrev pub AreHarmlessReplies : List Reply → Type 0
-AreHarmlessReplies replies = AllByRecursion IsPermittedReply replies
+-- `ArePermittedReplies replies` holds if each of `replies` is permitted.
+abbrev pub ArePermittedReplies : List Reply → Type 0
+ArePermittedReplies replies = AllByRecursion IsPermittedReply replies
 
--- `RunsAreSound`: under a schema that bytes state, all replies of a run are permitted, whatever the site held before.
+-- `RunsAreSound`: under a schema that bytes describe, all replies of a run are permitted, whatever the first store.
 abbrev pub RunsAreSound : Type 0
 RunsAreSound = (bytes : List ℕ) (schema : StatedSchema) → IsSchemaOf bytes schema → (n : List ℕ) (s : Store)
     (inputs : List Input) (replies : List Reply) (t : Store) → Run schema n s inputs replies t
-    → AreHarmlessReplies replies
+    → ArePermittedReplies replies

@@ -1,5 +1,5 @@
--- Defines runs of a site: a sequence of steps, each an input with its reply, and the updates that it applies. These
--- give the store at the end without the steps between.
+-- Defines runs of a site: a sequence of steps, each an input with its reply, and the updates that it applies. The store
+-- at the end is determined by the first store and these updates.
 -- Rules of this product: a message is rejected whole or its updates are applied in order; rejected inputs and queries
 -- leave the store unchanged.
 use Rattle.std.specs.Prelude.{◌≡◌, ℕ, List, [], ◌∷◌, ◌++◌, take, Option, Some, None, option_map, Result, Ok, Err}
@@ -38,8 +38,8 @@ IsNoMessageOf schema bytes fault.NoMemory = Unit {0}
 IsNoMessageOf schema bytes (fault.Message f) = IsMessageFaultOf schema bytes f
 IsNoMessageOf schema bytes _ = ⊥
 
--- `TakesMessage schema s bytes r t` holds if the message `bytes` leads from the store `s` to `t` with result `r`: all
--- its updates are applied, or the first ones, or it is rejected whole.
+-- `TakesMessage schema s bytes r t` holds if the message `bytes` leads from the store `s` to the store `t` with the
+-- result `r`: all of its updates are applied, or the first ones, or it is rejected whole.
 abbrev pub TakesMessage : StatedSchema → Store → List ℕ → Result taking.Taken SiteFault → Store → Type 0
 TakesMessage schema s bytes (Ok taken) t =
     (us : List (SentUpdate Policy Entity)) × IsMessageOf schema bytes us × TakesUpdates s (plain_updates us) taken t
@@ -47,7 +47,8 @@ TakesMessage schema s bytes (Err f) t = IsNoMessageOf schema bytes f × (t ≡ s
 
 -- ---- queries
 
--- `Finds s id r` holds if `r` is `NoMemory`, or the text and stamp of the policy `id` in `s`, or that it has no text.
+-- `Finds s id r` holds if `r` is the text and stamp of the policy `id` in the store `s`, or `None` if it has no text
+-- there, or `NoMemory`.
 abbrev pub Finds : Store → List ℕ → Result (Option Found) SiteFault → Type 0
 Finds s id (Ok found) = option_map (λ f. (f.text, f.stamp)) found ≡ policy_found s id
 Finds s id (Err fault.NoMemory) = Unit {0}
@@ -59,8 +60,8 @@ Writes bytes (Ok written) = written ≡ bytes
 Writes bytes (Err fault.NoMemory) = Unit {0}
 Writes bytes (Err _) = ⊥
 
--- `WritesDelta schema s summary r` holds if `r` is the delta of `s` against the summary in the bytes `summary`, or
--- their first error as a summary of `schema`, or `NoMemory`.
+-- `WritesDelta schema s summary r` holds if `r` is the delta of the store `s` against the summary in the bytes
+-- `summary`, or their first error as a summary of `schema`, or `NoMemory`.
 abbrev pub WritesDelta : StatedSchema → Store → List ℕ → Result (List ℕ) SiteFault → Type 0
 WritesDelta schema s summary (Ok written) =
     (m : deltas.Summary) × (summary_stated schema.label summary ≡ Ok m)
@@ -71,8 +72,8 @@ WritesDelta schema s summary (Err _) = ⊥
 
 -- ---- one step
 
--- `Step schema n s i r t` holds if, at the site named `n` with store `s`, input `i` may yield reply `r` and store
--- `t`.
+-- `Step schema n s i r t` holds if, at the site named `n` with the store `s`, the input `i` may yield the reply `r` and
+-- the store `t`.
 abbrev pub Step : StatedSchema → List ℕ → Store → Input → Reply → Store → Type 0
 Step schema n s (input.PutPolicy id text) (reply.Put r) t = PutsPolicy schema n s id text r t
 Step schema n s (input.DeletePolicy id) (reply.Stamped r) t = Deletes n s (policy_name id) r t
@@ -89,29 +90,31 @@ Step schema n s _ _ t = ⊥
 
 -- ---- runs
 
--- `Run schema n s is rs t` holds if a chain of steps, one for each of the inputs `is` with its reply of `rs`, leads
--- from `s` to `t`. An example: site `east` begins with an empty store. It gets a text for the policy `a`, with the
--- stamp (1, `east`); then a message in which site `west` has put another text for `a` with the stamp (3, `west`);
--- then a deletion of `a`, with the stamp (4, `east`). These are three inputs with three replies and three applied
--- updates; in the store at the end, `a` was deleted at (4, `east`).
+-- `Run schema n s is rs t` holds if a chain of steps, one for each of the inputs `is` with its reply in `rs`, leads
+-- from the store `s` to the store `t` at the site named `n`. For example, the site `east` begins with an empty store.
+-- Its inputs are a put of a text for the policy `a`, with the stamp (1, `east`); then a message in which the site
+-- `west` has put another text for `a`, with the stamp (3, `west`); then a deletion of `a`, with the stamp (4, `east`).
+-- These three inputs have three replies and apply three updates; in the store at the end, `a` has a tombstone with the
+-- stamp (4, `east`).
 abbrev pub Run : StatedSchema → List ℕ → Store → List Input → List Reply → Store → Type 0
 Run schema n s [] [] t = t ≡ s
 Run schema n s [] (r ∷ rs) t = ⊥
 Run schema n s (i ∷ is) [] t = ⊥
 Run schema n s (i ∷ is) (r ∷ rs) t = (m : Store) × Step schema n s i r m × Run schema n m is rs t
 
--- `update_of_entity stamp e` is the update that puts the stated entity `e`, as its canonical text.
+-- `update_of_entity stamp e` is the list of the update that puts the entity in `e`, as its canonical text, with
+-- `stamp`; it is empty for an error.
 abbrev pub update_of_entity : Stamp → Result Entity EntityFault → List Update
 update_of_entity stamp (Ok e) = (entity_name e.uid, issued stamp (Some (canonical_text e))) ∷ []
 update_of_entity stamp (Err f) = []
 
--- `updates_of_message us` is the list of the stated updates `us`, empty for an error.
+-- `updates_of_message us` is the list of the updates in `us`; it is empty for an error.
 abbrev pub updates_of_message : Result (List Update) MessageFault → List Update
 updates_of_message (Ok us) = us
 updates_of_message (Err f) = []
 
--- `took_by schema i r` is the list of the updates that the input `i` with the reply `r` applied: that of a command
--- with a stamp, or those of a message, all or the first k, including those that lose to a greater entry.
+-- `took_by schema i r` is the list of the updates that the input `i` with the reply `r` applied: the one of a command
+-- that got a stamp, or all or the first `k` of a message, including those that lose to a greater entry.
 abbrev pub took_by : StatedSchema → Input → Reply → List Update
 took_by schema (input.PutPolicy id text) (reply.Put (Ok put)) = (policy_name id, issued put.stamp (Some text)) ∷ []
 took_by schema (input.DeletePolicy id) (reply.Stamped (Ok stamp)) = (policy_name id, issued stamp None) ∷ []
@@ -124,16 +127,16 @@ took_by schema (input.Take bytes) (reply.Taken (Ok (Short k))) =
     take k (updates_of_message (updates_stated schema.label bytes))
 took_by schema _ _ = []
 
--- `took schema is rs` is the list of the updates that a run applied, in order, including those that lose to a greater
--- entry.
+-- `took schema is rs` is the list of the updates that a run with the inputs `is` and the replies `rs` applied, in
+-- order, including those that lose to a greater entry.
 abbrev pub took : StatedSchema → List Input → List Reply → List Update
 took schema [] rs = []
 took schema (i ∷ is) [] = []
 took schema (i ∷ is) (r ∷ rs) = took_by schema i r ++ took schema is rs
 
--- `HoldsAfter schema us t` holds if some run of some site of `schema` leaves the store `t`, and `us` are the updates
--- that the site had and those that it applied, for any name, first store, inputs and replies.
-pub record HoldsAfter (schema : StatedSchema) (us : List Update) (t : Store) : Type 0 where
+-- `IsLeftBy schema us t` holds if some run of some site of `schema` leads to the store `t`, and `us` are the updates
+-- of the first store, followed by those that the run applied.
+pub record IsLeftBy (schema : StatedSchema) (us : List Update) (t : Store) : Type 0 where
   pub name : List ℕ
   pub first : Store
   pub inputs : List Input

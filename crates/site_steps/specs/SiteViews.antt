@@ -1,5 +1,5 @@
--- Defines the abstract view of a site: its schema, its name, and its store.
--- Rules of this product: a site is a store of stamped texts, each with its parsed form. Its caches, an index of its
+-- Defines the view of a site: its schema, its name, and its store.
+-- Rules of this product: a site has a store of stamped texts, each with its parsed value. Its caches, an index of its
 -- policies and the ancestors of its entities, change no answer, and contracts do not see them.
 use Rattle.std.specs.Prelude.{◌≡◌, ℕ, List}
 use Rattle.site_store.specs.policy_grammar.declared.policy.Policy.{Policy}
@@ -13,13 +13,13 @@ use Rattle.site_store.specs.stamped_store.Store.{Store, StoreEntries, abstract_s
 use Rattle.site_soundness.specs.message_format.Updates.{AreInRange, AreValid}
 use Rattle.site_steps.specs.Admitted.{IsPolicyUnder, IsEntityUnder}
 
--- A `SiteView` is a schema, a name, and the entries of a store, each text with its parsed form.
+-- A `SiteView` is a schema, a name, and the entries of a store, each text with its parsed value.
 pub record SiteView : Type 0 where
   pub schema : kept_schema.SchemaEntries
   pub name : List ℕ
   pub kept : StoreEntries Policy Entity
 
--- `schema_of a` is what the schema of the site `a` states.
+-- `schema_of a` is the view of the schema of the site `a`.
 abbrev pub schema_of : SiteView → StatedSchema
 schema_of a = schema_view a.schema
 
@@ -31,19 +31,19 @@ store_in a = abstract_store a.kept
 abbrev pub IsSameSite : SiteView → SiteView → Type 0
 IsSameSite a b = (b.schema ≡ a.schema) × (b.name ≡ a.name)
 
--- `IsHeld schema k` holds if each text of the store `k` is parsed as its stored form under `schema`.
+-- `IsHeld schema k` holds if each text of the store `k` is parsed under `schema` as the value that is stored with it.
 abbrev pub IsHeld : StatedSchema → StoreEntries Policy Entity → Type 0
 IsHeld schema k = AreEntriesRead (IsPolicyUnder schema) (IsEntityUnder schema) k
 
--- `IsSite schema name k` is the invariant of a site: each of its texts is parsed as the form that is stored with it,
--- each name and stamp of its store is in its range, and its name is that of a site.
+-- `IsSite schema name k` is the invariant of a site: each text of its store `k` is parsed under `schema` as the value
+-- that is stored with it, each name and stamp of `k` is in its range, and `name` is a site name.
 pub record IsSite (schema : StatedSchema) (name : List ℕ) (k : StoreEntries Policy Entity) : Type 0 where
   pub held : IsHeld schema k
   pub in_range : AreInRange (updates (abstract_store k))
   pub named : IsSiteName name
 
--- `IsValidStore schema s` holds if the names and stamps of `s` are in their ranges, and each text may be read under
--- its name.
+-- `IsValidStore schema s` holds if the names and stamps of the store `s` are in their ranges, and each text can be
+-- parsed under `schema` and its name.
 pub record IsValidStore (schema : StatedSchema) (s : Store) : Type 0 where
   pub in_range : AreInRange (updates s)
   pub valid : AreValid (IsPolicyUnder schema) (IsEntityUnder schema) (updates s)

@@ -1,4 +1,4 @@
--- Defines the steps of a site, each from a store `s`, with a result, to a store `t`.
+-- Defines the steps of a site, each of which leads from a store `s` to a store `t`, with a result.
 -- Rules of this product: a local command is checked for its own errors first and for the clock last, and its stamp's
 -- count is one more than the greatest in the whole store; updates of another site are applied in their order;
 -- rejected inputs and queries leave the store unchanged.
@@ -37,7 +37,7 @@ abbrev pub most_count : ℕ
 most_count = 1_000_000_000_000_000_000
 
 -- `Records n s name body stamp t` holds if `body` is stored under `name` with the next stamp: `t` is the store of the
--- updates of `s` and this one. Whether the body may be put is stated where this is used.
+-- updates of `s` and this one. Whether `body` may be put is a condition of each use.
 pub record Records (n : List ℕ) (s : Store) (name : Name) (body : Option (List ℕ)) (stamp : Stamp) (t : Store) : Type 0
   where
     pub clock : greatest_count s < most_count
@@ -48,8 +48,8 @@ pub record Records (n : List ℕ) (s : Store) (name : Name) (body : Option (List
 abbrev pub IsClockFull : Store → Store → Type 0
 IsClockFull s t = (greatest_count s ≡ most_count) × (t ≡ s)
 
--- `PutsPolicy schema n s id text r t` holds if putting `text` under the policy's id `id` may lead from `s` to `t`
--- with result `r`.
+-- `PutsPolicy schema n s id text r t` holds if putting `text` under the policy's id `id` may lead from `s` to `t` with
+-- the result `r`.
 abbrev pub PutsPolicy : StatedSchema → List ℕ → Store → List ℕ → List ℕ → Result Put SiteFault → Store → Type 0
 PutsPolicy schema n s id text (Ok put) t =
     (p : Policy) × IsAdmitted schema id text p × (IsTrue put.impossible ↔ IsImpossible schema p)
@@ -59,8 +59,9 @@ PutsPolicy schema n s id text (Err fault.ClockFull) t =
     ((p : Policy) × IsAdmitted schema id text p) × IsClockFull s t
 PutsPolicy schema n s id text (Err f) t = IsNotAdmitted schema id text f × (t ≡ s)
 
--- `PutsEntity schema n s json r t` holds if putting the entity that `json` states, as its canonical text, may lead
--- from `s` to `t` with result `r`. The cycle is checked before the clock; `None` is bytes that are not JSON.
+-- `PutsEntity schema n s json r t` holds if putting the entity that `json` describes, as its canonical text, may lead
+-- from `s` to `t` with the result `r`. The cycle is checked before the clock; `None` stands for bytes that are not
+-- JSON.
 abbrev pub PutsEntity : StatedSchema → List ℕ → Store → Option Data → Result Stamp SiteFault → Store → Type 0
 PutsEntity schema n s json (Ok stamp) t =
     (e : Entity) × (entity_stated schema json ≡ Ok e) × MakesNoCycle (IsEntityUnder schema) schema s e
@@ -74,8 +75,8 @@ PutsEntity schema n s json (Err fault.ClockFull) t =
     × IsClockFull s t
 PutsEntity schema n s json (Err _) t = ⊥
 
--- `Deletes n s name r t` holds if writing a tombstone at `name`, if that has a text, may lead from `s` to `t` with
--- result `r`.
+-- `Deletes n s name r t` holds if deleting `name`, that is, writing a tombstone if it has a text, may lead from `s` to
+-- `t` with the result `r`.
 abbrev pub Deletes : List ℕ → Store → Name → Result Stamp SiteFault → Store → Type 0
 Deletes n s name (Ok stamp) t = IsSome (text_under s name) × Records n s name None stamp t
 Deletes n s name (Err fault.NoMemory) t = t ≡ s
@@ -85,8 +86,8 @@ Deletes n s name (Err _) t = ⊥
 
 -- ---- updates that another site sent
 
--- `TakesUpdates s us taken t` holds if `taken` states that all of the updates `us`, or exactly the first `k`, were
--- applied, and `t` is the store of the updates of `s` and the applied ones. At each name it has the greatest entry
+-- `TakesUpdates s us taken t` holds if `taken` reports that all of the updates `us`, or exactly the first `k`, were
+-- applied, and `t` is the store of the updates of `s` and the applied ones. At each name `t` has the greatest entry
 -- among them (`IsStoreOf` of stamped_store).
 abbrev pub TakesUpdates : Store → List Update → taking.Taken → Store → Type 0
 TakesUpdates s us (All k) t = (k ≡ length us) × (t ≡ store_of (updates s ++ us))
@@ -94,8 +95,8 @@ TakesUpdates s us (Short k) t = (k < length us) × (t ≡ store_of (updates s ++
 
 -- ---- queries, which change nothing
 
--- `Answers schema s json r` holds if `r` is an answer over `s` to the request that `json` states, or its first error,
--- or `NoMemory`. `None` is bytes that are not JSON.
+-- `Answers schema s json r` holds if `r` is an answer over `s` to the request that `json` describes, or the first error
+-- of `json` as a request, or `NoMemory`. `None` stands for bytes that are not JSON.
 abbrev pub Answers : StatedSchema → Store → Option Data → Result Answer SiteFault → Type 0
 Answers schema s json (Ok a) =
     (q : Request) × IsRequestOf schema json q × IsAnswerOver (IsPolicyUnder schema) (IsEntityUnder schema) schema s q a

@@ -1,4 +1,4 @@
-//! Inputs of a site, answered one after another.
+//! The replies of a site to its inputs, one after another.
 ghost use Rattle.std.specs.Prelude.{◌≡◌, ◌++◌, IfOk, IfErr, OnErr, map};
 ghost use Rattle.std.specs.List.{AllByRecursion};
 ghost use Rattle.json_words.specs.Json.{json_of};
@@ -14,7 +14,7 @@ ghost use Rattle.site_steps.specs.SiteViews.{schema_of, store_in, IsSameSite};
 ghost use Rattle.site_steps.specs.Steps.{PutsEntity, Answers};
 ghost use Rattle.site_steps.specs.Inputs.{input_of};
 ghost use Rattle.site_steps.specs.Runs.{IsNoMessageOf, TakesMessage, Finds, Writes, WritesDelta};
-ghost use Rattle.site_steps.specs.Permitted.{AreHarmlessReplies};
+ghost use Rattle.site_steps.specs.Permitted.{ArePermittedReplies};
 ghost use Rattle.site_steps.specs.Runs.{Step, Run, took};
 
 use crate::fault::SiteFault;
@@ -29,11 +29,14 @@ use site_soundness::{MessageFault, Summary, Update, read_summary, read_updates};
 use site_store::{Answer, Entity, EntityFault, Policy, Schema, Stamp, updates_have_one_store};
 use std::alloc::Global;
 
-/// Puts the entity that bytes state: JSON in UTF-8. The site stores its canonical text.
+/// Puts the entity that `bytes` describe as JSON. The site stores its canonical text.
 ///
 /// # Errors
 ///
-/// As [`Site::put_entity`]; `BadShape` (30) if the bytes are not JSON. The site is then unchanged.
+/// In this order; the site is then unchanged:
+///
+/// - `Entity` (30): the bytes are not JSON.
+/// - The errors of [`Site::put_entity`].
 fn put_entity(
     alloc: Global,
     scratch: &mut Scratch,
@@ -51,7 +54,8 @@ fn put_entity(
     }
 }
 
-/// Returns the updates of a message, each valid under the schema; or the message's first error as the site's.
+/// Returns the updates of a message, each valid under the schema, or the site's error for the first error of the
+/// message.
 fn updates_of(
     alloc: Global,
     schema: &Schema,
@@ -69,7 +73,7 @@ fn updates_of(
 
 /// Applies the updates of a message, a state or a delta of another site of the schema, in their order.
 ///
-/// If an allocation fails while updates are applied, exactly the first ones are applied, and the result holds their
+/// If an allocation fails while updates are applied, exactly the first ones are applied, and the result has their
 /// number.
 ///
 /// # Errors
@@ -77,7 +81,7 @@ fn updates_of(
 /// The site is then unchanged:
 ///
 /// - `Message` (50 to 56): the first error of the bytes as a message of the schema; the message is rejected whole.
-/// - `NoMemory` (1): an allocation failed while the message was read.
+/// - `NoMemory` (1): an allocation failed while the message was parsed.
 pub fn take_bytes(alloc: Global, site: &mut Site, bytes: &[u8]) -> Result<Taken, SiteFault>
     ensures takes { TakesMessage (schema_of site.old) (store_in site.old) bytes.now result (store_in site.new) }
     ensures same { IsSameSite site.old site.new }
@@ -88,12 +92,15 @@ pub fn take_bytes(alloc: Global, site: &mut Site, bytes: &[u8]) -> Result<Taken,
     }
 }
 
-/// Returns the answer to the request that bytes state: JSON in UTF-8. In it each policy's error is
-/// `EntityDoesNotExist` or `ArithBoundsError`.
+/// Returns the answer to the request that `bytes` describe as JSON. Each error in the answer is `EntityDoesNotExist` or
+/// `ArithBoundsError`.
 ///
 /// # Errors
 ///
-/// As [`Site::authorize`]; `Request` (63, with 30 inside) if the bytes are not JSON.
+/// In this order:
+///
+/// - `Request` (63, with 30 within): the bytes are not JSON.
+/// - The errors of [`Site::authorize`].
 fn authorize(
     alloc: Global,
     scratch: &mut Scratch,
@@ -110,7 +117,8 @@ fn authorize(
     }
 }
 
-/// Returns the text and the stamp of the policy of this id, or `None` if it has no text. The only error is `NoMemory`.
+/// Returns the text and the stamp of the policy with this id, or `None` if it has no text. The only error is
+/// `NoMemory`.
 fn find_policy(alloc: Global, site: &Site, id: &str) -> Result<Option<Found>, SiteFault>
     ensures { Finds (store_in site.now) id.now result }
 {
@@ -143,7 +151,8 @@ fn summary(site: &Site) -> Result<Items<u8>, SiteFault>
 ///
 /// # Errors
 ///
-/// As [`read_summary`], if the bytes are not a summary of the schema; or `NoMemory`.
+/// - `Message` (50 to 55): the first error of the bytes as a summary of the schema, in the order of [`read_summary`].
+/// - `NoMemory` (1): an allocation failed; possible at any point.
 fn delta(alloc: Global, site: &Site, bytes: &[u8]) -> Result<Items<u8>, SiteFault>
     ensures { WritesDelta (schema_of site.now) (store_in site.now) bytes.now result }
 {
@@ -157,8 +166,9 @@ fn delta(alloc: Global, site: &Site, bytes: &[u8]) -> Result<Items<u8>, SiteFaul
     }
 }
 
-/// Answers one input: at most one step of the site. `scratch` is reused for the next input; its old content has no
-/// effect.
+/// Answers one input, in one step of the site.
+///
+/// `scratch` is memory that is reused from input to input; its content does not matter.
 pub fn answer(alloc: Global, scratch: &mut Scratch, site: &mut Site, input: &Input<'_>) -> Reply
     ensures step { Step (schema_of site.old) site.old.name (store_in site.old) (input_of input.now) result
         (store_in site.new) }
@@ -180,9 +190,8 @@ pub fn answer(alloc: Global, scratch: &mut Scratch, site: &mut Site, input: &Inp
 
 /// Answers inputs in their order, each with its reply.
 ///
-/// The store is then that of the updates that the site had and of those that it applied: what its commands got a
-/// stamp for, and what it applied of the messages. In each answer a policy's error is `EntityDoesNotExist` or
-/// `ArithBoundsError`.
+/// The store is then that of the updates that the site had and of those that it applied: one for each command that got
+/// a stamp, and those of messages. Each error in an answer is `EntityDoesNotExist` or `ArithBoundsError`.
 ///
 /// # Errors
 ///
@@ -194,7 +203,7 @@ pub fn run(alloc: Global, site: &mut Site, inputs: &[Input<'_>]) -> Result<Vec<R
         (map input_of inputs.now) replies.items (store_in site.new)) }
     ensures store { IfOk result (λ replies. store_in site.new
         ≡ store_of (updates (store_in site.old) ++ took (schema_of site.old) (map input_of inputs.now) replies.items)) }
-    ensures right { IfOk result (λ replies. AreHarmlessReplies replies.items) }
+    ensures right { IfOk result (λ replies. ArePermittedReplies replies.items) }
     ensures same { IsSameSite site.old site.new }
     ensures err { OnErr result (site.new ≡ site.old) }
 {

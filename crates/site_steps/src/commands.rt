@@ -24,15 +24,16 @@ use crate::judging::{CheckedPolicy, judged_policy, stated_entity};
 use crate::outcome::Put;
 use crate::ranges::ranges_stay;
 use crate::site::Site;
-use crate::under_schema::{readings_stay, would_cycle};
+use crate::under_schema::readings_stay;
 use plain::NoMemory;
 use serde_json::Value;
+use site_soundness::SchemaTexts;
 use site_store::{
     COUNT_MAX, Entity, Entry, Policy, ReadText, SiteName, Stamp, StampedStore, stamps_are_issued,
 };
 use values::EntityUid;
 
-/// Returns the result of a put: its stamp, and whether the policy is impossible.
+/// Returns the result of a put: its stamp, and whether the policy is impossible; or the error of storing it.
 fn put_of(stamped: Result<Stamp, SiteFault>, impossible: bool) -> Result<Put, SiteFault>
     ensures { result ≡ put_result impossible stamped }
 {
@@ -42,7 +43,7 @@ fn put_of(stamped: Result<Stamp, SiteFault>, impossible: bool) -> Result<Put, Si
     }
 }
 
-/// Returns the result of storing an entry: its stamp, or `NoMemory`.
+/// Returns `stamp` if the entry was stored, else `NoMemory`.
 fn stamped<T: Drop>(taken: Result<(), T>, stamp: &Stamp) -> Result<Stamp, SiteFault>
     ensures { MatchResult taken (λ _. result ≡ Ok stamp.now) (λ _. result ≡ Err SiteFault.NoMemory) }
 {
@@ -62,7 +63,7 @@ fn has_text<P>(entry: Option<&Entry<P>>) -> bool
     }
 }
 
-/// Returns the error, and drops what would have been stored.
+/// Returns the error `fault`, and drops what would have been stored.
 fn refused<T: Drop>(_dropped: T, fault: SiteFault) -> Result<Stamp, SiteFault>
     ensures { result ≡ Err fault }
 {
@@ -81,7 +82,7 @@ fn next_stamp(store: &StampedStore<Policy, Entity>, name: SiteName) -> Option<St
 }
 
 impl Site {
-    /// Stamps a policy's body and stores it.
+    /// Stores the body of a policy with the next stamp.
     fn record_policy(
         &mut self,
         id: String,
@@ -106,7 +107,7 @@ impl Site {
         }
     }
 
-    /// Stamps an entity's body and stores it.
+    /// Stores the body of an entity with the next stamp.
     fn record_entity(
         &mut self,
         uid: EntityUid,
@@ -131,9 +132,10 @@ impl Site {
         }
     }
 
-    /// Puts a policy's text under an id, in place of what is there.
+    /// Puts a policy's text under an id, and replaces the text that the id has, if any.
     ///
-    /// Returns the stamp, and whether the policy is impossible: False in each environment of the schema.
+    /// Returns the stamp, and whether the policy is impossible: whether its type is False in each environment of the
+    /// schema.
     ///
     /// # Errors
     ///
@@ -181,7 +183,7 @@ impl Site {
         has_text(self.store.store().get_entity(uid))
     }
 
-    /// Stamps and stores a tombstone of a policy.
+    /// Stores a tombstone of a policy with the next stamp.
     fn remove_policy(&mut self, id: &str) -> Result<Stamp, SiteFault>
         requires { IsName (policy_name id.now) }
         ensures records { RecordsOr self.old.name (store_in self.old) (policy_name id.now) None result
@@ -218,7 +220,7 @@ impl Site {
         self.remove_policy(id)
     }
 
-    /// Stamps and stores a tombstone of an entity.
+    /// Stores a tombstone of an entity with the next stamp.
     fn remove_entity(&mut self, uid: &EntityUid) -> Result<Stamp, SiteFault>
         requires { IsName (entity_name uid.now) }
         ensures records { RecordsOr self.old.name (store_in self.old) (entity_name uid.now) None result
@@ -230,7 +232,7 @@ impl Site {
         self.record_entity(uid, None)
     }
 
-    /// Deletes an entity by writing a tombstone. Edges to it remain, and lead to an entity that is not stored.
+    /// Deletes an entity by writing a tombstone. Other entities keep it as a parent that is not stored.
     ///
     /// # Errors
     ///
@@ -262,10 +264,10 @@ impl Site {
         ensures no { IfOk result (λ yes. yes ≡ false → MakesNoCycle (IsEntityUnder (schema_of self.now))
             (schema_of self.now) (store_in self.now) entity.now) }
     {
-        would_cycle(&self.store, entity)
+        self.store.would_cycle::<SchemaTexts<'static>>(entity)
     }
 
-    /// Puts a parsed entity, unless it would be cyclic.
+    /// Puts a parsed entity if `cycle` is false. If it is true the error is `WouldCycle`, if it is an error `NoMemory`.
     fn put_unless(
         &mut self,
         cycle: Result<bool, NoMemory>,
@@ -285,18 +287,18 @@ impl Site {
         }
     }
 
-    /// Puts the entity that JSON states, as its canonical text, in place of what its uid has.
+    /// Puts the entity that JSON describes, as its canonical text, and replaces the text that its uid has, if any.
     ///
-    /// The check for a cycle takes two look-ups for each parent; if the ancestor cache is absent, a search that is
-    /// linear in the entity's ancestors. If the parents change, the ancestors of all descendants of the entity are
-    /// rewritten.
+    /// The check for a cycle takes two look-ups for each parent or, if the ancestor cache is absent, a search that is
+    /// linear in the entity's ancestors. If the parents change, the cached ancestors of all descendants of the entity
+    /// are rewritten.
     ///
     /// # Errors
     ///
     /// In this order; the site is then unchanged:
     ///
-    /// - `Entity` (30 to 38): the JSON does not state an entity under the schema.
-    /// - `WouldCycle` (61): the put would make the entity cyclic, whatever cycles of others there are.
+    /// - `Entity` (30 to 38): the JSON does not describe an entity under the schema.
+    /// - `WouldCycle` (61): the put would make the entity cyclic; cycles of other entities do not matter.
     /// - `ClockFull` (62): no stamp is left.
     /// - `NoMemory` (1): an allocation failed; possible at any point.
     pub fn put_entity(&mut self, json: &Value) -> Result<Stamp, SiteFault>

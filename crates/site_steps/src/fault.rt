@@ -12,31 +12,31 @@ use thiserror::Error;
 /// The error of a rejected input. The site is then unchanged.
 #[derive(Clone, Copy, Debug, Error)]
 pub enum SiteFault {
-    /// An allocation failed.
+    /// Code 1: an allocation failed.
     #[error("site 1: out of memory")]
     NoMemory,
-    /// The id of a policy does not have 1 to 256 bytes, or its text is not that of a policy.
+    /// Codes 10 to 19: the id of a policy does not have 1 to 256 bytes (19), or its text is not that of a policy.
     #[error(transparent)]
     Policy(ReadFault),
-    /// The policy does not pass validation under the schema.
+    /// Codes 40 to 46: the policy does not pass validation under the schema.
     #[error(transparent)]
     Check(TypeFault),
-    /// The JSON does not state an entity under the schema.
+    /// Codes 30 to 38: the JSON does not describe an entity under the schema.
     #[error(transparent)]
     Entity(EntityFault),
-    /// The bytes are not a message of the kind that is expected.
+    /// Codes 50 to 56: the bytes are not a message of the expected kind.
     #[error(transparent)]
     Message(MessageFault),
-    /// The name to be deleted has no text.
+    /// Code 60: the name to be deleted has no text.
     #[error("site 60: nothing stored under this name")]
     NotThere,
-    /// The put would make the entity cyclic.
+    /// Code 61: the put would make the entity cyclic.
     #[error("site 61: entity that would be its own ancestor")]
     WouldCycle,
-    /// No stamp is left: the greatest count in the store is 10^18.
+    /// Code 62: no stamp is left; the greatest count in the store is 10^18.
     #[error("site 62: no stamp left; the greatest count in the store is 10^18")]
     ClockFull,
-    /// The JSON does not state a request under the schema.
+    /// Code 63: the JSON does not describe a request under the schema; the code of the inner error is within.
     #[error("site 63: invalid request ({0})")]
     Request(EntityFault),
 }
@@ -59,7 +59,7 @@ impl SiteFault {
         }
     }
 
-    /// Returns the byte offset in a policy's text, or the index of a message's entry; `None` for other errors.
+    /// Returns the byte offset in a policy's text, or the index of a message's entry or stamp; `None` for other errors.
     pub fn place(self) -> Option<usize>
         ensures { result ≡ place_of self }
     {
@@ -70,7 +70,7 @@ impl SiteFault {
         }
     }
 
-    /// Returns the code of the inner error, if there is one: of an entry of a message, or of a request.
+    /// Returns the code that is reported within the error, of an entry of a message or of a request; else `None`.
     pub fn within(self) -> Option<u8>
         ensures { result ≡ within_of self }
     {

@@ -1,10 +1,9 @@
-//! Checks of inputs under the schema alone.
+//! The checks of inputs that depend on the schema alone, not on the store.
 ghost use Rattle.std.specs.Prelude.{◌≡◌, ◌≢◌, ◌↔◌, ℕ, List, IsTrue, IfOk, IfErr, Some, Ok, Err, string_bytes};
 ghost use Rattle.serde_json.specs.View.{view};
 ghost use Rattle.plain.specs.Words.{IsPath};
 ghost use Rattle.site_store.specs.policy_grammar.Limits.{IsId};
 ghost use Rattle.site_store.specs.policy_grammar.PolicyText.{IsPolicyText};
-ghost use Rattle.site_store.specs.schema.Schemas.{StatedSchema};
 ghost use Rattle.site_store.specs.schema.Views.{schema_view};
 ghost use Rattle.site_store.specs.entities.Canonical.{canonical_text};
 ghost use Rattle.site_store.specs.entities.Entities.{entity_stated_in};
@@ -12,7 +11,8 @@ ghost use Rattle.site_soundness.specs.validator.Passing.{Passes, IsImpossible};
 ghost use Rattle.plain.specs.Refused.{OrNoMemory};
 ghost use Rattle.site_steps.specs.declared.fault.SiteFault.TheVariants as SiteFault;
 ghost use Rattle.site_steps.specs.Admitted.{IsEntityUnder, IsNotAdmitted, IsRequestOf};
-ghost use Rattle.site_steps.specs.inner.Recording.{IsStated, IsStatedBy, StatesNone, AsksNone, IsJudged};
+ghost use Rattle.site_steps.specs.inner.Recording.{IsDescribed, IsStatedBy, IsNoEntityFault, IsNoRequestFault};
+ghost use Rattle.site_steps.specs.inner.Recording.{IsJudged};
 
 use crate::fault::SiteFault;
 use plain::{NoMemory, Text};
@@ -27,26 +27,14 @@ use values::{EntityUid, Request};
 
 // ---- policies
 
-/// Returns whether a policy may have this id.
+/// Returns whether a policy may have this id: whether it has 1 to 256 bytes.
 fn is_id(id: &str) -> bool
     ensures { IsTrue result ↔ IsId id.now }
 {
     1 <= id.len() && id.len() <= MOST_ID_BYTES
 }
 
-/// Parses a policy, whether it passes validation or not.
-fn policy_of(alloc: Global, text: &str) -> Result<Policy, SiteFault>
-    ensures read { IfOk result (IsPolicyText text.now) }
-    ensures refused { IfErr result (λ f. (s : StatedSchema) (id : List ℕ) → IsId id
-        → OrNoMemory SiteFault.NoMemory (IsNotAdmitted s id text.now) f) }
-{
-    match parse_policy(alloc, text) {
-        Ok(policy) => Ok(policy),
-        Err(fault) => Err(SiteFault::from(fault)),
-    }
-}
-
-/// Validates a policy; returns whether it is impossible.
+/// Validates a policy, and returns whether it is impossible.
 fn is_impossible(alloc: Global, schema: &Schema, policy: &Policy) -> Result<bool, SiteFault>
     ensures passes { IfOk result (λ yes. Passes (schema_view schema.now) policy.now
         × (IsTrue yes ↔ IsImpossible (schema_view schema.now) policy.now)) }
@@ -59,7 +47,7 @@ fn is_impossible(alloc: Global, schema: &Schema, policy: &Policy) -> Result<bool
     }
 }
 
-/// A policy that may be put: its id, its text with its parsed form, and whether it is impossible.
+/// A policy that may be put: its id, its text with its parsed value, and whether it is impossible.
 #[derive(Drop)]
 pub(crate) struct CheckedPolicy<P> {
     pub(crate) id: String,
@@ -67,7 +55,7 @@ pub(crate) struct CheckedPolicy<P> {
     pub(crate) impossible: bool,
 }
 
-/// Joins a parsed policy with its id, its text and its verdict.
+/// Returns a parsed policy together with its id, its text and its verdict, or the first error of these.
 fn with_verdict<P: Drop>(
     read: P,
     verdict: Result<bool, SiteFault>,
@@ -96,7 +84,7 @@ fn copy_text(alloc: Global, text: &str) -> Result<Text, NoMemory>
     Text::from_str(alloc, text)
 }
 
-/// Checks a policy that is to be put: first the id, then the text, then the policy.
+/// Checks a policy that is to be put: first its id, then its text, then the parsed policy.
 pub(crate) fn judged_policy(
     alloc: Global,
     schema: &Schema,
@@ -112,25 +100,25 @@ pub(crate) fn judged_policy(
     if !is_id(id) {
         return Err(SiteFault::Policy(ReadFault::BadId));
     }
-    match policy_of(alloc, text) {
+    match parse_policy(alloc, text) {
         Ok(policy) => {
             let verdict = is_impossible(alloc, schema, &policy);
             let id = String::from_str(alloc, id);
             let text = copy_text(alloc, text);
             with_verdict(policy, verdict, id, text)
         }
-        Err(fault) => Err(fault),
+        Err(fault) => Err(SiteFault::from(fault)),
     }
 }
 
 // ---- entities
 
-/// Returns the entity that JSON states.
+/// Returns the entity that JSON describes, or the site's error for it.
 fn entity_of(alloc: Global, schema: &Schema, json: &Value) -> Result<Entity, SiteFault>
     ensures states { IfOk result (λ e. entity_stated_in (schema_view schema.now) (view json.now) ≡ Ok e) }
     ensures path { IfOk result (λ e. IsPath e.uid.type_name) }
     ensures refused { IfErr result
-        (OrNoMemory SiteFault.NoMemory (StatesNone (schema_view schema.now) (Some (view json.now)))) }
+        (OrNoMemory SiteFault.NoMemory (IsNoEntityFault (schema_view schema.now) (Some (view json.now)))) }
 {
     names_read_back();
     match read_entity(alloc, schema, json) {
@@ -140,9 +128,9 @@ fn entity_of(alloc: Global, schema: &Schema, json: &Value) -> Result<Entity, Sit
     }
 }
 
-/// Returns the canonical text of an entity that some JSON states; it is parsed as this entity again.
+/// Returns the canonical text of an entity that some JSON describes; the text is parsed as this entity.
 fn text_of(alloc: Global, schema: &Schema, entity: &Entity) -> Result<Text, NoMemory>
-    requires { IsStated (schema_view schema.now) entity.now }
+    requires { IsDescribed (schema_view schema.now) entity.now }
     ensures text { IfOk result (λ t. t ≡ canonical_text entity.now) }
     ensures reads { IfOk result (λ t. IsEntityUnder (schema_view schema.now) entity.now.uid t entity.now) }
 {
@@ -156,7 +144,7 @@ fn text_of(alloc: Global, schema: &Schema, entity: &Entity) -> Result<Text, NoMe
     }
 }
 
-/// Joins a parsed value with its name and its text.
+/// Returns a parsed value together with its name and its text, or `NoMemory`.
 fn with_name_and_text<N: Drop, P: Drop>(
     read: P,
     name: Result<N, NoMemory>,
@@ -170,7 +158,7 @@ fn with_name_and_text<N: Drop, P: Drop>(
     Ok((name, ReadText { text, read }))
 }
 
-/// Returns the entity that JSON states, with its canonical text, and its uid.
+/// Returns the uid of the entity that JSON describes, and the entity with its canonical text, or the site's error.
 pub(crate) fn stated_entity(
     alloc: Global,
     schema: &Schema,
@@ -179,7 +167,7 @@ pub(crate) fn stated_entity(
     ensures named { IfOk result (λ b. b.0 ≡ b.1.read.uid) }
     ensures stated { IfOk result (λ b. IsStatedBy (schema_view schema.now) (Some (view json.now)) b.1) }
     ensures refused { IfErr result
-        (OrNoMemory SiteFault.NoMemory (StatesNone (schema_view schema.now) (Some (view json.now)))) }
+        (OrNoMemory SiteFault.NoMemory (IsNoEntityFault (schema_view schema.now) (Some (view json.now)))) }
 {
     match entity_of(alloc, schema, json) {
         Ok(entity) => {
@@ -193,7 +181,7 @@ pub(crate) fn stated_entity(
 
 // ---- requests
 
-/// Returns the request that JSON states.
+/// Returns the request that JSON describes, or the site's error for it.
 pub(crate) fn stated_request(
     alloc: Global,
     schema: &Schema,
@@ -201,7 +189,7 @@ pub(crate) fn stated_request(
 ) -> Result<Request, SiteFault>
     ensures stated { IfOk result (IsRequestOf (schema_view schema.now) (Some (view json.now))) }
     ensures refused { IfErr result
-        (OrNoMemory SiteFault.NoMemory (AsksNone (schema_view schema.now) (Some (view json.now)))) }
+        (OrNoMemory SiteFault.NoMemory (IsNoRequestFault (schema_view schema.now) (Some (view json.now)))) }
 {
     match read_request(alloc, schema, json) {
         Ok(request) => Ok(request),

@@ -1,4 +1,4 @@
-//! Theorems about runs; their functions do nothing.
+//! Theorems about runs of a site. The functions are no-ops.
 ghost use Rattle.std.specs.Prelude.{◌≡◌, ◌↔◌, ℕ, List, Contains};
 ghost use Rattle.values.specs.declared.request.Request.{Request};
 ghost use Rattle.site_store.specs.authoriser.declared.answer.Answer.{Answer};
@@ -11,30 +11,31 @@ ghost use Rattle.site_soundness.specs.message_format.Messages.{state_text};
 ghost use Rattle.site_steps.specs.Admitted.{IsPolicyUnder, IsEntityUnder};
 ghost use Rattle.site_steps.specs.Outcomes.{InputsHaveAnOutcome, InputsHaveOneOutcome};
 ghost use Rattle.site_steps.specs.Permitted.{RunsAreSound};
-ghost use Rattle.site_steps.specs.Runs.{HoldsAfter};
+ghost use Rattle.site_steps.specs.Runs.{IsLeftBy};
 
 use site_soundness::{
     SchemaTexts, messages_have_one_outcome, policies_have_one_outcome, stored_answers_are_sound,
     stored_texts_have_one_reading,
 };
 use site_store::{
-    Entity, Policy, contents_are_told, paths_are_decided, requests_have_one_answer,
+    Entity, Policy, contents_are_the_texts, paths_are_decided, requests_have_one_answer,
     requests_have_one_outcome, stamps_are_issued, stores_have_one_reading, texts_have_one_reading,
     updates_have_one_store,
 };
 
-/// Proves convergence: sites of one schema that had and applied equal sets of updates hold equal stores, whatever
-/// their names, and in whatever order, as often and in whatever groups the updates came. So they write equal states,
-/// and give equal answers. No-op.
+/// Proves convergence: sites of one schema that had and applied equal sets of updates have equal stores. No-op.
+///
+/// This holds whatever the names of the sites, and in whatever order, as often and in whatever groups the updates
+/// arrived. So these sites write equal states and give equal answers.
 pub fn equal_updates_leave_equal_stores()
-    ensures stores { (schema : StatedSchema) (us vs : List Update) (s t : Store) → HoldsAfter schema us s
-        → HoldsAfter schema vs t → ((u : Update) → (Contains us u ↔ Contains vs u)) → s ≡ t }
-    ensures states { (schema : StatedSchema) (us vs : List Update) (s t : Store) → HoldsAfter schema us s
-        → HoldsAfter schema vs t → ((u : Update) → (Contains us u ↔ Contains vs u))
+    ensures stores { (schema : StatedSchema) (us vs : List Update) (s t : Store) → IsLeftBy schema us s
+        → IsLeftBy schema vs t → ((u : Update) → (Contains us u ↔ Contains vs u)) → s ≡ t }
+    ensures states { (schema : StatedSchema) (us vs : List Update) (s t : Store) → IsLeftBy schema us s
+        → IsLeftBy schema vs t → ((u : Update) → (Contains us u ↔ Contains vs u))
         → state_text schema.label s ≡ state_text schema.label t }
     ensures answers { (bytes : List ℕ) (schema : SchemaKept) (us vs : List Update) (s t : Store) (q : Request)
-        (a b : Answer) → IsSchemaOf bytes (schema_view schema) → HoldsAfter (schema_view schema) us s
-        → HoldsAfter (schema_view schema) vs t → ((u : Update) → (Contains us u ↔ Contains vs u))
+        (a b : Answer) → IsSchemaOf bytes (schema_view schema) → IsLeftBy (schema_view schema) us s
+        → IsLeftBy (schema_view schema) vs t → ((u : Update) → (Contains us u ↔ Contains vs u))
         → IsAnswerOver (IsPolicyUnder (schema_view schema)) (IsEntityUnder (schema_view schema)) (schema_view schema)
         s q a
         → IsAnswerOver (IsPolicyUnder (schema_view schema)) (IsEntityUnder (schema_view schema)) (schema_view schema)
@@ -46,11 +47,11 @@ pub fn equal_updates_leave_equal_stores()
     requests_have_one_answer::<SchemaTexts<'static>>();
 }
 
-/// Proves that each input of a site has exactly one outcome if there is memory: one reply and one store.
+/// Proves that each input of a site has exactly one outcome if no allocation fails: one reply and one store. No-op.
 ///
-/// This holds under each schema that bytes state and a site has, over any store that a site of the schema may hold.
-/// So each rejection has the cause that its error names, and no input has two errors: a valid command is rejected for
-/// an absent name, a cycle or a full clock alone, a message of valid updates never. No-op.
+/// This holds under each schema that bytes describe, over any store that a site of the schema may have. So each
+/// rejection has the cause that its error names, and no input has two errors. A valid command is rejected only for an
+/// absent name, a cycle or a full clock; a message of valid updates is never rejected.
 pub fn inputs_have_one_outcome()
     ensures some { (bytes : List ℕ) (schema : SchemaKept) → IsSchemaOf bytes (schema_view schema)
         → InputsHaveAnOutcome (schema_view schema) }
@@ -66,14 +67,14 @@ pub fn inputs_have_one_outcome()
     requests_have_one_answer::<SchemaTexts<'static>>();
     updates_have_one_store();
     stamps_are_issued();
-    contents_are_told();
+    contents_are_the_texts();
     paths_are_decided();
 }
 
 /// Proves that no reply of a run has an error of type, of an attribute or of an extension function: each error in an
-/// answer is `EntityDoesNotExist` or `ArithBoundsError`.
+/// answer is `EntityDoesNotExist` or `ArithBoundsError`. No-op.
 ///
-/// Replies to HTTP requests are of such runs, each of one step (`http_service::served_answers_are_sound`). No-op.
+/// Each reply to an HTTP request is that of a run of one step (`http_service::served_answers_are_sound`).
 pub fn runs_are_sound()
     ensures { RunsAreSound }
 {

@@ -1,4 +1,4 @@
-//! A theorem about runs; its function does nothing.
+//! A theorem about the store at the end of a run. The function is a no-op.
 ghost use Rattle.std.specs.Prelude.{◌≡◌, ◌++◌, ℕ, List};
 ghost use Rattle.site_store.specs.schema.Schemas.{StatedSchema};
 ghost use Rattle.site_store.specs.stamped_store.Store.{Store, store_of, updates};
@@ -8,8 +8,8 @@ ghost use Rattle.site_steps.specs.Runs.{Run, took};
 
 use site_store::updates_have_one_store;
 
-/// Proves that a run leaves the store of the updates that were there and of those that it applied, however the inputs
-/// came. No-op.
+/// Proves that the store at the end of a run is that of the updates of the first store and of those that the run
+/// applied. No-op.
 pub fn runs_leave_what_they_took()
     ensures { (schema : StatedSchema) (n : List ℕ) (s : Store) (inputs : List Input) (replies : List Reply) (t : Store)
         → Run schema n s inputs replies t → t ≡ store_of (updates s ++ took schema inputs replies) }

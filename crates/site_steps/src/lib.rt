@@ -1,11 +1,11 @@
 //! A site: a store of stamped texts under one schema, its commands, messages and queries; and runs of a site.
 //!
-//! The store is the only owner of policies and entities. Answers come from the parsed forms of its texts, with an
-//! index of the policies and a cache of ancestors, which no contract mentions.
+//! The store is the only owner of policies and entities. Answers come from the parsed values of its texts, with an
+//! index of the policies and an ancestor cache, which no contract mentions.
 //!
-//! The store at the end of a run is stated without the steps between: it is that of the updates that the site had and
-//! of those that it applied. So sites of one schema that applied equal sets of updates hold equal stores, in whatever
-//! order, as often and in whatever groups the updates came.
+//! The store at the end of a run is that of the updates that the site had and of those that it applied. So sites of one
+//! schema that had and applied equal sets of updates have equal stores, in whatever order, as often and in whatever
+//! groups the updates arrived.
 #![tactic(auto)]
 
 mod answering;
@@ -38,5 +38,6 @@ pub use site_soundness::{
 };
 pub use site_store::{
     Entity, EntityFault, Policy, Schema, SiteName, Stamp, deltas_are_joined, is_site_name,
-    site_names_are_told, stamps_are_issued, stated_schemas_are_well_formed, updates_have_one_store,
+    site_names_are_recognized, stamps_are_issued, stated_schemas_are_well_formed,
+    updates_have_one_store,
 };

@@ -11,9 +11,11 @@ ghost use Rattle.site_soundness.specs.message_format.Updates.{AreInRange, stampe
 
 use site_store::{COUNT_MAX, deltas_are_joined, stamps_are_issued, updates_have_one_store};
 
-/// Proves that names and stamps stay in their ranges: those of the empty store, and of a store that an update in
-/// range is joined into; so are those of a delta or a summary of such a store. Its greatest count is at most 10^18, a
-/// name that has a text is in range, and so is a stamp that is issued. No-op.
+/// Proves that the names and stamps of a store stay in their ranges. No-op.
+///
+/// The names and stamps of the empty store are in their ranges. If those of a store are, then so are those of the store
+/// after the join of an update in its ranges, of its deltas and of its summary; its greatest count is at most 10^18;
+/// and each name that has a text, and each stamp that it issues, is in its range.
 pub(crate) fn ranges_stay()
     ensures empty { AreInRange (updates (store_of [])) }
     ensures joined { (s t : Store) (u : Update) → AreInRange (updates s) → IsStamped (stamped u)

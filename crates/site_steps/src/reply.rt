@@ -5,7 +5,7 @@ use crate::outcome::{Put, Taken};
 use plain::{Items, Text};
 use site_store::{Answer, Stamp};
 
-/// A policy that was found.
+/// The text of a policy in the store, with its stamp.
 #[derive(Drop)]
 pub struct Found {
     /// The policy's text.

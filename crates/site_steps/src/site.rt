@@ -1,4 +1,4 @@
-//! A site of the replicated store: its queries, and its messages to other sites.
+//! A site of the replicated store: its creation, its queries, and its messages to other sites.
 ghost use Rattle.std.specs.Prelude.{◌≡◌, [], IfOk, option_map, Some, Ok};
 ghost use Rattle.serde_json.specs.View.{view};
 ghost use Rattle.site_store.specs.schema.Views.{schema_view, IsStated};
@@ -15,10 +15,12 @@ ghost use Rattle.site_steps.specs.Steps.{Answers, policy_found, most_count};
 use crate::fault::SiteFault;
 use crate::judging::stated_request;
 use crate::ranges::ranges_stay;
-use crate::under_schema::{answer_under, readings_stay};
+use crate::under_schema::readings_stay;
 use plain::{NoMemory, Shared};
 use serde_json::Value;
-use site_soundness::{Summary, stored_answers_are_sound, write_delta, write_state, write_summary};
+use site_soundness::{
+    SchemaTexts, Summary, stored_answers_are_sound, write_delta, write_state, write_summary,
+};
 use site_store::{Answer, COUNT_MAX, IndexedStore, Schema, SiteName, Stamp};
 use std::alloc::Global;
 use std::marker::Model;
@@ -79,8 +81,8 @@ impl Site {
         self.store.schema()
     }
 
-    /// Proves the site's invariant: some bytes state its schema, each name and stamp of its store is in its range,
-    /// and each text may be read under the schema. No-op.
+    /// Proves the site's invariant: some bytes describe its schema, each name and stamp of its store is in its range,
+    /// and each text can be parsed under the schema. No-op.
     pub fn holds_valid_updates(&self)
         ensures stated { IsStated self.now.schema }
         ensures held { IsValidStore (schema_of self.now) (store_in self.now) }
@@ -90,8 +92,7 @@ impl Site {
         let _ = self.store.store().policies();
     }
 
-    /// Returns the text and the stamp of the policy of this id; `None` if it has no text: it was never put, or was
-    /// deleted.
+    /// Returns the text and the stamp of the policy with this id, or `None` if the policy was never put or was deleted.
     ///
     /// O(log n). Does not allocate.
     pub fn get_policy(&self, id: &str) -> Option<(&str, Stamp)>
@@ -115,8 +116,12 @@ impl Site {
         self.store.store().has_stamps_of(name)
     }
 
-    /// Returns the state: the whole store as a message to other sites of the schema, which read it back as the
-    /// store's updates. The only error is `NoMemory`.
+    /// Returns the state: the whole store as a message to other sites of the schema, which parse it as the store's
+    /// updates.
+    ///
+    /// # Errors
+    ///
+    /// - `NoMemory`: an allocation failed.
     pub fn state(&self) -> Result<Vec<u8>, NoMemory>
         ensures text { IfOk result (λ b. b.items ≡ state_text (schema_of self.now).label (store_in self.now)) }
         ensures reads_back { IfOk result
@@ -125,8 +130,11 @@ impl Site {
         write_state(self.alloc, self.store.schema().label(), self.store.store())
     }
 
-    /// Returns the summary: the names of the store with their stamps, as a message to other sites of the schema. The
-    /// only error is `NoMemory`.
+    /// Returns the summary: the names of the store with their stamps, as a message to other sites of the schema.
+    ///
+    /// # Errors
+    ///
+    /// - `NoMemory`: an allocation failed.
     pub fn summary(&self) -> Result<Vec<u8>, NoMemory>
         ensures text { IfOk result
             (λ b. b.items ≡ summary_text (schema_of self.now).label (summary_of (store_in self.now))) }
@@ -137,8 +145,12 @@ impl Site {
         write_summary(self.alloc, self.store.schema().label(), self.store.store())
     }
 
-    /// Returns a delta: the entries whose names `since` lacks or has with a smaller stamp, as a message, which is
-    /// read back as those entries. The only error is `NoMemory`.
+    /// Returns a delta: the entries whose names `since` lacks or has with a smaller stamp, as a message to other sites
+    /// of the schema, which parse it as those entries.
+    ///
+    /// # Errors
+    ///
+    /// - `NoMemory`: an allocation failed.
     pub fn delta(&self, since: &Summary) -> Result<Vec<u8>, NoMemory>
         ensures text { IfOk result
             (λ b. b.items ≡ delta_text (schema_of self.now).label (delta (store_in self.now) since.now)) }
@@ -154,9 +166,10 @@ impl Site {
         )
     }
 
-    /// Returns the answer to the request that JSON states, over what is stored: the policies and entities that the
-    /// texts of the store are parsed as, and the actions of the schema. Each error in the answer is
-    /// `EntityDoesNotExist` or `ArithBoundsError`.
+    /// Returns the answer to the request that JSON describes, over the policies and entities that the texts of the
+    /// store are parsed as, and the actions of the schema.
+    ///
+    /// Each error in the answer is `EntityDoesNotExist` or `ArithBoundsError`.
     ///
     /// Evaluates only the policies whose key in the index matches the request, and looks up ancestors in the cache. If
     /// the index is absent, every policy is evaluated; if the cache is absent, the hierarchy is searched for cycles.
@@ -164,7 +177,7 @@ impl Site {
     ///
     /// # Errors
     ///
-    /// - `Request` (63, with the code of the inner error): the JSON does not state a request under the schema.
+    /// - `Request` (63, with the code of the inner error): the JSON does not describe a request under the schema.
     /// - `NoMemory` (1): an allocation failed; possible at any point.
     pub fn authorize(&self, json: &Value) -> Result<Answer, SiteFault>
         ensures answers { Answers (schema_of self.now) (store_in self.now) (Some (view json.now)) result }
@@ -174,20 +187,21 @@ impl Site {
         let schema = self.store.schema();
         schema.is_stated();
         let request = stated_request(self.alloc, schema, json)?;
-        let answered = answer_under(&self.store, &request);
+        let answered = self.store.answer::<SchemaTexts<'static>>(&request);
         drop(request);
         Ok(answered?)
     }
 
-    /// Rebuilds the caches that are absent, if there is memory, as each put, deletion or message does. Intended for a
-    /// site that is queried before anything was put into it. No entry changes.
+    /// Rebuilds the absent caches, if there is memory, as each put, deletion or message does. No entry changes.
+    ///
+    /// Intended for a site that is queried before anything was put into it.
     pub fn rebuild(&mut self)
         ensures { self.new ≡ self.old }
     {
         self.store.rebuild();
     }
 
-    /// Returns whether the ancestor cache and the policy index are present; for tests alone.
+    /// Returns whether the ancestor cache is present, and whether the policy index is; for tests alone.
     pub fn standing(&self) -> (bool, bool) {
         self.store.standing()
     }
@@ -199,9 +213,9 @@ impl Site {
 
     /// Drops the caches, as a failed allocation does, so that the next answers search and evaluate everything; for
     /// tests alone.
-    pub fn drop_kept(&mut self)
+    pub fn drop_caches(&mut self)
         ensures { self.new ≡ self.old }
     {
-        self.store.drop_kept();
+        self.store.drop_caches();
     }
 }

@@ -1,5 +1,5 @@
-//! Contracts of lower crates for any parser of texts, instantiated at the texts of one schema.
-ghost use Rattle.std.specs.Prelude.{◌≡◌, [], true, false, IfOk, String, string_bytes};
+//! A theorem of a lower crate about any parser of texts, instantiated at the parser of one schema.
+ghost use Rattle.std.specs.Prelude.{[], String, string_bytes};
 ghost use Rattle.std.specs.String.{string_cmp};
 ghost use Rattle.std.specs.declared.alloc.Global.{Global};
 ghost use Rattle.values.specs.declared.entity_uid.EntityUid.{EntityUid};
@@ -11,18 +11,16 @@ ghost use Rattle.site_store.specs.entity_data.declared.entity.Entity.{Entity};
 ghost use Rattle.site_store.specs.stamped_store.declared.entry.Entry.{Entry};
 ghost use Rattle.site_store.specs.stamped_store.EntryOrder.{greater};
 ghost use Rattle.site_store.specs.stamped_store.Reading.{IsEntryRead};
-ghost use Rattle.site_store.specs.stamped_store.Store.{StoreEntries, kept, abstract_store};
+ghost use Rattle.site_store.specs.stamped_store.Store.{StoreEntries, kept};
 ghost use Rattle.site_store.specs.stamped_store.Stored.{taken};
-ghost use Rattle.site_store.specs.site_meaning.StoreMeaning.{IsAnswerOver, MakesCycle, MakesNoCycle};
 ghost use Rattle.site_steps.specs.Admitted.{IsPolicyUnder, IsEntityUnder};
 ghost use Rattle.site_steps.specs.SiteViews.{IsHeld};
 
-use plain::NoMemory;
 use site_soundness::SchemaTexts;
-use site_store::{Answer, Entity, IndexedStore, Policy, readings_are_kept};
-use values::Request;
+use site_store::{Entity, Policy, readings_are_kept};
 
-/// Proves that each text of a store is still parsed as the form stored with it after such an entry is joined. No-op.
+/// Proves that each text of a store is parsed as the value stored with it: in the empty store, and, if so before, after
+/// the join of an entry whose text is parsed as the value that the entry has with it. No-op.
 pub(crate) fn readings_stay()
     ensures empty { (schema : SchemaKept) → IsHeld (schema_view schema) (kept [] []) }
     ensures policy { (schema : SchemaKept) (k : StoreEntries Policy Entity) (id : String Global) (entry : Entry Policy)
@@ -33,25 +31,4 @@ pub(crate) fn readings_stay()
         → IsHeld (schema_view schema) (kept k.policies (taken uid_cmp greater k.entities uid entry)) }
 {
     readings_are_kept::<Policy, Entity, SchemaTexts<'static>>()
-}
-
-/// Returns the answer to a request over a store whose texts were read under the schema.
-pub(crate) fn answer_under(store: &IndexedStore, request: &Request) -> Result<Answer, NoMemory>
-    ensures { let schema = schema_view store.now.schema in IfOk result (λ a. IsHeld schema store.now.kept
-        → IsAnswerOver (IsPolicyUnder schema) (IsEntityUnder schema) schema (abstract_store store.now.kept)
-        request.now a) }
-{
-    store.answer::<SchemaTexts<'static>>(request)
-}
-
-/// Returns whether putting an entity into a store whose texts were read under the schema would make it cyclic.
-pub(crate) fn would_cycle(store: &IndexedStore, entity: &Entity) -> Result<bool, NoMemory>
-    ensures yes { let schema = schema_view store.now.schema in IfOk result (λ yes. yes ≡ true
-        → IsHeld schema store.now.kept
-        → MakesCycle (IsEntityUnder schema) schema (abstract_store store.now.kept) entity.now) }
-    ensures no { let schema = schema_view store.now.schema in IfOk result (λ yes. yes ≡ false
-        → IsHeld schema store.now.kept
-        → MakesNoCycle (IsEntityUnder schema) schema (abstract_store store.now.kept) entity.now) }
-{
-    store.would_cycle::<SchemaTexts<'static>>(entity)
 }

@@ -1,4 +1,4 @@
-//! Updates of another site, applied by this one.
+//! The application of updates that another site sent.
 ghost use Rattle.std.specs.Prelude.{◌≡◌, ◌++◌, ◌∷◌, [], IsTrue, true, false, MatchResult, string_bytes};
 ghost use Rattle.std.specs.List.{AllByRecursion};
 ghost use Rattle.site_store.specs.stamped_store.EntryOrder.{plain_entry};
@@ -29,7 +29,7 @@ fn is_taken<T: Drop>(taken: Result<(), T>) -> bool
 }
 
 impl Site {
-    /// Joins one update of a policy, unless an allocation fails.
+    /// Joins one update of a policy. Returns false, with the store unchanged, if an allocation fails.
     fn take_policy(&mut self, id: String, entry: Entry<Policy>) -> bool
         requires in_range { IsStamped (policy_name (string_bytes id), entry.stamp) }
         requires read { IsEntryRead (IsPolicyUnder (schema_of self.old) (string_bytes id)) entry }
@@ -44,7 +44,7 @@ impl Site {
         is_taken(taken)
     }
 
-    /// Joins one update of an entity, unless an allocation fails.
+    /// Joins one update of an entity. Returns false, with the store unchanged, if an allocation fails.
     fn take_entity(&mut self, uid: EntityUid, entry: Entry<Entity>) -> bool
         requires in_range { IsStamped (entity_name uid, entry.stamp) }
         requires read { IsEntryRead (IsEntityUnder (schema_of self.old) uid) entry }
@@ -59,7 +59,7 @@ impl Site {
         is_taken(taken)
     }
 
-    /// Joins one update, unless an allocation fails.
+    /// Joins one update. Returns false, with the store unchanged, if an allocation fails.
     fn take_one(&mut self, update: Update<Policy, Entity>) -> bool
         requires { IsValidUnder (schema_of self.old) update }
         ensures taken { IsTrue result → store_in self.new
@@ -73,7 +73,7 @@ impl Site {
         }
     }
 
-    /// Applies updates in their order. The caches are updated after each, as long as that costs less than a rebuild.
+    /// Applies updates in their order. Updates the caches after each, as long as that costs less than a rebuild.
     fn take_all(&mut self, updates: Vec<Update<Policy, Entity>>) -> Taken
         requires { AllByRecursion (IsValidUnder (schema_of self.old)) updates.items }
         ensures takes { TakesUpdates (store_in self.old) (plain_updates updates.items) result (store_in self.new) }
@@ -93,8 +93,8 @@ impl Site {
     /// Applies updates of another site in their order: each is joined at its name, where the greater entry wins.
     ///
     /// All are counted, also those that lose. If an allocation fails, exactly the first ones are applied, and the
-    /// rest is dropped. An update may make an entity cyclic; it is not rejected for that. Caches that were dropped
-    /// are rebuilt after the updates.
+    /// others are not. An update that makes an entity cyclic is applied too. Absent caches are rebuilt after the
+    /// updates.
     ///
     /// Each update must be valid under the site's schema, as [`message_format::read_message`] returns them.
     pub fn take(&mut self, updates: Vec<Update<Policy, Entity>>) -> Taken

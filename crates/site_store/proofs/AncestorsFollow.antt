@@ -6,7 +6,7 @@ use Rattle.std.specs.Cmp.{tied_back}
 use Rattle.values.specs.declared.entity_uid.EntityUid.{EntityUid}
 use Rattle.values.specs.Names.{uid_cmp, uid_cmp-IsTotalOrder}
 use Rattle.ancestor_closure.specs.Lists.{AgreeBut}
-use Rattle.ancestor_closure.specs.declared.keeping.AncestorCache.{AncestorCache}
+use Rattle.ancestor_closure.specs.declared.ancestor_cache.AncestorCache.{AncestorCache}
 use Rattle.site_meaning.specs.schema.Schemas.{StatedSchema}
 use Rattle.site_meaning.specs.entity_data.declared.entity.Entity.{Entity}
 use Rattle.site_meaning.specs.entity_data.Entities.{kept_parents, action_or}
@@ -17,7 +17,7 @@ use Rattle.stamped_store.proofs.Points.{others_kept}
 use Rattle.site_meaning.specs.StoreMeaning.{data_of}
 use Rattle.site_meaning.specs.TextsRead.{entity_at, entity_read}
 use Rattle.site_store.specs.Kept.{EntityEntries, edges_under, AreAncestorsOf}
-use Rattle.site_store.specs.inner.Following.{AreAncestorsBut}
+use Rattle.site_store.specs.inner.Updating.{AreAncestorsBut}
 
 not_tied : (uid q : EntityUid) → is_eq (uid_cmp uid q) ≡ false → uid_cmp q uid ≢ Equal
 not_tied uid q apart same =

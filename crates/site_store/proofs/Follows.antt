@@ -25,7 +25,7 @@ use Rattle.stamped_store.specs.declared.entry.Entry.{Entry}
 use Rattle.stamped_store.specs.EntryOrder.{greater}
 use Rattle.stamped_store.specs.Stored.{value_at_text, taken}
 use Rattle.site_store.specs.Indexed.{PolicyEntries, policy_in, policy_at, AreIndexed}
-use Rattle.site_store.specs.inner.IndexFollowing.{AreIndexedBut, noted}
+use Rattle.site_store.specs.inner.IndexUpdating.{AreIndexedBut, noted}
 
 -- ---- another id has what it had
 

@@ -4,7 +4,7 @@ use Rattle.std.specs.Option.{IfSome}
 use Rattle.std.specs.Result.{result_ok}
 use Rattle.std.specs.Prelude.{Option, Result, Ok, Err, OnOk, OnErr}
 use Rattle.scope_index.specs.policy_grammar.declared.policy.Policy.{Policy}
-use Rattle.ancestor_closure.specs.declared.keeping.AncestorCache.{AncestorCache}
+use Rattle.ancestor_closure.specs.declared.ancestor_cache.AncestorCache.{AncestorCache}
 use Rattle.site_meaning.specs.schema.SchemaEntries.{SchemaEntries}
 use Rattle.site_meaning.specs.schema.Views.{schema_view}
 use Rattle.scope_index.specs.Keys.{Kept}
@@ -12,7 +12,7 @@ use Rattle.site_meaning.specs.entity_data.declared.entity.Entity.{Entity}
 use Rattle.stamped_store.specs.Store.{StoreEntries, kept}
 use Rattle.site_store.specs.Indexed.{PolicyEntries, AreIndexed}
 use Rattle.site_store.specs.Kept.{EntityEntries, AreAncestorsOf}
-use Rattle.site_store.specs.StoreViews.{AreBeside}
+use Rattle.site_store.specs.StoreViews.{AreValidCaches}
 
 abbrev pub Entries : Type 0
 Entries = StoreEntries Policy Entity
@@ -30,14 +30,14 @@ policies_stay (Err e) new old es none is = ap (λ k. k.policies) is
 module _ (schema lent : SchemaEntries) (is_lent : lent ≡ schema) where
   -- the caches are those of the borrowed schema
   pub as_lent : (k : Entries) (index : Option Kept) (ancestors : Option AncestorCache)
-      → AreBeside (schema_view schema) k index ancestors → AreBeside (schema_view lent) k index ancestors
+      → AreValidCaches (schema_view schema) k index ancestors → AreValidCaches (schema_view lent) k index ancestors
   as_lent k index ancestors h =
-      subst (λ (x : SchemaEntries). AreBeside (schema_view x) k index ancestors) (sym is_lent) h
+      subst (λ (x : SchemaEntries). AreValidCaches (schema_view x) k index ancestors) (sym is_lent) h
 
   pub as_held : (k : Entries) (index : Option Kept) (ancestors : Option AncestorCache)
-      → AreBeside (schema_view lent) k index ancestors → AreBeside (schema_view schema) k index ancestors
+      → AreValidCaches (schema_view lent) k index ancestors → AreValidCaches (schema_view schema) k index ancestors
   as_held k index ancestors h =
-      subst (λ (x : SchemaEntries). AreBeside (schema_view x) k index ancestors) is_lent h
+      subst (λ (x : SchemaEntries). AreValidCaches (schema_view x) k index ancestors) is_lent h
 
   pub ancestors_as_lent : (es : EntityEntries) (ancestors : Option AncestorCache)
       → IfSome ancestors (AreAncestorsOf (schema_view schema) es)
@@ -50,7 +50,7 @@ module _ (schema lent : SchemaEntries) (is_lent : lent ≡ schema) where
       → OnOk r (new ≡ kept old.policies es) → OnErr r (new ≡ old)
       → (index : Option Kept) → IfSome index (AreIndexed old.policies)
       → (ancestors : Option AncestorCache) → IfSome ancestors (AreAncestorsOf (schema_view lent) new.entities)
-      → AreBeside (schema_view schema) new index ancestors
+      → AreValidCaches (schema_view schema) new index ancestors
   beside_entity r new old es ok err index index_is ancestors followed =
       record {
         index_is = subst (λ (ps : PolicyEntries). IfSome index (AreIndexed ps)) (sym (policies_stay r new old es ok err)) index_is;
@@ -62,7 +62,7 @@ pub beside_policy : {T E : Type 0} (schema : SchemaEntries) (r : Result T E) (ne
     → OnOk r (new ≡ kept ps old.entities) → OnErr r (new ≡ old)
     → (index : Option Kept) → IfSome index (AreIndexed new.policies)
     → (ancestors : Option AncestorCache) → IfSome ancestors (AreAncestorsOf (schema_view schema) old.entities)
-    → AreBeside (schema_view schema) new index ancestors
+    → AreValidCaches (schema_view schema) new index ancestors
 beside_policy schema r new old ps ok err index indexed ancestors are =
     record {
       index_is = indexed;

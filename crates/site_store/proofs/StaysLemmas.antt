@@ -6,15 +6,15 @@ use Rattle.values.specs.declared.entity_uid.EntityUid.{EntityUid}
 use Rattle.values.specs.Names.{uid_cmp, uid_cmp-IsTotalOrder}
 use Rattle.ancestor_closure.specs.ancestor_search.Hierarchy.{Parents}
 use Rattle.scope_index.specs.policy_grammar.declared.policy.Policy.{Policy}
-use Rattle.ancestor_closure.specs.declared.keeping.AncestorCache.{AncestorCache}
-use Rattle.ancestor_closure.specs.Kept.{IsCacheOf}
+use Rattle.ancestor_closure.specs.declared.ancestor_cache.AncestorCache.{AncestorCache}
+use Rattle.ancestor_closure.specs.CacheOf.{IsCacheOf}
 use Rattle.site_meaning.specs.schema.Schemas.{StatedSchema}
 use Rattle.site_meaning.specs.entity_data.declared.entity.Entity.{Entity}
 use Rattle.stamped_store.specs.declared.entry.Entry.{Entry}
 use Rattle.stamped_store.specs.EntryOrder.{greater}
 use Rattle.stamped_store.specs.Store.{StoreEntries, kept}
 use Rattle.stamped_store.specs.Stored.{value_at, taken}
-use Rattle.site_meaning.specs.StoreMeaning.{world_under}
+use Rattle.site_meaning.specs.StoreMeaning.{entity_data_under}
 use Rattle.site_meaning.specs.TextsRead.{entity_at, entity_read}
 use Rattle.site_store.specs.Staying.{Stays}
 use Rattle.site_store.proofs.Unchanged.{finds_the_same}
@@ -29,7 +29,7 @@ same_edges : (schema : StatedSchema) (es : EntityEntries) (uid : EntityUid) (ent
     → Stays (value_at uid_cmp es uid) entry → edges_under schema (taken uid_cmp greater es uid entry) ≡ edges_under schema es
 same_edges schema es uid entry stays =
     let one : entity_at (taken uid_cmp greater es uid entry) ≡ entity_at es = λ i q. same_entities es uid entry stays q i in
-    ap (λ (f : EntityUid → Option Entity). (world_under schema f).parents) one
+    ap (λ (f : EntityUid → Option Entity). (entity_data_under schema f).parents) one
 
 edges_after : {T E : Type 0} (schema : StatedSchema) (r : Result T E) (new old : StoreEntries Policy Entity) (uid : EntityUid) (entry : Entry Entity)
     → OnOk r (new ≡ kept old.policies (taken uid_cmp greater old.entities uid entry)) → OnErr r (new ≡ old)

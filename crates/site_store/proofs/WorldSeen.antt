@@ -7,9 +7,9 @@ use Rattle.scope_index.specs.policy_grammar.declared.policy.Policy.{Policy}
 use Rattle.scope_index.specs.Keys.{Kept}
 use Rattle.ancestor_closure.specs.ancestor_search.Decided.{Decides, reaches}
 use Rattle.ancestor_closure.specs.ancestor_search.Hierarchy.{Parents}
-use Rattle.ancestor_closure.specs.declared.keeping.AncestorCache.{AncestorCache}
-use Rattle.ancestor_closure.specs.Kept.{IsCacheOf}
-use Rattle.site_meaning.specs.evaluator.Operators.{Entities, world_of}
+use Rattle.ancestor_closure.specs.declared.ancestor_cache.AncestorCache.{AncestorCache}
+use Rattle.ancestor_closure.specs.CacheOf.{IsCacheOf}
+use Rattle.site_meaning.specs.evaluator.Operators.{Entities, entities_with}
 use Rattle.site_meaning.specs.schema.SchemaEntries.{SchemaEntries}
 use Rattle.site_meaning.specs.schema.Views.{schema_view}
 use Rattle.site_meaning.specs.entity_data.declared.entity.Entity.{Entity}
@@ -18,7 +18,7 @@ use Rattle.site_meaning.specs.entity_data.Listing.{all_decided}
 use Rattle.site_meaning.specs.entity_hierarchy.Entities.{entities_under, actions_under, action_uids, actions_are_listed}
 use Rattle.stamped_store.specs.Store.{StoreEntries}
 use Rattle.site_meaning.specs.declared.stored_entities.StoredEntities.{StoredEntities}
-use Rattle.site_meaning.specs.StoreMeaning.{data_in, world_under}
+use Rattle.site_meaning.specs.StoreMeaning.{data_in, entity_data_under}
 use Rattle.site_meaning.specs.TextsRead.{entity_at, uids_read}
 use Rattle.site_meaning.specs.Listed.{entities_listed}
 use Rattle.site_store.specs.Kept.{edges_under, AreAncestorsOf}
@@ -36,7 +36,7 @@ abbrev pub edges_seen : Seen → Parents
 edges_seen w u = kept_parents (asked w u)
 
 abbrev pub world_seen : Seen → Entities
-world_seen w = world_of (λ u. attributes_of (asked w u)) (edges_seen w)
+world_seen w = entities_with (λ u. attributes_of (asked w u)) (edges_seen w)
 
 module _ (w : Seen) (s : StoredEntities) (schema : SchemaEntries) (k : StoreEntries Policy Entity)
     (is_seen : w ≡ (s, schema)) (is_kept : s.store.now ≡ k) where
@@ -67,8 +67,8 @@ module _ {schema : SchemaEntries} {k : StoreEntries Policy Entity} {index : Opti
   -- what is searched is the entity data of the store,
   pub world_searched : world_seen w ≡ world_stored s
   world_searched =
-      ap (λ (l : StoreEntries Policy Entity). world_under (schema_view w.1) (entity_at l.entities)) is.store_is
-      ∙ ap (λ (x : SchemaEntries). world_under (schema_view x) (entity_at k.entities)) is.schema_is ∙ ap world_stored view_is
+      ap (λ (l : StoreEntries Policy Entity). entity_data_under (schema_view w.1) (entity_at l.entities)) is.store_is
+      ∙ ap (λ (x : SchemaEntries). entity_data_under (schema_view x) (entity_at k.entities)) is.schema_is ∙ ap world_stored view_is
 
   pub edges_searched : edges_seen w ≡ (world_stored s).parents
   edges_searched = ap (λ (W : Entities). W.parents) world_searched

@@ -1,7 +1,7 @@
 -- Defines the relation between a store's policies and their index.
 -- Source: Cedar reference guide 4.0, "Policies", for what a policy is.
 -- Rules of this product: the index has, for each id, exactly the parsed policy of the store's entry, and none for a
--- deleted policy.
+-- deleted name.
 use Rattle.std.specs.Prelude.{◌≡◌, ℕ, List, Option, option_map, option_and_then}
 use Rattle.std.specs.declared.alloc.Global.{Global}
 use Rattle.std.specs.declared.string.String.{String}
@@ -18,7 +18,7 @@ PolicyEntries = List (String Global × Entry Policy)
 abbrev pub policy_in : Entry Policy → Option Policy
 policy_in e = option_map (λ t. t.read) e.body
 
--- `policy_at es id` is the parsed policy of `id` among the entries `es`, if there is one.
+-- `policy_at es id` is the parsed policy that the entries `es` have for `id`, if there is one.
 abbrev pub policy_at : PolicyEntries → List ℕ → Option Policy
 policy_at es id = option_and_then policy_in (value_at_text es id)
 

@@ -1,8 +1,8 @@
--- Defines the abstract view of a store with its caches: a schema, and the entries of the store.
+-- Defines the view of a store with its caches: a schema, and the entries of the store.
 use Rattle.std.specs.Option.{IfSome}
 use Rattle.std.specs.Prelude.{Option}
 use Rattle.scope_index.specs.policy_grammar.declared.policy.Policy.{Policy}
-use Rattle.ancestor_closure.specs.declared.keeping.AncestorCache.{AncestorCache}
+use Rattle.ancestor_closure.specs.declared.ancestor_cache.AncestorCache.{AncestorCache}
 use Rattle.site_meaning.specs.evaluator.Operators.{Entities}
 use Rattle.site_meaning.specs.schema.SchemaEntries as kept_schema
 use Rattle.site_meaning.specs.schema.Schemas.{StatedSchema}
@@ -10,23 +10,25 @@ use Rattle.site_meaning.specs.schema.Views.{schema_view}
 use Rattle.scope_index.specs.Keys.{Kept}
 use Rattle.site_meaning.specs.entity_data.declared.entity.Entity.{Entity}
 use Rattle.stamped_store.specs.Store.{StoreEntries}
-use Rattle.site_meaning.specs.StoreMeaning.{world_under}
+use Rattle.site_meaning.specs.StoreMeaning.{entity_data_under}
 use Rattle.site_meaning.specs.TextsRead.{entity_at}
 use Rattle.site_store.specs.Indexed.{AreIndexed}
 use Rattle.site_store.specs.Kept.{AreAncestorsOf}
 
--- A `StoreView` is a schema and the entries of a store, each text with its parsed form.
+-- A `StoreView` is a schema and the entries of a store, each text with its parsed value.
 pub record StoreView : Type 0 where
   pub schema : kept_schema.SchemaEntries
   pub kept : StoreEntries Policy Entity
 
--- `world_stored s` is the entity data of evaluation: the parsed entities of `s`, and the actions of its schema.
+-- `world_stored s` is the entity data for evaluation: the parsed entities of the store `s` and the actions of its
+-- schema.
 abbrev pub world_stored : StoreView → Entities
-world_stored s = world_under (schema_view s.schema) (entity_at s.kept.entities)
+world_stored s = entity_data_under (schema_view s.schema) (entity_at s.kept.entities)
 
--- `AreBeside schema k index ancestors` holds if `index`, if present, has exactly the policies of the store `k`, each
--- under its id, and `ancestors`, if present, are those of the store's entities and the schema's actions.
-pub record AreBeside (schema : StatedSchema) (k : StoreEntries Policy Entity) (index : Option Kept)
+-- `AreValidCaches schema k index ancestors` holds if the caches of the store `k` under `schema` are valid: `index`, if
+-- present, has exactly the policies of `k`, each under its id, and `ancestors`, if present, is the ancestor cache of
+-- its entities and the schema's actions.
+pub record AreValidCaches (schema : StatedSchema) (k : StoreEntries Policy Entity) (index : Option Kept)
     (ancestors : Option AncestorCache) : Type 0 where
   pub index_is : IfSome index (AreIndexed k.policies)
   pub ancestors_are : IfSome ancestors (AreAncestorsOf schema k.entities)

@@ -1,3 +1,3 @@
-pub mod IndexFollowing
-pub mod Following
+pub mod IndexUpdating
+pub mod Updating
 pub mod Worlds

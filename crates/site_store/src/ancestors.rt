@@ -6,15 +6,15 @@ ghost use Rattle.stamped_store.specs.EntryOrder.{plain_entry, greater};
 ghost use Rattle.stamped_store.specs.Store.{abstract_store, store_of, updates, kept, entity_name, KeepsOtherNames};
 ghost use Rattle.stamped_store.specs.Stored.{taken, value_at};
 ghost use Rattle.site_store.specs.Kept.{AreAncestorsOf};
-ghost use Rattle.site_store.specs.inner.Following.{AreAncestorsBut};
+ghost use Rattle.site_store.specs.inner.Updating.{AreAncestorsBut};
 ghost use Rattle.site_store.specs.Staying.{Stays};
 
-use crate::pace::RebuildPolicy;
+use crate::rebuild_policy::RebuildPolicy;
 use crate::staying::stays;
 use ancestor_closure::AncestorCache;
 use plain::NoMemory;
 use scope_index::Policy;
-use site_meaning::{Entity, Schema, StoredEntities, world_under};
+use site_meaning::{Entity, Schema, StoredEntities, entity_data_under};
 use stamped_store::{Entry, StampedStore};
 use std::alloc::Global;
 use values::EntityUid;
@@ -23,60 +23,65 @@ use values::EntityUid;
 ///
 /// # Errors
 ///
-/// `NoMemory` alone, also if there would be too many ancestors.
+/// - `NoMemory`: an allocation failed, or there would be more ancestors than the budget of `rebuild_policy` allows.
 pub(crate) fn ancestors_of(
     alloc: Global,
     schema: &Schema,
     store: &StampedStore<Policy, Entity>,
-    pace: &mut RebuildPolicy,
+    rebuild_policy: &mut RebuildPolicy,
 ) -> Result<AncestorCache, NoMemory>
     ensures { IfOk result (AreAncestorsOf (schema_view schema.now) store.now.entities) }
 {
     let entities = StoredEntities::of(store);
-    let world = world_under(alloc, &entities, schema);
-    AncestorCache::of_graph(alloc, &world, &mut pace.room)
+    let world = entity_data_under(alloc, &entities, schema);
+    AncestorCache::of_graph(alloc, &world, &mut rebuild_policy.room)
 }
 
-/// Updates the cache after one entity changed. On `NoMemory`, also for too many ancestors, the cache is stale.
+/// Updates the cache after the entity `uid` changed. The cache is stale after an error.
+///
+/// # Errors
+///
+/// - `NoMemory`: an allocation failed, or there would be more ancestors than the budget of `rebuild_policy` allows.
 fn follow_store(
     alloc: Global,
     ancestors: &mut AncestorCache,
     schema: &Schema,
     store: &StampedStore<Policy, Entity>,
-    pace: &mut RebuildPolicy,
+    rebuild_policy: &mut RebuildPolicy,
     uid: &EntityUid,
 ) -> Result<(), NoMemory>
     requires { AreAncestorsBut uid.now (schema_view schema.now) store.now.entities ancestors.old }
     ensures { OnOk result (AreAncestorsOf (schema_view schema.now) store.now.entities ancestors.new) }
 {
     let entities = StoredEntities::of(store);
-    let world = world_under(alloc, &entities, schema);
-    ancestors.follow(&world, uid, &mut pace.room)
+    let world = entity_data_under(alloc, &entities, schema);
+    ancestors.follow(&world, uid, &mut rebuild_policy.room)
 }
 
-/// Returns the cache updated after one entity changed; `None` if there was none, or an allocation failed.
+/// Returns the cache, updated after the entity `uid` changed, or `None` if there was none or the update failed.
 ///
-/// The cache is also dropped once the updates for a message have cost more than a rebuild after it.
+/// The cache is also dropped if its updates for one message have cost so much that a rebuild after the message is
+/// cheaper (`RebuildPolicy::is_dear`).
 fn followed(
     alloc: Global,
     ancestors: Option<AncestorCache>,
     schema: &Schema,
     store: &StampedStore<Policy, Entity>,
-    pace: &mut RebuildPolicy,
+    rebuild_policy: &mut RebuildPolicy,
     uid: &EntityUid,
 ) -> Option<AncestorCache>
     requires { IfSome ancestors (AreAncestorsBut uid.now (schema_view schema.now) store.now.entities) }
     ensures { IfSome result (AreAncestorsOf (schema_view schema.now) store.now.entities) }
 {
     let mut ancestors = ancestors?;
-    follow_store(alloc, &mut ancestors, schema, store, pace, uid).ok()?;
-    if pace.is_dear(store.entities().len()) {
+    follow_store(alloc, &mut ancestors, schema, store, rebuild_policy, uid).ok()?;
+    if rebuild_policy.is_dear(store.entities().len()) {
         return None;
     }
     Some(ancestors)
 }
 
-/// Returns whether the cache needs no update once an entry is joined: there is none, or the stored entry stays.
+/// Returns whether joining an entry requires no update of the cache: there is no cache, or the stored entry stays.
 fn needs_nothing(
     store: &StampedStore<Policy, Entity>,
     ancestors: &Option<AncestorCache>,
@@ -92,13 +97,13 @@ fn needs_nothing(
     stays(store.get_entity(uid), entry)
 }
 
-/// Joins an entry at an entity's uid, and updates the cache.
+/// Joins an entry at an entity's uid, and then updates the cache, or drops it if that fails.
 fn take_and_follow(
     alloc: Global,
     schema: &Schema,
     store: &mut StampedStore<Policy, Entity>,
     ancestors: &mut Option<AncestorCache>,
-    pace: &mut RebuildPolicy,
+    rebuild_policy: &mut RebuildPolicy,
     uid: EntityUid,
     entry: Entry<Entity>,
 ) -> Result<(), (EntityUid, Entry<Entity>)>
@@ -117,7 +122,7 @@ fn take_and_follow(
     store.take_entity(uid, entry)?;
     let before = ancestors.take();
     *ancestors = match name {
-        Ok(name) => followed(alloc, before, schema, store, pace, &name),
+        Ok(name) => followed(alloc, before, schema, store, rebuild_policy, &name),
         Err(_) => None,
     };
     Ok(())
@@ -125,14 +130,17 @@ fn take_and_follow(
 
 /// Joins an entry at an entity's uid, and updates the cache.
 ///
-/// If the allocation for the entry fails, nothing changes. If one for the cache fails, the cache is dropped, and the
-/// entry is joined.
+/// If an allocation for the cache fails, the cache is dropped; the entry is joined all the same.
+///
+/// # Errors
+///
+/// - Returns the uid and the entry if the allocation for the entry fails. The store is then unchanged.
 pub(crate) fn take_entity(
     alloc: Global,
     schema: &Schema,
     store: &mut StampedStore<Policy, Entity>,
     ancestors: &mut Option<AncestorCache>,
-    pace: &mut RebuildPolicy,
+    rebuild_policy: &mut RebuildPolicy,
     uid: EntityUid,
     entry: Entry<Entity>,
 ) -> Result<(), (EntityUid, Entry<Entity>)>
@@ -147,22 +155,22 @@ pub(crate) fn take_entity(
     ensures refused { IfErr result (λ pair. pair ≡ (uid, entry)) }
     ensures err { OnErr result (store.new ≡ store.old) }
 {
-    pace.pass();
+    rebuild_policy.pass();
     if needs_nothing(store, ancestors, &uid, &entry) {
         return store.take_entity(uid, entry);
     }
-    take_and_follow(alloc, schema, store, ancestors, pace, uid, entry)
+    take_and_follow(alloc, schema, store, ancestors, rebuild_policy, uid, entry)
 }
 
-/// Joins an entry that wins at an entity's uid, and updates the cache. What is stored there is not compared first.
+/// Joins an entry at an entity's uid, and updates the cache without first comparing the entry with the stored one.
 ///
-/// Otherwise like [`take_entity`].
+/// It is meant for an entry that wins. Otherwise like [`take_entity`].
 pub(crate) fn record_entity(
     alloc: Global,
     schema: &Schema,
     store: &mut StampedStore<Policy, Entity>,
     ancestors: &mut Option<AncestorCache>,
-    pace: &mut RebuildPolicy,
+    rebuild_policy: &mut RebuildPolicy,
     uid: EntityUid,
     entry: Entry<Entity>,
 ) -> Result<(), (EntityUid, Entry<Entity>)>
@@ -177,6 +185,6 @@ pub(crate) fn record_entity(
     ensures refused { IfErr result (λ pair. pair ≡ (uid, entry)) }
     ensures err { OnErr result (store.new ≡ store.old) }
 {
-    pace.pass();
-    take_and_follow(alloc, schema, store, ancestors, pace, uid, entry)
+    rebuild_policy.pass();
+    take_and_follow(alloc, schema, store, ancestors, rebuild_policy, uid, entry)
 }

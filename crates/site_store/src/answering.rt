@@ -9,8 +9,8 @@ ghost use Rattle.site_store.specs.StoreViews.{world_stored};
 
 use crate::laws::candidates_suffice;
 use crate::offering::offered;
+use crate::scan_count::ScanCount;
 use crate::stored_world::StoredWorld;
-use crate::tries::ScanCount;
 use ancestor_closure::Ancestry;
 use plain::NoMemory;
 use scope_index::Policy;
@@ -18,7 +18,7 @@ use site_meaning::{Answer, Entity, PreparedRequest, decide_known, policies_in};
 use stamped_store::StampedStore;
 use values::Request;
 
-/// Proves that a store's entries are in the order of their names. No-op.
+/// Proves that the entries of a store are in ascending order of names. No-op.
 pub(crate) fn is_in_order(store: &StampedStore<Policy, Entity>)
     ensures { updates (abstract_store store.now) ≡ abstract_updates store.now }
 {
@@ -26,24 +26,26 @@ pub(crate) fn is_in_order(store: &StampedStore<Policy, Entity>)
 }
 
 impl StoredWorld<'_, '_> {
-    /// Returns the policies to evaluate, in ascending order of ids: the index's candidates if it is present, these
-    /// may be fewer than all, and there is memory to list them; else all.
+    /// Returns the policies to evaluate, in ascending order of ids: the candidates of the index or all policies.
+    ///
+    /// The candidates are returned if the index is present, they may be fewer than all policies, and there is memory
+    /// to list them.
     ///
     /// # Errors
     ///
-    /// `NoMemory` alone.
+    /// - `NoMemory`: an allocation failed.
     fn policies_for<A: Ancestry>(
         &self,
         request: &Request,
         ancestry: &A,
-        tries: &ScanCount,
+        scan_count: &ScanCount,
     ) -> Result<Vec<(&str, &Policy)>, NoMemory>
         ensures candidates { IfOk result (λ ps. AreCandidates (A.parents ancestry.now) request.now
             (policies_read self.now.kept.policies) (named ps.items)) }
         ensures ascending { IfOk result (λ ps. Ascend (named ps.items)) }
     {
         if let Some(index) = self.index {
-            if tries.is_bound() {
+            if scan_count.is_bound() {
                 if let Ok(policies) = offered(self.store, index, request, ancestry) {
                     return Ok(policies);
                 }
@@ -54,21 +56,25 @@ impl StoredWorld<'_, '_> {
 
     /// Returns the answer to a request.
     ///
-    /// What the index and the policies ask of the request's own entities is looked up once. `tries` records the
-    /// number of policies that are evaluated.
+    /// Looks up the ancestors and the attributes of the request's entities once, for the index and all policies.
+    /// `scan_count` records the number of policies that are evaluated.
     ///
     /// # Errors
     ///
-    /// `NoMemory` alone.
-    pub(crate) fn answer(&self, request: &Request, tries: &ScanCount) -> Result<Answer, NoMemory>
+    /// - `NoMemory`: an allocation failed.
+    pub(crate) fn answer(
+        &self,
+        request: &Request,
+        scan_count: &ScanCount,
+    ) -> Result<Answer, NoMemory>
         ensures { IfOk result (IsAnswer (world_stored self.now) request.now (policies_read self.now.kept.policies)) }
     {
         is_in_order(self.store);
         candidates_suffice();
-        // the ancestors of other entities are cached, unless an allocation failed for them
+        // 0: the ancestors of no other entities are memoized, since the ancestor cache has them, if it is present
         let mut known = PreparedRequest::of(self.alloc, self, request, 0)?;
-        let policies = self.policies_for(request, &known, tries)?;
-        tries.begin(policies.len());
+        let policies = self.policies_for(request, &known, scan_count)?;
+        scan_count.begin(policies.len());
         decide_known(self.alloc, &policies, &mut known)
     }
 }

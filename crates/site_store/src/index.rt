@@ -1,4 +1,4 @@
-//! Incremental updates of a store's policy index.
+//! The policy index of a store: built from its entries, and updated incrementally after a change of a policy.
 ghost use Rattle.std.specs.Prelude.{◌≡◌, ◌⊎◌, ℕ, List, None, cond, IsTrue, IfOk, IfSome, OnOk, OnErr, IfErr};
 ghost use Rattle.std.specs.Prelude.{◌++◌, ◌∷◌, [], string_bytes};
 ghost use Rattle.std.specs.Option.{option_copied};
@@ -9,7 +9,7 @@ ghost use Rattle.stamped_store.specs.EntryOrder.{plain_entry, greater};
 ghost use Rattle.stamped_store.specs.Store.{abstract_store, store_of, updates, kept, policy_name, KeepsOtherNames};
 ghost use Rattle.stamped_store.specs.Stored.{taken, value_at_text};
 ghost use Rattle.site_store.specs.Indexed.{policy_at, policy_in, AreIndexed};
-ghost use Rattle.site_store.specs.inner.IndexFollowing.{AreIndexedBut, noted};
+ghost use Rattle.site_store.specs.inner.IndexUpdating.{AreIndexedBut, noted};
 ghost use Rattle.site_store.specs.Staying.{Stays};
 
 use crate::staying::stays;
@@ -18,7 +18,7 @@ use scope_index::{Policy, ScopeIndex};
 use stamped_store::{Entry, StampedStore};
 use std::alloc::Global;
 
-/// Returns the parsed policy of an id; `None` if it has no text. Does not allocate.
+/// Returns the parsed policy of an id, or `None` if the store has no text for it. Does not allocate.
 fn policy_under<'s, E: Drop>(store: &'s StampedStore<Policy, E>, id: &str) -> Option<&'s Policy>
     ensures { option_copied result ≡ policy_at store.now.policies id.now }
 {
@@ -31,16 +31,16 @@ fn policy_under<'s, E: Drop>(store: &'s StampedStore<Policy, E>, id: &str) -> Op
     }
 }
 
-// Makes an index valid at one id; the index is dropped if an allocation fails.
-fn set_right<E: Drop>(
-    index: ScopeIndex,
+/// Returns the index, updated after the policy of `id` changed, or `None` if there was none or an allocation failed.
+fn followed<E: Drop>(
+    index: Option<ScopeIndex>,
     store: &StampedStore<Policy, E>,
     id: &str,
 ) -> Option<ScopeIndex>
-    requires { AreIndexedBut id.now store.now.policies index }
+    requires { IfSome index (AreIndexedBut id.now store.now.policies) }
     ensures { IfSome result (AreIndexed store.now.policies) }
 {
-    let mut index = index;
+    let mut index = index?;
     match policy_under(store, id) {
         Some(policy) => match index.add(id, policy) {
             Ok(()) => Some(index),
@@ -53,23 +53,7 @@ fn set_right<E: Drop>(
     }
 }
 
-/// Returns the index updated at one id, if it was valid at every other; `None` if there was none, or an allocation
-/// failed.
-fn followed<E: Drop>(
-    index: Option<ScopeIndex>,
-    store: &StampedStore<Policy, E>,
-    id: &str,
-) -> Option<ScopeIndex>
-    requires { IfSome index (AreIndexedBut id.now store.now.policies) }
-    ensures { IfSome result (AreIndexed store.now.policies) }
-{
-    match index {
-        Some(index) => set_right(index, store, id),
-        None => None,
-    }
-}
-
-// Adds the policy of an entry, if it has one.
+/// Adds the policy of an entry to the index, if the entry has one.
 fn add_entry(index: &mut ScopeIndex, id: &str, entry: &Entry<Policy>) -> Result<(), NoMemory>
     ensures { OnOk result ((q : List ℕ) → kept_at index.new q
         ≡ cond (bytes_eq id.now q) (noted (policy_in entry.now) (kept_at index.old q)) (kept_at index.old q)) }
@@ -80,11 +64,11 @@ fn add_entry(index: &mut ScopeIndex, id: &str, entry: &Entry<Policy>) -> Result<
     }
 }
 
-/// Builds the index of a store: one pass over all names of policies.
+/// Builds the index of a store, in one pass over all names of policies.
 ///
 /// # Errors
 ///
-/// `NoMemory` alone.
+/// - `NoMemory`: an allocation failed.
 fn index_of<E: Drop>(alloc: Global, store: &StampedStore<Policy, E>) -> Result<ScopeIndex, NoMemory>
     ensures { IfOk result (AreIndexed store.now.policies) }
 {
@@ -95,7 +79,8 @@ fn index_of<E: Drop>(alloc: Global, store: &StampedStore<Policy, E>) -> Result<S
     Ok(index)
 }
 
-/// Rebuilds the index if it was dropped and there is memory. An index that is present stays as it is.
+/// Rebuilds the index if it is absent and there is memory. An index that is present must be valid for the store, and
+/// stays as it is.
 pub fn rebuild_index_if_missing<E: Drop>(
     alloc: Global,
     store: &StampedStore<Policy, E>,
@@ -111,7 +96,7 @@ pub fn rebuild_index_if_missing<E: Drop>(
     *index = index_of(alloc, store).ok();
 }
 
-/// Returns whether the index needs no update once an entry is joined: there is none, or the stored entry stays.
+/// Returns whether joining an entry requires no update of the index: there is no index, or the stored entry stays.
 fn needs_nothing<E: Drop>(
     store: &StampedStore<Policy, E>,
     index: &Option<ScopeIndex>,
@@ -126,7 +111,7 @@ fn needs_nothing<E: Drop>(
     stays(store.get_policy(id), entry)
 }
 
-/// Joins an entry that wins at a policy's id, and updates the index. What is stored there is not compared first.
+/// Joins an entry that wins at a policy's id, and updates the index without a comparison with the stored entry.
 ///
 /// Otherwise like [`take_policy`].
 pub(crate) fn record_policy<E: Drop>(
@@ -160,8 +145,12 @@ pub(crate) fn record_policy<E: Drop>(
 
 /// Joins an entry at a policy's id, and updates the index.
 ///
-/// If the allocation for the entry fails, nothing changes. If one for the index fails, the index is dropped, and the
-/// entry is joined.
+/// If the index is present, it must be valid for the store. If an allocation for it fails, it is dropped; the entry is
+/// joined all the same.
+///
+/// # Errors
+///
+/// - Returns the id and the entry if the allocation for the entry fails. Store and index are then unchanged.
 pub fn take_policy<E: Drop>(
     alloc: Global,
     store: &mut StampedStore<Policy, E>,

@@ -1,10 +1,10 @@
-//! A theorem about the definitions; its function does nothing.
+//! A theorem about candidates. The function is a no-op.
 ghost use Rattle.site_store.specs.Candidates.{CandidatesSuffice};
 
 use site_meaning::{answers_are_lawful, expressions_have_one_outcome, scopes_do_not_err};
 
-/// Proves that deciding over candidates gives the same answer as deciding over all policies, if no policy is left out
-/// whose scope is true of the request. No-op.
+/// Proves that a decision over candidates gives the same answer as a decision over all policies: it suffices that the
+/// candidates have each policy whose scope is true for the request. No-op.
 pub fn candidates_suffice()
     ensures { CandidatesSuffice }
 {

@@ -1,10 +1,11 @@
 //! A store of stamped texts with two caches: an index of its policies by their scopes, and the ancestors of its
 //! entities.
 //!
-//! With the index, a request is decided over those policies alone whose scope it may satisfy. With the ancestors,
-//! nothing is searched if the hierarchy has no cycle. A change is joined into the store first; then each cache is
-//! updated to what the store has, whichever entry won, or dropped if an allocation fails. This changes no answer:
-//! without the caches every policy is evaluated, or the hierarchy is searched in place.
+//! With the index, a request is decided over those policies alone whose scope it may satisfy. With the ancestor cache,
+//! nothing is searched if the hierarchy has no cycle. A change is first joined into the store. Then each cache is
+//! updated to what the store has, whichever entry won, or dropped, for example if an allocation fails. A dropped cache
+//! changes no answer: without the index every policy is evaluated, and without the ancestor cache the hierarchy is
+//! searched in place.
 #![tactic(auto)]
 
 mod ancestors;
@@ -12,11 +13,11 @@ mod answering;
 mod index;
 mod laws;
 mod offering;
-mod pace;
+mod rebuild_policy;
+mod scan_count;
 mod staying;
 mod store;
 mod stored_world;
-mod tries;
 
 pub use ancestor_closure::paths_are_decided;
 pub use index::{rebuild_index_if_missing, take_policy};
@@ -28,7 +29,7 @@ pub use site_meaning::{
     stated_schemas_are_well_formed, stores_have_one_reading,
 };
 pub use stamped_store::laws::{
-    contents_are_told, deltas_are_joined, readings_are_kept, site_names_are_told,
+    contents_are_the_texts, deltas_are_joined, readings_are_kept, site_names_are_recognized,
     stamps_are_issued, updates_have_one_store,
 };
 pub use stamped_store::{COUNT_MAX, Entry, ReadText, SiteName, Stamp, StampedStore, is_site_name};

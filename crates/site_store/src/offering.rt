@@ -1,4 +1,4 @@
-//! The candidates among the policies of a store.
+//! The candidates that the index of a store offers for a request.
 ghost use Rattle.std.specs.Prelude.{IfOk};
 ghost use Rattle.site_meaning.specs.authoriser.Views.{named};
 ghost use Rattle.site_meaning.specs.TextsRead.{policies_read};
@@ -12,11 +12,12 @@ use site_meaning::Entity;
 use stamped_store::StampedStore;
 use values::Request;
 
-/// Returns the candidates of the index, in ascending order of ids. They are borrowed, and not looked up by id.
+/// Returns the candidates of the index, in ascending order of ids. They are borrowed from the index, without look-ups
+/// in the store.
 ///
 /// # Errors
 ///
-/// `NoMemory` alone.
+/// - `NoMemory`: an allocation failed.
 pub(crate) fn offered<'s, A: Ancestry>(
     store: &StampedStore<Policy, Entity>,
     index: &'s ScopeIndex,
@@ -28,7 +29,7 @@ pub(crate) fn offered<'s, A: Ancestry>(
         (policies_read store.now.policies) (named ps.items)) }
     ensures ascending { IfOk result (λ ps. Ascend (named ps.items)) }
 {
-    // the entries of a store are in the order of its names: the proof needs this fact
+    // the proof needs the fact that the entries of a store are in ascending order of names
     let _policies = store.policies();
     index.candidates(request, ancestry)
 }

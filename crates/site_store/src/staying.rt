@@ -1,4 +1,4 @@
-//! Whether a stored entry stays when another is joined.
+//! A test of whether a stored entry stays when another is joined onto it.
 ghost use Rattle.std.specs.Prelude.{◌↔◌, IsTrue};
 ghost use Rattle.std.specs.Option.{option_copied};
 ghost use Rattle.site_store.specs.Staying.{Stays};

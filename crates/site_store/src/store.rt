@@ -1,5 +1,5 @@
-//! The store and its caches.
-ghost use Rattle.std.specs.Prelude.{◌≡◌, ◌++◌, ◌∷◌, [], IfOk, IfSome, OnOk, OnErr, IfErr};
+//! The store with its caches: changes, answers, and the check for cycles.
+ghost use Rattle.std.specs.Prelude.{◌≡◌, ◌++◌, ◌∷◌, [], IfOk, OnOk, OnErr, IfErr};
 ghost use Rattle.std.specs.Prelude.{string_bytes, true, false};
 ghost use Rattle.std.specs.String.{string_cmp};
 ghost use Rattle.values.specs.Names.{uid_cmp};
@@ -10,20 +10,18 @@ ghost use Rattle.stamped_store.specs.Store.{abstract_store, store_of, updates, k
 ghost use Rattle.stamped_store.specs.Store.{policy_name, entity_name, KeepsOtherNames};
 ghost use Rattle.stamped_store.specs.Stored.{taken};
 ghost use Rattle.site_meaning.specs.StoreMeaning.{IsAnswerOver, MakesCycle, MakesNoCycle};
-ghost use Rattle.site_store.specs.Indexed.{AreIndexed};
-ghost use Rattle.site_store.specs.Kept.{AreAncestorsOf};
-ghost use Rattle.site_store.specs.StoreViews.{AreBeside};
+ghost use Rattle.site_store.specs.StoreViews.{AreValidCaches};
 
 use crate::ancestors::{ancestors_of, record_entity, take_entity};
 use crate::answering::is_in_order;
 use crate::index::{rebuild_index_if_missing, record_policy, take_policy};
-use crate::pace::RebuildPolicy;
+use crate::rebuild_policy::RebuildPolicy;
+use crate::scan_count::ScanCount;
 use crate::stored_world::StoredWorld;
-use crate::tries::ScanCount;
 use ancestor_closure::AncestorCache;
 use plain::{NoMemory, Shared};
 use scope_index::{Policy, ScopeIndex};
-use site_meaning::{Answer, Entity, Schema, StoredEntities, world_under};
+use site_meaning::{Answer, Entity, Schema, StoredEntities, entity_data_under};
 use stamped_store::{Entry, Readings, StampedStore};
 use std::alloc::Global;
 use std::marker::Model;
@@ -37,8 +35,8 @@ pub struct IndexedStore {
     store: StampedStore<Policy, Entity>,
     index: Option<ScopeIndex>,
     ancestors: Option<AncestorCache>,
-    pace: RebuildPolicy,
-    tries: ScanCount,
+    rebuild_policy: RebuildPolicy,
+    scan_count: ScanCount,
 }
 
 impl Model for IndexedStore {
@@ -48,7 +46,7 @@ impl Model for IndexedStore {
     ghost use Rattle.scope_index.specs.grammar_core.contracts.expr.Expr as expr;
     ghost use Rattle.std.specs.Option.{IfSome};
     ghost use Rattle.site_meaning.specs.schema.Views.{schema_view};
-    ghost use Rattle.site_store.specs.StoreViews.{StoreView, AreBeside};
+    ghost use Rattle.site_store.specs.StoreViews.{StoreView, AreValidCaches};
 
     ghost Value = { StoreView };
 
@@ -56,48 +54,34 @@ impl Model for IndexedStore {
 
     ghost view = { λ s. record { schema = s.schema; kept = s.store } };
 
-    ghost invariant = { λ s. AreBeside (schema_view s.schema) s.store s.index s.ancestors };
+    ghost invariant = { λ s. AreValidCaches (schema_view s.schema) s.store s.index s.ancestors };
 }
 
-/// Rebuilds the ancestors if they were dropped, there is memory, and they are not too many.
-fn stand_ancestors(
-    alloc: Global,
-    schema: &Schema,
-    store: &StampedStore<Policy, Entity>,
-    ancestors: &mut Option<AncestorCache>,
-    pace: &mut RebuildPolicy,
-)
-    requires { IfSome ancestors.old (AreAncestorsOf (schema_view schema.now) store.now.entities) }
-    ensures { IfSome ancestors.new (AreAncestorsOf (schema_view schema.now) store.now.entities) }
-{
-    let entities = store.entities().len();
-    if pace.begin(ancestors.is_some(), entities) {
-        *ancestors = ancestors_of(alloc, schema, store, pace).ok();
-        pace.end(entities);
-    }
-}
-
-/// Rebuilds the caches that were dropped, if there is memory.
+/// Rebuilds the caches that are absent, if there is memory; the ancestor cache only if it is not too large.
 fn stand(
     alloc: Global,
     schema: &Schema,
     store: &StampedStore<Policy, Entity>,
     index: &mut Option<ScopeIndex>,
     ancestors: &mut Option<AncestorCache>,
-    pace: &mut RebuildPolicy,
+    rebuild_policy: &mut RebuildPolicy,
 )
-    requires { AreBeside (schema_view schema.now) store.now index.old ancestors.old }
-    ensures { AreBeside (schema_view schema.now) store.now index.new ancestors.new }
+    requires { AreValidCaches (schema_view schema.now) store.now index.old ancestors.old }
+    ensures { AreValidCaches (schema_view schema.now) store.now index.new ancestors.new }
 {
     rebuild_index_if_missing(alloc, store, index);
-    stand_ancestors(alloc, schema, store, ancestors, pace);
+    let entities = store.entities().len();
+    if rebuild_policy.begin(ancestors.is_some(), entities) {
+        *ancestors = ancestors_of(alloc, schema, store, rebuild_policy).ok();
+        rebuild_policy.end(entities);
+    }
 }
 
 impl IndexedStore {
-    /// Creates an empty store under a schema, with its index. Does not allocate.
+    /// Creates an empty store under a schema, with an index but without an ancestor cache. Does not allocate.
     ///
-    /// The first [`Self::record_policy`], [`Self::record_entity`] or [`Self::rebuild`] builds the ancestors, those of
-    /// the schema's actions, since this allocates.
+    /// The ancestor cache has the schema's actions, so that building it allocates. The first [`Self::record_policy`],
+    /// [`Self::record_entity`] or [`Self::rebuild`] builds it.
     pub fn new(alloc: Global, schema: Shared<Schema>) -> Self
         ensures { result ≡ record { schema = schema; kept = kept [] [] } }
     {
@@ -107,8 +91,8 @@ impl IndexedStore {
             store: StampedStore::new(alloc),
             index: Some(ScopeIndex::new(alloc)),
             ancestors: None,
-            pace: RebuildPolicy::new(),
-            tries: ScanCount::new(),
+            rebuild_policy: RebuildPolicy::new(),
+            scan_count: ScanCount::new(),
         }
     }
 
@@ -128,10 +112,11 @@ impl IndexedStore {
 
     /// Joins an entry at a policy's id. Every other name keeps its entry.
     ///
+    /// If an allocation for the index fails, the index is dropped; the entry is joined all the same.
+    ///
     /// # Errors
     ///
-    /// If the allocation for the entry fails, returns the id and the entry, and nothing changes. If one for the index
-    /// fails, the index is dropped, and the entry is joined.
+    /// - Returns the id and the entry if the allocation for the entry fails. The store is then unchanged.
     pub fn take_policy(
         &mut self,
         id: String,
@@ -148,19 +133,19 @@ impl IndexedStore {
         ensures err { OnErr result (self.new.kept ≡ self.old.kept) }
         ensures same { self.new.schema ≡ self.old.schema }
     {
-        self.tries.note(&entry);
+        self.scan_count.note(&entry);
         take_policy(self.alloc, &mut self.store, &mut self.index, id, entry)
     }
 
     /// Joins an entry at an entity's uid. Every other name keeps its entry.
     ///
-    /// The ancestors are dropped if an allocation for them fails, if they would be too many, or once incremental
-    /// updates have cost more than a rebuild; [`Self::rebuild`] then rebuilds them after the last update. The entry
-    /// is joined all the same.
+    /// The ancestor cache is dropped if an allocation for it fails, if it would be too large, or once incremental
+    /// updates have cost more than a rebuild; the entry is joined all the same. Call [`Self::rebuild`] after the last
+    /// update to rebuild the cache.
     ///
     /// # Errors
     ///
-    /// If the allocation for the entry fails, returns the uid and the entry, and nothing changes.
+    /// - Returns the uid and the entry if the allocation for the entry fails. The store is then unchanged.
     pub fn take_entity(
         &mut self,
         uid: EntityUid,
@@ -182,13 +167,13 @@ impl IndexedStore {
             self.schema.get(),
             &mut self.store,
             &mut self.ancestors,
-            &mut self.pace,
+            &mut self.rebuild_policy,
             uid,
             entry,
         )
     }
 
-    /// Like [`Self::take_policy`], for an entry that wins; first rebuilds the dropped caches, if there is memory.
+    /// Like [`Self::take_policy`], for an entry that wins; first rebuilds the absent caches, if there is memory.
     pub fn record_policy(
         &mut self,
         id: String,
@@ -205,19 +190,19 @@ impl IndexedStore {
         ensures err { OnErr result (self.new.kept ≡ self.old.kept) }
         ensures same { self.new.schema ≡ self.old.schema }
     {
-        self.tries.note(&entry);
+        self.scan_count.note(&entry);
         stand(
             self.alloc,
             self.schema.get(),
             &self.store,
             &mut self.index,
             &mut self.ancestors,
-            &mut self.pace,
+            &mut self.rebuild_policy,
         );
         record_policy(self.alloc, &mut self.store, &mut self.index, id, entry)
     }
 
-    /// Like [`Self::take_entity`], for an entry that wins; first rebuilds the dropped caches, if there is memory.
+    /// Like [`Self::take_entity`], for an entry that wins; first rebuilds the absent caches, if there is memory.
     pub fn record_entity(
         &mut self,
         uid: EntityUid,
@@ -240,23 +225,23 @@ impl IndexedStore {
             &self.store,
             &mut self.index,
             &mut self.ancestors,
-            &mut self.pace,
+            &mut self.rebuild_policy,
         );
         record_entity(
             self.alloc,
             self.schema.get(),
             &mut self.store,
             &mut self.ancestors,
-            &mut self.pace,
+            &mut self.rebuild_policy,
             uid,
             entry,
         )
     }
 
-    /// Rebuilds the dropped caches, if there is memory: one attempt. No entry changes.
+    /// Rebuilds the absent caches, if there is memory, by one attempt each. No entry changes.
     ///
-    /// Intended for the end of a message. If there were too many ancestors, they are tried again after as many
-    /// changes as there are entities.
+    /// Intended for the end of a message. After a build that found too many ancestors, the ancestor cache is not tried
+    /// again before at least as many changes of entities as there are entities, and 15,625 more.
     pub fn rebuild(&mut self)
         ensures { self.new ≡ self.old }
     {
@@ -266,17 +251,17 @@ impl IndexedStore {
             &self.store,
             &mut self.index,
             &mut self.ancestors,
-            &mut self.pace,
+            &mut self.rebuild_policy,
         );
     }
 
-    /// Returns this store as requests are decided over it, if these are its entities.
+    /// Returns the parts of this store over which requests are decided. `entities` are the entities of this store.
     fn lend_world<'a, 's>(&'a self, entities: &'a StoredEntities<'s>) -> StoredWorld<'a, 's>
         requires { entities.now.store.now ≡ self.now.kept }
         ensures { result ≡ self.now }
     {
         let schema = self.schema.get();
-        let searched = world_under(self.alloc, entities, schema);
+        let searched = entity_data_under(self.alloc, entities, schema);
         StoredWorld {
             alloc: self.alloc,
             schema,
@@ -290,13 +275,13 @@ impl IndexedStore {
     /// Returns the answer to a request over the store: over the policies and entities that its texts are parsed as,
     /// and the actions of the schema.
     ///
-    /// `R` gives relations between texts and what they may be parsed as. For each of them that relates each text of
-    /// the store to its parsed form, the answer is that of the store. If the index is present and there is memory,
-    /// only its candidates are evaluated.
+    /// A value of `R` gives the relations between texts and what they may be parsed as. If these relate each text of
+    /// the store to its parsed value, the result is an answer over the store by these relations. If the index is
+    /// present and there is memory, only its candidates are evaluated.
     ///
     /// # Errors
     ///
-    /// `NoMemory` alone.
+    /// - `NoMemory`: an allocation failed.
     ///
     /// Source: Cedar reference guide, "Authorization".
     pub fn answer<R: Readings<Policy, Entity>>(&self, request: &Request) -> Result<Answer, NoMemory>
@@ -307,17 +292,17 @@ impl IndexedStore {
         is_in_order(&self.store);
         let entities = StoredEntities::of(&self.store);
         let world = self.lend_world(&entities);
-        world.answer(request, &self.tries)
+        world.answer(request, &self.scan_count)
     }
 
-    /// Returns whether putting an entity into the store would make it cyclic, whatever its uid has there now. Cycles
-    /// of other entities do not matter.
+    /// Returns whether putting an entity into the store would make the entity cyclic, whatever the store has at its uid
+    /// now. Cycles of other entities do not matter.
     ///
     /// `R` is as in [`Self::answer`].
     ///
     /// # Errors
     ///
-    /// `NoMemory` alone.
+    /// - `NoMemory`: an allocation failed.
     pub fn would_cycle<R: Readings<Policy, Entity>>(
         &self,
         entity: &Entity,
@@ -338,20 +323,20 @@ impl IndexedStore {
 
     /// Drops the caches, as a failed allocation does; for tests alone, which cannot make allocations fail. No entry
     /// changes.
-    pub fn drop_kept(&mut self)
+    pub fn drop_caches(&mut self)
         ensures { self.new ≡ self.old }
     {
         self.index = None;
         self.ancestors = None;
     }
 
-    /// Returns whether the ancestors and the index are present; for tests alone.
+    /// Returns whether the ancestor cache is present, and whether the index is; for tests alone.
     pub fn standing(&self) -> (bool, bool) {
         (self.ancestors.is_some(), self.index.is_some())
     }
 
     /// Returns how many policies the last answer evaluated; for tests alone.
     pub fn tried(&self) -> usize {
-        self.tries.tried()
+        self.scan_count.tried()
     }
 }

@@ -1,4 +1,4 @@
-//! A store under a schema, as requests are decided over it.
+//! The view of a store under a schema over which requests are decided.
 ghost use Rattle.std.specs.Prelude.{◌≡◌, ◌↔◌, [], IsTrue, IfOk};
 ghost use Rattle.ancestor_closure.specs.ancestor_search.Decided.{reaches};
 ghost use Rattle.ancestor_closure.specs.ancestor_search.Hierarchy.{IsOnCycle, with_parents};
@@ -19,9 +19,9 @@ use std::alloc::Global;
 use std::marker::Model;
 use values::{EntityUid, Record};
 
-/// A store under a schema, with its index and the ancestors of its entities if they are present.
+/// A store under a schema, with its index and its ancestor cache if they are present.
 ///
-/// With the ancestors, ancestry is looked up, and nothing is searched if there is no cycle; without them the
+/// With the ancestor cache, ancestors are looked up, and nothing is searched if there is no cycle; without it the
 /// hierarchy is searched in place. Contracts see the schema and the store.
 #[derive(Drop)]
 pub(crate) struct StoredWorld<'a, 's> {
@@ -53,8 +53,8 @@ impl<'a, 's> Model for StoredWorld<'a, 's> {
 }
 
 impl StoredWorld<'_, '_> {
-    /// Returns whether an entity is an action that states no group. A schema has few actions, so this is faster than
-    /// a look-up in the cache of all entities.
+    /// Returns whether an entity is an action of the schema without parents. A schema has few actions, so this is
+    /// faster than a look-up in the cache of all entities.
     fn is_top_action(&self, uid: &EntityUid) -> bool
         ensures { IsTrue result → (world_stored self.now).parents uid.now ≡ [] }
     {
@@ -64,13 +64,13 @@ impl StoredWorld<'_, '_> {
         }
     }
 
-    /// Returns whether an entity would be cyclic with the parents that it states.
+    /// Returns whether `entity` would be cyclic if it were stored with its parents.
     ///
-    /// With the cache: two look-ups for each parent, and no allocation.
+    /// With the ancestor cache, takes two look-ups for each parent, and does not allocate.
     ///
     /// # Errors
     ///
-    /// `NoMemory` alone.
+    /// - `NoMemory`: an allocation failed.
     pub(crate) fn would_cycle(&self, entity: &Entity) -> Result<bool, NoMemory>
         ensures { let changed = with_parents (world_stored self.now).parents entity.now.uid entity.now.parents in
             IfOk result (λ yes. IsTrue yes ↔ IsOnCycle changed entity.now.uid) }

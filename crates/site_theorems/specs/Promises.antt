@@ -18,7 +18,7 @@ use Rattle.site.specs.site_steps.entities.StatedEntities.{StatesEntity}
 use Rattle.site.specs.site_steps.sync_messages.StatedUpdates.{StatesUpdates}
 use Rattle.site_theorems.specs.Steps.{JsonStates, IsStep}
 
--- `Issues schema d r u` holds if the reply `r` to the local command `d` is a stamp, for the update `u`.
+-- `Issues schema d r u` holds if the local command `d` issued the update `u`: its reply `r` is the stamp of `u`.
 abbrev pub Issues : StatedSchema → Operation → Reply → Update → Type 0
 Issues schema (operation.PutPolicy id text) (reply.Put (Ok put)) u =
     u ≡ (policy_name id, issued put.stamp (Some text))
@@ -29,11 +29,12 @@ Issues schema (operation.PutEntity bytes) (reply.Stamped (Ok stamp)) u =
 Issues schema (operation.DeleteEntity uid) (reply.Stamped (Ok stamp)) u = u ≡ (entity_name uid, issued stamp None)
 Issues schema _ _ u = ⊥
 
--- `WorldsKeepPromises schema` holds if the promises hold for all sites of `schema`.
+-- `WorldsKeepPromises schema` holds if all systems of sites of `schema` keep the promises, by the steps, messages and
+-- issued updates that bytes state.
 abbrev pub WorldsKeepPromises : StatedSchema → Type 0
 WorldsKeepPromises schema = SystemsKeepPromises (IsStep schema) (StatesUpdates schema.label) (Issues schema)
 
--- `AllWorldsKeepPromises`: the promises hold for all sites of each schema that bytes state.
+-- `AllWorldsKeepPromises`: under each schema that bytes state, all systems of sites keep the promises.
 abbrev pub AllWorldsKeepPromises : Type 0
 AllWorldsKeepPromises = (bytes : List ℕ) (schema : SchemaEntries) → IsSchemaOf bytes (schema_view schema)
     → WorldsKeepPromises (schema_view schema)

@@ -14,7 +14,7 @@ use Rattle.site.specs.site_steps.Inputs.{Input}
 use Rattle.site.specs.site_steps.Inputs as input
 use Rattle.site.specs.site_steps.declared.reply.Reply.{Reply}
 use Rattle.site.specs.site_steps.declared.reply.Reply.TheVariants as reply
-use Rattle.site.specs.site_steps.Permitted.{AreHarmlessReplies}
+use Rattle.site.specs.site_steps.Permitted.{ArePermittedReplies}
 use Rattle.site.specs.site_steps.entities.StatedEntities.{StatesEntity}
 use Rattle.site.specs.site_steps.sync_messages.StatedUpdates.{StatesUpdates}
 use Rattle.site_theorems.specs.Steps.{JsonStates, IsStep}
@@ -97,4 +97,4 @@ EqualUpdatesLeaveEqualStores = (schema : StatedSchema) (us vs : List Update) (s 
 -- or `ArithBoundsError`.
 abbrev pub RunsReplyHarmlessly : Type 0
 RunsReplyHarmlessly = (bytes : List ℕ) (schema : StatedSchema) → IsSchemaOf bytes schema → (n : List ℕ) (s : Store)
-    (is : List Input) (rs : List Reply) (t : Store) → IsRun schema n s is rs t → AreHarmlessReplies rs
+    (is : List Input) (rs : List Reply) (t : Store) → IsRun schema n s is rs t → ArePermittedReplies rs

@@ -26,8 +26,8 @@ pub data AppliesAt (schema : StatedSchema) (k : ℕ) (w : World) (e : Event) (a 
     here : e.site ≡ k → AppliesIn schema (input_of w e.operation) a us → AppliesAt schema k w e a us
     elsewhere : (e.site ≡ k → ⊥) → us ≡ [] → AppliesAt schema k w e a us
 
--- `AppliedAt schema k w es rs us` holds if `us` are the updates that the events `es` with the replies `rs` applied at
--- that site, in their order.
+-- `AppliedAt schema k w es rs us` holds if `us` are the updates that the events `es` with the replies `rs` applied, in
+-- their order, at the site with the number `k`, where `w` has the messages and summaries that were made.
 abbrev pub AppliedAt : StatedSchema → ℕ → World → List Event → List EventReply → List Update → Type 0
 AppliedAt schema k w [] [] us = us ≡ []
 AppliedAt schema k w [] (a ∷ rs) us = ⊥
@@ -36,8 +36,9 @@ AppliedAt schema k w (e ∷ es) (a ∷ rs) us =
     (first : List Update) × (more : List Update) × AppliesAt schema k w e a first × AppliedAt schema k w es rs more
     × (us ≡ first ++ more)
 
--- `HoldsApplied schema k es rs w` holds if exactly one list of updates was applied by these events at the site with
--- the number `k`, and the store of that site in `w` is the join of these: at each name the greatest entry among them.
+-- `HoldsApplied schema k es rs w` holds if the events `es` with the replies `rs` applied exactly one list of updates at
+-- the site with the number `k`, and the store of that site in `w` is the join of these: at each name the greatest
+-- entry.
 pub record HoldsApplied (schema : StatedSchema) (k : ℕ) (es : List Event) (rs : List EventReply) (w : World) : Type 0
   where
     pub us : List Update

@@ -1,4 +1,4 @@
--- Defines the steps of a site by what JSON and bytes state: from the store s, with a result, to the store t.
+-- Defines the steps of a site by what JSON and bytes state: an input leads from a store to a store, with a reply.
 -- Sources: Cedar reference guide 4.0, "Entities and context: JSON format" and "Authorization request"; docs/formats.md.
 -- Rules of this product: bytes that are not JSON have the error `BadShape`; the cycle is checked before the clock; a
 -- message is rejected whole or its updates are applied in order; rejected inputs and queries leave the store unchanged.
@@ -49,10 +49,10 @@ abbrev pub JsonRefused : (Data → EntityFault → Type 0) → Option Data → E
 JsonRefused Refuses None f = f ≡ BadShape
 JsonRefused Refuses (Some d) f = Refuses d f
 
--- ---- commands, at the site named n
+-- ---- commands
 
--- `PutsEntity schema n s json r t` holds if putting the entity that `json` states, as its canonical text, may lead
--- from `s` to `t` with result `r`.
+-- `PutsEntity schema n s json r t` holds if, at the site named `n`, putting the entity that `json` states, as its
+-- canonical text, may lead from the store `s` to `t` with result `r`.
 abbrev pub PutsEntity : StatedSchema → List ℕ → Store → Option Data → Result Stamp SiteFault → Store → Type 0
 PutsEntity schema n s json (Ok stamp) t =
     (e : Entity) × JsonStates (StatesEntity schema) json e × MakesNoCycle (StatesText schema) schema s e

@@ -1,7 +1,9 @@
-//! Theorems over relations: the steps of a site, the updates that its runs apply with the store that they leave, and
-//! the promises of systems of sites, by what bytes state as schemas, entities, requests, messages and summaries, to
-//! compare with the Cedar reference guide and docs/formats.md. No function that reads these from JSON is cited;
-//! `json_of`, which parses JSON, is. The crate has only theorems.
+//! Theorems over relations between bytes and what they state: the steps of a site, the updates that its runs apply with
+//! the store that they leave, and the promises of systems of sites.
+//!
+//! The relations state schemas, entities, requests, messages and summaries as the Cedar reference guide and
+//! docs/formats.md do, so that a reader can compare them. They cite no function that reads these from JSON, only
+//! `json_of`, which parses JSON. The crate has only theorems.
 #![tactic(auto)]
 
 mod laws;

@@ -22,14 +22,14 @@ use Rattle.values.specs.Names.{name_cmp-IsTotalOrder, name_cmp-IsAntisymmetric}
 use Rattle.stamped_store.specs.declared.entry.Entry.{Entry}
 use Rattle.stamped_store.specs.Joins.{option_joined, option_below}
 use Rattle.stamped_store.specs.EntryOrder.{PlainEntry, plain_entry, entry_cmp, entry_below, greater, greater_entry}
-use Rattle.stamped_store.specs.Stored.{value_at, value_at_text, all_taken, joined_onto, IsBelow}
+use Rattle.stamped_store.specs.Stored.{value_at, value_at_text, all_joined, joined_onto, IsBelow}
 use Rattle.stamped_store.specs.Greatest.{greatest_count, max_count}
 use Rattle.stamped_store.specs.Abstraction.{abstract_entry, abstract_entries}
 use Rattle.stamped_store.specs.Store.{Store, Update, StoreEntries, kept, all_kept, first_kept, updates, store_of, first_names, plain_below, IsStoreBelow, IsStoreJoin, joined_stores, id_name, entity_name, abstract_updates, abstract_store, KeepsOtherNames, issue, issued}
 use Rattle.plain.proofs.Members.{Contains-none, Contains-here, Contains-there}
 use Rattle.stamped_store.proofs.Greatests.{count_le, count_of_find, greater_assoc, greater_commutes, greater_itself, greatest_count-store_of, max_count-append, entry_order}
 use Rattle.stamped_store.proofs.GreatestsBy.{by_place, get-joined, joined_is_least, one_if_below, one_least, store_of-append, store_of-append_right, store_of-push}
-use Rattle.stamped_store.proofs.Stores.{equal_of, get-policy, get-entity, shown-all_taken}
+use Rattle.stamped_store.proofs.Stores.{equal_of, get-policy, get-entity, shown-all_joined}
 
 -- ---- the first names of a store
 take_both : {A : Type 0} (n : ℕ) (xs ys : List A) → take n (xs ++ ys) ≡ take n xs ++ take (n - length xs) ys
@@ -107,7 +107,7 @@ module _ {P E : Type 0} where
   pub joined_whole : (s o t : StoreEntries P E) → updates (abstract_store o) ≡ abstract_updates o → t ≡ all_kept s o → IsStoreJoin (abstract_store s) (abstract_store o) (abstract_store t)
   joined_whole s o t h e =
       let path : abstract_store t ≡ joined_stores (abstract_store s) (abstract_store o) =
-      ap abstract_store e ∙ shown-all_taken s.policies o.policies s.entities o.entities ∙ ap (λ us. store_of (updates (abstract_store s) ++ us)) (sym h) in
+      ap abstract_store e ∙ shown-all_joined s.policies o.policies s.entities o.entities ∙ ap (λ us. store_of (updates (abstract_store s) ++ us)) (sym h) in
       subst (IsStoreJoin (abstract_store s) (abstract_store o)) (sym path) (joined_is_join (abstract_store s) (abstract_store o))
 
   -- and one that took the first names' entries is the join with these
@@ -115,24 +115,24 @@ module _ {P E : Type 0} where
   joined_first s o t n h e =
       let path : abstract_store t ≡ joined_stores (abstract_store s) (first_names n (abstract_store o)) =
       ap abstract_store e
-      ∙ shown-all_taken s.policies (take n o.policies) s.entities (take (n - length o.policies) o.entities)
+      ∙ shown-all_joined s.policies (take n o.policies) s.entities (take (n - length o.policies) o.entities)
       ∙ ap (λ us. store_of (updates (abstract_store s) ++ us)) (first_updates n o ∙ ap (take n) (sym h))
       ∙ sym (store_of-append_right entry_order name_cmp-IsTotalOrder name_cmp-IsAntisymmetric (updates (abstract_store s)) (take n (updates (abstract_store o)))) in
       subst (IsStoreJoin (abstract_store s) (first_names n (abstract_store o))) (sym path) (joined_is_join (abstract_store s) (first_names n (abstract_store o)))
 
   -- memory was refused among the policies
-  pub kept_first_policies : (s o : StoreEntries P E) (n : List (String Global × Entry P)) (k : ℕ) → n ≡ all_taken string_cmp greater s.policies (take k o.policies) → k < length o.policies → kept n s.entities ≡ all_kept s (first_kept k o)
+  pub kept_first_policies : (s o : StoreEntries P E) (n : List (String Global × Entry P)) (k : ℕ) → n ≡ all_joined string_cmp greater s.policies (take k o.policies) → k < length o.policies → kept n s.entities ≡ all_kept s (first_kept k o)
   kept_first_policies s o n k e short =
       let none : 0 ≡ k - length o.policies = omega arith in
-      ap (λ ps. kept ps s.entities) e ∙ ap (λ m. kept (all_taken string_cmp greater s.policies (take k o.policies)) (all_taken uid_cmp greater s.entities (take m o.entities))) none
+      ap (λ ps. kept ps s.entities) e ∙ ap (λ m. kept (all_joined string_cmp greater s.policies (take k o.policies)) (all_joined uid_cmp greater s.entities (take m o.entities))) none
 
   -- memory was refused among the entities
-  pub kept_first_entities : (s o : StoreEntries P E) (n : List (String Global × Entry P)) (m : List (EntityUid × Entry E)) (j k : ℕ) → n ≡ all_taken string_cmp greater s.policies o.policies → m ≡ all_taken uid_cmp greater s.entities (take j o.entities) → k ≡ length o.policies + j → kept n m ≡ all_kept s (first_kept k o)
+  pub kept_first_entities : (s o : StoreEntries P E) (n : List (String Global × Entry P)) (m : List (EntityUid × Entry E)) (j k : ℕ) → n ≡ all_joined string_cmp greater s.policies o.policies → m ≡ all_joined uid_cmp greater s.entities (take j o.entities) → k ≡ length o.policies + j → kept n m ≡ all_kept s (first_kept k o)
   kept_first_entities s o n m j k e f is =
       let some : j ≡ k - length o.policies = omega arith in
       let all : o.policies ≡ take k o.policies = sym (take_all k o.policies (omega arith)) in
-      ap (λ ps. kept ps m) (e ∙ ap (all_taken string_cmp greater s.policies) all)
-      ∙ ap (kept (all_taken string_cmp greater s.policies (take k o.policies))) (f ∙ ap (λ i. all_taken uid_cmp greater s.entities (take i o.entities)) some)
+      ap (λ ps. kept ps m) (e ∙ ap (all_joined string_cmp greater s.policies) all)
+      ∙ ap (kept (all_joined string_cmp greater s.policies (take k o.policies))) (f ∙ ap (λ i. all_joined uid_cmp greater s.entities (take i o.entities)) some)
 
   store_below : (s o : StoreEntries P E) → IsBelow string_cmp entry_below s.policies o.policies → IsBelow uid_cmp entry_below s.entities o.entities → IsStoreBelow (abstract_store s) (abstract_store o)
   store_below s o h k (Policy bytes) =

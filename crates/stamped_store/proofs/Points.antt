@@ -14,7 +14,7 @@ use Rattle.std.proofs.lemmas.Map.{lookup-none}
 use Rattle.std.proofs.lemmas.Map.Entries.{none_past_head}
 use Rattle.std.proofs.lemmas.Map.Keys.{sorted_tail, IsDistinct-from_sorted}
 use Rattle.stamped_store.specs.Joins.{option_below, option_joined}
-use Rattle.stamped_store.specs.Stored.{value_at, taken, all_taken, joined_onto, KeepsOthers, IsJoined, IsBelow}
+use Rattle.stamped_store.specs.Stored.{value_at, taken, all_joined, joined_onto, KeepsOthers, IsJoined, IsBelow}
 
 equal_of : (r : Ordering) → is_eq r ≡ true → r ≡ Equal
 equal_of Less h = absurd (cc)
@@ -97,10 +97,10 @@ module _ {K V : Type 0} {R : K → K → Ordering} (o : IsTotalOrder R) where
   none_later : (e : K × V) (es : List (K × V)) (q : K) → IsStrictlySortedBy R (keys_of (e ∷ es)) → is_eq (R q e.0) ≡ true → value_at R es q ≡ None
   none_later e es q h same = lookup-none (is_at (R q)) es (none_past_head (eq_by_cmp_equiv o) q e es (IsDistinct-from_sorted R (keys_of (e ∷ es)) h) same)
 
-  pub is_joined-all_taken : (join : V → V → V) (s es : List (K × V)) → IsStrictlySortedBy R (keys_of es) → IsJoined R join s es (all_taken R join s es)
-  is_joined-all_taken join s [] h q = sym (joined_none join (value_at R s q))
-  is_joined-all_taken join s (e ∷ es) h q =
-      is_joined-all_taken join (taken R join s e.0 e.1) es (sorted_tail R e.0 (keys_of es) h) q
+  pub is_joined-all_joined : (join : V → V → V) (s es : List (K × V)) → IsStrictlySortedBy R (keys_of es) → IsJoined R join s es (all_joined R join s es)
+  is_joined-all_joined join s [] h q = sym (joined_none join (value_at R s q))
+  is_joined-all_joined join s (e ∷ es) h q =
+      is_joined-all_joined join (taken R join s e.0 e.1) es (sorted_tail R e.0 (keys_of es) h) q
       ∙ ap (λ a. option_joined join a (value_at R es q)) (value_at-taken join s e.0 q e.1)
       ∙ elim (is_eq (R q e.0)) as (λ b. is_eq (R q e.0) ≡ b → option_joined join (option_joined join (value_at R s q) (cond b (Some e.1) None)) (value_at R es q) ≡ option_joined join (value_at R s q) (cond b (Some e.1) (value_at R es q))) [
         | true ↦ λ yes. ap (option_joined join (option_joined join (value_at R s q) (Some e.1))) (none_later e es q h yes) ∙ joined_none join _
@@ -112,11 +112,11 @@ module _ {K V : Type 0} {R : K → K → Ordering} (o : IsTotalOrder R) where
   keys_of-append (e ∷ es) fs = ap (λ ks. e.0 ∷ ks) (keys_of-append es fs)
 
   -- the first entries of a store, joined
-  pub is_joined-prefix : (join : V → V → V) (s es rest other : List (K × V)) → es ++ rest ≡ other → IsStrictlySortedBy R (keys_of other) → IsJoined R join s (take (length es) other) (all_taken R join s es)
+  pub is_joined-prefix : (join : V → V → V) (s es rest other : List (K × V)) → es ++ rest ≡ other → IsStrictlySortedBy R (keys_of other) → IsJoined R join s (take (length es) other) (all_joined R join s es)
   is_joined-prefix join s es rest other e h =
       let cut : take (length es) other ≡ es = ap (take (length es)) (sym e) ∙ take-append_seam es rest in
       let sorted : IsStrictlySortedBy R (keys_of es) = sorted_prefix R (keys_of es) (keys_of rest) (subst (IsStrictlySortedBy R) (ap keys_of (sym e) ∙ keys_of-append es rest) h) in
-      subst (λ fs. IsJoined R join s fs (all_taken R join s es)) (sym cut) (is_joined-all_taken join s es sorted)
+      subst (λ fs. IsJoined R join s fs (all_joined R join s es)) (sym cut) (is_joined-all_joined join s es sorted)
 
   -- entries that each have one above them make a store below
   pub below_from_entries : (below : V → V → Bool) (s t : List (K × V)) → AllByRecursion (λ e. option_below below (Some e.1) (value_at R t e.0) ≡ true) s → IsBelow R below s t
@@ -127,6 +127,6 @@ module _ {K V : Type 0} {R : K → K → Ordering} (o : IsTotalOrder R) where
         | false ↦ λ apart. below_from_entries below es t h.1 q
       ] refl
 
-pub all_taken-push : {K V : Type 0} (R : K → K → Ordering) (join : V → V → V) (s es : List (K × V)) (e : K × V) → all_taken R join s (es ++ e ∷ []) ≡ taken R join (all_taken R join s es) e.0 e.1
-all_taken-push R join s [] e = refl
-all_taken-push R join s (x ∷ es) e = all_taken-push R join (taken R join s x.0 x.1) es e
+pub all_joined-push : {K V : Type 0} (R : K → K → Ordering) (join : V → V → V) (s es : List (K × V)) (e : K × V) → all_joined R join s (es ++ e ∷ []) ≡ taken R join (all_joined R join s es) e.0 e.1
+all_joined-push R join s [] e = refl
+all_joined-push R join s (x ∷ es) e = all_joined-push R join (taken R join s x.0 x.1) es e

@@ -14,7 +14,7 @@ use Rattle.std.specs.declared.cmp.Ordering.{Ordering}
 use Rattle.std.specs.declared.cmp.Ordering.TheVariants.{Less, Equal, Greater}
 use Rattle.stamped_store.specs.declared.entry.Entry.{Entry}
 use Rattle.stamped_store.specs.EntryOrder.{entry_cmp, greater, greater_entry, plain_entry}
-use Rattle.stamped_store.specs.Stored.{value_at, taken, all_taken, joined_onto}
+use Rattle.stamped_store.specs.Stored.{value_at, taken, all_joined, joined_onto}
 use Rattle.stamped_store.specs.Greatest.{store_of}
 use Rattle.stamped_store.specs.Abstraction.{abstract_entry, abstract_entries, abstract_map, greatest_kept}
 use Rattle.stamped_store.proofs.Greatests.{entry_order}
@@ -84,10 +84,10 @@ module _ {K N P : Type 0} (name : K → N) (R : N → N → Ordering) where
     shown-taken es k v = shown-taken_insert es k v ∙ sym (store_of-push entry_order o exact (abstract_map name es) (name k) (plain_entry v))
 
     -- values joined in turn are as many more updates
-    pub shown-all_taken : (s es : List (K × Entry P)) → abstract_map name {R = R} (all_taken (by_names name R) greater s es) ≡ store_of entry_cmp R (entries (abstract_map name {R = R} s) ++ abstract_entries name es)
-    shown-all_taken s [] = sym (ap (store_of entry_cmp R) (append-nil (entries (abstract_map name s))) ∙ store_of-entries entry_order o exact (abstract_map name s))
-    shown-all_taken s (e ∷ es) =
-        shown-all_taken (taken (by_names name R) greater s e.0 e.1) es
+    pub shown-all_joined : (s es : List (K × Entry P)) → abstract_map name {R = R} (all_joined (by_names name R) greater s es) ≡ store_of entry_cmp R (entries (abstract_map name {R = R} s) ++ abstract_entries name es)
+    shown-all_joined s [] = sym (ap (store_of entry_cmp R) (append-nil (entries (abstract_map name s))) ∙ store_of-entries entry_order o exact (abstract_map name s))
+    shown-all_joined s (e ∷ es) =
+        shown-all_joined (taken (by_names name R) greater s e.0 e.1) es
         ∙ ap (λ m. store_of entry_cmp R (entries m ++ abstract_entries name es)) (shown-taken s e.0 e.1)
         ∙ store_of-append entry_order o exact (entries (abstract_map name s) ++ abstract_entry name e ∷ []) (abstract_entries name es)
         ∙ ap (store_of entry_cmp R) (append_assoc (entries (abstract_map name s)) (abstract_entry name e ∷ []) (abstract_entries name es))

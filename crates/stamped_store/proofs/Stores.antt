@@ -18,7 +18,7 @@ use Rattle.values.specs.declared.entity_uid.EntityUid.{EntityUid}
 use Rattle.values.specs.Names.{name_cmp, uid_cmp, name_cmp-IsTotalOrder, name_cmp-IsAntisymmetric}
 use Rattle.stamped_store.specs.declared.entry.Entry.{Entry}
 use Rattle.stamped_store.specs.EntryOrder.{PlainEntry, plain_entry, greater, greater_entry}
-use Rattle.stamped_store.specs.Stored.{value_at, value_at_text, taken, all_taken, joined_onto}
+use Rattle.stamped_store.specs.Stored.{value_at, value_at_text, taken, all_joined, joined_onto}
 use Rattle.stamped_store.specs.Greatest.{greatest_count, max_count}
 use Rattle.stamped_store.specs.Abstraction.{abstract_entry, abstract_entries, greatest_kept}
 use Rattle.stamped_store.specs.Store.{Update, StoreEntries, kept, updates, store_of, id_name, entity_name, abstract_updates, abstract_store, IsCounted}
@@ -141,7 +141,7 @@ module _ {P E : Type 0} where
   shown-taken_entity ps es u v = taken_entity_insert ps es u v ∙ sym (store_of-push entry_order name_cmp-IsTotalOrder name_cmp-IsAntisymmetric (abstract_store (kept ps es)) (Entity u) (plain_entry v))
 
   -- ---- many entries joined
-  shown-all_policies : (ps qs : List (String Global × Entry P)) (es : List (EntityUid × Entry E)) → abstract_store (kept (all_taken string_cmp greater ps qs) es) ≡ store_of (updates (abstract_store (kept ps es)) ++ abstract_entries id_name qs)
+  shown-all_policies : (ps qs : List (String Global × Entry P)) (es : List (EntityUid × Entry E)) → abstract_store (kept (all_joined string_cmp greater ps qs) es) ≡ store_of (updates (abstract_store (kept ps es)) ++ abstract_entries id_name qs)
   shown-all_policies ps [] es = sym (ap store_of (append-nil (updates (abstract_store (kept ps es)))) ∙ store_of-entries entry_order name_cmp-IsTotalOrder name_cmp-IsAntisymmetric (abstract_store (kept ps es)))
   shown-all_policies ps (q ∷ qs) es =
       shown-all_policies (taken string_cmp greater ps q.0 q.1) qs es
@@ -149,7 +149,7 @@ module _ {P E : Type 0} where
       ∙ store_of-append entry_order name_cmp-IsTotalOrder name_cmp-IsAntisymmetric (updates (abstract_store (kept ps es)) ++ abstract_entry id_name q ∷ []) (abstract_entries id_name qs)
       ∙ ap store_of (append_assoc (updates (abstract_store (kept ps es))) (abstract_entry id_name q ∷ []) (abstract_entries id_name qs))
 
-  shown-all_entities : (ps : List (String Global × Entry P)) (es fs : List (EntityUid × Entry E)) → abstract_store (kept ps (all_taken uid_cmp greater es fs)) ≡ store_of (updates (abstract_store (kept ps es)) ++ abstract_entries entity_name fs)
+  shown-all_entities : (ps : List (String Global × Entry P)) (es fs : List (EntityUid × Entry E)) → abstract_store (kept ps (all_joined uid_cmp greater es fs)) ≡ store_of (updates (abstract_store (kept ps es)) ++ abstract_entries entity_name fs)
   shown-all_entities ps es [] = sym (ap store_of (append-nil (updates (abstract_store (kept ps es)))) ∙ store_of-entries entry_order name_cmp-IsTotalOrder name_cmp-IsAntisymmetric (abstract_store (kept ps es)))
   shown-all_entities ps es (f ∷ fs) =
       shown-all_entities ps (taken uid_cmp greater es f.0 f.1) fs
@@ -158,9 +158,9 @@ module _ {P E : Type 0} where
       ∙ ap store_of (append_assoc (updates (abstract_store (kept ps es))) (abstract_entry entity_name f ∷ []) (abstract_entries entity_name fs))
 
   -- all entries of another store joined: the store of the updates of both
-  pub shown-all_taken : (ps qs : List (String Global × Entry P)) (es fs : List (EntityUid × Entry E)) → abstract_store (kept (all_taken string_cmp greater ps qs) (all_taken uid_cmp greater es fs)) ≡ store_of (updates (abstract_store (kept ps es)) ++ abstract_updates (kept qs fs))
-  shown-all_taken ps qs es fs =
-      shown-all_entities (all_taken string_cmp greater ps qs) es fs
+  pub shown-all_joined : (ps qs : List (String Global × Entry P)) (es fs : List (EntityUid × Entry E)) → abstract_store (kept (all_joined string_cmp greater ps qs) (all_joined uid_cmp greater es fs)) ≡ store_of (updates (abstract_store (kept ps es)) ++ abstract_updates (kept qs fs))
+  shown-all_joined ps qs es fs =
+      shown-all_entities (all_joined string_cmp greater ps qs) es fs
       ∙ ap (λ m. store_of (updates m ++ abstract_entries entity_name fs)) (shown-all_policies ps qs es)
       ∙ store_of-append entry_order name_cmp-IsTotalOrder name_cmp-IsAntisymmetric (updates (abstract_store (kept ps es)) ++ abstract_entries id_name qs) (abstract_entries entity_name fs)
       ∙ ap store_of (append_assoc (updates (abstract_store (kept ps es))) (abstract_entries id_name qs) (abstract_entries entity_name fs))
@@ -198,16 +198,16 @@ module _ {P E : Type 0} where
       ∙ put_entity u (plain_entry w) ps es
       ∙ ap (λ us. abstract_entries id_name ps ++ us) (sym (shown-insert_entry entity_name name_cmp es u w))
 
-  in_order_policies : (ps qs : List (String Global × Entry P)) (es : List (EntityUid × Entry E)) → updates (abstract_store (kept ps es)) ≡ abstract_updates (kept ps es) → updates (abstract_store (kept (all_taken string_cmp greater ps qs) es)) ≡ abstract_updates (kept (all_taken string_cmp greater ps qs) es)
+  in_order_policies : (ps qs : List (String Global × Entry P)) (es : List (EntityUid × Entry E)) → updates (abstract_store (kept ps es)) ≡ abstract_updates (kept ps es) → updates (abstract_store (kept (all_joined string_cmp greater ps qs) es)) ≡ abstract_updates (kept (all_joined string_cmp greater ps qs) es)
   in_order_policies ps [] es h = h
   in_order_policies ps (q ∷ qs) es h = in_order_policies (taken string_cmp greater ps q.0 q.1) qs es (in_order_policy ps es q.0 q.1 h)
 
-  in_order_entities : (ps : List (String Global × Entry P)) (es fs : List (EntityUid × Entry E)) → updates (abstract_store (kept ps es)) ≡ abstract_updates (kept ps es) → updates (abstract_store (kept ps (all_taken uid_cmp greater es fs))) ≡ abstract_updates (kept ps (all_taken uid_cmp greater es fs))
+  in_order_entities : (ps : List (String Global × Entry P)) (es fs : List (EntityUid × Entry E)) → updates (abstract_store (kept ps es)) ≡ abstract_updates (kept ps es) → updates (abstract_store (kept ps (all_joined uid_cmp greater es fs))) ≡ abstract_updates (kept ps (all_joined uid_cmp greater es fs))
   in_order_entities ps es [] h = h
   in_order_entities ps es (f ∷ fs) h = in_order_entities ps (taken uid_cmp greater es f.0 f.1) fs (in_order_entity ps es f.0 f.1 h)
 
-  in_order_all : (ps qs : List (String Global × Entry P)) (es fs : List (EntityUid × Entry E)) → updates (abstract_store (kept ps es)) ≡ abstract_updates (kept ps es) → updates (abstract_store (kept (all_taken string_cmp greater ps qs) (all_taken uid_cmp greater es fs))) ≡ abstract_updates (kept (all_taken string_cmp greater ps qs) (all_taken uid_cmp greater es fs))
-  in_order_all ps qs es fs h = in_order_entities (all_taken string_cmp greater ps qs) es fs (in_order_policies ps qs es h)
+  in_order_all : (ps qs : List (String Global × Entry P)) (es fs : List (EntityUid × Entry E)) → updates (abstract_store (kept ps es)) ≡ abstract_updates (kept ps es) → updates (abstract_store (kept (all_joined string_cmp greater ps qs) (all_joined uid_cmp greater es fs))) ≡ abstract_updates (kept (all_joined string_cmp greater ps qs) (all_joined uid_cmp greater es fs))
+  in_order_all ps qs es fs h = in_order_entities (all_joined string_cmp greater ps qs) es fs (in_order_policies ps qs es h)
 
   -- ---- the count that is kept
   pub counted_empty : IsCounted (kept {P = P} {E = E} [] []) 0
@@ -240,26 +240,26 @@ module _ {P E : Type 0} where
 
   -- the count and the order after all entries of another store
   pub counted_all : (ps qs n : List (String Global × Entry P)) (es fs m : List (EntityUid × Entry E)) (greatest other after : ℕ)
-      → n ≡ all_taken string_cmp greater ps qs → m ≡ all_taken uid_cmp greater es fs → after ≡ max greatest other
+      → n ≡ all_joined string_cmp greater ps qs → m ≡ all_joined uid_cmp greater es fs → after ≡ max greatest other
       → IsCounted (kept ps es) greatest → IsCounted (kept qs fs) other → IsCounted (kept n m) after
   counted_all ps qs n es fs m greatest other after e f is h k =
-      let whole : greatest_count (abstract_store (kept (all_taken string_cmp greater ps qs) (all_taken uid_cmp greater es fs))) ≡ max (greatest_count (abstract_store (kept ps es))) (max_count (abstract_updates (kept qs fs))) =
-      ap greatest_count (shown-all_taken ps qs es fs) ∙ greatest_count-store_of name_cmp-IsTotalOrder (updates (abstract_store (kept ps es)) ++ abstract_updates (kept qs fs)) ∙ max_count-append (updates (abstract_store (kept ps es))) (abstract_updates (kept qs fs)) in
+      let whole : greatest_count (abstract_store (kept (all_joined string_cmp greater ps qs) (all_joined uid_cmp greater es fs))) ≡ max (greatest_count (abstract_store (kept ps es))) (max_count (abstract_updates (kept qs fs))) =
+      ap greatest_count (shown-all_joined ps qs es fs) ∙ greatest_count-store_of name_cmp-IsTotalOrder (updates (abstract_store (kept ps es)) ++ abstract_updates (kept qs fs)) ∙ max_count-append (updates (abstract_store (kept ps es))) (abstract_updates (kept qs fs)) in
       let theirs : other ≡ max_count (abstract_updates (kept qs fs)) = k.counted ∙ ap max_count k.in_order in
-      let counted : IsCounted (kept (all_taken string_cmp greater ps qs) (all_taken uid_cmp greater es fs)) after = record {
+      let counted : IsCounted (kept (all_joined string_cmp greater ps qs) (all_joined uid_cmp greater es fs)) after = record {
         counted = is ∙ ap (λ c. max c other) h.counted ∙ ap (max (greatest_count (abstract_store (kept ps es)))) theirs ∙ sym whole;
         in_order = in_order_all ps qs es fs h.in_order;
       } in
-      subst (λ x. IsCounted (kept x m) after) (sym e) (subst (λ y. IsCounted (kept (all_taken string_cmp greater ps qs) y) after) (sym f) counted)
+      subst (λ x. IsCounted (kept x m) after) (sym e) (subst (λ y. IsCounted (kept (all_joined string_cmp greater ps qs) y) after) (sym f) counted)
 
   -- the count and the order after some entries of another store, the count being found anew
   pub counted_anew : (ps qs n : List (String Global × Entry P)) (es fs m : List (EntityUid × Entry E)) (greatest after : ℕ)
-      → n ≡ all_taken string_cmp greater ps qs → m ≡ all_taken uid_cmp greater es fs → after ≡ max (greatest_kept n) (greatest_kept m)
+      → n ≡ all_joined string_cmp greater ps qs → m ≡ all_joined uid_cmp greater es fs → after ≡ max (greatest_kept n) (greatest_kept m)
       → IsCounted (kept ps es) greatest → IsCounted (kept n m) after
   counted_anew ps qs n es fs m greatest after e f is h =
       let ordered : updates (abstract_store (kept n m)) ≡ abstract_updates (kept n m) =
       subst (λ x. updates (abstract_store (kept x m)) ≡ abstract_updates (kept x m)) (sym e)
-      (subst (λ y. updates (abstract_store (kept (all_taken string_cmp greater ps qs) y)) ≡ abstract_updates (kept (all_taken string_cmp greater ps qs) y)) (sym f) (in_order_all ps qs es fs h.in_order)) in
+      (subst (λ y. updates (abstract_store (kept (all_joined string_cmp greater ps qs) y)) ≡ abstract_updates (kept (all_joined string_cmp greater ps qs) y)) (sym f) (in_order_all ps qs es fs h.in_order)) in
       record {
         counted = is ∙ sym (ap max_count ordered ∙ max_count-append (abstract_entries id_name n) (abstract_entries entity_name m) ∙ ap (λ c. max c (max_count (abstract_entries entity_name m))) (max_count-shown id_name n) ∙ ap (max (greatest_kept n)) (max_count-shown entity_name m));
         in_order = ordered;

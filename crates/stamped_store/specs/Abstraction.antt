@@ -1,5 +1,5 @@
--- Defines the abstract view of a map of the code: names without their addresses in memory, and entries without the
--- parsed forms of their texts.
+-- Defines the abstract view of a map of the code: each key as a name, and each entry without the parsed form of its
+-- text.
 use Rattle.std.specs.Prelude.{ℕ, max, List, [], ◌∷◌, map}
 use Rattle.std.specs.FinMap.{FinMap, from_entries}
 use Rattle.std.specs.declared.cmp.Ordering.{Ordering}
@@ -7,8 +7,8 @@ use Rattle.stamped_store.specs.declared.entry.Entry.{Entry}
 use Rattle.stamped_store.specs.EntryOrder.{PlainEntry, plain_entry}
 
 module _ {K N P : Type 0} (name : K → N) where
-  -- `abstract_entry e`, `abstract_entries es` and `abstract_map es` are the abstract views of an entry, of entries and
-  -- of a map with these entries.
+  -- `abstract_entry e`, `abstract_entries es` and `abstract_map es` are the abstract views of an entry with its key, of
+  -- a list of these, and of a map with these entries; `name` maps a key of the code to its name.
   abbrev pub abstract_entry : K × Entry P → N × PlainEntry
   abstract_entry e = (name e.0, plain_entry e.1)
 
@@ -18,7 +18,7 @@ module _ {K N P : Type 0} (name : K → N) where
   abbrev pub abstract_map : {R : N → N → Ordering} → List (K × Entry P) → FinMap R PlainEntry
   abstract_map es = from_entries (abstract_entries es)
 
--- `greatest_kept es` is the greatest count of these entries, 0 for none.
+-- `greatest_kept es` is the greatest count of the entries `es`, 0 without entries.
 abbrev pub greatest_kept : {K P : Type 0} → List (K × Entry P) → ℕ
 greatest_kept [] = 0
 greatest_kept (e ∷ es) = max e.1.stamp.count (greatest_kept es)

@@ -13,23 +13,24 @@ use Rattle.stamped_store.specs.Store.{Store, updates}
 abbrev pub text_under : Store → Name → Option (List ℕ)
 text_under s name = option_and_then (λ e. e.body) (get s name)
 
--- `policy_text name body` is the id in `name` with the text `body`, if `name` is a policy's and there is a text; else
--- `[]`.
+-- `policy_text name body` is the id in `name` with the text `body`, as a list, if `name` is a policy's and there is a
+-- text; else `[]`.
 abbrev pub policy_text : Name → Option (List ℕ) → List (List ℕ × List ℕ)
 policy_text (Policy id) (Some text) = (id, text) ∷ []
 policy_text (Policy id) None = []
 policy_text (Entity uid) body = []
 
--- `entity_text name body` is the same for the uid in `name`, if `name` is an entity's.
+-- `entity_text name body` is the uid in `name` with the text `body`, as a list, if `name` is an entity's and there is a
+-- text; else `[]`.
 abbrev pub entity_text : Name → Option (List ℕ) → List (EntityUid × List ℕ)
 entity_text (Entity uid) (Some text) = (uid, text) ∷ []
 entity_text (Entity uid) None = []
 entity_text (Policy id) body = []
 
--- `policies_of s` are the policies of the store `s`: id and text, ascending by id.
+-- `policies_of s` are the policies of the store `s`, each an id and a text, ascending by id.
 abbrev pub policies_of : Store → List (List ℕ × List ℕ)
 policies_of s = flat_map (λ u. policy_text u.0 u.1.body) (updates s)
 
--- `entities_of s` are the entities of the store `s`: uid and text, ascending by uid.
+-- `entities_of s` are the entities of the store `s`, each a uid and a text, ascending by uid.
 abbrev pub entities_of : Store → List (EntityUid × List ℕ)
 entities_of s = flat_map (λ u. entity_text u.0 u.1.body) (updates s)

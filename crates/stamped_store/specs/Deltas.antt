@@ -26,11 +26,12 @@ stamp_cmp a b = ordering_then (nat_cmp a.count b.count) (site_cmp a.site b.site)
 abbrev pub Summary : Type 0
 Summary = List (Name × Stamp)
 
--- `summary_of s` are the names of the store `s` with the stamps of their entries, in the order of the names.
+-- `summary_of s` is the summary of the store `s`: each name with the stamp of its entry, in the order of the names.
 abbrev pub summary_of : Store → Summary
 summary_of s = map (λ u. (u.0, stamp_of u.1)) (updates s)
 
--- `is_unseen known e` tests whether the entry `e` has a greater stamp than `known`; true if either is missing.
+-- `is_unseen known e` tests whether the entry `e` has a greater stamp than `known`, the summary's stamp of the same
+-- name; it is true if either is missing.
 abbrev pub is_unseen : Option Stamp → Option PlainEntry → Bool
 is_unseen known None = true
 is_unseen None (Some e) = true
@@ -40,7 +41,8 @@ is_unseen (Some stamp) (Some e) = is_lt (stamp_cmp stamp (stamp_of e))
 abbrev pub delta : Store → Summary → Store
 delta s m = store_map.retain_keys s (λ q. is_unseen (value_at name_cmp m q) (store_map.get s q))
 
--- `HaveOneEntryForAStamp s t` holds if two stores have equal entries for equal stamps at a name.
+-- `HaveOneEntryForAStamp s t` holds if entries of the stores `s` and `t` with the same name and the same stamp are
+-- equal.
 abbrev pub HaveOneEntryForAStamp : Store → Store → Type 0
 HaveOneEntryForAStamp s t = (q : Name) (a b : PlainEntry) → store_map.get s q ≡ Some a → store_map.get t q ≡ Some b
     → stamp_of a ≡ stamp_of b → a ≡ b

@@ -1,4 +1,4 @@
--- Defines the proof that the greater of two entries is a join.
+-- Defines the proof that the order of entries is total, and that the greater of two entries is their join.
 use Rattle.std.specs.Prelude.{◌≡◌, ℕ, List, Bool, true, false, Option, Some, None, refl, if◌then◌else◌}
 use Rattle.std.proofs.Common.{◌∙◌, ap}
 use Rattle.std.specs.Ordering.{is_le, is_gt, ordering_reverse}
@@ -59,7 +59,7 @@ le_of_reversed Less h = absurd (cc)
 le_of_reversed Equal h = absurd (cc)
 le_of_reversed Greater h = refl
 
--- In a total order the greater of two is a join.
+-- In a total order the greater of two values is their join.
 module _ {V : Type 0} (R : V → V → Ordering) (o : IsTotalOrder R) where
   abbrev pub le_by : V → V → Bool
   le_by a b = is_le (R a b)

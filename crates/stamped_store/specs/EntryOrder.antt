@@ -1,7 +1,7 @@
 -- Defines entries as a stamp and a body, and their order.
 -- Rules of this product: entries are ordered by count, then site, then body; sites are ordered by the bytes of their
 -- names; a tombstone is the least body; texts are ordered by their bytes. Entries have a site of any ordered type,
--- since in version 1 of messages a site is a number (Raised).
+-- since in version 1 of messages a site is a number (specs/Raised.antt).
 use Rattle.std.specs.Prelude.{ℕ, List, Bool, Option, Some, None, if◌then◌else◌}
 use Rattle.std.specs.Ordering.{nat_cmp, ordering_then, is_le}
 use Rattle.std.specs.Cmp.Lexicographic.{slice_cmp}
@@ -21,12 +21,12 @@ pub record EntryAt (Site : Type 0) : Type 0 where
 abbrev pub PlainEntry : Type 0
 PlainEntry = EntryAt (List ℕ)
 
--- `body_bytes body` is the body without its parsed form.
+-- `body_bytes body` are the bytes of the text `body` without its parsed form, or `None` for a tombstone.
 abbrev pub body_bytes : {P : Type 0} → Option (ReadText P) → Option (List ℕ)
 body_bytes None = None
 body_bytes (Some t) = Some t.text
 
--- `plain_entry e` is the entry `e` without its parsed form.
+-- `plain_entry e` is the entry `e` without the parsed form of its text.
 abbrev pub plain_entry : {P : Type 0} → Entry P → PlainEntry
 plain_entry e = record { count = e.stamp.count; site = e.stamp.site; body = body_bytes e.body }
 
@@ -54,18 +54,18 @@ entry_cmp a b = entry_cmp_by site_cmp a b
 abbrev pub greater_of : {V : Type 0} → (V → V → Ordering) → V → V → V
 greater_of cmp a b = if is_le (cmp b a) then a else b
 
--- `greater_entry a b` is the greater of two entries.
+-- `greater_entry a b` is the greater of the entries `a` and `b`.
 abbrev pub greater_entry : PlainEntry → PlainEntry → PlainEntry
 greater_entry a b = greater_of entry_cmp a b
 
--- `read_cmp a b` orders entries by their stamps and bodies; parsed forms do not matter.
+-- `read_cmp a b` orders entries with parsed forms by their stamps and bodies; the parsed forms do not matter.
 abbrev pub read_cmp : {P : Type 0} → Entry P → Entry P → Ordering
 read_cmp a b = entry_cmp (plain_entry a) (plain_entry b)
 
--- `greater a b` is the greater of two entries with their parsed forms.
+-- `greater a b` is the greater of two entries with parsed forms; `a` if they are equal.
 abbrev pub greater : {P : Type 0} → Entry P → Entry P → Entry P
 greater a b = greater_of read_cmp a b
 
--- `entry_below a b` tests whether `a` is at most `b`.
+-- `entry_below a b` tests whether the entry `a` is at most `b`; the parsed forms do not matter.
 abbrev pub entry_below : {P : Type 0} → Entry P → Entry P → Bool
 entry_below a b = is_le (read_cmp a b)

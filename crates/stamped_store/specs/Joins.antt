@@ -3,7 +3,8 @@
 -- Baquero, Zawirski 2011), state-based objects.
 use Rattle.std.specs.Prelude.{Bool, true, false, Option, Some, None}
 
--- `IsLeastAbove Below a b j` holds if `j` is the least upper bound of `a` and `b`.
+-- `IsLeastAbove Below a b j` holds if `j` is the least upper bound of `a` and `b`; `Below x y` holds if `x` is at most
+-- `y`.
 pub record IsLeastAbove {V : Type 0} (Below : V → V → Type 0) (a b j : V) : Type 0 where
   pub above_left : Below a j
   pub above_right : Below b j
@@ -13,8 +14,8 @@ pub record IsLeastAbove {V : Type 0} (Below : V → V → Type 0) (a b j : V) : 
 abbrev pub Alike : {V : Type 0} → (V → V → Type 0) → V → V → Type 0
 Alike Below a b = Below a b × Below b a
 
--- `IsJoin Below join` holds if `Below` is a preorder, and `join` is associative, commutative, idempotent and the
--- least upper bound, up to `Alike`.
+-- `IsJoin Below join` holds if `Below` is a preorder and `join` gives least upper bounds, and `join` is associative,
+-- commutative and idempotent up to `Alike`.
 pub record IsJoin {V : Type 0} (Below : V → V → Type 0) (join : V → V → V) : Type 0 where
   pub reflexive : (a : V) → Below a a
   pub transitive : (a b c : V) → Below a b → Below b c → Below a c
@@ -25,7 +26,7 @@ pub record IsJoin {V : Type 0} (Below : V → V → Type 0) (join : V → V → 
   pub commutative : (a b : V) → Alike Below (join a b) (join b a)
   pub idempotent : (a : V) → Alike Below (join a a) a
 
--- A preorder and a least upper bound make a join: the other three laws follow.
+-- A preorder with least upper bounds has a join: the three other laws follow.
 pub join_from_least : {V : Type 0} (Below : V → V → Type 0) (join : V → V → V)
     → ((a : V) → Below a a) → ((a b c : V) → Below a b → Below b c → Below a c)
     → ((a b : V) → Below a (join a b)) → ((a b : V) → Below b (join a b))
@@ -49,13 +50,13 @@ join_from_least Below join r t l m u = record {
   idempotent = λ a. (u a a a (r a) (r a), l a a);
 }
 
--- `option_below below a b` extends an order by `None` as the least value.
+-- `option_below below a b` extends the order `below` to `None`, as the least value.
 abbrev pub option_below : {V : Type 0} → (V → V → Bool) → Option V → Option V → Bool
 option_below below None b = true
 option_below below (Some a) None = false
 option_below below (Some a) (Some b) = below a b
 
--- `option_joined join a b` is the join of the values that are present.
+-- `option_joined join a b` is the join of `a` and `b`, or the one of them that is not `None`.
 abbrev pub option_joined : {V : Type 0} → (V → V → V) → Option V → Option V → Option V
 option_joined join None b = b
 option_joined join (Some a) None = Some a

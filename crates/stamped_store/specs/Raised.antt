@@ -30,7 +30,7 @@ numbered_cmp a b = entry_cmp_by nat_cmp a b
 abbrev pub NumberedStore : Type 0
 NumberedStore = StoreAt ℕ
 
--- `numbered_updates s` are the updates of the store `s`.
+-- `numbered_updates s` are the updates of the store `s`, in the order of the names.
 abbrev pub numbered_updates : NumberedStore → List NumberedUpdate
 numbered_updates s = store_map.entries s
 
@@ -38,8 +38,8 @@ numbered_updates s = store_map.entries s
 abbrev pub numbered_store_of : List NumberedUpdate → NumberedStore
 numbered_store_of us = updates_of.store_of numbered_cmp name_cmp us
 
--- `IsNumberedStoreOf us s` holds if each name has in `s` the greatest entry that the updates `us` have for it, and no
--- other name has one.
+-- `IsNumberedStoreOf us s` holds if the entry of each name in `s` is the greatest one that the updates `us` have for
+-- the name; a name without an update has no entry.
 abbrev pub IsNumberedStoreOf : List NumberedUpdate → NumberedStore → Type 0
 IsNumberedStoreOf us s = updates_of.IsStoreOf numbered_cmp us s
 
@@ -47,15 +47,15 @@ IsNumberedStoreOf us s = updates_of.IsStoreOf numbered_cmp us s
 abbrev pub IsNumberedJoin : NumberedStore → NumberedStore → NumberedStore → Type 0
 IsNumberedJoin = IsLeastAbove (updates_of.IsStoreBelow numbered_cmp)
 
--- `joined_numbered s t` is the join of two stores.
+-- `joined_numbered s t` is the join of the stores `s` and `t`.
 abbrev pub joined_numbered : NumberedStore → NumberedStore → NumberedStore
 joined_numbered s t = updates_of.joined_stores numbered_cmp name_cmp s t
 
--- `IsSiteNumber n` holds if `n` is a number that a site had.
+-- `IsSiteNumber n` holds if `n` is a number that a site may have had.
 abbrev pub IsSiteNumber : ℕ → Type 0
 IsSiteNumber n = (1 ≤ n) × (n ≤ 65535)
 
--- `HaveSiteNumbers us` holds if each site's number in the updates `us` is one that a site had.
+-- `HaveSiteNumbers us` holds if the site of each of the updates `us` is a number that a site may have had.
 abbrev pub HaveSiteNumbers : List NumberedUpdate → Type 0
 HaveSiteNumbers us = AllByRecursion (λ u. IsSiteNumber u.1.site) us
 
@@ -65,14 +65,14 @@ HaveSiteNumbers us = AllByRecursion (λ u. IsSiteNumber u.1.site) us
 abbrev pub raise_entry : NumberedEntry → PlainEntry
 raise_entry e = record { count = e.count; site = five_digits e.site; body = e.body }
 
--- `raise_update u` is the same of an update.
+-- `raise_update u` is the update `u` with its entry raised.
 abbrev pub raise_update : NumberedUpdate → Update
 raise_update u = (u.0, raise_entry u.1)
 
--- `raise us` is the same of updates.
+-- `raise us` are the updates `us`, each raised.
 abbrev pub raise : List NumberedUpdate → List Update
 raise us = map raise_update us
 
--- `raise_store s` is the same of a store.
+-- `raise_store s` is the store of named sites that has the raised updates of `s`.
 abbrev pub raise_store : NumberedStore → Store
 raise_store s = store_map.from_entries (raise (numbered_updates s))

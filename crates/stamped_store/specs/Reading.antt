@@ -1,4 +1,4 @@
--- Defines a fact about the parsed forms of a store's texts, for each entry and its name.
+-- Defines when each text of a store has a permitted parsed form.
 -- Rules of this product: each text is stored with its parsed form, so that nothing is parsed twice.
 use Rattle.std.specs.Prelude.{ℕ, List, Option, Some, None, string_bytes}
 use Rattle.std.specs.List.{AllByRecursion}
@@ -7,22 +7,23 @@ use Rattle.stamped_store.specs.declared.entry.Entry.{Entry}
 use Rattle.stamped_store.specs.declared.entry.ReadText.{ReadText}
 use Rattle.stamped_store.specs.Store.{StoreEntries}
 
--- `AllNamed name F es` holds if `F` holds of each value and its name; `name` maps a key to its name, without its
--- address in memory.
+-- `AllNamed name F es` holds if `F` holds of the name and the value of each of `es`; `name` maps a key of the code to
+-- its name.
 abbrev pub AllNamed : {K N V : Type 0} → (K → N) → (N → V → Type 0) → List (K × V) → Type 0
 AllNamed name F es = AllByRecursion (λ e. F (name e.0) e.1) es
 
--- `IsBodyRead Reads body` holds if `body` is a tombstone, or a text with its parsed form.
+-- `IsBodyRead Reads body` holds if `body` is a tombstone, or a text with a parsed form that `Reads` permits for it.
 abbrev pub IsBodyRead : {P : Type 0} → (List ℕ → P → Type 0) → Option (ReadText P) → Type 0
 IsBodyRead Reads None = Unit {0}
 IsBodyRead Reads (Some t) = Reads t.text t.read
 
--- `IsEntryRead Reads e` holds if the text of the entry `e`, if there is one, has its parsed form.
+-- `IsEntryRead Reads e` holds if the text of the entry `e`, if there is one, has a parsed form that `Reads` permits for
+-- it.
 abbrev pub IsEntryRead : {P : Type 0} → (List ℕ → P → Type 0) → Entry P → Type 0
 IsEntryRead Reads e = IsBodyRead Reads e.body
 
--- `AreEntriesRead Policies Entities k` holds if each text of the store `k` has its parsed form; which forms it may
--- have depends on its name.
+-- `AreEntriesRead Policies Entities k` holds if each text of the entries `k` has a permitted parsed form: `Policies`
+-- relates the id, the text and the form of a policy, and `Entities` those of an entity.
 pub record AreEntriesRead {P E : Type 0} (Policies : List ℕ → List ℕ → P → Type 0)
     (Entities : EntityUid → List ℕ → E → Type 0) (k : StoreEntries P E) : Type 0 where
   pub policies : AllNamed string_bytes (λ id. IsEntryRead (Policies id)) k.policies

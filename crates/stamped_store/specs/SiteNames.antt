@@ -23,20 +23,21 @@ pub record IsSiteName (name : List ℕ) : Type 0 where
 unfoldable pub is_site_name : List ℕ → Bool
 is_site_name name = (nat_le 1 (length name) && nat_le (length name) 32) && list_all is_site_byte name
 
--- Theorems for higher crates: the test is exact, names are valid UTF-8, and (below) five digits are a name.
+-- `SiteTestIsExact`: the test `is_site_name` is true of exactly the names of sites.
 abbrev pub SiteTestIsExact : Type 0
 SiteTestIsExact = (name : List ℕ) → (is_site_name name ≡ true) ↔ IsSiteName name
 
+-- `SiteNamesAreTexts`: the name of a site is valid UTF-8.
 abbrev pub SiteNamesAreTexts : Type 0
 SiteNamesAreTexts = (name : List ℕ) → IsSiteName name → IsUtf8 name
 
 -- ---- the name of a site that had a number
 
--- `five_digits n` is a number below 100,000 in decimal, with leading zeros up to five digits.
+-- `five_digits n` is the number `n`, below 100,000, in decimal with leading zeros up to five digits.
 abbrev pub five_digits : ℕ → List ℕ
 five_digits n = replicate (5 - length (decimal n)) (code "0") ++ decimal n
 
--- `SiteDigitsAreNames`: five digits are the name of a site.
+-- `SiteDigitsAreNames`: the five digits of a number are the name of a site.
 abbrev pub SiteDigitsAreNames : Type 0
 SiteDigitsAreNames = (n : ℕ) → n < 100000 → IsSiteName (five_digits n)
 
@@ -46,7 +47,8 @@ SiteDigitsAreNames = (n : ℕ) → n < 100000 → IsSiteName (five_digits n)
 abbrev pub padded : List ℕ → List ℕ
 padded name = name ++ drop (length name) (replicate 32 0)
 
--- `KeepsName bytes len` is the invariant of 32 bytes that hold a name of this length.
+-- `KeepsName bytes len` holds if the first `len` of the 32 bytes `bytes` are a site's name and the rest are zeros: the
+-- representation of a name in the code.
 pub record KeepsName (bytes : List ℕ) (len : ℕ) : Type 0 where
   pub named : IsSiteName (take len bytes)
   pub counted : length (take len bytes) ≡ len
@@ -54,11 +56,11 @@ pub record KeepsName (bytes : List ℕ) (len : ℕ) : Type 0 where
 
 -- ---- comparison of names
 
--- `spelt n bs` is the big-endian number of the bytes `bs` after those of `n`.
+-- `spelt n bs` is the big-endian number whose bytes are those of `n`, followed by `bs`.
 abbrev pub spelt : ℕ → List ℕ → ℕ
 spelt n [] = n
 spelt n (b ∷ bs) = spelt (n * 256 + b) bs
 
--- `word_at at bytes` are the eight bytes from the offset `at` on, as a number.
+-- `word_at at bytes` are the eight bytes of `bytes` from the offset `at` on, as a big-endian number.
 abbrev pub word_at : ℕ → List ℕ → ℕ
 word_at at bytes = spelt 0 (take 8 (drop at bytes))

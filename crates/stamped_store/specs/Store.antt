@@ -14,10 +14,10 @@ use Rattle.stamped_store.specs.declared.entry.Stamp.{Stamp}
 use Rattle.stamped_store.specs.Joins.{IsLeastAbove}
 use Rattle.stamped_store.specs.EntryOrder.{EntryAt, PlainEntry, entry_cmp, greater}
 use Rattle.stamped_store.specs.Greatest as updates_of
-use Rattle.stamped_store.specs.Stored.{all_taken}
+use Rattle.stamped_store.specs.Stored.{all_joined}
 use Rattle.stamped_store.specs.Abstraction.{abstract_entries}
 
--- `StoreAt Site` are stores with sites of this type.
+-- `StoreAt Site` is the type of stores whose sites have the type `Site`.
 abbrev pub StoreAt : Type 0 → Type 0
 StoreAt Site = map.FinMap name_cmp (EntryAt Site)
 
@@ -25,7 +25,7 @@ StoreAt Site = map.FinMap name_cmp (EntryAt Site)
 abbrev pub Store : Type 0
 Store = StoreAt (List ℕ)
 
--- `UpdateAt Site` are updates: a name, and an entry for it.
+-- `UpdateAt Site` is the type of updates: a name, and an entry for it.
 abbrev pub UpdateAt : Type 0 → Type 0
 UpdateAt Site = Name × EntryAt Site
 
@@ -37,19 +37,19 @@ Update = UpdateAt (List ℕ)
 abbrev pub updates : Store → List Update
 updates s = map.entries s
 
--- `store_of us` is the store of the updates `us`, the join of the updates (last writer wins): at each name the
--- greatest of the entries that they have for it, by count, then site, then body, a tombstone being the least body
--- (EntryOrder). It is built one update after another (Greatest); that the entry is the greatest, whatever their
--- order, is the theorem `updates_have_one_store`.
+-- `store_of us` is the store of the updates `us`, their join (last writer wins). At each name it has the greatest of
+-- the entries that they have for it, by count, then site, then body, where a tombstone is the least body (EntryOrder).
+-- It is built by one update after another (Greatest); the theorem `updates_have_one_store` states that it has the
+-- greatest entries, whatever the order of the updates.
 abbrev pub store_of : List Update → Store
 store_of us = updates_of.store_of entry_cmp name_cmp us
 
--- `IsStoreOf us s` holds if each name has in `s` the greatest entry that the updates `us` have for it, and no other
--- name has one.
+-- `IsStoreOf us s` holds if the entry of each name in `s` is the greatest one that the updates `us` have for the name;
+-- a name without an update has no entry.
 abbrev pub IsStoreOf : List Update → Store → Type 0
 IsStoreOf us s = updates_of.IsStoreOf entry_cmp us s
 
--- `first_names k s` is the store of the first `k` names of `s`.
+-- `first_names k s` is the store `s` restricted to its first `k` names.
 abbrev pub first_names : ℕ → Store → Store
 first_names k s = store_of (take k (updates s))
 
@@ -61,7 +61,7 @@ plain_below a b = is_le (entry_cmp a b)
 abbrev pub IsStoreBelow : Store → Store → Type 0
 IsStoreBelow s t = updates_of.IsStoreBelow entry_cmp s t
 
--- `KeepsOtherNames name old new` holds if each name other than `name` keeps its entry.
+-- `KeepsOtherNames name old new` holds if each name other than `name` has the same entry in `new` as in `old`.
 abbrev pub KeepsOtherNames : Name → Store → Store → Type 0
 KeepsOtherNames name old new = (q : Name) → q ≢ name → map.get new q ≡ map.get old q
 
@@ -69,26 +69,28 @@ KeepsOtherNames name old new = (q : Name) → q ≢ name → map.get new q ≡ m
 abbrev pub IsStoreJoin : Store → Store → Store → Type 0
 IsStoreJoin = IsLeastAbove IsStoreBelow
 
--- `joined_stores s t` is the join of two stores, which is their merge: the store of the updates of both.
+-- `joined_stores s t` is the join of the stores `s` and `t`, which is their merge: the store of the updates of both.
 abbrev pub joined_stores : Store → Store → Store
 joined_stores s t = updates_of.joined_stores entry_cmp name_cmp s t
 
--- `issue s site` is the next stamp at `site`: one more than the greatest count in the whole store.
+-- `issue s site` is the next stamp at the site `site`: its count is one more than the greatest count in the whole store
+-- `s`.
 abbrev pub issue : Store → List ℕ → Stamp
 issue s site = record { count = updates_of.greatest_count s + 1; site = site }
 
--- `issued stamp body` is the entry of a local command: an issued stamp, and a body.
+-- `issued stamp body` is the entry of a local command, with the issued stamp `stamp` and the body `body`.
 abbrev pub issued : Stamp → Option (List ℕ) → PlainEntry
 issued stamp body = record { count = stamp.count; site = stamp.site; body = body }
 
 -- ---- the concrete store, and the abstract store that it represents
 
--- `StoreEntries P E` are the concrete entries: policies by id and entities by uid, each ascending.
+-- `StoreEntries P E` are the concrete entries: policies by id, with parsed forms of the type `P`, and entities by uid,
+-- with parsed forms of the type `E`, each ascending.
 pub record StoreEntries (P E : Type 0) : Type 0 where
   pub policies : List (String Global × Entry P)
   pub entities : List (EntityUid × Entry E)
 
--- `kept ps es` are the concrete entries of these policies and entities.
+-- `kept ps es` are the concrete entries with the policies `ps` and the entities `es`.
 abbrev pub kept : {P E : Type 0} → List (String Global × Entry P) → List (EntityUid × Entry E) → StoreEntries P E
 kept ps es = record { policies = ps; entities = es }
 
@@ -112,12 +114,12 @@ abstract_updates k = abstract_entries id_name k.policies ++ abstract_entries ent
 abbrev pub abstract_store : {P E : Type 0} → StoreEntries P E → Store
 abstract_store k = map.from_entries (abstract_updates k)
 
--- `all_kept k l` is `k`, with each entry of `l` joined in turn.
+-- `all_kept k l` are the concrete entries `k`, with each entry of `l` joined in turn.
 abbrev pub all_kept : {P E : Type 0} → StoreEntries P E → StoreEntries P E → StoreEntries P E
-all_kept k l = kept (all_taken string_cmp greater k.policies l.policies)
-    (all_taken uid_cmp greater k.entities l.entities)
+all_kept k l = kept (all_joined string_cmp greater k.policies l.policies)
+    (all_joined uid_cmp greater k.entities l.entities)
 
--- `first_kept n k` are the entries of the first `n` names of `k`: policies come first.
+-- `first_kept n k` are the entries of the first `n` names of `k`; policies come before entities.
 abbrev pub first_kept : {P E : Type 0} → ℕ → StoreEntries P E → StoreEntries P E
 first_kept n k = kept (take n k.policies) (take (n - length k.policies) k.entities)
 

@@ -1,4 +1,4 @@
--- Defines a store as the list of its entries, in the order of its keys.
+-- Defines a map whose values are joined, as the list of its entries in the order of the keys.
 use Rattle.std.specs.Prelude.{◌≡◌, ◌≢◌, Bool, true, List, [], ◌∷◌, Option, Some, None, ℕ, string_bytes}
 use Rattle.std.specs.BTreeMap.{insert_entry, is_at}
 use Rattle.std.specs.Map.{lookup}
@@ -10,17 +10,17 @@ use Rattle.std.specs.declared.cmp.Ordering.{Ordering}
 use Rattle.std.specs.declared.cmp.Ordering.TheVariants.{Equal}
 use Rattle.stamped_store.specs.Joins.{option_below, option_joined}
 
--- `joined_onto join o v` is `v`, joined with the value `o` if there is one.
+-- `joined_onto join o v` is `v`, joined onto the value in `o` if there is one.
 abbrev pub joined_onto : {V : Type 0} → (V → V → V) → Option V → V → V
 joined_onto join None v = v
 joined_onto join (Some held) v = join held v
 
 module _ {K V : Type 0} where
-  -- `IsBelowAt below f g` holds if at each key `f` is at most `g`.
+  -- `IsBelowAt below f g` holds if at each key the value of `f` is at most that of `g`.
   abbrev pub IsBelowAt : (V → V → Bool) → (K → Option V) → (K → Option V) → Type 0
   IsBelowAt below f g = (q : K) → option_below below (f q) (g q) ≡ true
 
-  -- `joined_at join f g q` is the join of `f` and `g` at the key `q`.
+  -- `joined_at join f g q` is the join of the values of `f` and `g` at the key `q`.
   abbrev pub joined_at : (V → V → V) → (K → Option V) → (K → Option V) → K → Option V
   joined_at join f g q = option_joined join (f q) (g q)
 
@@ -32,20 +32,20 @@ module _ {K V : Type 0} where
   abbrev pub KeepsOthers : (K → K → Ordering) → K → List (K × V) → List (K × V) → Type 0
   KeepsOthers cmp k old new = (q : K) → cmp q k ≢ Equal → value_at cmp new q ≡ value_at cmp old q
 
-  -- `taken cmp join s k v` is `s`, with `v` joined at the key `k`.
+  -- `taken cmp join s k v` is the list `s` with `v` joined at the key `k`.
   abbrev pub taken : (K → K → Ordering) → (V → V → V) → List (K × V) → K → V → List (K × V)
   taken cmp join s k v = insert_entry cmp s k (joined_onto join (value_at cmp s k) v)
 
-  -- `all_taken cmp join s es` is `s`, with each of the pairs `es` joined in turn.
-  abbrev pub all_taken : (K → K → Ordering) → (V → V → V) → List (K × V) → List (K × V) → List (K × V)
-  all_taken cmp join s [] = s
-  all_taken cmp join s (e ∷ es) = all_taken cmp join (taken cmp join s e.0 e.1) es
+  -- `all_joined cmp join s es` is the list `s` with each of the pairs `es` joined in turn.
+  abbrev pub all_joined : (K → K → Ordering) → (V → V → V) → List (K × V) → List (K × V) → List (K × V)
+  all_joined cmp join s [] = s
+  all_joined cmp join s (e ∷ es) = all_joined cmp join (taken cmp join s e.0 e.1) es
 
   -- `IsBelow cmp below s t` holds if each key of `s` has a value in `t` that is at least as great.
   abbrev pub IsBelow : (K → K → Ordering) → (V → V → Bool) → List (K × V) → List (K × V) → Type 0
   IsBelow cmp below s t = IsBelowAt below (value_at cmp s) (value_at cmp t)
 
-  -- `IsJoined cmp join s t n` holds if `n` has at each key the join of `s` and `t` there.
+  -- `IsJoined cmp join s t n` holds if the value of `n` at each key is the join of those of `s` and `t`.
   abbrev pub IsJoined : (K → K → Ordering) → (V → V → V) → List (K × V) → List (K × V) → List (K × V) → Type 0
   IsJoined cmp join s t n = (q : K) → value_at cmp n q ≡ joined_at join (value_at cmp s) (value_at cmp t) q
 

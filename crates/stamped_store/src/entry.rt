@@ -19,7 +19,7 @@ pub struct Stamp {
     pub site: SiteName,
 }
 
-/// A text with its parsed form, which orders and equalities ignore.
+/// A text with its parsed form. Orders and equalities ignore the parsed form.
 #[derive(Drop)]
 pub struct ReadText<P> {
     /// The text itself.
@@ -62,8 +62,8 @@ impl<P> PartialOrd for Entry<P> {
     }
 }
 
-/// Orders entries by count, then site, then body: a tombstone is the least body, and texts are ordered by their
-/// bytes. Does not allocate.
+/// Orders entries by count, then by the bytes of the site's name, then by body: a tombstone is the least body, and
+/// texts are ordered by their bytes. Does not allocate.
 impl<P> Ord for Entry<P> {
     ghost cmp = { read_cmp };
 
@@ -101,7 +101,7 @@ impl<P: Drop> Join for Entry<P> {
         self.cmp(other).is_le()
     }
 
-    // The greater entry stays; of two equal ones, this one.
+    // The greater entry is kept; of two equal ones, this one.
     #[inline(always)]
     fn join(&mut self, other: Entry<P>) {
         if !other.below(self) {

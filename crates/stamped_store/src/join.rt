@@ -2,8 +2,8 @@
 ghost use Rattle.std.specs.Prelude.{◌≡◌, Bool, true};
 ghost use Rattle.stamped_store.specs.Joins.{IsJoin};
 
-/// A value with a join: the least upper bound of two values. Two values are equal if each is at most the other.
-/// Neither call allocates.
+/// A value with a join: the least upper bound of two values. Values that are at most each other count as equal. Neither
+/// method may allocate.
 pub trait Join {
     /// Whether a value is at most another.
     ghost is_below: { Self → Self → Bool };
@@ -19,6 +19,6 @@ pub trait Join {
     fn join(&mut self, other: Self)
         ensures { self.new ≡ joined self.old other };
 
-    /// `is_below` is an order, and the join is associative, commutative, idempotent and the least upper bound.
+    /// `is_below` is a preorder, and the join is a least upper bound, and associative, commutative and idempotent.
     ghost laws: { IsJoin (λ a b. is_below a b ≡ true) joined };
 }

@@ -1,4 +1,4 @@
-//! Theorems about entries, joins and stores, each as the contract of a function without effect.
+//! Theorems about entries, joins and stores. The functions are no-ops.
 ghost use Rattle.std.specs.Prelude.{◌≡◌, ◌↔◌, ◌≤◌, ◌<◌, ◌⊎◌, ◌++◌, ◌∷◌, [], true, ℕ, List, Option, Some, max};
 ghost use Rattle.std.specs.Prelude.{string_bytes};
 ghost use Rattle.std.specs.Option.{option_map};
@@ -42,8 +42,8 @@ pub fn entries_are_joined()
     ensures least { (a b : PlainEntry) → IsLeastAbove (λ x y. plain_below x y ≡ true) a b (greater_entry a b) }
 {}
 
-/// Proves that the parsed form of a text does not matter: entries are joined by their stamps and bodies, and two
-/// entries are at most each other if and only if their stamps and bodies are equal. No-op.
+/// Proves that the parsed forms of texts do not matter: entries are joined by their stamps and bodies, and two entries
+/// are at most each other if and only if their stamps and bodies are equal. No-op.
 pub fn read_entries_are_joined<P: Drop>()
     ensures laws { IsJoin (λ (a b : Entry P). entry_below a b ≡ true) greater }
     ensures plain { (a b : Entry P) → plain_entry (greater a b) ≡ greater_entry (plain_entry a) (plain_entry b) }
@@ -51,13 +51,13 @@ pub fn read_entries_are_joined<P: Drop>()
         ↔ (plain_entry a ≡ plain_entry b) }
 {}
 
-/// Proves that each implementation of `Join` has a preorder, and a join that is a least upper bound, and associative,
-/// commutative and idempotent if values that are at most each other count as equal. No-op.
+/// Proves that each implementation of `Join` has a preorder whose least upper bounds are its join. The join is
+/// associative, commutative and idempotent if values that are at most each other count as equal. No-op.
 pub fn joins_have_laws<V: Join>()
     ensures { IsJoin (λ a b. V.is_below a b ≡ true) V.joined }
 {}
 
-/// Proves the laws of [`joins_have_laws`] for the join of stores, where a store is a map from keys to values. No-op.
+/// Proves the laws of [`joins_have_laws`] for the join of maps from keys to such values. No-op.
 pub fn stamped_are_joined<K: Ord, V: Join>()
     ensures { IsJoin (IsBelowAt {K = K} V.is_below) (joined_at V.joined) }
 {}
@@ -108,16 +108,16 @@ pub fn stamps_are_issued()
 
 /// Proves that the policies and the entities of a store are exactly those whose name has a text, each with that text.
 /// No-op.
-pub fn contents_are_told()
+pub fn contents_are_the_texts()
     ensures policies { (s : Store) (id text : List ℕ) → Contains (policies_of s) (id, text)
         ↔ (text_under s (policy_name id) ≡ Some text) }
     ensures entities { (s : Store) (uid : EntityUid) (text : List ℕ) → Contains (entities_of s) (uid, text)
         ↔ (text_under s (entity_name uid) ≡ Some text) }
 {}
 
-/// Proves what a delta is, and that it may replace the whole store. No-op.
+/// Proves what a delta has, and that it may replace the whole store in a merge. No-op.
 ///
-/// - `news`: a delta has exactly the entries of its store that the summary lacks or has with a smaller stamp.
+/// - `news`: a delta has exactly the entries of its store whose names the summary lacks or has with a smaller stamp.
 /// - `summary`: a summary has the stamp of each entry of its store.
 /// - `whole`: let `old` be a store that is at most `s`, such as `s` or an earlier state of it. The delta of a store `t`
 ///   against the summary of `old`, joined into `s`, has the same effect as the whole of `t`, if equal stamps mean equal
@@ -130,10 +130,10 @@ pub fn deltas_are_joined()
         → joined_stores s (delta t (summary_of old)) ≡ joined_stores s t }
 {}
 
-/// Proves that, once each text of a store has its parsed form, under its name, this stays so. No-op.
+/// Proves that a store keeps the property that each text has a permitted parsed form ([`Readings`]). No-op.
 ///
-/// It holds of the empty store, after a policy or an entity with its own parsed form is applied, and after a merge of
-/// two such stores, whole or cut short.
+/// The empty store has it; and so has a store after a policy or an entity with a permitted parsed form is applied, and
+/// after a merge of two stores that have it, whole or cut short.
 pub fn readings_are_kept<P: Drop, E: Drop, R: Readings<P, E>>()
     ensures empty { (r : R) → AreEntriesRead {P = P} {E = E} (R.reads_policy r) (R.reads_entity r) (kept [] []) }
     ensures policy { (r : R) (k : StoreEntries P E) (id : String Global) (entry : Entry P)
@@ -154,9 +154,10 @@ pub fn readings_are_kept<P: Drop, E: Drop, R: Readings<P, E>>()
         → AreEntriesRead (R.reads_policy r) (R.reads_entity r) (all_kept k (first_kept n l)) }
 {}
 
-/// Proves that the test accepts exactly the names of sites, and that a name is valid UTF-8; that the five digits of a
-/// number are a name; and that these are ordered as the numbers, and are equal only for equal numbers. No-op.
-pub fn site_names_are_told()
+/// Proves that the test accepts exactly the names of sites, and that such a name is valid UTF-8; that the five digits
+/// of a number are a name; and that these names are ordered as the numbers are, and are equal only for equal numbers.
+/// No-op.
+pub fn site_names_are_recognized()
     ensures tested { SiteTestIsExact }
     ensures texts { SiteNamesAreTexts }
     ensures digits { SiteDigitsAreNames }
@@ -165,11 +166,11 @@ pub fn site_names_are_told()
     ensures apart { (m n : ℕ) → m < 100000 → n < 100000 → five_digits m ≡ five_digits n → m ≡ n }
 {}
 
-/// Proves that stores of numbered sites correspond to those of named sites. To raise updates or a store is to replace
-/// each site's number by its five digits. No-op.
+/// Proves that stores of numbered sites correspond to those of named sites. Raising updates or a store replaces each
+/// site's number by its five digits. No-op.
 ///
-/// - `greatest`, `only`: such a store is the only store of its updates, as one of named sites is.
-/// - `least`: the join of two is their least upper bound.
+/// - `greatest`, `only`: a store of numbered sites is the only store of its updates, as one of named sites is.
+/// - `least`: the join of two such stores is their least upper bound.
 ///
 /// If each site's number is from 1 to 65,535 (`updates` needs no such condition):
 ///

@@ -35,7 +35,7 @@ pub const COUNT_MAX: u64 = 1_000_000_000_000_000_000;
 pub struct StampedStore<P: Drop, E: Drop> {
     policies: Stamped<String, Entry<P>>,
     entities: Stamped<EntityUid, Entry<E>>,
-    // The greatest count of all entries, so that a stamp is issued in constant time.
+    // The greatest count of all entries, so that the next stamp is known in constant time.
     greatest: u64,
 }
 
@@ -68,7 +68,7 @@ impl<P: Drop, E: Drop> StampedStore<P, E> {
         ensures shown { option_map plain_entry (option_copied result) ≡ get (abstract_store self.now)
             (policy_name id.now) }
     {
-        policy_at(&self.policies, id)
+        self.policies.get_str(id)
     }
 
     /// Returns the entry of the entity of this uid, if there is one. O(log n). Does not allocate.
@@ -77,7 +77,7 @@ impl<P: Drop, E: Drop> StampedStore<P, E> {
         ensures shown { option_map plain_entry (option_copied result)
             ≡ get (abstract_store self.now) (entity_name uid.now) }
     {
-        entity_at(&self.entities, uid)
+        self.entities.get(uid)
     }
 
     /// Returns the entries of policies, ascending by the bytes of the id.
@@ -199,24 +199,7 @@ impl<P: Drop, E: Drop> StampedStore<P, E> {
     }
 }
 
-// The store's calls are these on its two maps.
-
-// Returns the entry of the policy of this id.
-fn policy_at<'s, P: Drop>(policies: &'s Stamped<String, Entry<P>>, id: &str) -> Option<&'s Entry<P>>
-    ensures { option_copied result ≡ value_at_text policies.now id.now }
-{
-    policies.get_str(id)
-}
-
-// Returns the entry of the entity of this uid.
-fn entity_at<'s, E: Drop>(
-    entities: &'s Stamped<EntityUid, Entry<E>>,
-    uid: &EntityUid,
-) -> Option<&'s Entry<E>>
-    ensures { option_copied result ≡ value_at uid_cmp entities.now uid.now }
-{
-    entities.get(uid)
-}
+// The steps of the store's methods, on one of its two maps or both.
 
 // Joins an entry at a key, and returns the greatest count afterwards.
 fn take_counted<K: Ord + Drop, P: Drop>(
@@ -245,7 +228,7 @@ fn all_below<K: Ord + Drop, P: Drop>(
     first.below(second)
 }
 
-// Returns a failed allocation after this many names of policies.
+// Returns the error of a merge in which an allocation failed after `before` policies and some entities were joined.
 fn short_behind(before: usize, short: Short) -> Short
     requires { before + short.taken < 2 ^ 64 }
     ensures { result.taken ≡ before + short.taken }
@@ -255,12 +238,14 @@ fn short_behind(before: usize, short: Short) -> Short
     }
 }
 
+// Returns the greater of two counts.
 fn greater_count(a: u64, b: u64) -> u64
     ensures { result ≡ max a b }
 {
     a.max(b)
 }
 
+// Returns the greatest count in both maps, 0 if they are empty.
 fn greatest_of_both<P: Drop, E: Drop>(
     policies: &Stamped<String, Entry<P>>,
     entities: &Stamped<EntityUid, Entry<E>>,
@@ -270,7 +255,7 @@ fn greatest_of_both<P: Drop, E: Drop>(
     greatest_of(policies).max(greatest_of(entities))
 }
 
-// Returns the greatest count of these entries, 0 for none.
+// Returns the greatest count in one of the two maps, 0 if it is empty.
 fn greatest_of<K: Ord + Drop, P: Drop>(entries: &Stamped<K, Entry<P>>) -> u64
     ensures { result ≡ greatest_kept entries.now }
 {

@@ -82,7 +82,7 @@ pub fn is_site_name(text: &str) -> bool
 }
 
 impl SiteName {
-    /// Creates the name with these bytes, for which [`is_site_name`] must hold. Does not allocate.
+    /// Creates the site name `name`, for which [`is_site_name`] must hold. Does not allocate.
     pub fn new(name: &str) -> SiteName
         requires { IsSiteName name.now }
         ensures { result ≡ name.now }
@@ -106,8 +106,8 @@ impl SiteName {
         }
     }
 
-    /// Returns the name of the site that has this number in a message of version 1: five digits, with leading zeros. No
-    /// site has the number 0, which gives `00000`. Does not allocate.
+    /// Returns the name of the site that has this number in messages of version 1: five digits, with leading zeros. The
+    /// number 0, which no site has there, gives `00000`. Does not allocate.
     pub fn from_number(number: u16) -> SiteName
         ensures { result ≡ five_digits number }
     {
@@ -135,16 +135,16 @@ impl SiteName {
     {
         match std::str::from_utf8(self.as_bytes()) {
             Ok(text) => text,
-            // Its bytes are ASCII.
+            // The bytes of a name are ASCII.
             Err(_) => unreachable!(),
         }
     }
 }
 
-// Names are compared by words of eight bytes: a name with its trailing zeros has four. As big-endian numbers these are
-// ordered as their bytes are. No byte of a name is 0, so a prefix of a name comes before it.
+// Names are compared by words of eight bytes: a name with its trailing zeros has four words. As big-endian numbers
+// these are ordered as their bytes are. No byte of a name is 0, so a name comes after each of its proper prefixes.
 impl SiteName {
-    // The eight bytes at this offset, as a number.
+    // Returns the eight bytes at this offset, as a big-endian number.
     fn word(&self, at: usize) -> u64
         requires { at + 8 ≤ 32 }
         ensures spelt { result ≡ word_at at (padded self.now) }
@@ -163,7 +163,7 @@ impl SiteName {
         ])
     }
 
-    // How the words of two names at this offset compare.
+    // Compares the words of two names at this offset.
     fn word_cmp(&self, other: &SiteName, at: usize) -> Ordering
         requires { at + 8 ≤ 32 }
         ensures ordered { result ≡ nat_cmp (word_at at (padded self.now)) (word_at at (padded other.now)) }
@@ -173,7 +173,7 @@ impl SiteName {
     }
 }
 
-// The last digit of a number, in ASCII.
+// Returns the last digit of a number, in ASCII.
 fn last_digit(number: u16) -> u8
     ensures { result ≡ 48 + number % 10 }
 {

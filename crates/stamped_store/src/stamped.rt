@@ -1,4 +1,4 @@
-//! Maps from names to values with a join: each name keeps the join of its values.
+//! Maps from keys to values with a join: each key has the join of the values that were applied to it.
 ghost use Rattle.std.specs.Prelude.{◌≡◌, ◌↔◌, ◌<◌, ◌+◌, ◌^◌, [], length, take, Some, IfErr, IfOk, OnOk, OnErr, IsTrue};
 ghost use Rattle.std.specs.Option.{option_copied};
 ghost use Rattle.std.specs.List.Sorted.{IsStrictlySortedBy};
@@ -6,7 +6,7 @@ ghost use Rattle.std.specs.BTreeMap.{insert_entry};
 ghost use Rattle.std.specs.Map.{keys_of};
 ghost use Rattle.std.specs.Map.Iter.{ShowsInOrder, deref_pair};
 ghost use Rattle.stamped_store.specs.Joins.{IsLeastAbove, option_below};
-ghost use Rattle.stamped_store.specs.Stored.{value_at, value_at_text, joined_onto, taken, all_taken, KeepsOthers};
+ghost use Rattle.stamped_store.specs.Stored.{value_at, value_at_text, joined_onto, taken, all_joined, KeepsOthers};
 ghost use Rattle.stamped_store.specs.Stored.{IsBelow, IsJoined};
 
 use crate::Join;
@@ -16,12 +16,12 @@ use std::collections::btree_map::Iter;
 use std::marker::Model;
 use thiserror::Error;
 
-/// A failed allocation in a merge: exactly the entries of the first `taken` keys of the other store were joined, and
-/// the rest of it was dropped.
+/// A failed allocation in a merge. Exactly the entries of the first `taken` keys of the other map were joined, and the
+/// rest of it was dropped.
 #[derive(Clone, Copy, PartialEq, Eq, Debug, Error)]
 #[error("out of memory after {taken} entries")]
 pub struct Short {
-    /// How many keys of the other store, from its least on, were joined.
+    /// How many keys of the other map were joined, from the least on.
     pub taken: usize,
 }
 
@@ -106,11 +106,11 @@ impl<K: Ord + Drop, V: Join + Drop> Stamped<K, V> {
     pub fn merge(&mut self, other: Self) -> Result<(), Short>
         ensures ok { OnOk result (IsLeastAbove (IsBelow K.cmp V.is_below) self.old other self.new) }
         ensures ok_values { OnOk result (IsJoined K.cmp V.joined self.old other self.new) }
-        ensures ok_entries { OnOk result (self.new ≡ all_taken K.cmp V.joined self.old other) }
+        ensures ok_entries { OnOk result (self.new ≡ all_joined K.cmp V.joined self.old other) }
         ensures short { IfErr result
             (λ s. IsLeastAbove (IsBelow K.cmp V.is_below) self.old (take s.taken other) self.new) }
         ensures short_values { IfErr result (λ s. IsJoined K.cmp V.joined self.old (take s.taken other) self.new) }
-        ensures short_entries { IfErr result (λ s. self.new ≡ all_taken K.cmp V.joined self.old (take s.taken other)) }
+        ensures short_entries { IfErr result (λ s. self.new ≡ all_joined K.cmp V.joined self.old (take s.taken other)) }
         ensures cut { IfErr result (λ s. s.taken < length other) }
         ensures small { IfErr result (λ s. s.taken < 2 ^ 63) }
     {
@@ -124,7 +124,7 @@ impl<K: Ord + Drop, V: Join + Drop> Stamped<K, V> {
         Ok(())
     }
 
-    // Joins the next value of another map, after this many, and returns how many were then joined.
+    // Joins the next value of another map, of which `count` were joined before, and returns how many are joined then.
     fn take_next(&mut self, count: usize, key: K, value: V) -> Result<usize, Short>
         requires { count < 2 ^ 63 }
         ensures count { IfOk result (λ n. n ≡ count + 1) }
@@ -138,7 +138,7 @@ impl<K: Ord + Drop, V: Join + Drop> Stamped<K, V> {
         }
     }
 
-    /// Returns whether each key has a value in the other map that is at least as great. Does not allocate.
+    /// Returns whether each key of this map has a value in the other that is at least as great. Does not allocate.
     pub fn below(&self, other: &Self) -> bool
         ensures { IsTrue result ↔ IsBelow K.cmp V.is_below self.now other.now }
     {
@@ -150,7 +150,7 @@ impl<K: Ord + Drop, V: Join + Drop> Stamped<K, V> {
         true
     }
 
-    // Returns whether the key has a value at least as great as this one.
+    // Returns whether this map has, at the key, a value at least as great as `value`.
     fn has_above(&self, key: &K, value: &V) -> bool
         ensures { result ≡ option_below V.is_below (Some value.now) (value_at K.cmp self.now key.now) }
     {
@@ -170,7 +170,7 @@ impl<V: Join + Drop> Stamped<String, V> {
     }
 }
 
-// Sets the value of a key, whether it had one or not. If an allocation fails, returns both.
+// Sets the value of a key, whether the key had one or not. If an allocation fails, returns the key and the value.
 fn insert_new<K: Ord + Drop, V: Drop>(
     map: &mut BTreeMap<K, V>,
     key: K,

@@ -1,4 +1,4 @@
-//! The sites that stamped the updates of a store.
+//! Which sites stamped the updates of a store.
 ghost use Rattle.std.specs.Prelude.{◌≡◌};
 ghost use Rattle.std.specs.List.{list_any};
 ghost use Rattle.std.specs.Str.{bytes_eq};
@@ -8,14 +8,14 @@ ghost use Rattle.stamped_store.specs.Stamping.{has_stamps_of};
 use crate::{Entry, SiteName, Stamp, StampedStore};
 use std::collections::btree_map::Iter;
 
-/// Returns whether a stamp was issued by the site of this name.
+/// Returns whether a stamp is one of the site with this name.
 fn is_stamped_at(stamp: &Stamp, site: SiteName) -> bool
     ensures { result ≡ bytes_eq stamp.now.site site }
 {
     stamp.site.as_str() == site.as_str()
 }
 
-/// Returns whether one of these entries was stamped by the site of this name.
+/// Returns whether one of these entries has a stamp of the site with this name.
 fn is_any_stamped_at<K, P>(entries: Iter<'_, K, Entry<P>>, site: SiteName) -> bool
     ensures { result ≡ list_any (λ e. bytes_eq e.1.stamp.site site) entries.entry }
 {
@@ -27,8 +27,8 @@ fn is_any_stamped_at<K, P>(entries: Iter<'_, K, Entry<P>>, site: SiteName) -> bo
 }
 
 impl<P: Drop, E: Drop> StampedStore<P, E> {
-    /// Returns whether some update of the store, or a tombstone, was stamped by the site of this name. O(n). Does not
-    /// allocate.
+    /// Returns whether some update of the store, which may be a tombstone, has a stamp of the site with this name.
+    /// O(n). Does not allocate.
     pub fn has_stamps_of(&self, site: SiteName) -> bool
         ensures { result ≡ has_stamps_of site (abstract_store self.now) }
     {

@@ -15,20 +15,20 @@ use Rattle.http_streams.specs.RequestText.{request_start, length_field, body_byt
 use Rattle.state_exchanges.specs.declared.fault.NetworkFault.{NetworkFault}
 use Rattle.state_exchanges.specs.declared.fault.NetworkFault.TheVariants as network
 use Rattle.state_exchanges.specs.declared.fault.PullFault.TheVariants.{Network}
-use Rattle.state_exchanges.specs.declared.asking.Call.{Call}
-use Rattle.state_exchanges.specs.declared.asking.Call.TheVariants as call
+use Rattle.state_exchanges.specs.declared.asking.ExchangeCall.{ExchangeCall}
+use Rattle.state_exchanges.specs.declared.asking.ExchangeCall.TheVariants as call
 use Rattle.http_streams.specs.Parts.{is_method, is_target}
 use Rattle.state_exchanges.specs.Requests.{call_body, call_method, call_path, call_request, delta_request, merge_request, summary_request}
 use Rattle.state_exchanges.specs.Exchanges.{IsSent, IsRequestBegun, IsAnswered, IsUnanswered}
 use Rattle.state_exchanges.specs.inner.Faults.{pull_fault}
 
 -- its parts are those of a request
-pub method_is : (it : Call) → is_method (call_method it) ≡ true
+pub method_is : (it : ExchangeCall) → is_method (call_method it) ≡ true
 method_is call.Summary = refl
 method_is call.Delta = refl
 method_is call.Merge = refl
 
-pub target_is : (it : Call) → is_target (call_path it) ≡ true
+pub target_is : (it : ExchangeCall) → is_target (call_path it) ≡ true
 target_is call.Summary = refl
 target_is call.Delta = refl
 target_is call.Merge = refl
@@ -72,7 +72,7 @@ unfolding request_start
 merge_start = refl
 
 -- the text of a call's request
-pub request_is : (it : Call) (ask : Ask) (s : Bor (List ℕ)) → ask.method.now ≡ call_method it → ask.path.now ≡ call_path it → ask.body ≡ call_body it s
+pub request_is : (it : ExchangeCall) (ask : Ask) (s : Bor (List ℕ)) → ask.method.now ≡ call_method it → ask.path.now ≡ call_path it → ask.body ≡ call_body it s
     → request_text ask ≡ call_request it ask.host.now s.now
 unfolding delta_request merge_request summary_request
 request_is call.Summary ask s hm hp hb = bodiless ask _ (start_is _ _ _ summary_start _ _ hm hp) hb

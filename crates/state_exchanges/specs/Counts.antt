@@ -5,7 +5,7 @@ use Rattle.std.specs.Prelude.{◌≡◌, ℕ, ◌<◌, ◌++◌, List, length, t
 use Rattle.std.specs.Char.{is_ascii_digit}
 use Rattle.std.specs.List.{list_all}
 
--- `IsTakenLine line` holds if `line` is `{"taken":n}`, where n is one or more decimal digits
+-- `IsTakenLine line` holds if `line` is `{"taken":n}`, where n is one or more decimal digits.
 pub record IsTakenLine (line : List ℕ) : Type 0 where
   pub digits : List ℕ
   pub some : 0 < length digits

@@ -10,22 +10,24 @@ use Rattle.http_streams.specs.Reads.{EndsByOneRead}
 use Rattle.state_exchanges.specs.declared.fault.NetworkFault.{NetworkFault}
 use Rattle.state_exchanges.specs.declared.fault.NetworkFault.TheVariants as network
 
--- `TellsOfHost host fault` holds if `fault` is `NoHost` when `host` is not a host, and only then.
-abbrev pub TellsOfHost : List ℕ → NetworkFault → Type 0
-TellsOfHost host fault = (fault ≡ network.NoHost) ↔ IsFalse (is_host host)
+-- `ReportsNoHost host fault` holds if `fault` is `NoHost` exactly if `host` is not a host.
+abbrev pub ReportsNoHost : List ℕ → NetworkFault → Type 0
+ReportsNoHost host fault = (fault ≡ network.NoHost) ↔ IsFalse (is_host host)
 
--- `TellsOfSize host size fault` holds if `fault` is `TooLarge` when `host` is a host and a body of `size` bytes is
--- longer than a site accepts, and only then.
-abbrev pub TellsOfSize : List ℕ → ℕ → NetworkFault → Type 0
-TellsOfSize host size fault = (fault ≡ network.TooLarge) ↔ (IsTrue (is_host host) × (MAX_BODY < size))
+-- `ReportsTooLarge host size fault` holds if `fault` is `TooLarge` exactly if `host` is a host and a body of `size`
+-- bytes is longer than a site accepts.
+abbrev pub ReportsTooLarge : List ℕ → ℕ → NetworkFault → Type 0
+ReportsTooLarge host size fault = (fault ≡ network.TooLarge) ↔ (IsTrue (is_host host) × (MAX_BODY < size))
 
+-- In each module a call leads from the reader `r` and the writer `w` to `r2` and `w2`. Of a reader, `left` gives the
+-- bytes left; of a writer, `holds` gives the accepted bytes.
 module _ {R W : Type 0} (left : R → Option (List ℕ)) (holds : W → Option (List ℕ)) where
   -- `IsSent request r r2 w w2 bytes` holds if `request` was written and `bytes` were read.
   pub record IsSent (request : List ℕ) (r r2 : R) (w w2 : W) (bytes : List ℕ) : Type 0 where
     pub read : Consumes (left r) (left r2) bytes
     pub written : Appends (holds w) (holds w2) request
 
-  -- `IsRequestBegun request r r2 w w2` holds if a first part of `request`, or all of it, was written.
+  -- `IsRequestBegun request r r2 w w2` holds if a prefix of `request`, perhaps empty or all of it, was written.
   pub record IsRequestBegun (request : List ℕ) (r r2 : R) (w w2 : W) : Type 0 where
     pub bytes : List ℕ
     pub front : List ℕ
@@ -52,12 +54,12 @@ module _ {R W : Type 0} (left : R → Option (List ℕ)) (reads : R → ℕ → 
     (read_fails : R → R → Type 0) (holds : W → Option (List ℕ)) (write_failed : W → ℕ)
     (write_fails : W → W → Type 0) where
   -- `IsUnanswered request r r2 w w2 fault` holds if `fault` is why there is no reply of status 200:
-  -- NoHost, TooLarge: nothing was sent.
-  -- Read: the last read failed, before the reply was complete.
-  -- Write: the last write failed, and nothing was read.
-  -- BadReply: what was read is not the beginning of a reply, which the last read showed.
-  -- Ended: the last read reported the end of the input, before the reply was complete.
-  -- OtherStatus: the reply has another status.
+  -- - NoHost, TooLarge: nothing was sent.
+  -- - Read: the last read failed, before the reply was complete.
+  -- - Write: the last write failed, and nothing was read.
+  -- - BadReply: what was read cannot begin a reply; before the last read it was less than a reply.
+  -- - Ended: the last read reported the end of the input, before the reply was complete.
+  -- - OtherStatus: the reply has another status.
   abbrev pub IsUnanswered : List ℕ → R → R → W → W → NetworkFault → Type 0
   IsUnanswered request r r2 w w2 network.NoHost = (r2 ≡ r) × (w2 ≡ w)
   IsUnanswered request r r2 w w2 network.TooLarge = (r2 ≡ r) × (w2 ≡ w)

@@ -6,7 +6,7 @@ pub mod inner
 pub mod Requests
 pub mod Exchanges
 pub mod Pulls
--- crates below, passed on to those above
+-- Specifications of lower crates, re-exported.
 pub use Rattle.schema_decisions.specs as schema_decisions
 pub use Rattle.schema_decisions.specs.answer_lines
 pub use Rattle.schema_decisions.specs.entity_data

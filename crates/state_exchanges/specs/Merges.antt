@@ -1,5 +1,5 @@
 -- Defines the merge of two messages under a schema: the state of the join of their updates, or the first error.
--- Source: docs/formats.md, of states.
+-- Source: docs/formats.md, "Messages between sites".
 -- Rules of this product: the schema is checked first, then the first message, then the second.
 use Rattle.std.specs.Prelude.{◌≡◌, ◌⊎◌, ℕ, List, ◌++◌}
 use Rattle.schema_decisions.specs.policy_grammar.declared.policy.Policy.{Policy}
@@ -16,7 +16,8 @@ use Rattle.state_exchanges.specs.Messages.{IsMessageRefused, IsReadBack}
 
 -- ---- under a schema
 
--- `IsStoreOfBoth s f g m` holds if `f` and `g` are messages of `s`, and `m` is the store of the updates of both.
+-- `IsStoreOfBoth s f g m` holds if `f` and `g` are messages of the schema `s`, and `m` is the store of the updates of
+-- both.
 pub record IsStoreOfBoth (s : StatedSchema) (f g : List ℕ) (m : Store) : Type 0 where
   pub first : List (SentUpdate Policy Entity)
   pub second : List (SentUpdate Policy Entity)
@@ -24,20 +25,21 @@ pub record IsStoreOfBoth (s : StatedSchema) (f g : List ℕ) (m : Store) : Type 
   pub second_read : IsMessageOf s g second
   pub store_is : m ≡ store_of (plain_updates first ++ plain_updates second)
 
--- `IsSecondRefused s f g refusal` holds if `f` is a message of `s`, and `g` is rejected by `refusal`.
+-- `IsSecondRefused s f g refusal` holds if `f` is a message of the schema `s`, and `g` is rejected by `refusal`.
 pub record IsSecondRefused (s : StatedSchema) (f g : List ℕ) (refusal : Refusal) : Type 0 where
   pub first : List (SentUpdate Policy Entity)
   pub first_read : IsMessageOf s f first
   pub refused : IsMessageRefused s g refusal
 
--- `AreRefusedUnder s f g refusal` holds if `refusal` rejects the first of the two that is not a message of `s`.
+-- `AreRefusedUnder s f g refusal` holds if `refusal` is the error of the first of `f` and `g` that is not a message of
+-- `s`.
 abbrev pub AreRefusedUnder : StatedSchema → List ℕ → List ℕ → Refusal → Type 0
 AreRefusedUnder s f g refusal = IsMessageRefused s f refusal ⊎ IsSecondRefused s f g refusal
 
 -- ---- the three texts
 
--- `IsMerged schema f g text` holds if all three are accepted, and `text` is the state of the store of the updates of
--- both messages.
+-- `IsMerged schema f g text` holds if `schema` states a schema, `f` and `g` are messages of it, and `text` is the state
+-- of the store of the updates of both.
 pub record IsMerged (schema f g text : List ℕ) : Type 0 where
   pub stated : StatedSchema
   pub schema_is : IsSchemaOf schema stated
@@ -49,12 +51,13 @@ pub record IsMerged (schema f g text : List ℕ) : Type 0 where
 abbrev pub IsMergedBack : {schema f g text : List ℕ} → IsMerged schema f g text → Type 0
 IsMergedBack {schema} {f} {g} {text} m = IsReadBack m.stated m.store text
 
--- `AreNextRefused schema f g refusal` holds if the schema is accepted, and the messages are rejected by `refusal`.
-pub record AreNextRefused (schema f g : List ℕ) (refusal : Refusal) : Type 0 where
+-- `IsMessageErrorUnder schema f g refusal` holds if `schema` states a schema, and `refusal` is the error of the first
+-- of `f` and `g` that is not a message of it.
+pub record IsMessageErrorUnder (schema f g : List ℕ) (refusal : Refusal) : Type 0 where
   pub stated : StatedSchema
   pub schema_is : IsSchemaOf schema stated
   pub refused : AreRefusedUnder stated f g refusal
 
--- `AreRefused schema f g refusal` holds if `refusal` rejects the first of the three that is not accepted.
+-- `AreRefused schema f g refusal` holds if `refusal` is the error of the first of the three texts that is not accepted.
 abbrev pub AreRefused : List ℕ → List ℕ → List ℕ → Refusal → Type 0
-AreRefused schema f g refusal = IsSchemaRefused schema refusal ⊎ AreNextRefused schema f g refusal
+AreRefused schema f g refusal = IsSchemaRefused schema refusal ⊎ IsMessageErrorUnder schema f g refusal

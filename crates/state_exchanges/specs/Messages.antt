@@ -1,5 +1,5 @@
 -- Defines messages of a schema, and the stores into which they are joined.
--- Source: docs/formats.md, of states and deltas.
+-- Source: docs/formats.md, "Messages between sites".
 -- Rules of this product: a message, a state or a delta, is rejected whole, with its first error, or all its updates are
 -- applied in order, including those that lose; an error has a code, a place and the code of an error inside.
 use Rattle.std.specs.Prelude.{◌≡◌, ℕ, List, ◌++◌, length}
@@ -21,7 +21,7 @@ use Rattle.schema_decisions.specs.answer_lines.declared.refusal.Refusal.{Refusal
 abbrev pub message_refusal : MessageFault → Refusal
 message_refusal f = record { code = code_of f; place = place_of f; within = within_of f }
 
--- `IsMessageRefused s bytes refusal` holds if `refusal` is the first error of `bytes` as a message of `s`.
+-- `IsMessageRefused s bytes refusal` holds if `refusal` is the first error of `bytes` as a message of the schema `s`.
 pub record IsMessageRefused (s : StatedSchema) (bytes : List ℕ) (refusal : Refusal) : Type 0 where
   pub fault : MessageFault
   pub due : IsMessageFaultOf s bytes fault
@@ -29,20 +29,20 @@ pub record IsMessageRefused (s : StatedSchema) (bytes : List ℕ) (refusal : Ref
 
 -- ---- stores
 
--- `Joins s m bytes t count` holds if the message `bytes` has `count` updates, and `t` is the store of these and those
--- of `m`.
+-- `Joins s m bytes t count` holds if `bytes` are a message of the schema `s` with `count` updates, and `t` is the store
+-- of these and of the updates of the store `m`.
 pub record Joins (s : StatedSchema) (m : Store) (bytes : List ℕ) (t : Store) (count : ℕ) : Type 0 where
   pub came : List (SentUpdate Policy Entity)
   pub message : IsMessageOf s bytes came
   pub store_is : t ≡ store_of (updates m ++ plain_updates came)
   pub count_is : count ≡ length came
 
--- `IsSendable s m` holds if each update of the store `m` may occur in a message of `s`.
+-- `IsSendable s m` holds if each update of the store `m` may occur in a message of the schema `s`.
 pub record IsSendable (s : StatedSchema) (m : Store) : Type 0 where
   pub in_range : AreInRange (updates m)
   pub valid : AreValid (λ id. ReadsPolicy s) (ReadsEntity s) (updates m)
 
--- `IsReadBack s m bytes` holds if `bytes` are a message of `s` with the updates of the store `m`.
+-- `IsReadBack s m bytes` holds if `bytes` are a message of the schema `s` with the updates of the store `m`.
 pub record IsReadBack (s : StatedSchema) (m : Store) (bytes : List ℕ) : Type 0 where
   pub read : List (SentUpdate Policy Entity)
   pub message : IsMessageOf s bytes read

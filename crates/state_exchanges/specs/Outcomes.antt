@@ -14,7 +14,7 @@ abbrev pub IsOutcomeOfTexts : List ℕ → List ℕ → List ℕ → MergeOutcom
 IsOutcomeOfTexts schema f g (merged text) = IsMerged schema f g text
 IsOutcomeOfTexts schema f g (refused refusal) = AreRefused schema f g refusal
 
--- `HaveOneOutcome schema f g` holds if there is exactly one outcome.
+-- `HaveOneOutcome schema f g` holds if the merge of `f` and `g` under `schema` has exactly one outcome.
 abbrev pub HaveOneOutcome : List ℕ → List ℕ → List ℕ → Type 0
 HaveOneOutcome schema f g =
     (come : MergeOutcome) × IsOutcomeOfTexts schema f g come
@@ -30,7 +30,8 @@ abbrev pub RepeatsDoNotMatter : Type 0
 RepeatsDoNotMatter = (schema f g text other : List ℕ) (m : IsMerged schema f g text) → IsMergedBack m
     → (IsMerged schema text f other → other ≡ text) × (IsMerged schema text g other → other ≡ text)
 
--- `GroupsDoNotMatter`: three messages may be merged in any grouping.
+-- `GroupsDoNotMatter`: merging `h` into the merge of `f` and `g` gives the same as merging the merge of `g` and `h`
+-- into `f`.
 abbrev pub GroupsDoNotMatter : Type 0
 GroupsDoNotMatter = (schema f g h left right text other : List ℕ) (a : IsMerged schema f g left)
     (b : IsMerged schema g h right) → IsMergedBack a → IsMergedBack b → IsMerged schema left h text

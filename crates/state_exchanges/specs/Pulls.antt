@@ -1,7 +1,7 @@
 -- Defines the outcome of a pull: the state with the updates that another site sent, or an error.
 -- Source: docs/operating.md.
--- Rules of this product: the schema is checked first, then the state, both before the network is used, then the message
--- received; there is a new state only if none is rejected.
+-- Rules of this product: the schema is checked first, then the state, both before the network is used, then the
+-- received message; there is a new state only if none is rejected.
 use Rattle.std.specs.Prelude.{◌≡◌, ◌⊎◌, ℕ, List, Option, Some, None}
 use Rattle.sync_messages.specs.schema.Schemas.{StatedSchema, IsSchemaOf}
 use Rattle.sync_messages.specs.stamped_store.Store.{Store}
@@ -11,24 +11,27 @@ use Rattle.schema_decisions.specs.Checks.{IsSchemaRefused}
 use Rattle.state_exchanges.specs.Messages.{IsMessageRefused, IsReadBack, Joins}
 
 -- `IsPulled s m message state taken` holds if `message` has `taken` updates, and `state` is the state of the store of
--- these and those of `m`, and is parsed again as its updates.
+-- these and of the updates of `m`, and is parsed again as exactly the updates of that store.
 pub record IsPulled (s : StatedSchema) (m : Store) (message state : List ℕ) (taken : ℕ) : Type 0 where
   pub store : Store
   pub joins : Joins s m message store taken
   pub state_is : state ≡ state_text s.label store
   pub reads_back : IsReadBack s store state
 
--- `IsStateRefused s o refusal` holds if a state is given, and `refusal` is its first error as a message of `s`.
+-- `IsStateRefused s o refusal` holds if the state `o` is present, and `refusal` is its first error as a message of the
+-- schema `s`.
 abbrev pub IsStateRefused : StatedSchema → Option (List ℕ) → Refusal → Type 0
 IsStateRefused s None refusal = ⊥
 IsStateRefused s (Some bytes) refusal = IsMessageRefused s bytes refusal
 
--- `IsStateNext schema state refusal` holds if the schema is accepted, and the state is rejected by `refusal`.
-pub record IsStateNext (schema : List ℕ) (state : Option (List ℕ)) (refusal : Refusal) : Type 0 where
+-- `IsStateErrorUnder schema state refusal` holds if `schema` states a schema, and `refusal` is the error of `state`
+-- under it.
+pub record IsStateErrorUnder (schema : List ℕ) (state : Option (List ℕ)) (refusal : Refusal) : Type 0 where
   pub stated : StatedSchema
   pub schema_is : IsSchemaOf schema stated
   pub refused : IsStateRefused stated state refusal
 
--- `IsRefusedFirst schema state refusal` holds if `refusal` rejects the first of both that is not accepted.
-abbrev pub IsRefusedFirst : List ℕ → Option (List ℕ) → Refusal → Type 0
-IsRefusedFirst schema state refusal = IsSchemaRefused schema refusal ⊎ IsStateNext schema state refusal
+-- `IsFirstError schema state refusal` holds if `refusal` is the error of the first of `schema` and `state` that is
+-- not accepted.
+abbrev pub IsFirstError : List ℕ → Option (List ℕ) → Refusal → Type 0
+IsFirstError schema state refusal = IsSchemaRefused schema refusal ⊎ IsStateErrorUnder schema state refusal

@@ -5,7 +5,8 @@ ghost use Rattle.schema_decisions.specs.answer_lines.declared.refusal.Refusal.{R
 ghost use Rattle.schema_decisions.specs.answer_lines.Refusals.{no_memory};
 ghost use Rattle.state_exchanges.specs.declared.fault.NetworkFault.{NetworkFault};
 ghost use Rattle.state_exchanges.specs.Requests.{call_body, call_method, call_path, call_request, call_size};
-ghost use Rattle.state_exchanges.specs.Exchanges.{IsAnswered, IsUnanswered, IsRequestBegun, TellsOfHost, TellsOfSize};
+ghost use Rattle.state_exchanges.specs.Exchanges.{IsAnswered, IsUnanswered, IsRequestBegun, ReportsNoHost};
+ghost use Rattle.state_exchanges.specs.Exchanges.{ReportsTooLarge};
 ghost use Rattle.state_exchanges.specs.inner.Faults.{pull_fault};
 
 use crate::fault::{NetworkFault, PullFault};
@@ -16,6 +17,7 @@ use plain::NoMemory;
 use schema_decisions::Refusal;
 use std::alloc::Global;
 
+/// Returns the error of a fetch as the error of a pull.
 fn pull_fault(fault: FetchFault) -> PullFault
     ensures { result ≡ pull_fault fault }
 {
@@ -30,7 +32,7 @@ fn pull_fault(fault: FetchFault) -> PullFault
 
 /// A call of an exchange.
 #[derive(Clone, Copy)]
-pub enum Call {
+pub enum ExchangeCall {
     /// The site's summary: `GET /v1/summary`.
     Summary,
     /// A delta against a summary: `POST /v1/delta`.
@@ -40,46 +42,46 @@ pub enum Call {
 }
 
 /// Returns the method of a call.
-fn call_method(call: Call) -> Method
+fn call_method(call: ExchangeCall) -> Method
     ensures { result ≡ call_method call }
 {
     match call {
-        Call::Summary => Method::GET,
-        Call::Delta => Method::POST,
-        Call::Merge => Method::POST,
+        ExchangeCall::Summary => Method::GET,
+        ExchangeCall::Delta => Method::POST,
+        ExchangeCall::Merge => Method::POST,
     }
 }
 
 /// Returns the path of a call.
-fn call_path(call: Call) -> &'static [u8]
+fn call_path(call: ExchangeCall) -> &'static [u8]
     ensures { result.now ≡ call_path call }
 {
     match call {
-        Call::Summary => b"/v1/summary",
-        Call::Delta => b"/v1/delta",
-        Call::Merge => b"/v1/merge",
+        ExchangeCall::Summary => b"/v1/summary",
+        ExchangeCall::Delta => b"/v1/delta",
+        ExchangeCall::Merge => b"/v1/merge",
     }
 }
 
 /// Returns the body that a call sends.
-fn call_body(call: Call, body: &[u8]) -> Option<&[u8]>
+fn call_body(call: ExchangeCall, body: &[u8]) -> Option<&[u8]>
     ensures { result ≡ call_body call body.entry }
 {
     match call {
-        Call::Summary => None,
-        Call::Delta => Some(body),
-        Call::Merge => Some(body),
+        ExchangeCall::Summary => None,
+        ExchangeCall::Delta => Some(body),
+        ExchangeCall::Merge => Some(body),
     }
 }
 
 /// Returns the length in bytes of the body that a call sends.
-fn call_size(call: Call, body: &[u8]) -> usize
+fn call_size(call: ExchangeCall, body: &[u8]) -> usize
     ensures { result ≡ call_size call body.now }
 {
     match call {
-        Call::Summary => 0,
-        Call::Delta => body.len(),
-        Call::Merge => body.len(),
+        ExchangeCall::Summary => 0,
+        ExchangeCall::Delta => body.len(),
+        ExchangeCall::Merge => body.len(),
     }
 }
 
@@ -96,7 +98,7 @@ fn call_size(call: Call, body: &[u8]) -> usize
 /// - `Network` (70 to 74): there is no reply of status 200.
 pub fn ask<R: Source, W: Sink>(
     alloc: Global,
-    call: Call,
+    call: ExchangeCall,
     host: &[u8],
     body: &[u8],
     reader: &mut R,
@@ -111,10 +113,10 @@ pub fn ask<R: Source, W: Sink>(
     ensures err { OnErr result (IsRequestBegun R.left W.holds (call_request call host.now body.now) reader.old
         reader.new writer.old writer.new) }
     ensures host { IfOk result (λ _. IsTrue (is_host host.now)) }
-    ensures no_host { (f : NetworkFault) → result ≡ Err (PullFault.Network f) → TellsOfHost host.now f }
+    ensures no_host { (f : NetworkFault) → result ≡ Err (PullFault.Network f) → ReportsNoHost host.now f }
     ensures fits { IfOk result (λ _. call_size call body.now ≤ MAX_BODY) }
     ensures too_large { (f : NetworkFault) → result ≡ Err (PullFault.Network f)
-        → TellsOfSize host.now (call_size call body.now) f }
+        → ReportsTooLarge host.now (call_size call body.now) f }
     ensures reads { result ≢ Err (PullFault.Network NetworkFault.Read) → R.failed reader.new ≡ R.failed reader.old }
     ensures writes { result ≢ Err (PullFault.Network NetworkFault.Write) → W.failed writer.new ≡ W.failed writer.old }
 {

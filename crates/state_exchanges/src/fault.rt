@@ -22,7 +22,7 @@ pub enum NetworkFault {
     /// The input ended before the reply did (73).
     #[error("network 73: connection closed before the end of the reply")]
     Ended,
-    /// The reply has this status, which is not 200. Its body is ignored.
+    /// The reply has this status, which is not 200 (74). Its body is ignored.
     #[error("network 74: reply with status {0}")]
     OtherStatus(u16),
     /// The address has a byte that is not allowed in the field `Host` (75). Nothing was sent.
@@ -36,10 +36,10 @@ pub enum NetworkFault {
 /// An error of a pull, after which there is no new state.
 #[derive(Clone, Copy, PartialEq, Eq, Debug, Error)]
 pub enum PullFault {
-    /// The schema, the state or the message received is rejected, or memory is lacking (1).
+    /// The schema, the state or the received message is rejected (20 to 25, 50 to 56), or an allocation failed (1).
     #[error(transparent)]
     Refused(Refusal),
-    /// There is no reply of status 200.
+    /// There is no reply of status 200 (70 to 75, 77).
     #[error(transparent)]
     Network(NetworkFault),
 }

@@ -16,7 +16,7 @@ use sync_messages::{
     updates_have_one_store, valid_messages_are_read, write_state,
 };
 
-/// Returns an error of a message (50 to 56, or 1), with its place and the code of the error inside.
+/// Returns the report of a message's error: its code (50 to 56, or 1), its place, and the code of the error inside.
 pub fn message_refusal(fault: MessageFault) -> Refusal
     ensures { result ≡ message_refusal fault }
 {
@@ -27,7 +27,7 @@ pub fn message_refusal(fault: MessageFault) -> Refusal
     }
 }
 
-/// Joins one update.
+/// Joins one update into a store.
 fn take_one(
     store: &mut StampedStore<Policy, Entity>,
     update: Update<Policy, Entity>,
@@ -47,7 +47,7 @@ fn take_one(
     }
 }
 
-/// Joins updates in order, and counts them.
+/// Joins updates into a store in order, and counts them.
 fn take_all(
     store: &mut StampedStore<Policy, Entity>,
     came: Vec<Update<Policy, Entity>>,
@@ -68,7 +68,7 @@ fn take_all(
 /// A store into which a message was joined, and the number of its updates.
 #[derive(Drop)]
 pub struct Joined {
-    /// The store of the updates of both.
+    /// The store of the updates of both, the earlier store and the message.
     pub store: StampedStore<Policy, Entity>,
     /// The number of updates of the message, including those that lost.
     pub taken: usize,
@@ -105,8 +105,12 @@ pub fn join_message(
     Ok(Joined { store, taken })
 }
 
-/// Returns a store as a state of the schema. If its updates came from messages of the schema, it is parsed again as
-/// these. Fails only if out of memory.
+/// Returns a store as a state of the schema. If its updates are from messages of the schema, the state is parsed again
+/// as exactly these updates.
+///
+/// # Errors
+///
+/// - `NoMemory`: an allocation failed.
 pub fn state_of(
     alloc: Global,
     schema: &Schema,

@@ -1,4 +1,4 @@
-//! Theorems of merged states; the functions do nothing.
+//! Theorems about merged states, as functions that do nothing.
 ghost use Rattle.std.specs.Prelude.{ℕ, List};
 ghost use Rattle.schema_decisions.specs.schema_types.declared.fault.SchemaFault.{SchemaFault};
 ghost use Rattle.sync_messages.specs.schema.SchemaEntries.{SchemaEntries as SchemaKept};
@@ -14,7 +14,7 @@ use sync_messages::{
 };
 
 /// Proves that two messages merge to the same state in either order, that merging either again changes nothing, and
-/// that a third may be merged in any grouping.
+/// that a third may be merged in any grouping. No-op.
 pub fn order_and_repeats_do_not_matter()
     ensures order { OrderDoesNotMatter }
     ensures repeats { RepeatsDoNotMatter }
@@ -24,8 +24,8 @@ pub fn order_and_repeats_do_not_matter()
     bytes_have_one_outcome();
 }
 
-/// Proves that the texts of a schema and of two messages have exactly one outcome, a state or an error: for bytes that
-/// state the schema `kept`, and for bytes that state none.
+/// Proves that the texts of a schema and of two messages have exactly one outcome, a state or an error, whether the
+/// first text states a schema or not. No-op.
 pub fn merges_have_one_outcome()
     ensures stated { (bytes f g : List ℕ) (schema : SchemaKept) → IsSchemaOf bytes (schema_view schema)
         → HaveOneOutcome bytes f g }

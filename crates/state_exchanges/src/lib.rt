@@ -1,6 +1,9 @@
-//! Merges and exchanges without a site: from the bytes of a schema and of two messages to the state with the updates of
-//! both, or to the first error; a pull, which asks another site over HTTP for missing entries and joins them into a
-//! state; and the calls of an exchange between two sites.
+//! Merges and exchanges without a site.
+//!
+//! - A merge: from the bytes of a schema and of two messages to the state with the updates of both, or to the first
+//!   error.
+//! - A pull: asks another site over HTTP for the entries that a state lacks, and joins them into the state.
+//! - The calls of an exchange between two sites.
 //!
 //! Nothing here opens a socket or a file: the reader and the writer are any values of the traits `Source` and `Sink`,
 //! and the state is bytes.
@@ -14,7 +17,7 @@ mod laws;
 mod merging;
 mod pulling;
 
-pub use asking::{Call, ask};
+pub use asking::{ExchangeCall, ask};
 pub use counts::is_taken_line;
 pub use fault::{NetworkFault, PullFault};
 pub use http_streams::serve::StreamFault;

@@ -13,7 +13,7 @@ use stamped_store::laws::stores_are_joined;
 use std::alloc::Global;
 use sync_messages::{Entity, Schema, StampedStore, updates_have_one_store};
 
-/// Returns the join of a store and of that into which a message was joined, or the error of that message.
+/// Returns the join of `store` and the store of `other`, or the error of `other`.
 fn joined_with(
     store: StampedStore<Policy, Entity>,
     other: Result<Joined, Refusal>,
@@ -31,7 +31,7 @@ fn joined_with(
     }
 }
 
-/// Returns the state with the updates of two messages of a schema, or the error of the first that is rejected.
+/// Returns the state with the updates of the messages `f` and `g`, or the error of the first that is rejected.
 fn merge_under(alloc: Global, schema: &Schema, f: &[u8], g: &[u8]) -> Result<Vec<u8>, Refusal>
     ensures merged { IfOk result (λ b. IsMergedUnder (schema_view schema.now) f.now g.now b.items) }
     ensures refused { IfErr result
@@ -47,8 +47,8 @@ fn merge_under(alloc: Global, schema: &Schema, f: &[u8], g: &[u8]) -> Result<Vec
 
 /// Returns the state with the updates of two messages, each a state or a delta, under a schema.
 ///
-/// The bytes are the same in either order, and if the result is merged with either message again; they are parsed again
-/// as the updates of the joined store.
+/// The order of the messages does not change the bytes, and neither does merging the result with either message again.
+/// Parsing the returned bytes gives the updates of the joined store.
 ///
 /// # Errors
 ///

@@ -10,10 +10,11 @@ ghost use Rattle.schema_decisions.specs.answer_lines.Refusals.{no_memory};
 ghost use Rattle.state_exchanges.specs.Messages.{IsMessageRefused, IsSendable};
 ghost use Rattle.state_exchanges.specs.declared.fault.NetworkFault.{NetworkFault};
 ghost use Rattle.state_exchanges.specs.Requests.{Holds, IsReady, request_for, summary_size};
-ghost use Rattle.state_exchanges.specs.Exchanges.{IsAnswered, IsUnanswered, IsRequestBegun, TellsOfHost, TellsOfSize};
-ghost use Rattle.state_exchanges.specs.Pulls.{IsPulled, IsRefusedFirst, IsStateRefused};
+ghost use Rattle.state_exchanges.specs.Exchanges.{IsAnswered, IsUnanswered, IsRequestBegun, ReportsNoHost};
+ghost use Rattle.state_exchanges.specs.Exchanges.{ReportsTooLarge};
+ghost use Rattle.state_exchanges.specs.Pulls.{IsPulled, IsFirstError, IsStateRefused};
 
-use crate::asking::{Call, ask};
+use crate::asking::{ExchangeCall, ask};
 use crate::fault::PullFault;
 use crate::joining::{Joined, join_message, state_of};
 use http_streams::{Sink, Source};
@@ -31,7 +32,7 @@ pub struct Pulled {
     pub taken: usize,
 }
 
-/// Returns the store of a state, which is empty if absent.
+/// Returns the store of `state`, or the empty store otherwise.
 fn store_in(
     alloc: Global,
     schema: &Schema,
@@ -55,7 +56,7 @@ fn store_in(
     }
 }
 
-/// Joins the message received, and writes the new state.
+/// Joins the received message into the store, and returns the new state.
 fn take_reply(
     alloc: Global,
     schema: &Schema,
@@ -73,7 +74,7 @@ fn take_reply(
     Ok(Pulled { state, taken })
 }
 
-/// Returns the result of a pull, or its error as one of a pull.
+/// Returns the result of joining a reply, with its error as that of a pull.
 fn told(pulled: Result<Pulled, Refusal>) -> Result<Pulled, PullFault>
     ensures { MatchResult pulled (λ p. result ≡ Ok p) (λ r. result ≡ Err (PullFault.Refused r)) }
 {
@@ -84,7 +85,7 @@ fn told(pulled: Result<Pulled, Refusal>) -> Result<Pulled, PullFault>
 }
 
 /// Asks for the entries that a store of a schema lacks, and returns the body of the reply.
-fn news_for<R: Source, W: Sink>(
+fn fetch_missing_entries<R: Source, W: Sink>(
     alloc: Global,
     schema: &Schema,
     store: &StampedStore<Policy, Entity>,
@@ -104,14 +105,14 @@ fn news_for<R: Source, W: Sink>(
         (request_for host.now (schema_view schema.now) (abstract_store store.now)) reader.old reader.new writer.old
         writer.new) }
     ensures host { IfOk result (λ _. IsTrue (is_host host.now)) }
-    ensures no_host { (f : NetworkFault) → result ≡ Err (PullFault.Network f) → TellsOfHost host.now f }
+    ensures no_host { (f : NetworkFault) → result ≡ Err (PullFault.Network f) → ReportsNoHost host.now f }
     ensures too_large { (f : NetworkFault) → result ≡ Err (PullFault.Network f)
-        → TellsOfSize host.now (summary_size (schema_view schema.now) (abstract_store store.now)) f }
+        → ReportsTooLarge host.now (summary_size (schema_view schema.now) (abstract_store store.now)) f }
     ensures reads { result ≢ Err (PullFault.Network NetworkFault.Read) → R.failed reader.new ≡ R.failed reader.old }
     ensures writes { result ≢ Err (PullFault.Network NetworkFault.Write) → W.failed writer.new ≡ W.failed writer.old }
 {
     match write_summary(alloc, schema.label(), store) {
-        Ok(summary) => ask(alloc, Call::Delta, host, &summary, reader, writer),
+        Ok(summary) => ask(alloc, ExchangeCall::Delta, host, &summary, reader, writer),
         Err(_) => Err(PullFault::from(NoMemory)),
     }
 }
@@ -143,13 +144,13 @@ fn pull_under<R: Source, W: Sink>(
         (request_for host.now (schema_view schema.now) (abstract_store store)) reader.old reader.new writer.old
         writer.new) }
     ensures host { IfOk result (λ _. IsTrue (is_host host.now)) }
-    ensures no_host { (f : NetworkFault) → result ≡ Err (PullFault.Network f) → TellsOfHost host.now f }
+    ensures no_host { (f : NetworkFault) → result ≡ Err (PullFault.Network f) → ReportsNoHost host.now f }
     ensures too_large { (f : NetworkFault) → result ≡ Err (PullFault.Network f)
-        → TellsOfSize host.now (summary_size (schema_view schema.now) (abstract_store store)) f }
+        → ReportsTooLarge host.now (summary_size (schema_view schema.now) (abstract_store store)) f }
     ensures reads { result ≢ Err (PullFault.Network NetworkFault.Read) → R.failed reader.new ≡ R.failed reader.old }
     ensures writes { result ≢ Err (PullFault.Network NetworkFault.Write) → W.failed writer.new ≡ W.failed writer.old }
 {
-    match news_for(alloc, schema, &store, host, reader, writer) {
+    match fetch_missing_entries(alloc, schema, &store, host, reader, writer) {
         Ok(body) => told(take_reply(alloc, schema, store, &body)),
         Err(fault) => Err(fault),
     }
@@ -157,10 +158,10 @@ fn pull_under<R: Source, W: Sink>(
 
 /// Asks the site at a reader and a writer for the entries that a state lacks, and joins them.
 ///
-/// `schema` is the text of the schema, `state` a state or a delta of it, absent for an empty store, and `host` the
+/// `schema` is the text of the schema, `state` a state or a delta under it, absent for an empty store, and `host` the
 /// value of the field `Host`. One request is written, `POST /v1/delta` with the summary of the state, and its reply is
-/// read; the updates of its body are joined, and the new state is returned, with their number. No site is involved on
-/// this side, so no stamp is issued.
+/// read. The updates of the reply's body are joined; the result has the new state and their number. No site is involved
+/// on this side, so no stamp is issued.
 ///
 /// # Errors
 ///
@@ -171,7 +172,7 @@ fn pull_under<R: Source, W: Sink>(
 /// - 75: `host` is not a host.
 /// - 77: the summary is longer than a site accepts.
 /// - 70 to 74: the network failed, or the reply has another status than 200.
-/// - 50 to 56: the message received is rejected.
+/// - 50 to 56: the received message is rejected.
 /// - 1, at any point: out of memory.
 pub fn pull_over<R: Source, W: Sink>(
     alloc: Global,
@@ -188,9 +189,9 @@ pub fn pull_over<R: Source, W: Sink>(
         200 body
         × IsPulled s m body p.state.items p.taken) }
 
-    // The texts are rejected, and nothing was sent; or the reply has status 200, and its body is rejected.
+    // The schema or the state is rejected, and nothing was sent; or the reply has status 200, and its body is rejected.
     ensures refused { (r : Refusal) → result ≡ Err (PullFault.Refused r) → r ≢ no_memory
-        → (IsRefusedFirst schema.now (option_map (λ b. b.now) state.entry) r × (reader.new ≡ reader.old)
+        → (IsFirstError schema.now (option_map (λ b. b.now) state.entry) r × (reader.new ≡ reader.old)
         × (writer.new ≡ writer.old))
         ⊎ ((s : StatedSchema) × (m : Store) × (body : List ℕ)
         × IsReady schema.now (option_map (λ b. b.now) state.entry) s m
@@ -198,7 +199,7 @@ pub fn pull_over<R: Source, W: Sink>(
         200 body
         × IsMessageRefused s body r) }
 
-    // The texts are accepted, and there is no reply of status 200.
+    // The schema and the state are accepted, and there is no reply of status 200.
     ensures network { (f : NetworkFault) → result ≡ Err (PullFault.Network f) → (s : StatedSchema) × (m : Store)
         × IsReady schema.now (option_map (λ b. b.now) state.entry) s m
         × IsUnanswered R.left R.reads R.failed R.fails W.holds W.failed W.fails (request_for host.now s m)
@@ -209,12 +210,13 @@ pub fn pull_over<R: Source, W: Sink>(
         ⊎ ((s : StatedSchema) × (m : Store) × IsReady schema.now (option_map (λ b. b.now) state.entry) s m
         × IsRequestBegun R.left W.holds (request_for host.now s m) reader.old reader.new writer.old writer.new)) }
 
-    // `NoHost` exactly if the host is not one, and `TooLarge` exactly if the summary is longer than a site accepts.
+    // `NoHost` exactly if `host` is not a host, and `TooLarge` exactly if it is one and the summary is longer than a
+    // site accepts.
     ensures host { IfOk result (λ _. IsTrue (is_host host.now)) }
-    ensures no_host { (f : NetworkFault) → result ≡ Err (PullFault.Network f) → TellsOfHost host.now f }
+    ensures no_host { (f : NetworkFault) → result ≡ Err (PullFault.Network f) → ReportsNoHost host.now f }
     ensures too_large { (f : NetworkFault) → result ≡ Err (PullFault.Network f) → (s : StatedSchema) × (m : Store)
         × IsReady schema.now (option_map (λ b. b.now) state.entry) s m
-        × TellsOfSize host.now (summary_size s m) f }
+        × ReportsTooLarge host.now (summary_size s m) f }
 
     // Each failure of a device is reported.
     ensures reads { result ≢ Err (PullFault.Network NetworkFault.Read) → R.failed reader.new ≡ R.failed reader.old }

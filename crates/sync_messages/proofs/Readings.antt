@@ -15,7 +15,7 @@ use Rattle.validator.specs.Outcomes.{PoliciesHaveOneOutcome, PassingIsNotRefused
 use Rattle.validator.specs.Outcomes.{refused}
 use Rattle.message_format.specs.declared.bodies.BodyFault.{BodyFault}
 use Rattle.message_format.specs.declared.bodies.BodyFault.TheVariants as body
-use Rattle.message_format.specs.Bodies.{HasOneOutcome, HasOutcome}
+use Rattle.message_format.specs.Bodies.{HasAtMostOneOutcome, HasOutcome}
 use Rattle.sync_messages.specs.Texts.{ReadsPolicy, RefusesPolicy, no_policy, not_passing}
 use Rattle.sync_messages.specs.Texts.{entity_of_text, ReadsEntity, RefusesEntity}
 
@@ -59,7 +59,7 @@ module _ (reading : HasOneReading IsPolicyText IsPolicyRefused) (checking : Poli
     | inr h ↦ inr (_, no_policy h.0 h.1)
   ]
 
-  pub one_policy : HasOneOutcome (ReadsPolicy s text) (RefusesPolicy s text) × HasOutcome (ReadsPolicy s text) (RefusesPolicy s text)
+  pub one_policy : HasAtMostOneOutcome (ReadsPolicy s text) (RefusesPolicy s text) × HasOutcome (ReadsPolicy s text) (RefusesPolicy s text)
   one_policy = (record { value = one_value; fault = one_fault; apart = not_both }, some)
 
 -- ---- entities
@@ -78,7 +78,7 @@ one_or_other (Ok x) = inl (x, refl)
 one_or_other (Err y) = inr (y, refl)
 
 pub one_entity : (s : StatedSchema) (uid : EntityUid) (text : List ℕ)
-    → HasOneOutcome (ReadsEntity s uid text) (RefusesEntity s uid text) × HasOutcome (ReadsEntity s uid text) (RefusesEntity s uid text)
+    → HasAtMostOneOutcome (ReadsEntity s uid text) (RefusesEntity s uid text) × HasOutcome (ReadsEntity s uid text) (RefusesEntity s uid text)
 one_entity s uid text =
     let r = entity_of_text s uid text in (
       record { value = same_value r; fault = same_error r; apart = never_both r },

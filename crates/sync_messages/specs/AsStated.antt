@@ -1,4 +1,5 @@
--- Defines the theorems: each relation holds of the result of the parsing function, only of that, and of one result.
+-- Defines the theorems that the functions which parse messages give exactly what the relations on bytes say, and that
+-- bytes have exactly one outcome.
 use Rattle.std.specs.Prelude.{◌≡◌, ◌↔◌, ◌⊎◌, ℕ, List, Some, Ok, codes}
 use Rattle.serde_json.specs.Data.{Data}
 use Rattle.json_words.specs.Json.{json_of}
@@ -23,14 +24,14 @@ use Rattle.sync_messages.specs.StatedMessages.{StatesMessage, RefusesMessage}
 
 -- ---- states and deltas, before their texts are parsed
 
--- `UpdatesAreRead`: the function gives the updates that bytes state for the schema `label`, or the error if they
--- state none.
+-- `UpdatesAreRead`: `updates_stated` gives the updates that bytes describe for the schema with this label, or the error
+-- of bytes that describe none.
 abbrev pub UpdatesAreRead : Type 0
 UpdatesAreRead = (label bytes : List ℕ)
     → Gives (updates_stated label bytes) (StatesUpdates label bytes) (RefusesUpdates label bytes)
 
--- `UpdatesHaveOneOutcome`: bytes state exactly one list of updates, or are rejected with exactly one error, and never
--- both.
+-- `UpdatesHaveOneOutcome`: bytes describe exactly one list of updates, or are rejected with exactly one error, and
+-- never both.
 abbrev pub UpdatesHaveOneOutcome : Type 0
 UpdatesHaveOneOutcome = (label bytes : List ℕ)
     → HasOneOutcome (StatesUpdates label bytes) (RefusesUpdates label bytes)
@@ -44,13 +45,14 @@ UpdatesAreWritten = (label bytes : List ℕ) (d : Data) (us : List PlainUpdate) 
 
 -- ---- summaries
 
--- `SummariesAreRead`: the function gives the summary that bytes state for the schema `label`, or the error if they
--- state none.
+-- `SummariesAreRead`: `summary_stated` gives the summary that bytes describe for the schema with this label, or the
+-- error of bytes that describe none.
 abbrev pub SummariesAreRead : Type 0
 SummariesAreRead = (label bytes : List ℕ)
     → Gives (summary_stated label bytes) (StatesSummary label bytes) (RefusesSummary label bytes)
 
--- `SummariesHaveOneOutcome`: bytes state exactly one summary, or are rejected with exactly one error, and never both.
+-- `SummariesHaveOneOutcome`: bytes describe exactly one summary, or are rejected with exactly one error, and never
+-- both.
 abbrev pub SummariesHaveOneOutcome : Type 0
 SummariesHaveOneOutcome = (label bytes : List ℕ)
     → HasOneOutcome (StatesSummary label bytes) (RefusesSummary label bytes)
@@ -63,23 +65,24 @@ SummariesAreWritten = (label bytes : List ℕ) (d : Data) (m : Summary) → json
 
 -- ---- texts of entities
 
--- `TextsAreRead`: the function gives the entity of which a text is the canonical one, or the error of the text.
+-- `TextsAreRead`: `entity_of_text` gives the entity that has a text as its canonical text, or the error of the text.
 abbrev pub TextsAreRead : Type 0
 TextsAreRead = (s : StatedSchema) (uid : EntityUid) (text : List ℕ)
     → Gives (entity_of_text s uid text) (StatesText s uid text) (RefusesText s uid text)
 
 -- ---- messages of a schema
 
--- `MessageIsRead s bytes` holds if the updates that are read, or the first error, are those that `bytes` state.
+-- `MessageIsRead s bytes` holds if parsing `bytes` under the schema `s` gives exactly the updates that `StatesMessage`
+-- relates to them, and exactly the errors that `RefusesMessage` does.
 pub record MessageIsRead (s : StatedSchema) (bytes : List ℕ) : Type 0 where
   pub states : (us : List (Update Policy Entity)) → IsMessageOf s bytes us ↔ StatesMessage s bytes us
   pub refuses : (f : MessageFault) → IsMessageFaultOf s bytes f ↔ RefusesMessage s bytes f
 
--- `MessagesAreRead`: so it is of all bytes, under each schema.
+-- `MessagesAreRead`: `MessageIsRead` holds for each schema and all bytes.
 abbrev pub MessagesAreRead : Type 0
 MessagesAreRead = (s : StatedSchema) (bytes : List ℕ) → MessageIsRead s bytes
 
--- `MessagesHaveOneOutcome`: under each schema, bytes state exactly one list of updates with their texts parsed, or
+-- `MessagesHaveOneOutcome`: under each schema, bytes describe exactly one list of updates with their texts parsed, or
 -- are rejected with exactly one error, and never both.
 abbrev pub MessagesHaveOneOutcome : Type 0
 MessagesHaveOneOutcome = (s : StatedSchema) (bytes : List ℕ)

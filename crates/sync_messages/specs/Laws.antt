@@ -1,4 +1,5 @@
--- Defines the theorem that each text has exactly one outcome under a schema.
+-- Defines the theorems that each text of a policy or entity has exactly one outcome under a schema, and that canonical
+-- texts are parsed as their entities.
 use Rattle.std.specs.Prelude.{ℕ, List}
 use Rattle.values.specs.declared.entity_uid.EntityUid.{EntityUid}
 use Rattle.validator.specs.entities.schema.Schemas.{StatedSchema}
@@ -7,22 +8,23 @@ use Rattle.validator.specs.entities.entity_data.declared.entity.Entity.{Entity}
 use Rattle.validator.specs.entities.Canonical.{canonical_text}
 use Rattle.validator.specs.entities.CanonicalLaws.{IsReadFrom}
 use Rattle.message_format.specs.declared.bodies.BodyFault.TheVariants.{OtherName}
-use Rattle.message_format.specs.Bodies.{HasOneOutcome, HasOutcome}
+use Rattle.message_format.specs.Bodies.{HasAtMostOneOutcome, HasOutcome}
 use Rattle.sync_messages.specs.Texts.{ReadsPolicy, RefusesPolicy, ReadsEntity, RefusesEntity}
 
 -- `PoliciesHaveOneReading`: each text of a policy has exactly one outcome: one policy that passes validation, or one
 -- error.
 abbrev pub PoliciesHaveOneReading : Type 0
-PoliciesHaveOneReading = (s : StatedSchema) (text : List ℕ) → HasOneOutcome (ReadsPolicy s text) (RefusesPolicy s text)
+PoliciesHaveOneReading = (s : StatedSchema) (text : List ℕ)
+    → HasAtMostOneOutcome (ReadsPolicy s text) (RefusesPolicy s text)
     × HasOutcome (ReadsPolicy s text) (RefusesPolicy s text)
 
 -- `EntitiesHaveOneReading`: each text of an entity has exactly one outcome under each uid: one entity, or one error.
 abbrev pub EntitiesHaveOneReading : Type 0
 EntitiesHaveOneReading = (s : StatedSchema) (uid : EntityUid) (text : List ℕ)
-    → HasOneOutcome (ReadsEntity s uid text) (RefusesEntity s uid text)
+    → HasAtMostOneOutcome (ReadsEntity s uid text) (RefusesEntity s uid text)
     × HasOutcome (ReadsEntity s uid text) (RefusesEntity s uid text)
 
--- `PoliciesHaveNoOtherName`: no text of a policy is rejected as that of another name.
+-- `PoliciesHaveNoOtherName`: no text of a policy is rejected with `OtherName`.
 abbrev pub PoliciesHaveNoOtherName : Type 0
 PoliciesHaveNoOtherName = (s : StatedSchema) (text : List ℕ) → RefusesPolicy s text OtherName → ⊥
 

@@ -1,4 +1,4 @@
--- Defines the parts of messages as JSON, and why bytes do not have the form of a message.
+-- Defines the parts of messages as JSON, and the error of bytes that do not have the form of a message.
 -- Source: docs/formats.md, "Messages between sites".
 -- Rules of this product: in version 2 a site is its name, in version 1 a number from 1 to 65,535, parsed as its five
 -- digits; the order of the errors: not JSON, the version, the rest of the form, the label of another schema.
@@ -19,12 +19,13 @@ use Rattle.message_format.specs.Summaries.{name_json}
 
 -- ---- parts
 
--- `StatesName d name` holds if `d` is {"policy":id}, or {"entity":{"id":..,"type":..}} with a Path as the type.
+-- `StatesName d name` holds if `d` is the JSON of `name`: {"policy":id}, or {"entity":{"id":..,"type":..}} with a Path
+-- as the type.
 abbrev pub StatesName : Data → Name → Type 0
 StatesName d (Policy id) = d ≡ name_json (Policy id)
 StatesName d (Entity uid) = (d ≡ name_json (Entity uid)) × IsPath uid.type_name
 
--- `StatesSite version d site` holds if `d` is the site with the name `site`, as messages of `version` state it.
+-- `StatesSite version d site` holds if `d` is the JSON of the site with the name `site` in messages of `version`.
 pub data StatesSite : MessageVersion → Data → List ℕ → Type 0 where
   by_number : (n : ℕ) → IsSiteNumber n → StatesSite One (number (unsigned n)) (five_digits n)
   by_name : (site : List ℕ) → IsSiteName site → StatesSite Two (string site) site
@@ -35,23 +36,25 @@ pub data StatesSite : MessageVersion → Data → List ℕ → Type 0 where
 abbrev pub HasVersion : Data → ℕ → Type 0
 HasVersion d n = get (codes "version") d ≡ Some (number (unsigned n))
 
--- `number_of version` is the number by which a message states its version.
+-- `number_of version` is the number of `version` in a message.
 abbrev pub number_of : MessageVersion → ℕ
 number_of One = 1
 number_of Two = 2
 
 -- ---- bytes
 
--- `StatesForm Form label bytes content` holds if `bytes` are a message for the schema `label` of the form `Form`, with
--- this content. `Form d schema content` states which JSON is a message for which schema, and its content.
+-- `StatesForm Form label bytes content` holds if `bytes` are a message for the schema with this label in the form
+-- `Form`, with this content. `Form d schema content` says that the JSON `d` is a message for the schema with the label
+-- `schema`, with this content.
 pub record StatesForm {A : Type 0} (Form : Data → List ℕ → A → Type 0) (label bytes : List ℕ) (content : A) : Type 0
   where
     pub value : Data
     pub json : json_of bytes ≡ Some value
     pub form : Form value label content
 
--- `RefusesForm Form label bytes fault` holds if `bytes` is no such message, and `fault` is the first error: not JSON,
--- no version, another version than 1 and 2, another form whatever the schema and the content, or another schema.
+-- `RefusesForm Form label bytes fault` holds if `bytes` are not such a message, and `fault` is the first error: not
+-- JSON; no version in unsigned 64 bits; another version than 1 and 2; another form, whatever the label and the content;
+-- or another label.
 pub data RefusesForm {A : Type 0} (Form : Data → List ℕ → A → Type 0) (label bytes : List ℕ) : MessageFault → Type 0
   where
     not_json : json_of bytes ≡ None → RefusesForm Form label bytes NotJson

@@ -1,6 +1,6 @@
 -- Defines the messages of a schema, states and deltas, and the first error of other bytes.
--- Rules of this product: a message is that of a schema if it has its label, and each of its updates is in range and
--- readable under it.
+-- Rules of this product: a message is one of a schema if it has its label, and each of its updates is in its ranges and
+-- has a text that can be parsed under the schema, or is a tombstone.
 use Rattle.std.specs.Prelude.{ℕ, List}
 use Rattle.message_format.specs.policy_grammar.declared.policy.Policy.{Policy}
 use Rattle.validator.specs.entities.schema.Schemas.{StatedSchema}
@@ -10,12 +10,12 @@ use Rattle.message_format.specs.declared.update.Update.{Update}
 use Rattle.message_format.specs.Updates.{IsMessage, IsMessageFault}
 use Rattle.sync_messages.specs.Texts.{ReadsPolicy, RefusesPolicy, ReadsEntity, RefusesEntity}
 
--- `IsMessageOf schema bytes us` holds if `bytes` is a state or delta of `schema` with the updates `us`, in this
+-- `IsMessageOf schema bytes us` holds if `bytes` are a state or delta of `schema` with the updates `us`, in this
 -- order.
 abbrev pub IsMessageOf : StatedSchema → List ℕ → List (Update Policy Entity) → Type 0
 IsMessageOf schema bytes us = IsMessage (λ id. ReadsPolicy schema) (ReadsEntity schema) schema.label bytes us
 
--- `IsMessageFaultOf schema bytes f` holds if `f` is the first error of `bytes` as such a message.
+-- `IsMessageFaultOf schema bytes f` holds if `f` is the first error of `bytes` as a state or delta of `schema`.
 abbrev pub IsMessageFaultOf : StatedSchema → List ℕ → MessageFault → Type 0
 IsMessageFaultOf schema bytes f = IsMessageFault (λ id. ReadsPolicy schema) (ReadsEntity schema)
     (λ id. RefusesPolicy schema) (RefusesEntity schema) schema.label bytes f

@@ -1,8 +1,8 @@
--- Defines the updates of a state or delta under a schema, with the parsed texts, and the first error of bytes that are
--- neither.
+-- Defines the updates of a state or delta under a schema, with their texts parsed, and the first error of bytes that
+-- are neither.
 -- Source: docs/formats.md, "Messages between sites".
--- Rules of this product: a message is rejected as a whole: by its form and its schema, then by the first entry whose
--- count, name or body is in error.
+-- Rules of this product: a message is rejected as a whole: for its form and its label, then for the first entry whose
+-- count, name or body has an error.
 use Rattle.std.specs.Prelude.{ℕ, suc, List, ◌∷◌}
 use Rattle.std.specs.List.{AllByRecursion}
 use Rattle.stamped_store.specs.Store.{Update as PlainUpdate}
@@ -23,17 +23,17 @@ use Rattle.sync_messages.specs.StatedTexts.{StatesText, RefusesText}
 abbrev pub HasTextsOf : StatedSchema → List (Update Policy Entity) → Type 0
 HasTextsOf s us = AllByRecursion (IsUpdateRead (λ id. ReadsPolicy s) (StatesText s)) us
 
--- `HasBody s u` holds if the body of `u` is missing (a tombstone) or such a text.
+-- `HasBody s u` holds if the update `u` is a tombstone, or its body is the text of a policy or entity under `s`.
 abbrev pub HasBody : StatedSchema → PlainUpdate → Type 0
 HasBody s u = IsValid (λ id. ReadsPolicy s) (StatesText s) u
 
--- `RefusesBody s u fault` holds if the body of `u` is a text that `s` rejects under the name of `u`, with the error
--- `fault`.
+-- `RefusesBody s u fault` holds if the body of the update `u` is a text with the error `fault` under the schema `s` and
+-- the name of `u`.
 abbrev pub RefusesBody : StatedSchema → PlainUpdate → BodyFault → Type 0
 RefusesBody s u fault = IsUnreadable (λ id. RefusesPolicy s) (RefusesText s) u.0 u.1.body fault
 
--- `RefusesEntries s place us fault` holds if `fault` is the first error of the entries `us`, the first of which has the
--- index `place`.
+-- `RefusesEntries s place us fault` holds if `fault` is the first error of the entries `us` under the schema `s`, where
+-- the first of them has the index `place`.
 pub data RefusesEntries (s : StatedSchema) : ℕ → List PlainUpdate → MessageFault → Type 0 where
   bad_ranges : (place : ℕ) (u : PlainUpdate) (us : List PlainUpdate) (fault : MessageFault)
       → RefusesRanges place (stamped u) fault → RefusesEntries s place (u ∷ us) fault
@@ -48,8 +48,8 @@ pub record StatesMessage (s : StatedSchema) (bytes : List ℕ) (us : List (Updat
   pub fit : AllByRecursion (λ u. Fits (stamped u)) (plain_updates us)
   pub have_texts : HasTextsOf s us
 
--- `RefusesMessage s bytes fault` holds if `bytes` is not a message, and `fault` is the first error: of the form, of
--- the schema, and then of an entry.
+-- `RefusesMessage s bytes fault` holds if `bytes` are not a message of the schema `s`, and `fault` is the first error:
+-- of the form, of the label, and then of an entry.
 pub data RefusesMessage (s : StatedSchema) (bytes : List ℕ) : MessageFault → Type 0 where
   no_updates : (fault : MessageFault) → RefusesUpdates s.label bytes fault → RefusesMessage s bytes fault
   bad_entries : (us : List PlainUpdate) (fault : MessageFault) → StatesUpdates s.label bytes us

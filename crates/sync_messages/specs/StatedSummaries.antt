@@ -1,8 +1,8 @@
--- Defines the summary that bytes state, and the error of bytes that state none.
+-- Defines the summary that bytes describe, and the error of bytes that describe none.
 -- Source: docs/formats.md, "Messages between sites".
--- Rules of this product: a summary and each of its stamps have exactly the keys below (the keys of parsed JSON ascend:
--- `json_keys_ascend`); names ascend strictly. If all this holds, the error is that of the first stamp out of range: of
--- its count, else of its name.
+-- Rules of this product: a summary and each of its stamps have exactly the keys below (the keys of parsed JSON ascend,
+-- whatever their order in the bytes: `json_keys_ascend`); names ascend strictly. If all this holds, the error is that
+-- of the first stamp that is out of its ranges: of its count, else of its name.
 use Rattle.std.specs.Prelude.{◌≡◌, ◌≤◌, ℕ, suc, List, ◌∷◌, ⊤, length, map, codes}
 use Rattle.std.specs.List.{AllZip, AllByRecursion}
 use Rattle.std.specs.List.Sorted.{IsStrictlySortedBy}
@@ -20,7 +20,8 @@ use Rattle.sync_messages.specs.MessageForms.{StatesName, StatesSite, number_of, 
 
 -- ---- the form
 
--- `StatesStamp version d u` holds if `d` is {"count":n,"name":N,"site":S} for the name and stamp `u`.
+-- `StatesStamp version d u` holds if `d` is {"count":n,"name":N,"site":S} for the name and stamp `u`, in the form of
+-- `version`.
 pub record StatesStamp (version : MessageVersion) (d : Data) (u : Name × Stamp) : Type 0 where
   pub name : Data
   pub site : Data
@@ -52,18 +53,18 @@ pub record IsSummary (d : Data) (schema : List ℕ) (m : Summary) : Type 0 where
 abbrev pub CountFits : ℕ → Type 0
 CountFits n = (1 ≤ n) × (n ≤ 1_000_000_000_000_000_000)
 
--- `IdFits name` holds if `name` is an entity's, or that of a policy whose id has 1 to 256 bytes.
+-- `IdFits name` holds if `name` is that of an entity, or of a policy whose id has 1 to 256 bytes.
 abbrev pub IdFits : Name → Type 0
 IdFits (Policy id) = (1 ≤ length id) × (length id ≤ 256)
 IdFits (Entity uid) = ⊤
 
--- `Fits u` holds if the count and the name of `u` are in their ranges.
+-- `Fits u` holds if the count and the name of the name and stamp `u` are in their ranges.
 pub record Fits (u : Name × Stamp) : Type 0 where
   pub count : CountFits u.1.count
   pub id : IdFits u.0
 
 -- `RefusesRanges place u fault` holds if the count or the name of `u` is out of its range, and `fault` is the error of
--- `u` at the index `place`: that of its count, else that of its name.
+-- `u` at the index `place`: that of its count, else that of its name, with 19 within, the code of a bad id.
 pub data RefusesRanges (place : ℕ) (u : Name × Stamp) : MessageFault → Type 0 where
   bad_count : (CountFits u.1.count → ⊥) → RefusesRanges place u (CountRange place)
   bad_id : CountFits u.1.count → (IdFits u.0 → ⊥) → RefusesRanges place u (BadEntry place 19)
@@ -78,14 +79,14 @@ pub data RefusesStamps : ℕ → Summary → MessageFault → Type 0 where
 
 -- ---- bytes
 
--- `StatesSummary label bytes m` holds if `bytes` are the summary `m` for the schema `label`, and each of its stamps is
--- in its ranges.
+-- `StatesSummary label bytes m` holds if `bytes` are the summary `m` for the schema with this label, and each of its
+-- stamps is in its ranges.
 pub record StatesSummary (label bytes : List ℕ) (m : Summary) : Type 0 where
   pub states : StatesForm IsSummary label bytes m
   pub fit : AllByRecursion Fits m
 
--- `RefusesSummary label bytes fault` holds if `bytes` is not a summary, and `fault` is the first error: of the form,
--- of the schema, and then of a stamp.
+-- `RefusesSummary label bytes fault` holds if `bytes` are not a summary for the schema with this label, and `fault` is
+-- the first error: of the form, of the label, and then of a stamp.
 pub data RefusesSummary (label bytes : List ℕ) : MessageFault → Type 0 where
   no_summary : (fault : MessageFault) → RefusesForm IsSummary label bytes fault → RefusesSummary label bytes fault
   bad_stamps : (m : Summary) (fault : MessageFault) → StatesForm IsSummary label bytes m → RefusesStamps 0 m fault

@@ -1,7 +1,7 @@
 -- Defines which text is the canonical text of which entity, and the error of other texts.
 -- Source: Cedar reference guide 4.0, "Entities and context: JSON format".
--- Rules of this product: the order of the errors: 30 for a text that is not JSON, the error of the entity, 57 for
--- another spelling than the canonical one, and last that the uid is another entity's.
+-- Rules of this product: the order of the errors: 30 for a text that is not JSON; the error of the entity; 57 for
+-- another spelling than the canonical one; and last `OtherName`, for another uid.
 use Rattle.std.specs.Prelude.{◌≡◌, ℕ, List, Some, None}
 use Rattle.serde_json.specs.Data.{Data}
 use Rattle.json_words.specs.Json.{json_of}

@@ -1,7 +1,7 @@
--- Defines which bytes state which updates, as a state or a delta, and the error of all other bytes.
+-- Defines the updates that bytes describe as a state or delta, and the error of bytes that describe none.
 -- Source: docs/formats.md, "Messages between sites".
--- Rules of this product: a message and each of its entries have exactly the keys below; a body is null or a text. (In
--- JSON that was read the keys of each object ascend, whatever their order in the bytes: `json_keys_ascend`.)
+-- Rules of this product: a message and each of its entries have exactly the keys below (the keys of parsed JSON ascend,
+-- whatever their order in the bytes: `json_keys_ascend`); a body is null or a text.
 use Rattle.std.specs.Prelude.{◌≡◌, ◌⊎◌, ℕ, List, codes}
 use Rattle.std.specs.List.{AllZip}
 use Rattle.serde_json.specs.Data.{Data, number, unsigned, string, array, object, Items, no_members, member}
@@ -12,7 +12,8 @@ use Rattle.message_format.specs.declared.fault.MessageFault.{MessageFault}
 use Rattle.message_format.specs.Messages.{body_json}
 use Rattle.sync_messages.specs.MessageForms.{StatesName, StatesSite, number_of, StatesForm, RefusesForm}
 
--- `StatesEntry version d u` holds if `d` is {"body":null or a text,"count":n,"name":N,"site":S} of the update `u`.
+-- `StatesEntry version d u` holds if `d` is {"body":null or a text,"count":n,"name":N,"site":S} for the update `u`, in
+-- the form of `version`.
 pub record StatesEntry (version : MessageVersion) (d : Data) (u : Update) : Type 0 where
   pub name : Data
   pub site : Data
@@ -36,11 +37,11 @@ pub record IsUpdates (d : Data) (schema : List ℕ) (us : List Update) : Type 0 
   pub is_kind : (kind ≡ codes "state") ⊎ (kind ≡ codes "delta")
   pub state : AllZip (StatesEntry version) (list_of entries) us
 
--- `StatesUpdates label bytes us` holds if `bytes` are a state or delta for the schema `label` with the updates `us`,
--- as far as this does not depend on their texts.
+-- `StatesUpdates label bytes us` holds if `bytes` have the form of a state or delta for the schema with this label,
+-- with the updates `us`, whatever their ranges and texts.
 abbrev pub StatesUpdates : List ℕ → List ℕ → List Update → Type 0
 StatesUpdates label bytes us = StatesForm IsUpdates label bytes us
 
--- `RefusesUpdates label bytes fault` holds if `bytes` does not state updates, and `fault` is the first error.
+-- `RefusesUpdates label bytes fault` holds if `bytes` do not have this form, and `fault` is the first error.
 abbrev pub RefusesUpdates : List ℕ → List ℕ → MessageFault → Type 0
 RefusesUpdates label bytes fault = RefusesForm IsUpdates label bytes fault

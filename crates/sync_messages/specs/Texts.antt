@@ -1,5 +1,5 @@
 -- Defines what a text of a store is parsed as under a schema, and with which error it is rejected.
--- Sources: Cedar reference guide 4.0, "Policy validation" and "Entities and context: JSON format".
+-- Source: Cedar reference guide 4.0, "Policy validation" and "Entities and context: JSON format".
 -- Rules of this product: a policy's text must be that of a policy that passes validation; an entity's must be the one
 -- canonical text of an entity that the schema allows, under that entity's uid. This does not depend on a store, so
 -- the order of arrival does not matter.
@@ -25,15 +25,15 @@ use Rattle.validator.specs.Passing.{Passes, IsCheckRefused}
 use Rattle.message_format.specs.declared.bodies.BodyFault.{BodyFault}
 use Rattle.message_format.specs.declared.bodies.BodyFault.TheVariants.{Refused, OtherName}
 
--- ---- policies: an id does not matter, whatever `@id` a text has
+-- ---- policies: neither the id under which a text is stored nor its `@id` matters
 
 -- `ReadsPolicy s text p` holds if `text` is the text of the policy `p`, which passes validation under `s`.
 pub record ReadsPolicy (s : StatedSchema) (text : List ℕ) (p : Policy) : Type 0 where
   pub is_text : IsPolicyText text p
   pub passes : Passes s p
 
--- `RefusesPolicy s text f` holds if `text` is not a policy's, or is that of a policy that does not pass; `f` has the
--- code of its error.
+-- `RefusesPolicy s text f` holds if `text` is not the text of a policy, or is that of a policy that does not pass
+-- validation under `s`, and `f` has the code of the error.
 pub data RefusesPolicy (s : StatedSchema) (text : List ℕ) : BodyFault → Type 0 where
   no_policy : (f : ReadFault) → IsPolicyRefused text f → RefusesPolicy s text (Refused (grammar.code_of f))
   not_passing : (p : Policy) (f : TypeFault) → IsPolicyText text p → IsCheckRefused s p f
@@ -41,13 +41,14 @@ pub data RefusesPolicy (s : StatedSchema) (text : List ℕ) : BodyFault → Type
 
 -- ---- entities
 
--- `refused_by r` is the entity of `r`, or its error by code.
+-- `refused_by r` is the entity in `r`, or the error in `r` by its code.
 abbrev pub refused_by : Result Entity EntityFault → Result Entity BodyFault
 refused_by (Ok e) = Ok e
 refused_by (Err f) = Err (Refused (entities.code_of f))
 
--- `entity_of_text s uid text` is the entity with the canonical text `text`, whose uid is `uid`; or the first error:
--- 30 if `text` is not JSON, the entity's error, 57 if its canonical text is another one, `OtherName` if its uid is.
+-- `entity_of_text s uid text` is the entity under the schema `s` with the canonical text `text` and the uid `uid`, or
+-- the first error: 30 if `text` is not JSON, the error of the entity, 57 if its canonical text is another one,
+-- `OtherName` if its uid is another one.
 unfoldable pub entity_of_text : StatedSchema → EntityUid → List ℕ → Result Entity BodyFault
 entity_of_text s uid text = do
   json ← or_fault (Refused 30) (json_of text)
@@ -56,10 +57,12 @@ entity_of_text s uid text = do
   named ← demand OtherName (is_same e.uid uid)
   Ok e
 
--- `ReadsEntity s uid text e` holds if `text` is the canonical text of the entity `e`, whose uid is `uid`.
+-- `ReadsEntity s uid text e` holds if `text` is the canonical text of the entity `e` under the schema `s`, and the uid
+-- of `e` is `uid`.
 abbrev pub ReadsEntity : StatedSchema → EntityUid → List ℕ → Entity → Type 0
 ReadsEntity s uid text e = entity_of_text s uid text ≡ Ok e
 
--- `RefusesEntity s uid text f` holds if `f` is the first error of `text` as that of the entity `uid`.
+-- `RefusesEntity s uid text f` holds if `f` is the first error of `text` as the canonical text of the entity `uid`
+-- under the schema `s`.
 abbrev pub RefusesEntity : StatedSchema → EntityUid → List ℕ → BodyFault → Type 0
 RefusesEntity s uid text f = entity_of_text s uid text ≡ Err f

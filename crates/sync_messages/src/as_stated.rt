@@ -1,4 +1,4 @@
-//! Theorems: parsing gives what the relations on bytes state. The functions are no-ops.
+//! Theorems: the parsing of messages gives what the relations on bytes say. The functions are no-ops.
 ghost use Rattle.sync_messages.specs.AsStated.{UpdatesAreRead, UpdatesHaveOneOutcome, UpdatesAreWritten};
 ghost use Rattle.sync_messages.specs.AsStated.{SummariesAreRead, SummariesHaveOneOutcome, SummariesAreWritten};
 ghost use Rattle.sync_messages.specs.AsStated.{TextsAreRead, MessagesAreRead, MessagesHaveOneOutcome};
@@ -6,14 +6,14 @@ ghost use Rattle.sync_messages.specs.AsStated.{TextsAreRead, MessagesAreRead, Me
 use crate::laws::stored_texts_have_one_reading;
 use json_words::json_keys_ascend;
 use message_format::{names_read_back, stamps_read_back};
-use stamped_store::laws::site_names_are_told;
+use stamped_store::laws::site_names_are_recognized;
 use validator::entities_are_read_as_stated;
 
-/// Proves that parsing a state or delta gives the updates that bytes state, or the first error, before the checks of
-/// entries. No-op.
+/// Proves that parsing the form of a state or delta gives the updates that bytes describe, or the first error. No-op.
 ///
-/// Bytes state exactly one list of updates or are rejected with exactly one error, never both. Bytes of version 2 that
-/// are parsed as updates are JSON with exactly what is written for these updates.
+/// Ranges and texts of entries are not checked here. Bytes describe exactly one list of updates or are rejected with
+/// exactly one error, never both. Bytes of version 2 that are parsed as updates are JSON with exactly the keys and
+/// values that are written for these updates.
 pub fn updates_are_read_as_stated()
     ensures read { UpdatesAreRead }
     ensures one { UpdatesHaveOneOutcome }
@@ -22,13 +22,13 @@ pub fn updates_are_read_as_stated()
     json_keys_ascend();
     names_read_back();
     stamps_read_back();
-    site_names_are_told();
+    site_names_are_recognized();
 }
 
-/// Proves that parsing a summary gives the summary that bytes state, or the first error. No-op.
+/// Proves that parsing a summary gives the summary that bytes describe, or the first error. No-op.
 ///
-/// Bytes state exactly one summary or are rejected with exactly one error, never both. Bytes of version 2 that are
-/// parsed as a summary are JSON with exactly what is written for it.
+/// Bytes describe exactly one summary or are rejected with exactly one error, never both. Bytes of version 2 that are
+/// parsed as a summary are JSON with exactly the keys and values that are written for it.
 pub fn summaries_are_read_as_stated()
     ensures read { SummariesAreRead }
     ensures one { SummariesHaveOneOutcome }
@@ -37,21 +37,21 @@ pub fn summaries_are_read_as_stated()
     json_keys_ascend();
     names_read_back();
     stamps_read_back();
-    site_names_are_told();
+    site_names_are_recognized();
 }
 
-/// Proves that parsing a text under a schema and a uid gives the entity with this uid whose canonical text it is, or
-/// the first error of the text. No-op.
+/// Proves that parsing a text under a schema and a uid gives the entity with this uid and this canonical text, or the
+/// first error of the text. No-op.
 pub fn entity_texts_are_read_as_stated()
     ensures { TextsAreRead }
 {
     entities_are_read_as_stated();
 }
 
-/// Proves that parsing a message of a schema gives the updates that bytes state, their texts parsed, or the first
+/// Proves that parsing a message of a schema gives the updates that bytes describe, their texts parsed, or the first
 /// error. No-op.
 ///
-/// Bytes state exactly one list of updates or are rejected with exactly one error, never both.
+/// Bytes describe exactly one list of updates or are rejected with exactly one error, never both.
 pub fn messages_are_read_as_stated()
     ensures read { MessagesAreRead }
     ensures one { MessagesHaveOneOutcome }
@@ -59,7 +59,7 @@ pub fn messages_are_read_as_stated()
     json_keys_ascend();
     names_read_back();
     stamps_read_back();
-    site_names_are_told();
+    site_names_are_recognized();
     entities_are_read_as_stated();
     stored_texts_have_one_reading();
 }

@@ -1,11 +1,13 @@
-//! Theorems about the definitions; their functions do nothing.
+//! Theorems about the texts of a store under a schema. The functions are no-ops.
 ghost use Rattle.sync_messages.specs.Laws.{PoliciesHaveOneReading, EntitiesHaveOneReading};
 ghost use Rattle.sync_messages.specs.Laws.{PoliciesHaveNoOtherName, CanonicalTextsAreRead};
 
 use validator::policies_have_one_outcome;
 
-/// Proves that under a schema each text is parsed as one policy that passes validation or rejected with one error,
-/// and never both; and likewise for entities, under each uid. No policy's text is rejected as of another name. No-op.
+/// Proves that under a schema each text is parsed as one policy that passes validation or rejected with one error, and
+/// never both, and likewise for entities, under each uid. No-op.
+///
+/// No text of a policy is rejected with `OtherName`.
 pub fn stored_texts_have_one_reading()
     ensures policies { PoliciesHaveOneReading }
     ensures entities { EntitiesHaveOneReading }

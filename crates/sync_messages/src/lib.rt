@@ -1,6 +1,7 @@
-//! The texts of a store under a schema: policies that pass validation, and entities in their canonical text.
+//! Messages between sites under a schema, whose texts are policies that pass validation and entities in their canonical
+//! text.
 //!
-//! The bodies of messages and the commands of a site are checked by this alone.
+//! [`SchemaTexts`] parses these texts. What it accepts does not depend on a store.
 #![tactic(auto)]
 
 mod as_stated;
@@ -21,7 +22,7 @@ pub use message_format::{
 pub use messages::{read_summary, read_updates};
 pub use texts::SchemaTexts;
 pub use validator::{
-    Entity, Schema, TypeFault, action_types_are_told, bytes_have_one_outcome, check,
-    entities_are_read_as_stated, entities_read_back, json_texts_are_utf8, parents_tell_ancestors,
-    passing_policies_are_sound, policies_have_one_outcome,
+    Entity, Schema, TypeFault, action_type_test_is_exact, bytes_have_one_outcome, check,
+    entities_are_read_as_stated, entities_read_back, json_texts_are_utf8,
+    parents_determine_ancestors, passing_policies_are_sound, policies_have_one_outcome,
 };

@@ -1,4 +1,4 @@
-//! Reads the messages of a schema, and the summaries of its stores.
+//! The parsing of the messages of a schema: states, deltas and summaries.
 ghost use Rattle.std.specs.Prelude.{IfOk, IfErr, MatchResult};
 ghost use Rattle.json_words.specs.ReadsAs.{ReadsAs};
 ghost use Rattle.plain.specs.Refused.{OrNoMemory};
@@ -15,12 +15,14 @@ use message_format::{MessageFault, Policy, Summary, Update, read_message};
 use std::alloc::Global;
 use validator::{Entity, Schema};
 
-/// Reads a message of a schema, a state or a delta; returns its updates in their order, each text parsed under the
-/// schema.
+/// Parses a state or a delta of a schema.
+///
+/// Returns its updates in their order, each text parsed under the schema.
 ///
 /// # Errors
 ///
-/// As [`read_message`]: the first error of the message, or `NoMemory` (1).
+/// - 50 to 56: the first error of the message, in the order of [`read_message`].
+/// - `NoMemory` (1): an allocation failed; possible at any point.
 pub fn read_updates(
     alloc: Global,
     schema: &Schema,
@@ -40,12 +42,14 @@ pub fn read_updates(
     }
 }
 
-/// Reads a summary of the schema with this label. In version 1, each site's number is parsed as the site whose name is
-/// its five digits.
+/// Parses a summary of the schema with this label.
+///
+/// In version 1, each site's number is parsed as the site whose name is its five digits.
 ///
 /// # Errors
 ///
-/// As [`message_format::read_summary`]: the first error of the summary, or `NoMemory` (1).
+/// - 50 to 55: the first error of the summary, in the order of [`message_format::read_summary`].
+/// - `NoMemory` (1): an allocation failed; possible at any point.
 pub fn read_summary(alloc: Global, label: &str, bytes: &[u8]) -> Result<Summary, MessageFault>
     ensures read { ReadsAs MessageFault.NoMemory (λ m. m) result (summary_stated label.now bytes.now) }
     ensures stated { MatchResult result (StatesSummary label.now bytes.now)

@@ -1,4 +1,4 @@
-//! Parses texts of policies and of entities under a schema.
+//! The parsing of texts of policies and of entities under a schema.
 ghost use Rattle.std.specs.Prelude.{◌≡◌, ◌≢◌, ℕ, List, IfOk, IfErr, MatchResult, Ok, Err};
 ghost use Rattle.std.specs.Str.{bytes_eq};
 ghost use Rattle.serde_json.specs.View.{view};
@@ -7,7 +7,6 @@ ghost use Rattle.json_words.specs.Json.{json_of};
 ghost use Rattle.validator.specs.entities.ancestor_search.Decided.{is_same};
 ghost use Rattle.message_format.specs.policy_grammar.Faults as grammar;
 ghost use Rattle.message_format.specs.policy_grammar.PolicyText.{IsPolicyText};
-ghost use Rattle.validator.specs.entities.schema.Schemas.{StatedSchema};
 ghost use Rattle.validator.specs.entities.schema.Views.{schema_view};
 ghost use Rattle.validator.specs.entities.Entities.{entity_stated_in};
 ghost use Rattle.validator.specs.entities.Canonical.{canonical_text};
@@ -24,7 +23,7 @@ use std::alloc::Global;
 use validator::{Entity, EntityFault, Schema, TypeFault, canonical_text, check, read_entity};
 use values::EntityUid;
 
-/// The parser of texts under a schema. Contracts see what the schema states.
+/// The parser of texts under a schema. Contracts see the schema's view.
 #[derive(Clone, Copy)]
 pub struct SchemaTexts<'a> {
     /// The schema.
@@ -49,7 +48,7 @@ impl Readings<Policy, Entity> for SchemaTexts<'_> {
     ghost reads_entity = { λ t uid text e. ReadsEntity (schema_view t.schema.now) uid text e };
 }
 
-/// Returns the error of a text that is not a policy's, by its code.
+/// Converts the error of a text that is not the text of a policy, by its code.
 fn grammar_fault(fault: ReadFault) -> BodyFault
     ensures memory { fault ≡ ReadFault.NoMemory → result ≡ BodyFault.NoMemory }
     ensures refused { fault ≢ ReadFault.NoMemory → result ≡ BodyFault.Refused (grammar.code_of fault) }
@@ -60,7 +59,7 @@ fn grammar_fault(fault: ReadFault) -> BodyFault
     }
 }
 
-/// Returns the error of a policy that does not pass validation, by its code.
+/// Converts the error of a policy that does not pass validation, by its code.
 fn validation_fault(fault: TypeFault) -> BodyFault
     ensures memory { fault ≡ TypeFault.NoMemory → result ≡ BodyFault.NoMemory }
     ensures refused { fault ≢ TypeFault.NoMemory → result ≡ BodyFault.Refused (validation.code_of fault) }
@@ -71,19 +70,7 @@ fn validation_fault(fault: TypeFault) -> BodyFault
     }
 }
 
-/// Parses a policy, whether it passes validation or not.
-fn policy_in(alloc: Global, text: &str) -> Result<Policy, BodyFault>
-    ensures read { IfOk result (IsPolicyText text.now) }
-    ensures refused { IfErr result (λ f. (s : StatedSchema)
-        → OrNoMemory BodyFault.NoMemory (RefusesPolicy s text.now) f) }
-{
-    match parse_policy(alloc, text) {
-        Ok(policy) => Ok(policy),
-        Err(fault) => Err(grammar_fault(fault)),
-    }
-}
-
-/// Checks that the policy passes validation.
+/// Checks that a policy passes validation.
 fn demand_passing(alloc: Global, schema: &Schema, policy: &Policy) -> Result<(), BodyFault>
     ensures passes { IfOk result (λ _. Passes (schema_view schema.now) policy.now) }
     ensures refused { IfErr result (λ f. (text : List ℕ) → IsPolicyText text policy.now
@@ -95,7 +82,7 @@ fn demand_passing(alloc: Global, schema: &Schema, policy: &Policy) -> Result<(),
     }
 }
 
-/// Returns the policy, or the error for which it does not pass.
+/// Returns the policy if `passing` is a success, else the error in `passing`.
 fn where_passing<P: Drop>(policy: P, passing: Result<(), BodyFault>) -> Result<P, BodyFault>
     ensures { MatchResult passing (λ _. result ≡ Ok policy) (λ f. result ≡ Err f) }
 {
@@ -105,21 +92,21 @@ fn where_passing<P: Drop>(policy: P, passing: Result<(), BodyFault>) -> Result<P
     }
 }
 
-/// Parses a policy that passes validation.
+/// Parses the text of a policy, and checks that the policy passes validation.
 fn passing_policy(alloc: Global, schema: &Schema, text: &str) -> Result<Policy, BodyFault>
     ensures read { IfOk result (ReadsPolicy (schema_view schema.now) text.now) }
     ensures refused { IfErr result (OrNoMemory BodyFault.NoMemory (RefusesPolicy (schema_view schema.now) text.now)) }
 {
-    match policy_in(alloc, text) {
+    match parse_policy(alloc, text) {
         Ok(policy) => {
             let passing = demand_passing(alloc, schema, &policy);
             where_passing(policy, passing)
         }
-        Err(fault) => Err(fault),
+        Err(fault) => Err(grammar_fault(fault)),
     }
 }
 
-/// Parses the JSON of a text.
+/// Parses a text as JSON. A text that is not JSON has the error 30.
 fn json_in(alloc: Global, scratch: &mut Scratch, text: &str) -> Result<Value, BodyFault>
     ensures { ReadsAs BodyFault.NoMemory view result (or_fault (BodyFault.Refused 30) (json_of text.now)) }
 {
@@ -129,7 +116,7 @@ fn json_in(alloc: Global, scratch: &mut Scratch, text: &str) -> Result<Value, Bo
     }
 }
 
-/// Returns the entity that JSON states, or its error by its code.
+/// Returns the entity that a JSON value describes under the schema, or the value's error by its code.
 fn allowed_entity(alloc: Global, schema: &Schema, json: &Value) -> Result<Entity, BodyFault>
     ensures { ReadsAs BodyFault.NoMemory (λ e. e) result
         (refused_by (entity_stated_in (schema_view schema.now) (view json.now))) }
@@ -141,7 +128,7 @@ fn allowed_entity(alloc: Global, schema: &Schema, json: &Value) -> Result<Entity
     }
 }
 
-/// Checks that a text is the canonical text of an entity.
+/// Checks that a text is the canonical text of an entity. Another text has the error 57.
 fn demand_canonical(alloc: Global, entity: &Entity, text: &str) -> Result<(), BodyFault>
     ensures { ReadsAs BodyFault.NoMemory (λ u. u) result
         (demand (BodyFault.Refused 57) (bytes_eq (canonical_text entity.now) text.now)) }
@@ -154,7 +141,7 @@ fn demand_canonical(alloc: Global, entity: &Entity, text: &str) -> Result<(), Bo
     }
 }
 
-/// Checks that an entity has this uid.
+/// Checks that an entity has this uid. An entity with another one has the error `OtherName`.
 fn demand_uid(entity: &Entity, uid: &EntityUid) -> Result<(), BodyFault>
     ensures { AlwaysReadsAs (λ u. u) result (demand BodyFault.OtherName (is_same entity.now.uid uid.now)) }
 {
@@ -165,7 +152,7 @@ fn demand_uid(entity: &Entity, uid: &EntityUid) -> Result<(), BodyFault>
     }
 }
 
-/// Parses the canonical text of the entity with this uid.
+/// Parses a text as the canonical text of the entity with this uid.
 #[tactic(auto, unfolding(crate::specs::Texts::entity_of_text))]
 fn canonical_entity(
     alloc: Global,

@@ -12,7 +12,7 @@ use Rattle.grammar_trees.specs.declared.tree.KeyTree.{KeyTree}
 use Rattle.grammar_trees.specs.declared.tree.KeyTree.TheVariants.{Word, Quoted}
 use Rattle.grammar_trees.specs.declared.tree.Term.{Term}
 use Rattle.grammar_trees.specs.declared.tree.ExprTree.{ExprTree}
-use Rattle.grammar_trees.specs.declared.tree.Variable.{Variable}
+use Rattle.grammar_trees.specs.declared.tree.RequestKeyword.{RequestKeyword}
 use Rattle.grammar_trees.specs.declared.tree.ExprTree.TheVariants as t
 use Rattle.grammar_trees.specs.declared.tree.ExprTree.TheOpen.{ExprTree-F as tree}
 use Rattle.grammar_trees.specs.declared.tree.ExprTree.TheFolds.{fold-roll-ExprTree}
@@ -44,7 +44,7 @@ count-Number token = ap tree_count (sym (t.rolls-Number token)) ∙ fold-roll-Ex
 pub count-Text : (token : Token) → tree_count (t.Text token) ≡ 1
 count-Text token = ap tree_count (sym (t.rolls-Text token)) ∙ fold-roll-ExprTree ℕ count_step (tree.Text token)
 
-pub count-Variable : (variable : Variable) → tree_count (t.Variable variable) ≡ 1
+pub count-Variable : (variable : RequestKeyword) → tree_count (t.Variable variable) ≡ 1
 count-Variable variable = ap tree_count (sym (t.rolls-Variable variable)) ∙ fold-roll-ExprTree ℕ count_step (tree.Variable variable)
 
 pub count-Uid : (uid : UidTree) → tree_count (t.Uid uid) ≡ uid_count uid

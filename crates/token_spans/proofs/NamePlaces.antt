@@ -46,7 +46,7 @@ use Rattle.policy_grammar.specs.Conditions.{condition_of, joined, asked_by}
 use Rattle.policy_grammar.specs.CoreOf.{AreUidsOf, IsEntityScopeOf, IsActionScopeOf, IsCoreOf}
 use Rattle.policy_grammar.specs.Whole.{expression_of, falsehood, entity_literal, entity_part, action_part}
 use Rattle.token_spans.specs.Places.{to, part_count, action_count, condition_count}
-use Rattle.token_spans.specs.Places.{Place, in_entity, in_action}
+use Rattle.token_spans.specs.Places.{NodePlace, in_entity, in_action}
 use Rattle.token_spans.specs.Places.{at_conditions, by_word, unless_at, from_resource, from_action, from_effect}
 use Rattle.token_spans.specs.Names.{named as names_at, uid_tokens}
 use Rattle.token_spans.proofs.LanguageCounts.{path_fits, uid_fits}
@@ -60,14 +60,14 @@ use Rattle.token_spans.proofs.PolicyNodes.{Laid, policy_tokens, place_is, braced
 use Rattle.token_spans.proofs.OwnNames.{named_in, path_tokens-is, uid_tokens-is, name_has}
 
 -- The name at a place is `mine`, with which some end of the tokens ts begins.
-record NameAt (text : List ℕ) (ts : List Token) (place : Place) (n : OwnName) : Type 0 where
+record NameAt (text : List ℕ) (ts : List Token) (place : NodePlace) (n : OwnName) : Type 0 where
   mine : List Token
   behind : List Token
   within : Ends (mine ++ behind) ts
   found : names_at place ≡ Some mine
   derives : IsNameWriting text mine n
 
-name_later : (text : List ℕ) (ts us : List Token) (place : Place) (n : OwnName) → Ends us ts → NameAt text us place n
+name_later : (text : List ℕ) (ts us : List Token) (place : NodePlace) (n : OwnName) → Ends us ts → NameAt text us place n
     → NameAt text ts place n
 name_later text ts us place n ends a = record {
   mine = a.mine;
@@ -257,7 +257,7 @@ test_path text x name (i ∷ path) e n h named =
     absurd (no_variable x path e n o.1 named)
 
 -- the uid behind two tokens of a part
-pointed_at : (text : List ℕ) (ts mine rest : List Token) (uid : UidTree) (u : EntityUid) (n : OwnName) (place : Place)
+pointed_at : (text : List ℕ) (ts mine rest : List Token) (uid : UidTree) (u : EntityUid) (n : OwnName) (place : NodePlace)
     → ts ≡ mine ++ rest → Pointed mine uid → u ≡ uid_of text uid → n ≡ entity u
     → names_at place ≡ Some (uid_tokens uid (drop 2 ts)) → NameAt text ts place n
 pointed_at text ts mine rest uid u n place is pt same_uid same found =

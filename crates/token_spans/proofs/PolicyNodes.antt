@@ -30,7 +30,7 @@ use Rattle.policy_grammar.specs.Whole.{action_part as scope_action}
 use Rattle.grammar_core.specs.declared.leaf.Variable.TheVariants.{Resource}
 use Rattle.token_spans.specs.Forms.{whole, unwrapped, own_tokens, up_to}
 use Rattle.token_spans.specs.Places.{to, part_count, action_count, condition_count}
-use Rattle.token_spans.specs.Places.{Place, whole_policy, in_entity, in_action, in_expression}
+use Rattle.token_spans.specs.Places.{NodePlace, whole_policy, in_entity, in_action, in_expression}
 use Rattle.token_spans.specs.Places.{at_conditions, by_word, unless_at, from_resource, from_action, from_effect, from_byte, place_at, written}
 use Rattle.token_spans.specs.Written.{IsWritingOf, IsPlacedIn, of_expression, of_unless, of_principal, of_action, of_resource, of_policy, StandsIn}
 use Rattle.token_spans.proofs.Lifting.{any_inner}
@@ -47,7 +47,7 @@ use Rattle.token_spans.proofs.Starting.{from_byte-is}
 
 -- What is written at a place is `first ∷ mine`, with which some end of the tokens ts begins. `Q mine behind` is what is
 -- known of these tokens and of those behind them.
-pub record At (ts : List Token) (place : Place) (Q : List Token → List Token → Type 0) : Type 0 where
+pub record At (ts : List Token) (place : NodePlace) (Q : List Token → List Token → Type 0) : Type 0 where
   pub mine : List Token
   pub behind : List Token
   pub some : Some_in mine
@@ -152,7 +152,7 @@ follow_off a b i path e h =
     (sym (ap (λ ys. and_then (slice_get (operands_in ys) (suc (suc i))) (λ y. follow path y)) (core.outs-And a b)) ∙ h)
 
 -- `At` in other tokens, and with more that is known
-more_known : (ts us : List Token) (place : Place) (Q R : List Token → List Token → Type 0) → Ends us ts
+more_known : (ts us : List Token) (place : NodePlace) (Q R : List Token → List Token → Type 0) → Ends us ts
     → ((mine behind : List Token) → Q mine behind → R mine behind) → At us place Q → At ts place R
 more_known ts us place Q R ends know a = record {
   mine = a.mine;
@@ -199,10 +199,10 @@ at_one text c ts us behind (i ∷ path) e Unless is whole_is d h =
     b.derives o.1))
 
 -- a node that joins, or one that is written at a place
-abbrev Joins : List Token → List ℕ → Place → Type 0
+abbrev Joins : List Token → List ℕ → NodePlace → Type 0
 Joins policy path place = (place ≡ whole_policy policy) × AllByRecursion (λ i. i ≡ 1) path
 
-abbrev Found : List Token → List Token → List ℕ → Place → (List Token → List Token → Type 0) → Type 0
+abbrev Found : List Token → List Token → List ℕ → NodePlace → (List Token → List Token → Type 0) → Type 0
 Found policy ts path place Q = Joins policy path place ⊎ At ts place Q
 
 pub no_operand : (i : ℕ) (path : List ℕ) (e : Expr) → follow (i ∷ path) truth ≡ Some e → ⊥
@@ -317,7 +317,7 @@ policy_tokens ts tree l =
 -- ## The scope
 
 -- a part of the scope, of which some tokens are the front
-part_at : (ts mine behind : List Token) (n : ℕ) (place : Place) (Q : List Token → List Token → Type 0)
+part_at : (ts mine behind : List Token) (n : ℕ) (place : NodePlace) (Q : List Token → List Token → Type 0)
     → ts ≡ mine ++ behind → length mine ≡ n → written place ≡ Some (up_to ts (drop n ts)) → Some_in mine → Q mine behind
     → At ts place Q
 part_at ts mine behind n place Q is counted there some known = record {

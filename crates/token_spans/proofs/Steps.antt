@@ -10,7 +10,7 @@ use Rattle.grammar_trees.specs.grammar_tokens.Grammar as names
 use Rattle.grammar_trees.specs.declared.tree.Comparison.{Comparison}
 use Rattle.grammar_trees.specs.declared.tree.Comparison.TheVariants as is
 use Rattle.grammar_trees.specs.declared.tree.KeyTree.{KeyTree}
-use Rattle.grammar_trees.specs.declared.tree.Variable.{Variable}
+use Rattle.grammar_trees.specs.declared.tree.RequestKeyword.{RequestKeyword}
 use Rattle.grammar_trees.specs.declared.tree.ExprTree.{ExprTree, out-ExprTree, roll-ExprTree, roll-out-ExprTree}
 use Rattle.grammar_trees.specs.declared.tree.ExprTree.TheVariants as t
 use Rattle.grammar_trees.specs.declared.tree.ExprTree.TheOpen.{ExprTree-F as tree}
@@ -104,7 +104,7 @@ module _ (text : List ℕ) where
       shown text ts (t.Text token) _ (t.outs-Text token)
       (by_none text ts (t.Text token) _ (cores.core-Text text token) (ap operands_in (core.outs-Literal _)))
 
-  pub variable_shown : (ts : List Token) (word : Variable) → Shown text ts (t.Variable word)
+  pub variable_shown : (ts : List Token) (word : RequestKeyword) → Shown text ts (t.Variable word)
   variable_shown ts word =
       shown text ts (t.Variable word) _ (t.outs-Variable word)
       (by_none text ts (t.Variable word) _ (cores.core-Variable text word) (ap operands_in (core.outs-Variable _)))

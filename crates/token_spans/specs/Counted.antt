@@ -1,4 +1,4 @@
--- Defines what it means that a tree counts the tokens that derive it.
+-- Defines when a number that is computed from a tree is the number of the tokens that derive the tree.
 -- Source: Cedar reference guide 4.0, "Grammar specification for Cedar policy syntax".
 use Rattle.std.specs.Prelude.{◌≡◌, ℕ, List, length}
 use Rattle.grammar_trees.specs.grammar_tokens.declared.token.Token.{Token}

@@ -1,8 +1,10 @@
--- Defines the written form that a core node belongs to, by the path from the node of a form around it.
+-- Defines the written form of a core node, by the path to it from the node of a form around it. A written form is an
+-- expression of the syntax tree, or the front of a chain, such as `a + b` of `a + b + c`.
 -- Source: Cedar reference guide 4.0, "Grammar specification for Cedar policy syntax" and "Operators and functions".
--- Rules of this product: the operands of a core node are numbered from 0 in the order that they are written in. A chain
--- groups to the left, and the tokens of its first operand with some further pieces are a form. Where rewriting made the
--- node (`<=` of `>`, the parts of `is .. in`), its form is the least one around it. No form is in parentheses.
+-- Rules of this product: the operands of a core node are numbered from 0 in the order in which they are written. A
+-- chain groups to the left, and the tokens of its first operand with some further pieces are a form. Where rewriting
+-- made the node (`<=` of `>`, the parts of `is .. in`), its form is the least one around it. Parentheses around a form
+-- do not belong to it.
 use Rattle.std.specs.Prelude.{ℕ, zero, suc, ◌-◌, ◌==◌, if◌then◌else◌, Bool, true, false, List, [], ◌∷◌, length}
 use Rattle.std.specs.Prelude.{map, take, drop}
 use Rattle.std.specs.Prelude.{Option, Some, None, option_map, option_and_then, slice_get}
@@ -24,13 +26,14 @@ use Rattle.token_spans.specs.declared.forms.Part.{Part}
 use Rattle.token_spans.specs.declared.forms.Part.TheVariants as part
 use Rattle.token_spans.specs.declared.forms.Form as code
 
--- A `Form` is a core node, by the form that it is written as, and the tokens from the form's first one on.
+-- A `Form` is a core node: the tree of its written form, which node of that form it is, and the tokens from the form's
+-- first one on.
 pub record Form : Type 0 where
   pub tree : ExprTree
   pub part : Part
   pub tokens : List Token
 
--- `form_of` is the abstract form of the code's form.
+-- `form_of f` is the abstract value of the form `f` of the code.
 abbrev pub form_of : code.Form → Form
 form_of f = record { tree = f.tree.now; part = f.part; tokens = f.tokens.now }
 
@@ -40,6 +43,7 @@ whole x ts = record { tree = x; part = part.Whole; tokens = ts }
 
 -- ## Parentheses
 
+-- `depth_step t` is the depth of a syntax tree, given the depths of its parts `t`: one more for parentheses, else 0.
 abbrev pub depth_step : tree ℕ → ℕ
 depth_step (tree.Parentheses a) = suc a
 depth_step _ = 0
@@ -48,6 +52,7 @@ depth_step _ = 0
 abbrev pub depth : ExprTree → ℕ
 depth = fold-ExprTree ℕ depth_step
 
+-- `inside t x` is the expression in the parentheses `x`, whose tree is `t`; `x` itself if it is not in parentheses.
 abbrev pub inside : tree ExprTree → ExprTree → ExprTree
 inside (tree.Parentheses a) x = a
 inside _ x = x
@@ -64,20 +69,20 @@ unwrapped f =
 
 -- ## Chains: a first operand and further pieces, grouped to the left
 
--- `kept p n` is how many of n further pieces belong to the part p.
+-- `kept p n` is how many of the n further pieces of a chain belong to its node p.
 abbrev pub kept : Part → ℕ → ℕ
 kept part.Whole n = n
 kept (part.First count) n = count
 kept part.Test n = n
 kept part.Inner n = n
 
--- `left_at f a n` is the left operand of the chain f with the first operand a, where n further pieces are in it.
+-- `left_at f a n` is the left operand of the chain f with the first operand a; n further pieces are in this operand.
 abbrev pub left_at : Form → ExprTree → ℕ → Form
 left_at f a n =
     if n == 0 then whole a f.tokens else record { tree = f.tree; part = part.First n; tokens = f.tokens }
 
--- `piece_at a more ts i` is the operand of the further piece i, and `term_at` that of a sum: after the first operand,
--- the pieces before it and its own operator.
+-- `piece_at a more ts i` is the operand of the further piece i of a chain, and `term_at a terms ts i` is that of a sum.
+-- The tokens ts begin with the chain; the operand follows the first operand a, the earlier pieces and its own operator.
 abbrev pub piece_at : ExprTree → List ExprTree → List Token → ℕ → Option Form
 piece_at a more ts i =
     option_map (λ b. whole b (drop 1 (drop (each_count (map tree_count (take i more))) (drop (tree_count a) ts))))
@@ -89,8 +94,8 @@ term_at a terms ts i =
     (λ b. whole b.operand (drop 1 (drop (each_count (map term_count (take i terms))) (drop (tree_count a) ts))))
     (slice_get terms i)
 
--- `chain_at f a right n i` is operand i of a chain with n further pieces, one at least: 0 is all before the last of
--- these, 1 the last.
+-- `chain_at f a right n i` is operand i of the chain f with n further pieces, at least one: operand 0 is all before the
+-- last piece, operand 1 is that of the last piece. `right` gives the operand of a piece.
 abbrev pub chain_at : Form → ExprTree → (ℕ → Option Form) → ℕ → ℕ → Option Form
 chain_at f a right n i =
     if i == 0 then Some (left_at f a (n - 1)) else (if i == 1 then right (n - 1) else None)
@@ -113,21 +118,22 @@ abbrev pub argument_at : Access (List ExprTree) → List Token → ℕ → Optio
 argument_at (access.Field key) ts i = None
 argument_at (access.Method name arguments) ts i = row_at arguments (drop 3 ts) i
 
--- `access_at a accesses ts n i` is argument i of access n.
+-- `access_at a accesses ts n i` is argument i of access n to the expression a, which the tokens ts begin with.
 abbrev pub access_at : ExprTree → List (Access (List ExprTree)) → List Token → ℕ → ℕ → Option Form
 access_at a accesses ts n i =
     option_and_then
     (λ x. argument_at x (drop (total (map access_tree_count (take n accesses))) (drop (tree_count a) ts)) i)
     (slice_get accesses n)
 
--- `member_at f a accesses n i` is operand i of what n accesses reach, one at least: 0 is the operand of the last
--- access, and the others are its arguments.
+-- `member_at f a accesses n i` is operand i of the node that the first n accesses reach, at least one: operand 0 is
+-- that of the last of these accesses, and the others are its arguments.
 abbrev pub member_at : Form → ExprTree → List (Access (List ExprTree)) → ℕ → ℕ → Option Form
 member_at f a accesses n i =
     if i == 0 then Some (left_at f a (n - 1)) else access_at a accesses f.tokens (n - 1) (i - 1)
 
 -- ## Other forms
 
+-- `one_at a ts i`, `two_at f g i` and `three_at f g h i` are operand i of one, two and three operands.
 abbrev pub one_at : ExprTree → List Token → ℕ → Option Form
 one_at a ts i = if i == 0 then Some (whole a ts) else None
 
@@ -138,16 +144,18 @@ abbrev pub three_at : Form → Form → Form → ℕ → Option Form
 three_at f g h i =
     if i == 0 then Some f else (if i == 1 then Some g else (if i == 2 then Some h else None))
 
--- `part_of f p` is another node of the form f.
+-- `part_of f p` is the node p of the form f.
 abbrev pub part_of : Form → Part → Form
 part_of f p = record { tree = f.tree; part = p; tokens = f.tokens }
 
--- `behind_minus x a ts i` is the operand `i` of a minus before `a`: none before a number, which the minus belongs to.
+-- `behind_minus t a ts i` is operand i of a minus before `a`, whose tree is `t`. A minus before a number belongs to the
+-- number, which has no operands.
 abbrev pub behind_minus : tree ExprTree → ExprTree → List Token → ℕ → Option Form
 behind_minus (tree.Number t) a ts i = None
 behind_minus _ a ts i = one_at a ts i
 
--- `is_negated c` tests whether the comparison `c` is the negation of another one, which is written as the same form.
+-- `is_negated c` tests whether the comparison `c` means the negation of another one: `>`, `>=` and `!=` do. Both nodes
+-- are written as the same form.
 abbrev pub is_negated : Comparison → Bool
 is_negated is.Less = false
 is_negated is.LessOrEqual = false
@@ -157,18 +165,20 @@ is_negated is.Equal = false
 is_negated is.NotEqual = true
 is_negated is.In = false
 
--- `is_outer p` tests for all parts except `Inner`.
+-- `is_outer p` tests whether the node `p` is not `Inner`.
 abbrev pub is_outer : Part → Bool
 is_outer part.Whole = true
 is_outer (part.First n) = true
 is_outer part.Test = true
 is_outer part.Inner = false
 
+-- `both a b` tests whether `a` and `b` are true.
 abbrev pub both : Bool → Bool → Bool
 both true b = b
 both false b = false
 
--- `compared_at negated f a b i` is operand i of a comparison, or of its negation.
+-- `compared_at negated f a b i` is operand i of a comparison of a and b; if `negated`, of the negation, whose only
+-- operand is the inner node of the form f.
 abbrev pub compared_at : Bool → Form → ExprTree → ExprTree → ℕ → Option Form
 compared_at true f a b i = if i == 0 then Some (part_of f part.Inner) else None
 compared_at false f a b i = two_at (whole a f.tokens) (whole b (drop 1 (drop (tree_count a) f.tokens))) i
@@ -184,6 +194,7 @@ in_test_at part.Inner f a path b i =
 
 -- ## All forms
 
+-- `operand_step t f i` is operand i of the core node of the form f, whose tree is `t`.
 abbrev pub operand_step : tree ExprTree → Form → ℕ → Option Form
 operand_step (tree.Boolean value) f i = None
 operand_step (tree.Number t) f i = None
@@ -220,6 +231,7 @@ abbrev pub node_at : Form → List ℕ → Option Form
 node_at f [] = Some f
 node_at f (i ∷ path) = option_and_then (λ g. node_at (unwrapped g) path) (operand f i)
 
+-- `behind_test p f a path b` is the tokens after the node p of the form f, which is `a is path in b`.
 abbrev pub behind_test : Part → Form → ExprTree → PathTree → ExprTree → List Token
 behind_test part.Test f a path b = drop (path_count path) (drop 1 (drop (tree_count a) f.tokens))
 behind_test _ f a path b = drop (tree_count f.tree) f.tokens
@@ -228,7 +240,7 @@ behind_test _ f a path b = drop (tree_count f.tree) f.tokens
 abbrev pub up_to : List Token → List Token → List Token
 up_to ts rest = take (length ts - length rest) ts
 
--- `behind_step` is the tokens after a form, from those that it begins.
+-- `behind_step t f` is the tokens after the form f, whose tree is `t`.
 abbrev pub behind_step : tree ExprTree → Form → List Token
 behind_step (tree.Member a accesses) f =
     drop (total (map access_tree_count (take (kept f.part (length accesses)) accesses))) (drop (tree_count a) f.tokens)

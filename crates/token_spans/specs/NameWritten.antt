@@ -30,10 +30,12 @@ pub data OwnName : Type 0 where
   entity : EntityUid → OwnName
   tested_type : List ℕ → OwnName
 
+-- `name_of_literal l` is the entity of the literal `l`, if it is one of an entity.
 abbrev pub name_of_literal : Literal → Option OwnName
 name_of_literal (literal.Entity u) = Some (entity u)
 name_of_literal l = None
 
+-- `name_of_operator op` is the type of the operator `op`, if it is `is`.
 abbrev pub name_of_operator : Unary → Option OwnName
 name_of_operator (Is n) = Some (tested_type n)
 name_of_operator op = None
@@ -44,13 +46,13 @@ name_of (Expr-F.Literal l) = name_of_literal l
 name_of (Expr-F.Unary op a) = name_of_operator op
 name_of y = None
 
--- `IsNameWriting text mine n` holds if alone the tokens derive the name n, as a Uid or a Path.
+-- `IsNameWriting text mine n` holds if the tokens `mine` by themselves derive the name n, as a Uid or a Path.
 pub data IsNameWriting (text : List ℕ) (mine : List Token) : OwnName → Type 0 where
   as_uid : (tree : UidTree) → uid mine tree → IsNameWriting text mine (entity (uid_of text tree))
   as_path : (tree : PathTree) → path mine tree → IsNameWriting text mine (tested_type (path_name text tree))
 
--- `NameStandsIn text tree path n ts` holds if the tokens ts of a policy's text are tokens before, those of the name n
--- of the core node at a path, at least one, and tokens after.
+-- `NameStandsIn text tree path n ts` holds if the tokens ts of a policy's text consist of tokens before, one or more
+-- tokens of the name n of the core node at `path`, and tokens after.
 pub record NameStandsIn (text : List ℕ) (tree : PolicyTree) (path : List ℕ) (n : OwnName) (ts : List Token) :
     Type 0 where
   pub before : List Token

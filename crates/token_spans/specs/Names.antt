@@ -1,7 +1,7 @@
 -- Defines the tokens of the name that a core node of a policy's expression itself has: the uid of a literal, and the
 -- type after `is`.
 -- Source: Cedar reference guide 4.0, "Grammar specification for Cedar policy syntax" (Path, Uid).
--- Rules of this product: of a part of the scope, the operands are those of the expression that it abbreviates.
+-- Rules of this product: a path into a part of the scope follows the expression that the part abbreviates.
 use Rattle.std.specs.Prelude.{ℕ, List, [], ◌∷◌, map, take, drop, Option, Some, None, option_and_then, slice_get}
 use Rattle.grammar_trees.specs.grammar_tokens.declared.token.Token.{Token}
 use Rattle.grammar_trees.specs.grammar_tokens.declared.tree.PathTree.{PathTree}
@@ -19,7 +19,7 @@ use Rattle.token_spans.specs.declared.forms.Part.{Part}
 use Rattle.token_spans.specs.declared.forms.Part.TheVariants as node
 use Rattle.token_spans.specs.Forms.{Form, whole, unwrapped, node_at, up_to}
 use Rattle.token_spans.specs.Places.{Turn, stop, left, right, off, turn}
-use Rattle.token_spans.specs.Places.{Place, whole_policy, in_entity, in_action, in_unless, in_expression, nowhere}
+use Rattle.token_spans.specs.Places.{NodePlace, whole_policy, in_entity, in_action, in_unless, in_expression, nowhere}
 use Rattle.token_spans.specs.Places.{place_at}
 
 -- `path_tokens path ts` and `uid_tokens uid ts` are the tokens of a Path or a Uid that the tokens ts begin with.
@@ -35,13 +35,15 @@ uid_tokens uid ts = up_to ts (drop (uid_count uid) ts)
 abbrev pub tested : ExprTree → PathTree → List Token → List Token
 tested a path ts = path_tokens path (drop 1 (drop (tree_count a) ts))
 
--- `in_test p ts` is the tokens `ts` of the type in `a is path in b`, if the node `p` is the test; no other has them.
+-- `in_test p ts` is the tokens `ts` of the type in `a is path in b` if the node `p` is the test `a is path`, else
+-- `None`.
 abbrev pub in_test : Part → List Token → Option (List Token)
 in_test node.Whole ts = None
 in_test (node.First n) ts = None
 in_test node.Test ts = Some ts
 in_test node.Inner ts = None
 
+-- `name_step t f` is the tokens of the name that the core node of the form f, whose tree is `t`, has itself.
 abbrev pub name_step : tree ExprTree → Form → Option (List Token)
 name_step (tree.Uid uid) f = Some (uid_tokens uid f.tokens)
 name_step (tree.Is a path) f = Some (tested a path f.tokens)
@@ -59,7 +61,8 @@ name_in x ts path = option_and_then own_name (node_at (unwrapped (whole x ts)) p
 
 -- ## In the scope
 
--- `at_end t name` is the name if the path ends here, and `at_second t name` if it ends at the second operand.
+-- `at_end t name` is `name` if the path with the first step `t` ends here, and `at_second t name` is `name` if that
+-- path ends at the second operand.
 abbrev pub at_end : Turn → Option (List Token) → Option (List Token)
 at_end stop name = name
 at_end (left path) name = None
@@ -72,14 +75,16 @@ at_second (left path) name = None
 at_second (right path) name = at_end (turn path) name
 at_second off name = None
 
--- `in_both t name uid`: `x is T in uid` means `x is T && x in uid`.
+-- `in_both t name uid` is the name or the uid to which a path with the first step `t` leads in `x is T in uid`, which
+-- means `x is T && x in uid`.
 abbrev pub in_both : Turn → Option (List Token) → Option (List Token) → Option (List Token)
 in_both stop name uid = None
 in_both (left path) name uid = at_end (turn path) name
 in_both (right path) name uid = at_second (turn path) uid
 in_both off name uid = None
 
--- `entity_name p ts path` is the name at a path of `principal ..` or `resource ..`, which the tokens ts begin with.
+-- `entity_name p ts path` is the tokens of the name at a path of `principal ..` or `resource ..`, which the tokens ts
+-- begin with.
 abbrev pub entity_name : PartTree → List Token → List ℕ → Option (List Token)
 entity_name part.Any ts path = None
 entity_name (part.Equal uid) ts path = at_second (turn path) (Some (uid_tokens uid (drop 2 ts)))
@@ -95,17 +100,19 @@ uid_at uids ts i =
     option_and_then (λ uid. Some (uid_tokens uid (drop (each_count (map uid_count (take i uids))) ts)))
     (slice_get uids i)
 
+-- `item_name uids ts path` is the tokens of the uid of such a list to which a path leads from the list.
 abbrev pub item_name : List UidTree → List Token → List ℕ → Option (List Token)
 item_name uids ts [] = None
 item_name uids ts (i ∷ path) = at_end (turn path) (uid_at uids ts i)
 
+-- `listed_name t uids ts` is the tokens of the uid to which a path with the first step `t` leads in `action in [..]`.
 abbrev pub listed_name : Turn → List UidTree → List Token → Option (List Token)
 listed_name stop uids ts = None
 listed_name (left path) uids ts = None
 listed_name (right path) uids ts = item_name uids ts path
 listed_name off uids ts = None
 
--- `action_name p ts path` is the name at a path of `action ..`, which the tokens ts begin with.
+-- `action_name p ts path` is the tokens of the name at a path of `action ..`, which the tokens ts begin with.
 abbrev pub action_name : ActionTree → List Token → List ℕ → Option (List Token)
 action_name action.Any ts path = None
 action_name (action.Equal uid) ts path = at_second (turn path) (Some (uid_tokens uid (drop 2 ts)))
@@ -115,7 +122,7 @@ action_name (action.InList uids) ts path = listed_name (turn path) uids (drop 3 
 -- ## In a policy
 
 -- `named place` is the tokens of the name that the core node at a place has itself.
-abbrev pub named : Place → Option (List Token)
+abbrev pub named : NodePlace → Option (List Token)
 named (whole_policy ts) = None
 named (in_entity part ts path) = entity_name part ts path
 named (in_action part ts path) = action_name part ts path

@@ -18,29 +18,32 @@ use Rattle.grammar_trees.specs.declared.tree.ExprTree.{ExprTree}
 use Rattle.token_spans.specs.TokenCounts.{path_count, uid_count, tree_count, row_count}
 use Rattle.token_spans.specs.declared.turns.Turn as code
 use Rattle.token_spans.specs.declared.turns.Turn.TheVariants as coded
-use Rattle.token_spans.specs.declared.places.Place as code_place
-use Rattle.token_spans.specs.declared.places.Place.TheVariants as coded_place
+use Rattle.token_spans.specs.declared.places.NodePlace as code_place
+use Rattle.token_spans.specs.declared.places.NodePlace.TheVariants as coded_place
 use Rattle.token_spans.specs.Forms.{tokens_at, up_to}
 
 -- ## Turns
 
--- A `Turn` is the first step of a path at a form with two operands: the path ends, or leads to the first or the second
--- operand or into it, or to another one.
+-- A `Turn` is the first step of a path at a core node with one or two operands: the path ends, or leads to or into the
+-- first or the second operand, or to an operand that does not exist.
 pub data Turn : Type 0 where
   stop : Turn
   left : List ℕ → Turn
   right : List ℕ → Turn
   off : Turn
 
+-- `abstract_turn t` is the abstract value of the turn `t` of the code.
 abbrev pub abstract_turn : code.Turn → Turn
 abstract_turn coded.Stop = stop
 abstract_turn (coded.Left path) = left path.now
 abstract_turn (coded.Right path) = right path.now
 abstract_turn coded.Off = off
 
+-- `to i path` is the turn to operand i, from which `path` leads on.
 abbrev pub to : ℕ → List ℕ → Turn
 to i path = if i == 0 then left path else (if i == 1 then right path else off)
 
+-- `turn path` is the first turn of `path`.
 abbrev pub turn : List ℕ → Turn
 turn [] = stop
 turn (i ∷ path) = to i path
@@ -68,23 +71,23 @@ condition_count c = 2 + tree_count c.expression + 1
 
 -- ## Places
 
--- A `Place` is the place of a core node of a policy's expression.
-pub data Place : Type 0 where
-  -- it joins parts or conditions of the policy, whose tokens from its effect on are these
-  whole_policy : List Token → Place
-  -- at a path of the scope's constraint on the principal or the resource, which the tokens begin with
-  in_entity : PartTree → List Token → List ℕ → Place
-  -- at a path of the scope's constraint on the action
-  in_action : ActionTree → List Token → List ℕ → Place
-  -- it is the negation of an `unless`, which the tokens begin with
-  in_unless : Condition → List Token → Place
-  -- at a path of an expression, which the tokens begin with
-  in_expression : ExprTree → List Token → List ℕ → Place
+-- A `NodePlace` is the place of a core node of a policy's expression.
+pub data NodePlace : Type 0 where
+  -- the node joins parts or conditions of the policy, whose tokens from its effect on are these
+  whole_policy : List Token → NodePlace
+  -- the node is at a path of the scope's constraint on the principal or the resource, which the tokens begin with
+  in_entity : PartTree → List Token → List ℕ → NodePlace
+  -- the node is at a path of the scope's constraint on the action, which the tokens begin with
+  in_action : ActionTree → List Token → List ℕ → NodePlace
+  -- the node is the negation of an `unless`, which the tokens begin with
+  in_unless : Condition → List Token → NodePlace
+  -- the node is at a path of an expression, which the tokens begin with
+  in_expression : ExprTree → List Token → List ℕ → NodePlace
   -- the policy has no such node
-  nowhere : Place
+  nowhere : NodePlace
 
--- `place_of` is the abstract place of the code's place.
-abbrev pub place_of : code_place.Place → Place
+-- `place_of p` is the abstract value of the place `p` of the code.
+abbrev pub place_of : code_place.NodePlace → NodePlace
 place_of (coded_place.Policy ts) = whole_policy ts.now
 place_of (coded_place.Entity part ts path) = in_entity part.now ts.now path.now
 place_of (coded_place.Action part ts path) = in_action part.now ts.now path.now
@@ -92,8 +95,9 @@ place_of (coded_place.Unless c ts) = in_unless c.now ts.now
 place_of (coded_place.Expression x ts path) = in_expression x.now ts.now path.now
 place_of coded_place.Nowhere = nowhere
 
--- `joint_at t policy here there` is the policy if the path ends here, else the result for the operand that it leads to.
-abbrev pub joint_at : Turn → List Token → (List ℕ → Place) → (List ℕ → Place) → Place
+-- `joint_at t policy here there` is the place in a conjunction of parts or conditions: the policy if the path ends
+-- here, else what `here` gives for the first operand, or `there` for the second.
+abbrev pub joint_at : Turn → List Token → (List ℕ → NodePlace) → (List ℕ → NodePlace) → NodePlace
 joint_at stop policy here there = whole_policy policy
 joint_at (left path) policy here there = here path
 joint_at (right path) policy here there = there path
@@ -102,23 +106,24 @@ joint_at off policy here there = nowhere
 -- ## Conditions
 
 -- `unless_at t c ts` is the place in `unless { e }`, which means `!e`: that negation has the whole condition's tokens.
-abbrev pub unless_at : Turn → Condition → List Token → Place
+abbrev pub unless_at : Turn → Condition → List Token → NodePlace
 unless_at stop c ts = in_unless c ts
 unless_at (left path) c ts = in_expression c.expression (drop 2 ts) path
 unless_at (right path) c ts = nowhere
 unless_at off c ts = nowhere
 
-abbrev pub by_word : ConditionWord → Condition → List Token → List ℕ → Place
+-- `by_word word c ts path` is the place at a path of the condition c, which begins with `word`.
+abbrev pub by_word : ConditionWord → Condition → List Token → List ℕ → NodePlace
 by_word word.When c ts path = in_expression c.expression (drop 2 ts) path
 by_word word.Unless c ts path = unless_at (turn path) c ts
 
 -- `at_condition c ts path` is the place of the node at a path of the expression of the condition c; the tokens ts
 -- begin with c.
-abbrev pub at_condition : Condition → List Token → List ℕ → Place
+abbrev pub at_condition : Condition → List Token → List ℕ → NodePlace
 at_condition c ts path = by_word c.word c ts path
 
--- `if_stop t policy` is the policy if the path ends here, and nothing if it goes on.
-abbrev pub if_stop : Turn → List Token → Place
+-- `if_stop t policy` is the policy if the path ends here, and `nowhere` if it goes on.
+abbrev pub if_stop : Turn → List Token → NodePlace
 if_stop stop policy = whole_policy policy
 if_stop (left path) policy = nowhere
 if_stop (right path) policy = nowhere
@@ -126,7 +131,7 @@ if_stop off policy = nowhere
 
 -- `at_conditions policy cs ts path` is the place of the node at a path of conditions, joined to the right; the tokens
 -- ts begin with them.
-abbrev pub at_conditions : List Token → List Condition → List Token → List ℕ → Place
+abbrev pub at_conditions : List Token → List Condition → List Token → List ℕ → NodePlace
 at_conditions policy [] ts path = if_stop (turn path) policy
 at_conditions policy (c ∷ []) ts path = at_condition c ts path
 at_conditions policy (c ∷ (d ∷ cs)) ts path =
@@ -134,35 +139,38 @@ at_conditions policy (c ∷ (d ∷ cs)) ts path =
 
 -- ## The policy
 
-abbrev pub from_resource : List Token → PolicyTree → List Token → List ℕ → Place
+-- `from_resource policy tree ts path` is the place of the node at a path of `resource && conditions`, and
+-- `from_action policy tree ts path` that of `action && (resource && conditions)`. The tokens ts begin with these.
+abbrev pub from_resource : List Token → PolicyTree → List Token → List ℕ → NodePlace
 from_resource policy tree ts path =
     joint_at (turn path) policy (in_entity tree.resource ts)
     (at_conditions policy tree.conditions (drop 1 (drop (part_count tree.resource) ts)))
 
-abbrev pub from_action : List Token → PolicyTree → List Token → List ℕ → Place
+abbrev pub from_action : List Token → PolicyTree → List Token → List ℕ → NodePlace
 from_action policy tree ts path =
     joint_at (turn path) policy (in_action tree.action ts)
     (from_resource policy tree (drop 1 (drop (action_count tree.action) ts)))
 
--- `from_effect policy tree path` is the place of the node at a path of a policy's expression; the policy is the tokens
--- that begin with its effect: `principal` follows this and a parenthesis.
-abbrev pub from_effect : List Token → PolicyTree → List ℕ → Place
+-- `from_effect policy tree path` is the place of the node at a path of a policy's expression. The tokens `policy` begin
+-- with the policy's effect; `principal` follows the effect and a parenthesis.
+abbrev pub from_effect : List Token → PolicyTree → List ℕ → NodePlace
 from_effect policy tree path =
     joint_at (turn path) policy (in_entity tree.principal (drop 2 policy))
     (from_action policy tree (drop 1 (drop (part_count tree.principal) (drop 2 policy))))
 
--- `from_byte at ts` is the tokens from the one that starts at a byte.
+-- `from_byte at ts` is the tokens from the one that starts at the byte `at`; none if no token does.
 abbrev pub from_byte : ℕ → List Token → List Token
 from_byte at ts = drop (unwrap_or (position (λ t. t.start == at) ts) (length ts)) ts
 
--- `place_at ts tree path` is the same, from all tokens of the policy's text: annotations precede its effect.
-abbrev pub place_at : List Token → PolicyTree → List ℕ → Place
+-- `place_at ts tree path` is the place of the node at a path of a policy's expression, where ts are all tokens of the
+-- policy's text. Annotations precede its effect.
+abbrev pub place_at : List Token → PolicyTree → List ℕ → NodePlace
 place_at ts tree path = from_effect (from_byte tree.effect.start ts) tree path
 
 -- ## What is written there
 
 -- `written place` is the tokens of the least written form around the node at a place.
-abbrev pub written : Place → Option (List Token)
+abbrev pub written : NodePlace → Option (List Token)
 written (whole_policy ts) = Some ts
 written (in_entity part ts path) = Some (up_to ts (drop (part_count part) ts))
 written (in_action part ts path) = Some (up_to ts (drop (action_count part) ts))
@@ -170,6 +178,7 @@ written (in_unless c ts) = Some (up_to ts (drop (condition_count c) ts))
 written (in_expression x ts path) = tokens_at x ts path
 written nowhere = None
 
--- `written_at ts tree path` is the tokens of the node at a path of a policy's expression, from all tokens of its text.
+-- `written_at ts tree path` is the tokens of the node at a path of a policy's expression, where ts are all tokens of
+-- its text.
 abbrev pub written_at : List Token → PolicyTree → List ℕ → Option (List Token)
 written_at ts tree path = written (place_at ts tree path)

@@ -15,33 +15,34 @@ use Rattle.token_spans.specs.declared.spans.Span.{Span}
 use Rattle.token_spans.specs.Places.{written_at}
 use Rattle.token_spans.specs.Names.{named_at}
 
--- `between first last` is the span from the one token's start to the other one's end.
+-- `between first last` is the span from the start of the token `first` to the end of the token `last`; `None` if one is
+-- missing.
 abbrev pub between : Option Token → Option Token → Option Span
 between (Some first) (Some last) = Some (record { start = first.start; end = last.end })
 between (Some first) None = None
 between None last = None
 
--- `covering ts` is the span from the first token's start to the last one's end.
+-- `covering ts` is the span from the start of the first of the tokens `ts` to the end of the last.
 abbrev pub covering : List Token → Option Span
 covering ts = between (slice_get ts 0) (slice_get ts (length ts - 1))
 
--- `starting_at at ts` is the span of the first token that starts at a byte.
+-- `starting_at at ts` is the span of the first of the tokens `ts` that starts at the byte `at`.
 abbrev pub starting_at : ℕ → List Token → Option Span
 starting_at at ts = let token = find (λ t. t.start == at) ts in between token token
 
--- `IsTokenAt text at found` holds if `found` is the span of the text's token that starts at the byte `at`; None if no
--- token does, or the text is not made of tokens.
+-- `IsTokenAt text at found` holds if `found` is the span of the text's token that starts at the byte `at`; `None` if no
+-- token does, or the text does not consist of tokens.
 abbrev pub IsTokenAt : List ℕ → ℕ → Option Span → Type 0
 IsTokenAt text at found =
     ((ts : List Token) × IsLexed text ts × (found ≡ starting_at at ts))
     ⊎ ((bad : ℕ) × IsBadAt text bad × (found ≡ None))
 
--- `Written` are ways to choose some of the tokens of a policy, by its tree.
+-- A `Written` is a way to choose some of the tokens of a policy, given all of them and its tree.
 abbrev pub Written : Type 0
 Written = List Token → PolicyTree → Option (List Token)
 
--- `IsSpanInPolicy way text found` holds if `text` is a policy, and `found` is the span of the chosen tokens, or None if
--- no token is chosen.
+-- `IsSpanInPolicy way text found` holds if `text` is a policy, and `found` is the span of the tokens that `way`
+-- chooses, or `None` if it chooses none.
 pub record IsSpanInPolicy (way : Written) (text : List ℕ) (found : Option Span) : Type 0 where
   pub tree : PolicyTree
   pub derives : Derives (grammar.policy nesting_limit) most_policy_bytes text tree
@@ -60,10 +61,11 @@ abbrev pub IsSpanBy : Written → List ℕ → Option Span → Type 0
 IsSpanBy way text found = IsSpanInPolicy way text found ⊎ (IsNoPolicy text × (found ≡ None))
 
 -- `IsSpanOf text path found` holds if `found` is the span of the least written form around the core node at `path` of
--- the policy's whole expression.
+-- the policy's whole expression, or `None` if there is no such node.
 abbrev pub IsSpanOf : List ℕ → List ℕ → Option Span → Type 0
 IsSpanOf text path = IsSpanBy (λ ts tree. written_at ts tree path) text
 
--- `IsNameSpanOf text path found` holds if `found` is the span of the name that this node itself has.
+-- `IsNameSpanOf text path found` holds if `found` is the span of the name that the core node at `path` itself has, or
+-- `None` if it has none.
 abbrev pub IsNameSpanOf : List ℕ → List ℕ → Option Span → Type 0
 IsNameSpanOf text path = IsSpanBy (λ ts tree. named_at ts tree path) text

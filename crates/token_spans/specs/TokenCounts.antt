@@ -13,21 +13,21 @@ use Rattle.grammar_trees.specs.declared.tree.ExprTree.{ExprTree}
 use Rattle.grammar_trees.specs.declared.tree.ExprTree.TheOpen.{ExprTree-F as tree}
 use Rattle.grammar_trees.specs.declared.tree.ExprTree.TheFolds.{fold-ExprTree}
 
--- `path_count path` is the count of a Path: its words, and `::` between each two.
+-- `path_count path` is the number of tokens of a Path: its words, and `::` between each two.
 abbrev pub path_count : PathTree → ℕ
 path_count path = 1 + length path.more + length path.more
 
--- `uid_count uid` is the count of a Uid: its Path, `::` and its string.
+-- `uid_count uid` is the number of tokens of a Uid: its Path, `::` and its string.
 abbrev pub uid_count : UidTree → ℕ
 uid_count uid = path_count uid.path + 2
 
--- `total ns` is the sum of these counts.
+-- `total ns` is the sum of the numbers `ns`.
 abbrev pub total : List ℕ → ℕ
 total [] = 0
 total (n ∷ ns) = n + total ns
 
--- `each_count ns` is the count of pieces of these counts, each with one token more: an operator or a comma before it,
--- or a comma or the closing bracket after it.
+-- `each_count ns` is the number of tokens of pieces with the counts `ns`, each with one token more: an operator or a
+-- comma before it, or a comma or the closing bracket after it.
 abbrev pub each_count : List ℕ → ℕ
 each_count [] = 0
 each_count (n ∷ ns) = (n + 1) + each_count ns
@@ -37,21 +37,23 @@ abbrev pub lone_count : ℕ → ℕ
 lone_count zero = 1
 lone_count (suc n) = 0
 
--- `row_count ns` is the count of a list of items of these counts, with its closing bracket and without the opening one.
+-- `row_count ns` is the number of tokens of a list whose items have the counts `ns`, with its closing bracket and
+-- without the opening one.
 abbrev pub row_count : List ℕ → ℕ
 row_count ns = lone_count (length ns) + each_count ns
 
--- `access_count x` is the count of `.name`, of `["name"]`, or of `.name(..)` with arguments of these counts.
+-- `access_count x` is the number of tokens of the access `x`: of `.name`, of `["name"]`, or of `.name(..)`, given the
+-- counts of the arguments.
 abbrev pub access_count : Access (List ℕ) → ℕ
 access_count (access.Field (Word word)) = 2
 access_count (access.Field (Quoted quoted)) = 3
 access_count (access.Method name arguments) = 3 + row_count arguments
 
--- `entry_items entry` is the count of `key: value`.
+-- `entry_items entry` is the number of tokens of `key: value`, given the count of the value.
 abbrev pub entry_items : RecordEntry ℕ → ℕ
 entry_items entry = 2 + entry.value
 
--- `count_step` is the count of a form, from the counts of its parts.
+-- `count_step t` is the number of tokens of the syntax tree `t`, given the counts of its parts.
 abbrev pub count_step : tree ℕ → ℕ
 count_step (tree.Boolean value) = 1
 count_step (tree.Number t) = 1
@@ -76,12 +78,12 @@ count_step (tree.And a more) = a + each_count more
 count_step (tree.Or a more) = a + each_count more
 count_step (tree.If a b c) = ((1 + a + 1) + b + 1) + c
 
--- `tree_count x` is the count of an expression.
+-- `tree_count x` is the number of tokens of the expression `x`.
 abbrev pub tree_count : ExprTree → ℕ
 tree_count = fold-ExprTree ℕ count_step
 
--- `access_tree_count`, `term_count` and `entry_count` are the counts of an access, of a sum's term and of a record's
--- entry.
+-- `access_tree_count x`, `term_count term` and `entry_count entry` are the numbers of tokens of an access, of the
+-- operand of a sum's term, and of a record's entry.
 abbrev pub access_tree_count : Access (List ExprTree) → ℕ
 access_tree_count (access.Field (Word word)) = 2
 access_tree_count (access.Field (Quoted quoted)) = 3

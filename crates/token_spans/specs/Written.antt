@@ -1,7 +1,7 @@
 -- Defines what the tokens of a core node derive.
 -- Source: Cedar reference guide 4.0, "Grammar specification for Cedar policy syntax" and "Operators and functions".
--- Rules of this product: desugaring makes a core node of the least expression that is written for it; where it makes
--- two, as `!(a <= b)` of `a > b`, the inner one has no expression of its own.
+-- Rules of this product: a core node comes from the least expression that desugars to it. Where desugaring makes two
+-- nodes of one expression, as `!(a <= b)` of `a > b`, the inner one has no expression of its own.
 use Rattle.std.specs.Prelude.{◌≡◌, ℕ, List, [], ◌∷◌, ◌++◌, Some}
 use Rattle.std.specs.List.{AllByRecursion}
 use Rattle.grammar_trees.specs.grammar_tokens.declared.token.Token.{Token}
@@ -28,7 +28,7 @@ use Rattle.policy_grammar.specs.Whole.{expression_of}
 use Rattle.typing.specs.Places.{follow}
 use Rattle.token_spans.specs.Places.{written_at}
 
--- `IsWritingOf text x e` holds if x is the least expression that the core node e is written with.
+-- `IsWritingOf text x e` holds if x is the least expression with which the core node e is written.
 pub data IsWritingOf (text : List ℕ) (x : ExprTree) (e : Expr) : Type 0 where
   -- e is what x means
   itself : e ≡ core_of text x → IsWritingOf text x e
@@ -39,9 +39,9 @@ pub data IsWritingOf (text : List ℕ) (x : ExprTree) (e : Expr) : Type 0 where
   tested : (a : ExprTree) (path : PathTree) (b : ExprTree) (test : Expr) → x ≡ tree.IsIn a path b
       → core_of text x ≡ core.And test e → IsWritingOf text x e
 
--- `IsPlacedIn text tree path e before mine behind` holds if the tokens `mine` of a policy, which lie between these
--- others, are what the core node e at a path of its whole expression is written with: the part of the grammar that they
--- derive.
+-- `IsPlacedIn text tree path e before mine behind` holds if the tokens `mine` of a policy, which follow `before` and
+-- precede `behind`, are those with which the core node e at `path` of the whole expression is written. Each case says
+-- what these tokens derive.
 pub data IsPlacedIn (text : List ℕ) (tree : PolicyTree) (path : List ℕ) (e : Expr) (before mine behind : List Token) :
     Type 0 where
   -- in a condition: the least expression
@@ -57,12 +57,12 @@ pub data IsPlacedIn (text : List ℕ) (tree : PolicyTree) (path : List ℕ) (e :
       → IsPlacedIn text tree path e before mine behind
   of_resource : (rest : List ℕ) → path ≡ 1 ∷ 1 ∷ 0 ∷ rest → entity_part k.Resource mine tree.resource
       → IsPlacedIn text tree path e before mine behind
-  -- what joins parts and conditions: the policy after its annotations
+  -- a conjunction of parts or conditions: the policy after its annotations
   of_policy : AllByRecursion (λ i. i ≡ 1) path → many annotation before tree.annotations → behind ≡ []
       → IsPlacedIn text tree path e before mine behind
 
--- `StandsIn text tree path e ts` holds if the tokens ts of a policy's text are tokens before, at least one of the core
--- node e at a path of its whole expression, and tokens after.
+-- `StandsIn text tree path e ts` holds if the tokens ts of a policy's text consist of tokens before, one or more tokens
+-- of the core node e at `path` of the whole expression, and tokens after.
 pub record StandsIn (text : List ℕ) (tree : PolicyTree) (path : List ℕ) (e : Expr) (ts : List Token) : Type 0 where
   pub before : List Token
   pub first : Token
@@ -74,7 +74,7 @@ pub record StandsIn (text : List ℕ) (tree : PolicyTree) (path : List ℕ) (e :
 
 -- ## Theorem
 
--- `SpansStand`: each core node of the whole expression of a policy has such a place in the tokens of its text.
+-- `SpansStand`: each core node of the whole expression of a policy has such a place in the tokens of the policy's text.
 abbrev pub SpansStand : Type 0
 SpansStand =
     (text : List ℕ) (ts : List Token) (tree : PolicyTree) (whole : Policy) (path : List ℕ) (e : Expr) → IsLexed text ts

@@ -1,4 +1,4 @@
-//! The tokens after a form of which they are the front.
+//! The tokens after an expression with which tokens begin.
 ghost use Rattle.std.specs.Prelude.{◌≡◌, ◌+◌, drop, length, map};
 ghost use Rattle.token_spans.specs.TokenCounts.{tree_count, access_tree_count, term_count, entry_count};
 ghost use Rattle.token_spans.specs.TokenCounts.{each_count, total, lone_count};
@@ -66,7 +66,7 @@ pub(crate) fn behind_tree<'t>(tree: &ExprTree, tokens: &'t [Token]) -> &'t [Toke
     }
 }
 
-/// Returns the tokens after a list's closing bracket, from those after its opening one.
+/// Returns the tokens after a list's closing bracket; `tokens` are those after its opening one.
 #[cycle(behind)]
 fn behind_row<'t>(items: &Items<ExprTree>, tokens: &'t [Token]) -> &'t [Token]
     ensures { result.now
@@ -76,7 +76,7 @@ fn behind_row<'t>(items: &Items<ExprTree>, tokens: &'t [Token]) -> &'t [Token]
     behind_each(trees, behind_opened(trees.len(), tokens))
 }
 
-/// Returns the tokens after expressions, each of which has one token more, before it or after it.
+/// Returns the tokens after expressions, each of which has one further token before or after it, as a comma.
 #[cycle(behind)]
 pub(crate) fn behind_each<'t>(trees: &[ExprTree], tokens: &'t [Token]) -> &'t [Token]
     ensures { result.now ≡ drop (each_count (map tree_count trees.now)) tokens.entry.now }
@@ -115,7 +115,7 @@ pub(crate) fn behind_entries<'t>(
     rest
 }
 
-/// Returns the tokens after accesses.
+/// Returns the tokens after accesses, such as `.name` or `.name(..)`.
 #[cycle(behind)]
 pub(crate) fn behind_accesses<'t>(
     accesses: &[Access<Items<ExprTree>>],
@@ -130,6 +130,7 @@ pub(crate) fn behind_accesses<'t>(
     rest
 }
 
+/// Returns the tokens after one access.
 #[cycle(behind)]
 fn behind_access<'t>(access: &Access<Items<ExprTree>>, tokens: &'t [Token]) -> &'t [Token]
     ensures { result.now ≡ drop (access_tree_count access.now) tokens.entry.now }

@@ -1,10 +1,10 @@
-//! The conditions of a policy.
+//! Places of core nodes in the conditions of a policy.
 ghost use Rattle.std.specs.Prelude.{◌≡◌, drop};
 ghost use Rattle.token_spans.specs.Places as spec;
 
 use crate::behind::behind_tree;
 use crate::leaves::skip;
-use crate::places::Place;
+use crate::places::NodePlace;
 use crate::turns::{Turn, first_turn};
 use grammar_policies::{Condition, ConditionWord, Token};
 
@@ -15,63 +15,63 @@ pub(crate) fn behind_condition<'t>(condition: &Condition, tokens: &'t [Token]) -
     skip(behind_tree(&condition.expression, skip(tokens, 2)), 1)
 }
 
-/// Returns the place in `unless { .. }`, which is a negation.
+/// Returns the place at a path of an `unless { .. }`, which means a negation.
 fn at_unless<'t, 'p>(
     condition: &'t Condition,
     tokens: &'t [Token],
     path: &'p [usize],
-) -> Place<'t, 'p>
+) -> NodePlace<'t, 'p>
     ensures { spec.place_of result
         ≡ spec.unless_at (spec.turn path.entry.now) condition.entry.now tokens.entry.now }
 {
     match first_turn(path) {
-        Turn::Stop => Place::Unless(condition, tokens),
-        Turn::Left(rest) => Place::Expression(&condition.expression, skip(tokens, 2), rest),
-        Turn::Right(_) => Place::Nowhere,
-        Turn::Off => Place::Nowhere,
+        Turn::Stop => NodePlace::Unless(condition, tokens),
+        Turn::Left(rest) => NodePlace::Expression(&condition.expression, skip(tokens, 2), rest),
+        Turn::Right(_) => NodePlace::Nowhere,
+        Turn::Off => NodePlace::Nowhere,
     }
 }
 
-/// Returns the place in a condition.
+/// Returns the place at a path of a condition.
 fn at_condition<'t, 'p>(
     condition: &'t Condition,
     tokens: &'t [Token],
     path: &'p [usize],
-) -> Place<'t, 'p>
+) -> NodePlace<'t, 'p>
     ensures { spec.place_of result
         ≡ spec.at_condition condition.entry.now tokens.entry.now path.entry.now }
 {
     match condition.word {
-        ConditionWord::When => Place::Expression(&condition.expression, skip(tokens, 2), path),
+        ConditionWord::When => NodePlace::Expression(&condition.expression, skip(tokens, 2), path),
         ConditionWord::Unless => at_unless(condition, tokens, path),
     }
 }
 
-/// Returns the place in the conjunction of conditions of a policy.
+/// Returns the place at a path of the conjunction of the conditions of a policy.
 pub(crate) fn at_conditions<'t, 'p>(
     policy: &'t [Token],
     conditions: &'t [Condition],
     tokens: &'t [Token],
     path: &'p [usize],
-) -> Place<'t, 'p>
+) -> NodePlace<'t, 'p>
     ensures { spec.place_of result
         ≡ spec.at_conditions policy.entry.now conditions.entry.now tokens.entry.now path.entry.now }
 {
     match conditions {
         [] => match first_turn(path) {
-            Turn::Stop => Place::Policy(policy),
-            Turn::Left(_) => Place::Nowhere,
-            Turn::Right(_) => Place::Nowhere,
-            Turn::Off => Place::Nowhere,
+            Turn::Stop => NodePlace::Policy(policy),
+            Turn::Left(_) => NodePlace::Nowhere,
+            Turn::Right(_) => NodePlace::Nowhere,
+            Turn::Off => NodePlace::Nowhere,
         },
         [only] => at_condition(only, tokens, path),
         [first, others @ ..] => match first_turn(path) {
-            Turn::Stop => Place::Policy(policy),
+            Turn::Stop => NodePlace::Policy(policy),
             Turn::Left(rest) => at_condition(first, tokens, rest),
             Turn::Right(rest) => {
                 at_conditions(policy, others, behind_condition(first, tokens), rest)
             }
-            Turn::Off => Place::Nowhere,
+            Turn::Off => NodePlace::Nowhere,
         },
     }
 }

@@ -1,5 +1,7 @@
-//! Written forms, and the way down in one.
-ghost use Rattle.std.specs.Prelude.{◌≡◌, List, drop, take, map, length, option_map};
+//! Written forms, and the form of the core node at a path.
+//!
+//! A written form is an expression of the syntax tree, or the front of a chain, such as `a + b` of `a + b + c`.
+ghost use Rattle.std.specs.Prelude.{◌≡◌, List, drop, take, map, length, option_map, slice_get};
 ghost use Rattle.token_spans.specs.TokenCounts.{path_count, tree_count, each_count};
 ghost use Rattle.grammar_trees.specs.declared.tree.ExprTree.{ExprTree};
 ghost use Rattle.grammar_trees.specs.declared.tree.ExprTree.TheViews.{out-ExprTree};
@@ -15,7 +17,7 @@ use plain::Items;
 pub(crate) enum Part {
     /// That of the form itself.
     Whole,
-    /// Of a chain, that of its first operand with this many further pieces.
+    /// In a chain, that of its first operand with this many further pieces.
     First(usize),
     /// `e is T` of `e is T in f`.
     Test,
@@ -23,7 +25,7 @@ pub(crate) enum Part {
     Inner,
 }
 
-/// A core node, by the form that it is written as.
+/// A core node, as a node of its written form.
 #[derive(Clone, Copy)]
 pub(crate) struct Form<'a> {
     pub(crate) tree: &'a ExprTree,
@@ -32,7 +34,7 @@ pub(crate) struct Form<'a> {
     pub(crate) tokens: &'a [Token],
 }
 
-/// Returns the first `count` items, all of them if there are fewer.
+/// Returns the first `count` items, or all of them if there are fewer.
 #[tactic(auto, using(std::proofs::lemmas::List::take_all))]
 pub(crate) fn front<T>(items: &[T], count: usize) -> &[T]
     ensures { result.now ≡ take count items.now }
@@ -44,6 +46,14 @@ pub(crate) fn front<T>(items: &[T], count: usize) -> &[T]
     }
 }
 
+/// Returns the item at an index. It is a function of its own so that its clause is proved once.
+pub(crate) fn item_at<T>(items: &[T], index: usize) -> Option<&T>
+    ensures { option_map (λ item. item.now) result ≡ slice_get items.now index }
+{
+    items.get(index)
+}
+
+/// Returns the node of a whole expression, which `tokens` begin with.
 pub(crate) fn whole<'a>(tree: &'a ExprTree, tokens: &'a [Token]) -> Form<'a>
     ensures { spec.form_of result ≡ spec.whole tree.entry.now tokens.entry.now }
 {
@@ -54,7 +64,7 @@ pub(crate) fn whole<'a>(tree: &'a ExprTree, tokens: &'a [Token]) -> Form<'a>
     }
 }
 
-/// Returns a form that is in parentheses without these.
+/// Returns a form without the parentheses around it.
 pub(crate) fn unwrapped<'a>(form: &Form<'a>) -> Form<'a>
     ensures { spec.form_of result ≡ spec.unwrapped (spec.form_of form.now) }
 {
@@ -71,7 +81,7 @@ pub(crate) fn unwrapped<'a>(form: &Form<'a>) -> Form<'a>
     }
 }
 
-/// Returns how many of all further pieces of a chain belong to a part.
+/// Returns how many of all further pieces of a chain belong to one of its nodes.
 fn kept(part: Part, all: usize) -> usize
     ensures { result ≡ spec.kept part all }
 {
@@ -83,7 +93,7 @@ fn kept(part: Part, all: usize) -> usize
     }
 }
 
-/// Returns the left operand of a chain with `before` further pieces in it.
+/// Returns the left operand of a chain; `before` further pieces are in this operand.
 fn left_operand<'a>(form: &Form<'a>, first: &'a ExprTree, before: usize) -> Form<'a>
     ensures { spec.form_of result ≡ spec.left_at (spec.form_of form.now) first.entry.now before }
 {
@@ -108,7 +118,7 @@ fn piece_at<'a>(
     ensures { option_map spec.form_of result
         ≡ spec.piece_at first.entry.now more.entry.now tokens.entry.now index }
 {
-    let operand = more.get(index)?;
+    let operand = item_at(more, index)?;
     let behind = behind_each(front(more, index), behind_tree(first, tokens));
     Some(whole(operand, skip(behind, 1)))
 }
@@ -123,7 +133,7 @@ fn term_at<'a>(
     ensures { option_map spec.form_of result
         ≡ spec.term_at first.entry.now terms.entry.now tokens.entry.now index }
 {
-    let term = terms.get(index)?;
+    let term = item_at(terms, index)?;
     let behind = behind_terms(front(terms, index), behind_tree(first, tokens));
     Some(whole(&term.operand, skip(behind, 1)))
 }
@@ -172,11 +182,11 @@ fn sum_operand<'a>(
     None
 }
 
-/// Returns an item of a list that these tokens begin with, the opening bracket left out.
+/// Returns an item of a list, which `tokens` begin with except for its opening bracket.
 fn row_operand<'a>(items: &'a [ExprTree], tokens: &'a [Token], index: usize) -> Option<Form<'a>>
     ensures { option_map spec.form_of result ≡ spec.row_at items.entry.now tokens.entry.now index }
 {
-    let item = items.get(index)?;
+    let item = item_at(items, index)?;
     Some(whole(item, behind_each(front(items, index), tokens)))
 }
 
@@ -188,7 +198,7 @@ fn entry_operand<'a>(
 ) -> Option<Form<'a>>
     ensures { option_map spec.form_of result ≡ spec.entry_at entries.entry.now tokens.entry.now index }
 {
-    let entry = entries.get(index)?;
+    let entry = item_at(entries, index)?;
     let before = behind_entries(front(entries, index), tokens);
     Some(whole(&entry.value, skip(before, 2)))
 }
@@ -218,12 +228,12 @@ fn access_operand<'a>(
     ensures { option_map spec.form_of result
         ≡ spec.access_at first.entry.now accesses.entry.now tokens.entry.now place index }
 {
-    let access = accesses.get(place)?;
+    let access = item_at(accesses, place)?;
     let before = behind_accesses(front(accesses, place), behind_tree(first, tokens));
     argument(access, before, index)
 }
 
-/// Returns an operand of what is reached by accesses.
+/// Returns an operand of the node that accesses reach.
 fn member_operand<'a>(
     form: &Form<'a>,
     first: &'a ExprTree,
@@ -241,6 +251,7 @@ fn member_operand<'a>(
     access_operand(first, accesses, form.tokens, before, index - 1)
 }
 
+/// Returns the only operand if the index is 0.
 fn one_operand<'a>(tree: &'a ExprTree, tokens: &'a [Token], index: usize) -> Option<Form<'a>>
     ensures { option_map spec.form_of result ≡ spec.one_at tree.entry.now tokens.entry.now index }
 {
@@ -261,7 +272,7 @@ fn negated_operand<'a>(tree: &'a ExprTree, tokens: &'a [Token], index: usize) ->
     }
 }
 
-/// Returns another node of a form.
+/// Returns a node of a form.
 fn part_of<'a>(form: &Form<'a>, part: Part) -> Form<'a>
     ensures { spec.form_of result ≡ spec.part_of (spec.form_of form.now) part }
 {
@@ -272,6 +283,7 @@ fn part_of<'a>(form: &Form<'a>, part: Part) -> Form<'a>
     }
 }
 
+/// Returns the operand at an index of two operands.
 fn two_operands<'a>(first: Form<'a>, second: Form<'a>, index: usize) -> Option<Form<'a>>
     ensures { option_map spec.form_of result
         ≡ spec.two_at (spec.form_of first.entry) (spec.form_of second.entry) index }
@@ -285,6 +297,7 @@ fn two_operands<'a>(first: Form<'a>, second: Form<'a>, index: usize) -> Option<F
     None
 }
 
+/// Returns whether a comparison means the negation of another one, as `>` that of `<=`.
 fn is_negated(operator: Comparison) -> bool
     ensures { result ≡ spec.is_negated operator }
 {
@@ -294,7 +307,7 @@ fn is_negated(operator: Comparison) -> bool
     }
 }
 
-/// Returns whether a part is not the inner one.
+/// Returns whether a node is not the inner one.
 fn is_outer(part: Part) -> bool
     ensures { result ≡ spec.is_outer part }
 {
@@ -306,7 +319,7 @@ fn is_outer(part: Part) -> bool
     }
 }
 
-/// Returns whether a part of a comparison is the negation of another comparison.
+/// Returns whether a node of a comparison's form is the negation of another comparison.
 fn is_negation(part: Part, operator: Comparison) -> bool
     ensures { result ≡ spec.both (spec.is_outer part) (spec.is_negated operator) }
 {
@@ -317,7 +330,7 @@ fn is_negation(part: Part, operator: Comparison) -> bool
     }
 }
 
-/// Returns an operand of a comparison.
+/// Returns an operand of a comparison, or of its negation if `negated`.
 fn compared_operand<'a>(
     form: &Form<'a>,
     negated: bool,
@@ -396,7 +409,7 @@ fn if_operand<'a>(
     None
 }
 
-/// Returns the form of an operand of a form's core node.
+/// Returns the form of an operand of a form's core node, if it has this operand.
 fn operand<'a>(form: &Form<'a>, index: usize) -> Option<Form<'a>>
     ensures { option_map spec.form_of result ≡ spec.operand (spec.form_of form.now) index }
 {
@@ -445,7 +458,7 @@ fn operand<'a>(form: &Form<'a>, index: usize) -> Option<Form<'a>>
     }
 }
 
-/// Returns the form of the core node that a path leads to from a form's own.
+/// Returns the form of the core node to which a path leads from that of `form`, if it leads to one.
 pub(crate) fn node_at<'a>(form: &Form<'a>, path: &[usize]) -> Option<Form<'a>>
     ensures { option_map spec.form_of result ≡ spec.node_at (spec.form_of form.now) path.now }
 {
@@ -457,7 +470,7 @@ pub(crate) fn node_at<'a>(form: &Form<'a>, path: &[usize]) -> Option<Form<'a>>
     Some(here)
 }
 
-/// Returns the tokens after a chain of operands, of which only some further ones belong to the part of the form.
+/// Returns the tokens after the pieces of a chain that belong to the form's node.
 fn behind_chain<'a>(form: &Form<'a>, first: &ExprTree, more: &[ExprTree]) -> &'a [Token]
     ensures { let pieces = take (spec.kept form.now.part (length more.now)) more.now in
         result.now ≡ drop (each_count (map tree_count pieces)) (drop (tree_count first.now) form.now.tokens.now) }
@@ -500,15 +513,15 @@ fn behind_form<'a>(form: &Form<'a>) -> &'a [Token]
     }
 }
 
-/// Returns tokens up to those with which they end.
+/// Returns the tokens before `rest`, with which `tokens` end.
 pub(crate) fn up_to<'a>(tokens: &'a [Token], rest: &[Token]) -> &'a [Token]
     ensures { result.now ≡ spec.up_to tokens.entry.now rest.now }
 {
     front(tokens, tokens.len().saturating_sub(rest.len()))
 }
 
-/// Returns the tokens of the form to which the core node at a path of an expression belongs; `tokens` begin with the
-/// expression. None if the core expression has no such node.
+/// Returns the tokens of the form of the core node at a path of an expression, which `tokens` begin with; `None` if the
+/// core expression has no such node.
 pub(crate) fn tokens_at<'a>(
     tree: &'a ExprTree,
     tokens: &'a [Token],

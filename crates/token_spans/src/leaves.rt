@@ -1,4 +1,4 @@
-//! What holds no expression.
+//! The tokens after names and brackets, which contain no expression.
 ghost use Rattle.std.specs.Prelude.{◌≡◌, drop};
 ghost use Rattle.token_spans.specs.TokenCounts.{path_count, lone_count};
 
@@ -23,8 +23,8 @@ pub(crate) fn behind_path<'t>(path: &PathTree, tokens: &'t [Token]) -> &'t [Toke
     skip(skip(skip(tokens, 1), more), more)
 }
 
-/// Returns the tokens after the bracket that closes a list without items, and all tokens where a list of `count` items
-/// has some.
+/// Returns the tokens after the closing bracket of a list if it has no items (`count` is 0), and all tokens if it has
+/// some; then the bracket counts with the last item.
 pub(crate) fn behind_opened(count: usize, tokens: &[Token]) -> &[Token]
     ensures { result.now ≡ drop (lone_count count) tokens.now }
 {

@@ -42,7 +42,7 @@ fn in_test<'t>(part: Part, tokens: &'t [Token]) -> Option<&'t [Token]>
     }
 }
 
-/// Returns the tokens of the name that a form's core node itself has.
+/// Returns the tokens of the name that a form's core node itself has, if it has one.
 fn own_name<'a>(form: &Form<'a>) -> Option<&'a [Token]>
     ensures { option_map (λ ts. ts.now) result ≡ spec.own_name (forms.form_of form.now) }
 {
@@ -56,8 +56,8 @@ fn own_name<'a>(form: &Form<'a>) -> Option<&'a [Token]>
     }
 }
 
-/// Returns the tokens of the name that the core node at a path of an expression has itself; `tokens` begin with the
-/// expression.
+/// Returns the tokens of the name that the core node at a path of an expression itself has, if it has one; `tokens`
+/// begin with the expression.
 pub(crate) fn name_in<'a>(
     tree: &'a ExprTree,
     tokens: &'a [Token],

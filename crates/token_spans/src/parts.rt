@@ -24,7 +24,7 @@ pub(crate) fn behind_uids<'t>(uids: &[UidTree], tokens: &'t [Token]) -> &'t [Tok
     rest
 }
 
-/// Returns the tokens after what a scope demands of the principal or the resource, which they begin with.
+/// Returns the tokens after the scope's constraint on the principal or the resource, which they begin with.
 pub(crate) fn behind_part<'t>(part: &PartTree, tokens: &'t [Token]) -> &'t [Token]
     ensures { result.now ≡ drop (spec.part_count part.now) tokens.entry.now }
 {
@@ -39,7 +39,7 @@ pub(crate) fn behind_part<'t>(part: &PartTree, tokens: &'t [Token]) -> &'t [Toke
     }
 }
 
-/// Returns the tokens after what a scope demands of the action, which they begin with.
+/// Returns the tokens after the scope's constraint on the action, which they begin with.
 pub(crate) fn behind_action<'t>(part: &ActionTree, tokens: &'t [Token]) -> &'t [Token]
     ensures { result.now ≡ drop (spec.action_count part.now) tokens.entry.now }
 {

@@ -11,60 +11,60 @@ use grammar_trees::ExprTree;
 
 /// The place of a core node: the piece of the policy, the tokens that begin with the piece, and the path in the piece.
 #[derive(Clone, Copy)]
-pub(crate) enum Place<'t, 'p> {
-    /// It joins parts or conditions of the policy.
+pub(crate) enum NodePlace<'t, 'p> {
+    /// The node joins parts or conditions of the policy.
     Policy(&'t [Token]),
-    /// In what the scope demands of the principal or the resource.
+    /// The node is in the scope's constraint on the principal or the resource.
     Entity(&'t PartTree, &'t [Token], &'p [usize]),
-    /// In what the scope demands of the action.
+    /// The node is in the scope's constraint on the action.
     Action(&'t ActionTree, &'t [Token], &'p [usize]),
-    /// It is the negation of an `unless`.
+    /// The node is the negation of an `unless`.
     Unless(&'t Condition, &'t [Token]),
-    /// In the expression of a condition.
+    /// The node is in the expression of a condition.
     Expression(&'t ExprTree, &'t [Token], &'p [usize]),
     /// There is no such node.
     Nowhere,
 }
 
-/// Returns the place after the scope's first two parts.
+/// Returns the place at a path of `resource && conditions`, which `tokens` begin with.
 fn from_resource<'t, 'p>(
     policy: &'t [Token],
     tree: &'t PolicyTree,
     tokens: &'t [Token],
     path: &'p [usize],
-) -> Place<'t, 'p>
+) -> NodePlace<'t, 'p>
     ensures { spec.place_of result
         ≡ spec.from_resource policy.entry.now tree.entry.now tokens.entry.now path.entry.now }
 {
     match first_turn(path) {
-        Turn::Stop => Place::Policy(policy),
-        Turn::Left(rest) => Place::Entity(&tree.resource, tokens, rest),
+        Turn::Stop => NodePlace::Policy(policy),
+        Turn::Left(rest) => NodePlace::Entity(&tree.resource, tokens, rest),
         Turn::Right(rest) => {
             let behind = behind_part(&tree.resource, tokens);
             at_conditions(policy, tree.conditions.as_slice(), skip(behind, 1), rest)
         }
-        Turn::Off => Place::Nowhere,
+        Turn::Off => NodePlace::Nowhere,
     }
 }
 
-/// Returns the place after the scope's first part.
+/// Returns the place at a path of `action && (resource && conditions)`, which `tokens` begin with.
 fn from_action<'t, 'p>(
     policy: &'t [Token],
     tree: &'t PolicyTree,
     tokens: &'t [Token],
     path: &'p [usize],
-) -> Place<'t, 'p>
+) -> NodePlace<'t, 'p>
     ensures { spec.place_of result
         ≡ spec.from_action policy.entry.now tree.entry.now tokens.entry.now path.entry.now }
 {
     match first_turn(path) {
-        Turn::Stop => Place::Policy(policy),
-        Turn::Left(rest) => Place::Action(&tree.action, tokens, rest),
+        Turn::Stop => NodePlace::Policy(policy),
+        Turn::Left(rest) => NodePlace::Action(&tree.action, tokens, rest),
         Turn::Right(rest) => {
             let behind = behind_action(&tree.action, tokens);
             from_resource(policy, tree, skip(behind, 1), rest)
         }
-        Turn::Off => Place::Nowhere,
+        Turn::Off => NodePlace::Nowhere,
     }
 }
 
@@ -73,22 +73,22 @@ fn from_effect<'t, 'p>(
     policy: &'t [Token],
     tree: &'t PolicyTree,
     path: &'p [usize],
-) -> Place<'t, 'p>
+) -> NodePlace<'t, 'p>
     ensures { spec.place_of result ≡ spec.from_effect policy.entry.now tree.entry.now path.entry.now }
 {
     let tokens = skip(policy, 2);
     match first_turn(path) {
-        Turn::Stop => Place::Policy(policy),
-        Turn::Left(rest) => Place::Entity(&tree.principal, tokens, rest),
+        Turn::Stop => NodePlace::Policy(policy),
+        Turn::Left(rest) => NodePlace::Entity(&tree.principal, tokens, rest),
         Turn::Right(rest) => {
             let behind = behind_part(&tree.principal, tokens);
             from_action(policy, tree, skip(behind, 1), rest)
         }
-        Turn::Off => Place::Nowhere,
+        Turn::Off => NodePlace::Nowhere,
     }
 }
 
-/// Returns how many tokens precede the one that starts at a byte.
+/// Returns how many tokens precede the one that starts at a byte; `None` if no token does.
 fn tokens_before(tokens: &[Token], at: usize) -> Option<usize>
     ensures { result ≡ position (λ t. t.start == at) tokens.now }
 {
@@ -110,7 +110,7 @@ pub(crate) fn place_at<'t, 'p>(
     tokens: &'t [Token],
     tree: &'t PolicyTree,
     path: &'p [usize],
-) -> Place<'t, 'p>
+) -> NodePlace<'t, 'p>
     ensures { spec.place_of result ≡ spec.place_at tokens.entry.now tree.entry.now path.entry.now }
 {
     from_effect(from_byte(tokens, tree.effect.start), tree, path)

@@ -1,4 +1,4 @@
-//! What a core node or a name of a policy is written with.
+//! The tokens with which a core node or a name of a policy is written.
 ghost use Rattle.std.specs.Prelude.{◌≡◌, option_map};
 ghost use Rattle.token_spans.specs.Places as spec;
 ghost use Rattle.token_spans.specs.Names as names;
@@ -7,7 +7,7 @@ use crate::conditions::behind_condition;
 use crate::forms::{tokens_at, up_to};
 use crate::names::name_in;
 use crate::parts::{behind_action, behind_part};
-use crate::places::{Place, place_at};
+use crate::places::{NodePlace, place_at};
 use crate::scopes::{action_name, entity_name};
 use grammar_policies::{PolicyTree, Token};
 
@@ -23,17 +23,17 @@ pub fn written_at<'t>(
     ensures { option_map (λ ts. ts.now) result ≡ spec.written_at tokens.entry.now tree.entry.now path.now }
 {
     match place_at(tokens, tree, path) {
-        Place::Policy(policy) => Some(policy),
-        Place::Entity(part, from, _) => Some(up_to(from, behind_part(part, from))),
-        Place::Action(part, from, _) => Some(up_to(from, behind_action(part, from))),
-        Place::Unless(condition, from) => Some(up_to(from, behind_condition(condition, from))),
-        Place::Expression(expression, from, rest) => tokens_at(expression, from, rest),
-        Place::Nowhere => None,
+        NodePlace::Policy(policy) => Some(policy),
+        NodePlace::Entity(part, from, _) => Some(up_to(from, behind_part(part, from))),
+        NodePlace::Action(part, from, _) => Some(up_to(from, behind_action(part, from))),
+        NodePlace::Unless(condition, from) => Some(up_to(from, behind_condition(condition, from))),
+        NodePlace::Expression(expression, from, rest) => tokens_at(expression, from, rest),
+        NodePlace::Nowhere => None,
     }
 }
 
-/// Returns the tokens of the name that the core node at a path of a policy's expression has itself: a uid, or the type
-/// after `is`; `None` if it has none.
+/// Returns the tokens of the name that the core node at a path of a policy's expression itself has: a uid, or the type
+/// after `is`; `None` if it has no name.
 ///
 /// O(length of `tokens` and `path`). Does not allocate.
 pub fn named_at<'t>(
@@ -44,11 +44,11 @@ pub fn named_at<'t>(
     ensures { option_map (λ ts. ts.now) result ≡ names.named_at tokens.entry.now tree.entry.now path.now }
 {
     match place_at(tokens, tree, path) {
-        Place::Policy(_) => None,
-        Place::Entity(part, from, rest) => entity_name(part, from, rest),
-        Place::Action(part, from, rest) => action_name(part, from, rest),
-        Place::Unless(_, _) => None,
-        Place::Expression(expression, from, rest) => name_in(expression, from, rest),
-        Place::Nowhere => None,
+        NodePlace::Policy(_) => None,
+        NodePlace::Entity(part, from, rest) => entity_name(part, from, rest),
+        NodePlace::Action(part, from, rest) => action_name(part, from, rest),
+        NodePlace::Unless(_, _) => None,
+        NodePlace::Expression(expression, from, rest) => name_in(expression, from, rest),
+        NodePlace::Nowhere => None,
     }
 }

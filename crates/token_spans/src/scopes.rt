@@ -1,16 +1,16 @@
-//! The names of a policy's scope.
+//! The names in a policy's scope.
 ghost use Rattle.std.specs.Prelude.{◌≡◌, option_map};
 ghost use Rattle.token_spans.specs.Names as spec;
 ghost use Rattle.token_spans.specs.Places.{turn};
 
-use crate::forms::front;
+use crate::forms::{front, item_at};
 use crate::leaves::{behind_path, skip};
 use crate::names::{path_tokens, uid_tokens};
 use crate::parts::behind_uids;
 use crate::turns::{Turn, first_turn};
 use grammar_policies::{ActionTree, PartTree, Token, UidTree};
 
-/// Returns a name if a path ends here.
+/// Returns a name if the path ends here, that is, if it is empty.
 fn at_end<'t>(path: &[usize], name: Option<&'t [Token]>) -> Option<&'t [Token]>
     ensures { option_map (λ ts. ts.now) result
         ≡ spec.at_end (turn path.now) (option_map (λ ts. ts.now) name.entry) }
@@ -36,7 +36,7 @@ fn at_second<'t>(path: &[usize], name: Option<&'t [Token]>) -> Option<&'t [Token
     }
 }
 
-/// Returns the type or the uid of `x is T in uid`, by the path.
+/// Returns the type or the uid to which a path leads in `x is T in uid`, which means `x is T && x in uid`.
 fn in_both<'t>(
     path: &[usize],
     name: Option<&'t [Token]>,
@@ -54,7 +54,7 @@ fn in_both<'t>(
     }
 }
 
-/// Returns the tokens of the name at a path of what a scope demands of the principal or the resource, which `tokens`
+/// Returns the tokens of the name at a path of the scope's constraint on the principal or the resource, which `tokens`
 /// begin with.
 pub(crate) fn entity_name<'t>(
     part: &PartTree,
@@ -84,7 +84,7 @@ pub(crate) fn entity_name<'t>(
 fn uid_at<'t>(uids: &[UidTree], tokens: &'t [Token], index: usize) -> Option<&'t [Token]>
     ensures { option_map (λ ts. ts.now) result ≡ spec.uid_at uids.now tokens.entry.now index }
 {
-    let uid = uids.get(index)?;
+    let uid = item_at(uids, index)?;
     Some(uid_tokens(uid, behind_uids(front(uids, index), tokens)))
 }
 
@@ -111,7 +111,7 @@ fn listed_name<'t>(uids: &[UidTree], tokens: &'t [Token], path: &[usize]) -> Opt
     }
 }
 
-/// Returns the tokens of the name at a path of what a scope demands of the action, which `tokens` begin with.
+/// Returns the tokens of the name at a path of the scope's constraint on the action, which `tokens` begin with.
 pub(crate) fn action_name<'t>(
     part: &ActionTree,
     tokens: &'t [Token],

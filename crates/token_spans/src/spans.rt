@@ -1,11 +1,13 @@
 //! Spans of a text, in bytes.
-ghost use Rattle.std.specs.Prelude.{◌≡◌, ◌==◌, ℕ, IfOk, MatchOption, find, option_map, option_and_then};
+ghost use Rattle.std.specs.Prelude.{◌≡◌, ◌==◌, if◌then◌else◌, ℕ, IfOk, MatchOption, find, option_map, option_and_then};
 ghost use Rattle.std.specs.Option.{option_copied};
 ghost use Rattle.grammar_policies.specs.Grammar as grammar;
 ghost use Rattle.grammar_policies.specs.grammar_expressions.Expressions.{nesting_limit};
 ghost use Rattle.grammar_policies.specs.grammar_tokens.Lexing.{IsLexed, IsBadAt};
 ghost use Rattle.policy_grammar.specs.Texts.{Derives, most_policy_bytes};
 ghost use Rattle.token_spans.specs.Spans as spec;
+ghost use Rattle.token_spans.specs.Names as names;
+ghost use Rattle.token_spans.specs.Places as places;
 
 use crate::policies::{named_at, written_at};
 use grammar_policies::{LexFault, PolicyTree, Token, tokens};
@@ -22,7 +24,7 @@ pub struct Span {
     pub end: usize,
 }
 
-/// Returns the bytes from one token to another; None if one is missing.
+/// Returns the span from the start of one token to the end of another; `None` if one is missing.
 fn between(first: Option<&Token>, last: Option<&Token>) -> Option<Span>
     ensures { result ≡ spec.between (option_copied first.entry) (option_copied last.entry) }
 {
@@ -38,7 +40,7 @@ fn between(first: Option<&Token>, last: Option<&Token>) -> Option<Span>
     }
 }
 
-/// Returns the bytes from the first of these tokens to the last; None if there are no tokens.
+/// Returns the span from the first of these tokens to the last; `None` if there are no tokens.
 fn covering(tokens: &[Token]) -> Option<Span>
     ensures { result ≡ spec.covering tokens.now }
 {
@@ -46,14 +48,14 @@ fn covering(tokens: &[Token]) -> Option<Span>
     between(tokens.get(0), tokens.get(last))
 }
 
-/// Returns the token that starts at a byte.
+/// Returns the token that starts at a byte, if one does.
 fn token_from(tokens: &[Token], at: usize) -> Option<&Token>
     ensures { option_copied result ≡ find (λ t. t.start == at) tokens.entry.now }
 {
     tokens.iter().find(|token| token.start == at)
 }
 
-/// Returns the span of the token that starts at a byte.
+/// Returns the span of the token that starts at a byte, if one does.
 fn starting_at(tokens: &[Token], at: usize) -> Option<Span>
     ensures { result ≡ spec.starting_at at tokens.now }
 {
@@ -61,7 +63,7 @@ fn starting_at(tokens: &[Token], at: usize) -> Option<Span>
     between(token, token)
 }
 
-/// Returns the bytes of tokens, if there are some.
+/// Returns the span of tokens, if there are some.
 fn covered(written: Option<&[Token]>) -> Option<Span>
     ensures { result ≡ option_and_then spec.covering (option_map (λ ts. ts.now) written.entry) }
 {
@@ -85,7 +87,7 @@ fn tree_of(alloc: Global, text: &str) -> Result<Option<PolicyTree>, NoMemory>
     }
 }
 
-/// Returns the tokens of a text, or `None` if it is not made of tokens.
+/// Returns the tokens of a text, or `None` if it does not consist of tokens.
 fn tokens_of(alloc: Global, text: &str) -> Result<Option<Vec<Token>>, NoMemory>
     ensures { IfOk result (λ found. MatchOption found ((bad : ℕ) × IsBadAt text.now bad)
         (λ tokens. IsLexed text.now tokens.items)) }
@@ -99,14 +101,14 @@ fn tokens_of(alloc: Global, text: &str) -> Result<Option<Vec<Token>>, NoMemory>
     }
 }
 
-/// Returns the span of the token of a text that starts at a byte, as parse errors name one; `None` if no token
-/// starts there, or the text is not made of tokens.
+/// Returns the span of the token of a text that starts at a byte, such as the place of a parse error; `None` if no
+/// token starts there, or the text does not consist of tokens.
 ///
 /// O(length of `text`).
 ///
 /// # Errors
 ///
-/// - `NoMemory`: an allocation failed.
+/// - `NoMemory` (1): an allocation failed.
 pub fn token_at(alloc: Global, text: &str, at: usize) -> Result<Option<Span>, NoMemory>
     ensures { IfOk result (spec.IsTokenAt text.now at) }
 {
@@ -117,80 +119,96 @@ pub fn token_at(alloc: Global, text: &str, at: usize) -> Result<Option<Span>, No
     }
 }
 
-/// Returns the span of a core node's written form, from all tokens of the text.
+/// Returns the tokens of the name that the core node at a path has itself if `is_name`, else those of its written form.
+fn chosen<'t>(
+    tokens: &'t [Token],
+    tree: &'t PolicyTree,
+    path: &[usize],
+    is_name: bool,
+) -> Option<&'t [Token]>
+    ensures { option_map (λ ts. ts.now) result
+        ≡ (if is_name then names.named_at tokens.entry.now tree.entry.now path.now
+        else places.written_at tokens.entry.now tree.entry.now path.now) }
+{
+    if is_name {
+        named_at(tokens, tree, path)
+    } else {
+        written_at(tokens, tree, path)
+    }
+}
+
+/// Returns the span of a core node's own name if `is_name`, else of its written form, from all tokens of the text.
 fn span_in(
     alloc: Global,
     text: &str,
     tokens: &[Token],
     path: &[usize],
+    is_name: bool,
 ) -> Result<Option<Span>, NoMemory>
     requires { IsLexed text.now tokens.now }
-    ensures { IfOk result (spec.IsSpanOf text.now path.now) }
+    ensures { IfOk result (spec.IsSpanBy
+        (λ ts tree. if is_name then names.named_at ts tree path.now else places.written_at ts tree path.now) text.now) }
 {
     let read = tree_of(alloc, text)?;
     match read {
-        Some(tree) => Ok(covered(written_at(tokens, &tree, path))),
+        Some(tree) => {
+            let span = covered(chosen(tokens, &tree, path, is_name));
+            drop(tree);
+            Ok(span)
+        }
         None => Ok(None),
     }
 }
 
-/// Returns the span of a core node's own name, from all tokens of the text.
-fn name_span_in(
+/// Returns the span of a core node's own name if `is_name`, else of its written form.
+fn span_by(
     alloc: Global,
     text: &str,
-    tokens: &[Token],
     path: &[usize],
+    is_name: bool,
 ) -> Result<Option<Span>, NoMemory>
-    requires { IsLexed text.now tokens.now }
-    ensures { IfOk result (spec.IsNameSpanOf text.now path.now) }
+    ensures { IfOk result (spec.IsSpanBy
+        (λ ts tree. if is_name then names.named_at ts tree path.now else places.written_at ts tree path.now) text.now) }
 {
-    let read = tree_of(alloc, text)?;
-    match read {
-        Some(tree) => Ok(covered(named_at(tokens, &tree, path))),
+    let lexed = tokens_of(alloc, text)?;
+    match lexed {
+        Some(tokens) => span_in(alloc, text, &tokens, path, is_name),
         None => Ok(None),
     }
 }
 
-/// Returns the span of what the core node at a path of a policy's whole expression is written as; `None` if `text`
-/// is not a policy, or its expression has no such node.
+/// Returns the span of the source text of the core node at a path of a policy's whole expression; `None` if `text` is
+/// not a policy, or its expression has no such node.
 ///
-/// `path` is the numbers of the operands that lead to the node from the root `principal && (action && (resource &&
-/// condition))`: operands are numbered from 0 in the order that they are written in. A path into a part of the scope
-/// gives the span of that part, and the root's conjunctions that of the policy without its annotations. Parentheses
-/// around a form do not belong to it. If rewriting made the node, as `<=` of `a > b`, its form is the least one
-/// around it.
+/// `path` has the indices of the operands that lead to the node from the root
+/// `principal && (action && (resource && conditions))`. Operands are numbered from 0 in the order in which they are
+/// written. A path into a part of the scope gives the span of that part, and a path to a conjunction of parts or
+/// conditions that of the policy without its annotations. Parentheses around an expression do not belong to its span.
+/// If rewriting made the node, as `<=` of `a > b`, the span is that of the least expression around it.
 ///
 /// O(length of `text` and `path`).
 ///
 /// # Errors
 ///
-/// - `NoMemory`: an allocation failed.
+/// - `NoMemory` (1): an allocation failed.
 pub fn span_of(alloc: Global, text: &str, path: &[usize]) -> Result<Option<Span>, NoMemory>
     ensures { IfOk result (spec.IsSpanOf text.now path.now) }
 {
-    let lexed = tokens_of(alloc, text)?;
-    match lexed {
-        Some(tokens) => span_in(alloc, text, &tokens, path),
-        None => Ok(None),
-    }
+    span_by(alloc, text, path, false)
 }
 
 /// Returns the span of the name that the core node at a path of a policy's whole expression has itself: the uid of an
 /// entity, or the type after `is`. `None` if `text` is not a policy, or the node has no name.
 ///
-/// `path` is as [`span_of`] takes it, also in the scope: `principal == User::"a"` has its uid at 1.
+/// `path` is as for [`span_of`], also in the scope: in `principal == User::"a"` the uid is operand 1.
 ///
 /// O(length of `text` and `path`).
 ///
 /// # Errors
 ///
-/// - `NoMemory`: an allocation failed.
+/// - `NoMemory` (1): an allocation failed.
 pub fn name_span(alloc: Global, text: &str, path: &[usize]) -> Result<Option<Span>, NoMemory>
     ensures { IfOk result (spec.IsNameSpanOf text.now path.now) }
 {
-    let lexed = tokens_of(alloc, text)?;
-    match lexed {
-        Some(tokens) => name_span_in(alloc, text, &tokens, path),
-        None => Ok(None),
-    }
+    span_by(alloc, text, path, true)
 }

@@ -1,17 +1,17 @@
-//! A turn of a path at a form with one or two operands.
+//! The first step of a path at a core node with one or two operands.
 ghost use Rattle.std.specs.Prelude.{◌≡◌};
 ghost use Rattle.token_spans.specs.Places as spec;
 
-/// The first step of a path at a conjunction.
+/// The first step of a path at a core node with one or two operands.
 #[derive(Clone, Copy)]
 pub(crate) enum Turn<'p> {
     /// The path ends.
     Stop,
-    /// It leads to the first operand, or into it.
+    /// The path leads to the first operand, or into it.
     Left(&'p [usize]),
-    /// It leads to the second operand, or into it.
+    /// The path leads to the second operand, or into it.
     Right(&'p [usize]),
-    /// It leads to an operand that does not exist.
+    /// The path leads to an operand that does not exist.
     Off,
 }
 

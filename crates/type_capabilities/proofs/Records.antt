@@ -10,7 +10,7 @@ use Rattle.grammar_core.specs.declared.expr.Expr.TheViews.{out-Expr}
 use Rattle.grammar_core.specs.declared.expr.Expr.TheOpen.{Expr-F}
 use Rattle.grammar_core.proofs.Forms.{field_all, fold_record}
 use Rattle.type_capabilities.specs.Order.{expr_cmp, layers_cmp, each_cmp, names, names_cmp}
-use Rattle.type_capabilities.specs.Tokens.{same_length, same_names}
+use Rattle.type_capabilities.specs.NodeCodes.{same_length, same_names}
 
 abbrev A : Type 0
 A = Expr → Ordering

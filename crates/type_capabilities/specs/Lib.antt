@@ -1,6 +1,5 @@
 pub mod Order
 pub mod Ordered
 pub mod Pairs
-pub mod Ranks
 pub mod Stacks
-pub mod Tokens
+pub mod NodeCodes

@@ -16,7 +16,7 @@ use Rattle.grammar_core.specs.declared.expr.Expr.{Expr}
 use Rattle.grammar_core.specs.declared.expr.Expr.TheViews.{out-Expr}
 use Rattle.grammar_core.specs.declared.expr.Expr.TheOpen.{Expr-F}
 use Rattle.grammar_core.specs.declared.expr.Expr.TheFolds.{fold-Expr}
-use Rattle.type_capabilities.specs.Ranks.{variable_rank, binary_rank, unary_call_rank, binary_call_rank}
+use Rattle.grammar_core.specs.Operators.{variable_rank, binary_rank, unary_call_rank, binary_call_rank}
 
 -- `literal_rank l` is the rank of the kind of the literal `l`.
 abbrev pub literal_rank : Literal → ℕ
@@ -25,7 +25,7 @@ literal_rank (literal.Long z) = 1
 literal_rank (literal.Text s) = 2
 literal_rank (literal.Entity u) = 3
 
--- `literal_cmp l m` orders literals by kind and content.
+-- `literal_cmp l m` compares the literals `l` and `m` by kind, and then by content.
 abbrev pub literal_cmp : Literal → Literal → Ordering
 literal_cmp (literal.Boolean a) (literal.Boolean b) = bool_cmp a b
 literal_cmp (literal.Long y) (literal.Long z) = int_cmp y z
@@ -40,17 +40,17 @@ unary_rank unary.Negate = 1
 unary_rank (unary.Like p) = 2
 unary_rank (unary.Is n) = 3
 
--- `pattern_cmp p q` orders patterns by the number of their literal texts, then text by text.
+-- `pattern_cmp p q` compares patterns, each the list of its literal texts: by the number of these, then text by text.
 abbrev pub pattern_cmp : List (List ℕ) → List (List ℕ) → Ordering
 pattern_cmp p q = ordering_then (nat_cmp (length p) (length q)) (slice_cmp text_cmp p q)
 
--- `unary_cmp o p` orders operators with one operand.
+-- `unary_cmp o p` compares operators with one operand: by rank, then by the pattern or the type.
 abbrev pub unary_cmp : Unary → Unary → Ordering
 unary_cmp (unary.Like p) (unary.Like q) = pattern_cmp p q
 unary_cmp (unary.Is m) (unary.Is n) = text_cmp m n
 unary_cmp o p = nat_cmp (unary_rank o) (unary_rank p)
 
--- `kind x` is the rank of a kind of expression.
+-- `kind l` is the rank of the kind of the node `l`.
 abbrev pub kind : {X : Type 0} → Expr-F X → ℕ
 kind (Expr-F.Literal l) = 0
 kind (Expr-F.Variable x) = 1
@@ -70,21 +70,22 @@ kind (Expr-F.BinaryCall c a b) = 12
 abbrev pub kind_of : Expr → ℕ
 kind_of = fold-Expr ℕ kind
 
--- `names fs` are the names of fields.
+-- `names fs` are the names of the fields `fs`.
 abbrev pub names : {X : Type 0} → List (Named X) → List (List ℕ)
 names fs = map (λ f. f.name) fs
 
--- `names_cmp fs gs` compares the names of fields, name by name.
+-- `names_cmp fs gs` compares the names of the fields `fs` and `gs`, name by name.
 abbrev pub names_cmp : {X Y : Type 0} → List (Named X) → List (Named Y) → Ordering
 names_cmp fs gs = slice_cmp text_cmp (names fs) (names gs)
 
--- `each_cmp fs ys` compares index by index, up to the shorter list.
+-- `each_cmp fs ys` compares a list of expressions with `ys`, index by index, up to the end of the shorter list; `fs`
+-- says how each expression of the first list compares with others.
 abbrev pub each_cmp : List (Expr → Ordering) → List Expr → Ordering
 each_cmp [] ys = Equal
 each_cmp (f ∷ fs) [] = Equal
 each_cmp (f ∷ fs) (y ∷ ys) = ordering_then (f y) (each_cmp fs ys)
 
--- `layers_cmp x y` compares the expression `x`, given how its operands compare with others, with `y`.
+-- `layers_cmp l m` compares the node `l`, given how its operands compare with other expressions, with the node `m`.
 abbrev pub layers_cmp : Expr-F (Expr → Ordering) → Expr-F Expr → Ordering
 layers_cmp (Expr-F.Literal l) (Expr-F.Literal m) = literal_cmp l m
 layers_cmp (Expr-F.Variable x) (Expr-F.Variable y) = nat_cmp (variable_rank x) (variable_rank y)
@@ -106,6 +107,6 @@ layers_cmp (Expr-F.BinaryCall e a b) (Expr-F.BinaryCall f c d) =
     ordering_then (ordering_then (nat_cmp (binary_call_rank e) (binary_call_rank f)) (a c)) (b d)
 layers_cmp l m = nat_cmp (kind l) (kind m)
 
--- `expr_cmp x y` orders expressions.
+-- `expr_cmp x y` compares the expressions `x` and `y`.
 abbrev pub expr_cmp : Expr → Expr → Ordering
 expr_cmp = fold-Expr (Expr → Ordering) (λ l y. layers_cmp l (out-Expr y))

@@ -1,7 +1,7 @@
 -- Defines capabilities, pairs of an expression and the name of a field, and their order: by names, and then by
 -- expressions.
--- Rules of this product: the order; that a field known to be present may be accessed is Cedar's (reference guide 4.0,
--- "Policy validation", `has`).
+-- Source: Cedar reference guide 4.0, "Policy validation" (`has`): a field that is known to be present may be accessed.
+-- Rules of this product: the order.
 use Rattle.std.specs.Prelude.{ℕ, List, map}
 use Rattle.std.proofs.Common.{ap, ◌∙◌}
 use Rattle.std.specs.declared.cmp.Ordering.{Ordering}
@@ -27,17 +27,19 @@ pair_of p = (p.whole.now, p.name.now)
 abbrev pub pairs : List Capability → List PairValue
 pairs ps = map pair_of ps
 
--- `pair_cmp p q` orders pairs by names, and then by expressions.
+-- `pair_cmp p q` compares the pairs `p` and `q` by names, and then by expressions.
 abbrev pub pair_cmp : PairValue → PairValue → Ordering
 pair_cmp p q = ordering_then (text_cmp p.1 q.1) (expr_cmp p.0 q.0)
 
--- `borrowed_cmp p q` orders the pairs of the code.
+-- `borrowed_cmp p q` is the same order on the pairs of the code, which borrow.
 abbrev pub borrowed_cmp : Capability → Capability → Ordering
 borrowed_cmp p q = pair_cmp (pair_of p) (pair_of q)
 
+-- The order of pairs is total.
 pub pair_cmp-IsTotalOrder : IsTotalOrder pair_cmp
 pair_cmp-IsTotalOrder = then_total (on_total (λ p. p.1) nat_list_cmp_total) (on_total (λ p. p.0) expr_cmp-IsTotalOrder)
 
+-- Only equal pairs compare as equal.
 pub pair_cmp-IsAntisymmetric : IsAntisymmetric pair_cmp
 pair_cmp-IsAntisymmetric p q e =
     let h = both_equal (text_cmp p.1 q.1) (expr_cmp p.0 q.0) e in

@@ -1,4 +1,4 @@
--- Defines how the pairs of a stack are found.
+-- Defines how the pairs of a stack are found: a map records an index for each.
 -- Rules of this product: this representation.
 use Rattle.std.specs.Prelude.{◌≡◌, ◌≤◌, ℕ, List, Option, Some}
 use Rattle.std.specs.List.{slice_get}
@@ -6,17 +6,18 @@ use Rattle.std.specs.BTreeMap.{BTreeMap, get_by}
 use Rattle.type_capabilities.specs.Pairs.{PairValue, pair_of, pair_cmp}
 use Rattle.type_capabilities.specs.declared.pair.Capability.{Capability}
 
--- `place_of m p` is the recorded index of the pair `p`.
+-- `place_of m p` is the index that the map `m` records for the pair `p`, if it records one.
 abbrev pub place_of : BTreeMap Capability ℕ → PairValue → Option ℕ
 place_of m p = get_by (λ k. pair_cmp p (pair_of k)) m
 
--- `IsFound ps at i p` holds if the recorded index of the pair `p` at index `i` is at most `i`, and `p` is there.
+-- `IsFound ps at i p` holds if `at` records an index for the pair `p`, which is at the index `i` of the stack `ps`; the
+-- recorded index is at most `i`, and `p` is there too.
 pub record IsFound (ps : List PairValue) (at : PairValue → Option ℕ) (i : ℕ) (p : PairValue) : Type 0 where
   pub place : ℕ
   pub noted : at p ≡ Some place
   pub low : place ≤ i
   pub there : slice_get ps place ≡ Some p
 
--- `AreFound ps at` holds if each pair of the stack is found.
+-- `AreFound ps at` holds if each pair of the stack `ps` is found by `at`.
 abbrev pub AreFound : List PairValue → (PairValue → Option ℕ) → Type 0
 AreFound ps at = (i : ℕ) (p : PairValue) → slice_get ps i ≡ Some p → IsFound ps at i p

@@ -31,8 +31,8 @@ fn kind(expr: &Expr) -> u8
     }
 }
 
-/// Compares two expressions: by kind, then by their content other than operands, then by these from the left. Does
-/// not allocate. Takes time at most linear in the nodes of the common prefix.
+/// Compares two expressions: by kind, then by their content other than operands, then by the operands from the left.
+/// Does not allocate. Takes time at most linear in the nodes of the common prefix.
 #[cycle(compare)]
 #[tactic(auto, using(crate::proofs::Records::record_is))]
 pub fn compare(one: &Expr, other: &Expr) -> Ordering
@@ -42,35 +42,35 @@ pub fn compare(one: &Expr, other: &Expr) -> Ordering
         (Expr::Literal(l), Expr::Literal(m)) => compare_literals(l, m),
         (Expr::Variable(x), Expr::Variable(y)) => variable_rank(*x).cmp(&variable_rank(*y)),
         (Expr::If(a, b, c), Expr::If(d, e, f)) => {
-            behind(c, f, behind(b, e, behind(a, d, Ordering::Equal)))
+            then_by(c, f, then_by(b, e, then_by(a, d, Ordering::Equal)))
         }
-        (Expr::And(a, b), Expr::And(c, d)) => behind(b, d, behind(a, c, Ordering::Equal)),
-        (Expr::Or(a, b), Expr::Or(c, d)) => behind(b, d, behind(a, c, Ordering::Equal)),
-        (Expr::Unary(o, a), Expr::Unary(p, b)) => behind(a, b, compare_unary(o, p)),
+        (Expr::And(a, b), Expr::And(c, d)) => then_by(b, d, then_by(a, c, Ordering::Equal)),
+        (Expr::Or(a, b), Expr::Or(c, d)) => then_by(b, d, then_by(a, c, Ordering::Equal)),
+        (Expr::Unary(o, a), Expr::Unary(p, b)) => then_by(a, b, compare_unary(o, p)),
         (Expr::Binary(o, a, b), Expr::Binary(p, c, d)) => {
-            behind(b, d, behind(a, c, binary_rank(*o).cmp(&binary_rank(*p))))
+            then_by(b, d, then_by(a, c, binary_rank(*o).cmp(&binary_rank(*p))))
         }
-        (Expr::Field(a, k), Expr::Field(b, l)) => behind(a, b, k.cmp(l)),
-        (Expr::Has(a, k), Expr::Has(b, l)) => behind(a, b, k.cmp(l)),
-        (Expr::Set(xs), Expr::Set(ys)) => each_behind(xs, ys, xs.len().cmp(&ys.len())),
-        (Expr::Record(xs), Expr::Record(ys)) => values_behind(xs, ys, compare_names(xs, ys)),
+        (Expr::Field(a, k), Expr::Field(b, l)) => then_by(a, b, k.cmp(l)),
+        (Expr::Has(a, k), Expr::Has(b, l)) => then_by(a, b, k.cmp(l)),
+        (Expr::Set(xs), Expr::Set(ys)) => then_by_each(xs, ys, xs.len().cmp(&ys.len())),
+        (Expr::Record(xs), Expr::Record(ys)) => then_by_values(xs, ys, compare_names(xs, ys)),
         (Expr::UnaryCall(o, a), Expr::UnaryCall(p, b)) => {
-            behind(a, b, unary_call_rank(*o).cmp(&unary_call_rank(*p)))
+            then_by(a, b, unary_call_rank(*o).cmp(&unary_call_rank(*p)))
         }
         (Expr::BinaryCall(o, a, b), Expr::BinaryCall(p, c, d)) => {
-            behind(
+            then_by(
                 b,
                 d,
-                behind(a, c, binary_call_rank(*o).cmp(&binary_call_rank(*p))),
+                then_by(a, c, binary_call_rank(*o).cmp(&binary_call_rank(*p))),
             )
         }
         (a, b) => kind(a).cmp(&kind(b)),
     }
 }
 
-/// Compares two operands, if what comes before them is equal.
+/// Returns `first` unless it is `Equal`, else how two operands compare.
 #[cycle(compare)]
-fn behind(one: &Shared<Expr>, other: &Shared<Expr>, first: Ordering) -> Ordering
+fn then_by(one: &Shared<Expr>, other: &Shared<Expr>, first: Ordering) -> Ordering
     ensures { result ≡ ordering_then first (expr_cmp one.now other.now) }
 {
     match first {
@@ -80,10 +80,10 @@ fn behind(one: &Shared<Expr>, other: &Shared<Expr>, first: Ordering) -> Ordering
     }
 }
 
-/// Compares operands in turn, if what comes before them is equal.
+/// Returns `first` unless it is `Equal`, else how two lists of operands compare, index by index up to the shorter list.
 #[cycle(compare)]
 #[tactic(auto, using(crate::proofs::Lists::exprs_at, crate::proofs::Lists::exprs_past, crate::proofs::Lists::exprs_over))]
-fn each_behind(ones: &Items<Expr>, twos: &Items<Expr>, first: Ordering) -> Ordering
+fn then_by_each(ones: &Items<Expr>, twos: &Items<Expr>, first: Ordering) -> Ordering
     ensures { result ≡ ordering_then first (each_cmp (map expr_cmp ones.now) twos.now) }
 {
     if first.is_ne() {
@@ -120,10 +120,11 @@ fn compare_names(ones: &Items<Named<Expr>>, twos: &Items<Named<Expr>>) -> Orderi
     Ordering::Equal
 }
 
-/// Compares the values of fields in turn, if what comes before them is equal.
+/// Returns `first` unless it is `Equal`, else how the values of two lists of fields compare, index by index up to the
+/// shorter list.
 #[cycle(compare)]
 #[tactic(auto, using(crate::proofs::Lists::values_at, crate::proofs::Lists::values_past, crate::proofs::Lists::values_over))]
-fn values_behind(ones: &Items<Named<Expr>>, twos: &Items<Named<Expr>>, first: Ordering) -> Ordering
+fn then_by_values(ones: &Items<Named<Expr>>, twos: &Items<Named<Expr>>, first: Ordering) -> Ordering
     ensures { result ≡ ordering_then first
         (each_cmp (map (λ f. expr_cmp f.value) ones.now) (map (λ f. f.value) twos.now)) }
 {

@@ -1,7 +1,7 @@
-//! The content of expressions other than operands.
+//! The order of expressions by their content other than operands.
 ghost use Rattle.std.specs.Prelude.{◌≡◌};
 ghost use Rattle.type_capabilities.specs.Order.{literal_rank, literal_cmp, unary_rank, unary_cmp, pattern_cmp};
-ghost use Rattle.type_capabilities.specs.Ranks.{variable_rank, binary_rank, unary_call_rank, binary_call_rank};
+ghost use Rattle.grammar_core.specs.Operators.{variable_rank, binary_rank, unary_call_rank, binary_call_rank};
 
 use grammar_core::{Binary, BinaryCall, Literal, Pattern, Unary, UnaryCall, Variable};
 use std::cmp::Ordering;

@@ -12,7 +12,7 @@ use Rattle.grammar_core.specs.declared.expr.Expr.TheViews.{out-Expr}
 use Rattle.grammar_core.specs.declared.expr.Expr.TheOpen.{Expr-F}
 use Rattle.typing.specs.Types as types
 use Rattle.typing.specs.Environment.{Environment, unexpected}
-use Rattle.typing.specs.Learned.{Pairs}
+use Rattle.typing.specs.Gained.{Pairs}
 use Rattle.typing.specs.Rows.{Row, MayBeTrue, unary_type}
 use Rattle.typing.specs.Typing as typing
 use Rattle.typing.specs.Typing.{Types}
@@ -21,8 +21,8 @@ use Rattle.type_checker.specs.Views.{static_view, fault_view}
 use Rattle.type_checker.specs.declared.fault.ExpressionFault.{ExpressionFault}
 use Rattle.type_checker.specs.declared.typed.Typed.{Typed}
 use Rattle.type_capabilities.specs.Pairs.{pairs}
-use Rattle.type_checker.specs.inner.Judged.{Judged, JudgedBehind}
-use Rattle.type_checker.specs.inner.Asking.{MayHold}
+use Rattle.type_checker.specs.inner.Judged.{Judged, JudgedUnder}
+use Rattle.type_checker.specs.inner.RepeatedOperand.{MayBeTrueResult}
 
 -- ---- what an operator with one operand says of it
 
@@ -115,7 +115,7 @@ module _ (env : Environment) (K : Pairs) (n : List ℕ) (x : Expr) where
 
 -- the same where nothing more is known
 pub behind_nothing : (env : Environment) (K after : Pairs) (b : Expr) (r : Result Typed ExpressionFault) → Judged env K b r after
-    → JudgedBehind env K [] b r after
+    → JudgedUnder env K [] b r after
 behind_nothing env K after b (Ok t) h =
     let L = pairs t.learns.items in
     (h.0, (L, subst (λ M. Types env M b (static_view t.kind) L) (sym (append-nil K)) h.1, refl))
@@ -129,7 +129,7 @@ pub record AskedSo (env : Environment) (K mid : Pairs) (a x : Expr) (n : List �
   pub has_type : Types env K x (types.entity_type n) learned
 
 pub asked_so : (env : Environment) (K mid : Pairs) (a x : Expr) (n : List ℕ) (r : Result Typed ExpressionFault)
-    → a ≡ form.Unary (Is n) x → MayHold r → Judged env K a r mid → AskedSo env K mid a x n
+    → a ≡ form.Unary (Is n) x → MayBeTrueResult r → Judged env K a r mid → AskedSo env K mid a x n
 asked_so env K mid a x n (Ok t) e m h =
     let L = pairs t.learns.items in
     let s = static_view t.kind in

@@ -11,8 +11,8 @@ use Rattle.typing.specs.evaluator.Operators.{TakesAddress}
 use Rattle.typing.specs.Types as types
 use Rattle.typing.specs.Environment as environment
 use Rattle.typing.specs.Environment.{Environment}
-use Rattle.typing.specs.Learned as learned
-use Rattle.typing.specs.Learned.{Pairs, has_learns}
+use Rattle.typing.specs.Gained as gained
+use Rattle.typing.specs.Gained.{Pairs, has_gains}
 use Rattle.typing.specs.Literals.{ReadsLiteral, TakesText}
 use Rattle.typing.specs.Rows as rows
 use Rattle.typing.specs.Rows.{Row}
@@ -30,7 +30,7 @@ use Rattle.type_checker.specs.declared.typed.Typed.{Typed}
 use Rattle.type_checker.specs.declared.typed.Then.{Then}
 use Rattle.type_checker.specs.declared.typed.Then.TheVariants as then
 use Rattle.type_capabilities.specs.Pairs.{pairs}
-use Rattle.type_checker.specs.inner.Judged.{Judged, JudgedBehind, JudgedEach, JudgedMembers, MembersHave, ThenTyped}
+use Rattle.type_checker.specs.inner.Judged.{Judged, JudgedUnder, JudgedEach, JudgedMembers, MembersHave, ThenTyped}
 use Rattle.type_checker.specs.inner.Judged.{ThenJudged, ThenIs, IsBranch, IsRow, IsHasRow, CallTyped}
 
 pub is_boolean_view : (b : BooleanType) → types.IsBoolean (boolean_view b)
@@ -66,13 +66,13 @@ module _ (env : Environment) (K after : Pairs) where
   faulty_so a e h = subst (λ r. Judged env K a r after) e h
 
   pub behind_so : (L : Pairs) (a : Expr) {r : Result Typed ExpressionFault} {t : Typed} → r ≡ Ok t
-      → JudgedBehind env K L a r after
+      → JudgedUnder env K L a r after
       → (after ≡ K) × ((M : Pairs) × Types env (K ++ L) a (static_view t.kind) M × (pairs t.learns.items ≡ L ++ M))
-  behind_so L a e h = subst (λ r. JudgedBehind env K L a r after) e h
+  behind_so L a e h = subst (λ r. JudgedUnder env K L a r after) e h
 
   pub behind_faulty : (L : Pairs) (a : Expr) {r : Result Typed ExpressionFault} {f : ExpressionFault} → r ≡ Err f
-      → JudgedBehind env K L a r after → f ≢ NoMemory → Faults env (K ++ L) a (fault_view f)
-  behind_faulty L a e h = subst (λ r. JudgedBehind env K L a r after) e h
+      → JudgedUnder env K L a r after → f ≢ NoMemory → Faults env (K ++ L) a (fault_view f)
+  behind_faulty L a e h = subst (λ r. JudgedUnder env K L a r after) e h
 
   pub each_so : (xs : List Expr) {r : Result (Vec StaticType Global) ExpressionFault} {ts : Vec StaticType Global} → r ≡ Ok ts
       → JudgedEach env K xs r after → (after ≡ K) × TypesEach env K xs (map static_view ts.items)
@@ -104,9 +104,9 @@ module _ (env : Environment) (K after : Pairs) where
       plain_judged x t refl l same (f (static_view t.kind) (subst (λ q. Answers q j) e a))
   row_judged x j row (Err n) a e same f g = λ h. g (fault_view n) (subst (λ q. Answers q j) e a h)
 
-  pub has_judged : (x : Expr) (p : learned.Capability) (j : Row) (row : Result StaticType ExpressionFault)
+  pub has_judged : (x : Expr) (p : gained.Capability) (j : Row) (row : Result StaticType ExpressionFault)
       (r : Result Typed ExpressionFault) → Answers row j → IsHasRow p row r → after ≡ K
-      → ((t : types.StaticType) → j ≡ Ok t → Types env K x t (has_learns t p))
+      → ((t : types.StaticType) → j ≡ Ok t → Types env K x t (has_gains t p))
       → ((n : environment.ExpressionFault) → j ≡ Err n → Faults env K x n) → Judged env K x r after
   has_judged x p j row (Ok t) a (e, l) same f g =
       (same, subst (λ L. Types env K x (static_view t.kind) L) (sym l) (f (static_view t.kind) (subst (λ q. Answers q j) e a)))
@@ -146,7 +146,7 @@ module _ (env : Environment) (K after : Pairs) where
   -- `||`, whose right is a boolean
   pub or_judged : (a b : Expr) (r : BooleanType) {t u : types.StaticType} {L M N : Pairs}
       → Types env K a types.boolean_type L → Types env K b t M → t ≡ boolean_view r → u ≡ rows.or_type (boolean_view r)
-      → learned.OrLearns (boolean_view r) L M N → Types env K (form.Or a b) u N
+      → gained.OrGains (boolean_view r) L M N → Types env K (form.Or a b) u N
   or_judged a b r {t} {u} {L} {M} {N} h g e f l =
       let right = subst (λ s. Types env K b s M) e g in
       subst (λ s. Types env K (form.Or a b) s N) (sym f) (typing.or_of_both a b h right (is_boolean_view r) l)
@@ -154,10 +154,10 @@ module _ (env : Environment) (K after : Pairs) where
   -- `if`, whose branches have a common type
   pub if_judged : (a b c : Expr) {s t u v : types.StaticType} {L M N P B : Pairs} → Types env K a types.boolean_type L
       → Types env (K ++ L) b s M → Types env K c t N → v ≡ u → Some u ≡ types.common s t → P ≡ L ++ M
-      → learned.InBoth N P B → Types env K (form.If a b c) v B
+      → gained.InBoth N P B → Types env K (form.If a b c) v B
   if_judged a b c {s} {t} {u} {v} {L} {M} {N} {P} {B} h g i e f l k =
       subst (λ w. Types env K (form.If a b c) w B) (sym e)
-      (typing.if_of_both a b c h g i (sym f) (subst (λ Q. learned.InBoth N Q B) l k))
+      (typing.if_of_both a b c h g i (sym f) (subst (λ Q. gained.InBoth N Q B) l k))
 
   -- `if` behind both branches
   pub branches_judged : {B : Type 0} (a b x : Expr) (then_is other : Typed) (joined : Result (Option StaticType) B)
@@ -166,7 +166,7 @@ module _ (env : Environment) (K after : Pairs) where
       → IfOk joined (λ o. option_map static_view o ≡ types.common (static_view then_is.kind) (static_view other.kind))
       → MatchResult kind (λ t. joined ≡ Ok (Some t)) (λ f. f ≢ NoMemory → (f ≡ NoCommonType) × (joined ≡ Ok None))
       → MatchResult r
-      (λ t. (kind ≡ Ok t.kind) × learned.InBoth (pairs other.learns.items) (pairs then_is.learns.items) (pairs t.learns.items))
+      (λ t. (kind ≡ Ok t.kind) × gained.InBoth (pairs other.learns.items) (pairs then_is.learns.items) (pairs t.learns.items))
       (λ f. f ≢ NoMemory → kind ≡ Err f) → after ≡ K → Judged env K (form.If a b x) r after
   branches_judged {B} a b x then_is other joined kind (Ok t) h g c k (e, l) same =
       let found = subst (λ q. KindOf joined q) e k in
@@ -182,7 +182,7 @@ false_so truth.True n = absurd (n rows.surely)
 false_so truth.Either n = absurd (n rows.perhaps)
 false_so truth.False n = refl
 
-pub none_learned : (t : types.StaticType) (p : learned.Capability) → ¬ types.IsBoolean t → has_learns t p ≡ []
+pub none_learned : (t : types.StaticType) (p : gained.Capability) → ¬ types.IsBoolean t → has_gains t p ≡ []
 none_learned types.boolean_type p n = absurd (n types.is_either)
 none_learned t p n = refl
 
@@ -193,8 +193,8 @@ pub moved : (env : Environment) (x : Expr) (after : Pairs) (r : Result Typed Exp
 moved env x after r e h = subst (λ N. Judged env N x r after) e h
 
 pub behind_moved : (env : Environment) (x : Expr) (L after : Pairs) (r : Result Typed ExpressionFault) {K M : Pairs} → M ≡ K
-    → JudgedBehind env M L x r after → JudgedBehind env K L x r after
-behind_moved env x L after r e h = subst (λ N. JudgedBehind env N L x r after) e h
+    → JudgedUnder env M L x r after → JudgedUnder env K L x r after
+behind_moved env x L after r e h = subst (λ N. JudgedUnder env N L x r after) e h
 
 -- of an expression that is this form
 pub at_form : (env : Environment) (K after : Pairs) (r : Result Typed ExpressionFault) {x y : Expr} → x ≡ y
@@ -212,7 +212,7 @@ pub then_faulty : (env : Environment) (K after : Pairs) (a b : Expr) {r : Result
 then_faulty env K after a b e h = subst (λ r. ThenJudged env K a b r after) e h
 
 pub then_only : (env : Environment) (K L after : Pairs) (a b : Expr) (j : Result Typed ExpressionFault) (r : Result Then ExpressionFault)
-    → IsBranch (λ t. then.Only t) j r → Types env K a types.true_type L → JudgedBehind env K L b j after
+    → IsBranch (λ t. then.Only t) j r → Types env K a types.true_type L → JudgedUnder env K L b j after
     → ThenJudged env K a b r after
 then_only env K L after a b j (Ok t) (u, e, f) h g =
     let s = behind_so env K after L b e g in
@@ -220,7 +220,7 @@ then_only env K L after a b j (Ok t) (u, e, f) h g =
 then_only env K L after a b j (Err f) e h g = λ n c. faults.fault_in_then a b c h rows.surely (behind_faulty env K after L b e g n)
 
 pub then_both : (env : Environment) (K L after : Pairs) (a b : Expr) (j : Result Typed ExpressionFault) (r : Result Then ExpressionFault)
-    → IsBranch (λ t. then.Both t) j r → Types env K a types.boolean_type L → JudgedBehind env K L b j after
+    → IsBranch (λ t. then.Both t) j r → Types env K a types.boolean_type L → JudgedUnder env K L b j after
     → ThenJudged env K a b r after
 then_both env K L after a b j (Ok t) (u, e, f) h g =
     let s = behind_so env K after L b e g in

@@ -6,7 +6,7 @@ use Rattle.grammar_core.specs.declared.expr.Expr.{Expr}
 use Rattle.typing.specs.Types as types
 use Rattle.typing.specs.Environment as environment
 use Rattle.typing.specs.Environment.{Environment}
-use Rattle.typing.specs.Learned.{Pairs}
+use Rattle.typing.specs.Gained.{Pairs}
 use Rattle.typing.specs.Typing as typing
 use Rattle.typing.specs.Typing.{Types, TypesEach}
 use Rattle.typing.specs.Faults as faults
@@ -17,7 +17,7 @@ use Rattle.type_checker.specs.declared.fault.ExpressionFault.{ExpressionFault}
 use Rattle.type_capabilities.specs.declared.pair.Capability.{Capability}
 use Rattle.type_checker.specs.declared.typed.Typed.{Typed}
 use Rattle.type_capabilities.specs.Pairs.{pair_of, pairs}
-use Rattle.type_checker.specs.inner.Judged.{Judged, JudgedBehind, AddsLearned, IsNext}
+use Rattle.type_checker.specs.inner.Judged.{Judged, JudgedUnder, AddsLearned, IsNext}
 use Rattle.type_checker.proofs.Learning.{back_again}
 use Rattle.type_checker.proofs.Carrying.{typed_so, faulty_so}
 
@@ -78,7 +78,7 @@ module _ (env : Environment) (K : Pairs) where
 -- one behind pairs that were put on top of those that were known
 pub behind_judged : (env : Environment) (x : Expr) (K : Pairs) (ls : List Capability) (M : Pairs) (typed r : Result Typed ExpressionFault)
     → Judged env (K ++ pairs ls) x typed M → AddsLearned ls typed r
-    → JudgedBehind env K (pairs ls) x r (take (length K) M)
+    → JudgedUnder env K (pairs ls) x r (take (length K) M)
 behind_judged env x K ls M typed (Ok t) h (u, e, k, l) =
     let s = typed_so env (K ++ pairs ls) M x e h in (
       back_again K (pairs ls) M s.0,

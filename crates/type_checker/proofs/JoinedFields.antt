@@ -3,7 +3,7 @@ use Rattle.std.proofs.Common.{◌≡◌, ◌∙◌, ℕ, suc, ◌≤◌, Bool, t
 use Rattle.std.specs.Str.{bytes_eq}
 use Rattle.typing.specs.Types.{StaticType, set_type, record_type, FieldTypes, no_field_types, field_type, same_requirement, field_before, common, common_fields}
 use Rattle.type_checker.specs.inner.Parts.{part_view, fields_count, fields_behind, before}
-use Rattle.type_checker.specs.inner.Joins.{Tells, join_with}
+use Rattle.type_checker.specs.inner.Joins.{DescribesCommon, join_with}
 use Rattle.type_checker.specs.inner.Rows.{paired}
 use Rattle.type_checker.specs.declared.type_joins.Join.{Join}
 use Rattle.type_checker.specs.declared.type_joins.Join.TheVariants as join
@@ -25,7 +25,7 @@ none_there e = absurd cc
 set_same : (s t : StaticType) → some (set_type s) ≡ some (set_type t) → some s ≡ some t
 set_same s t e = cc
 
-pub told_set : (j : Join) (t : StaticType) (o : Option StaticType) → Tells j t o → Tells j (set_type t) (option_map set_type o)
+pub told_set : (j : Join) (t : StaticType) (o : Option StaticType) → DescribesCommon j t o → DescribesCommon j (set_type t) (option_map set_type o)
 told_set join.Apart t o e = ap (option_map set_type) e
 told_set join.Left t o e = ap (option_map set_type) e
 told_set join.Wider t None h = none_there h.0
@@ -34,22 +34,22 @@ told_set join.Wider t (Some s) h = (refl, λ e. h.1 (set_same s t e))
 record_same : (ss ts : FieldTypes) → some (record_type ss) ≡ some (record_type ts) → some ss ≡ some ts
 record_same ss ts e = cc
 
-pub told_record : (j : Join) (ts : FieldTypes) (o : Option FieldTypes) → Tells j ts o → Tells j (record_type ts) (option_map record_type o)
+pub told_record : (j : Join) (ts : FieldTypes) (o : Option FieldTypes) → DescribesCommon j ts o → DescribesCommon j (record_type ts) (option_map record_type o)
 told_record join.Apart ts o e = ap (option_map record_type) e
 told_record join.Left ts o e = ap (option_map record_type) e
 told_record join.Wider ts None h = none_there h.0
 told_record join.Wider ts (Some ss) h = (refl, λ e. h.1 (record_same ss ts e))
 
-pub told_sets : (j : Join) (s t vl vr : StaticType) → set_type s ≡ vl → set_type t ≡ vr → Tells j s (common s t) → Tells j vl (common vl vr)
+pub told_sets : (j : Join) (s t vl vr : StaticType) → set_type s ≡ vl → set_type t ≡ vr → DescribesCommon j s (common s t) → DescribesCommon j vl (common vl vr)
 told_sets j s t vl vr el er h =
-    subst (λ x. Tells j x (common x vr)) el
-    (subst (λ y. Tells j (set_type s) (common (set_type s) y)) er (told_set j s (common s t) h))
+    subst (λ x. DescribesCommon j x (common x vr)) el
+    (subst (λ y. DescribesCommon j (set_type s) (common (set_type s) y)) er (told_set j s (common s t) h))
 
 pub told_records : (j : Join) (ss ts : FieldTypes) (vl vr : StaticType) → record_type ss ≡ vl → record_type ts ≡ vr
-    → Tells j ss (common_fields ss ts) → Tells j vl (common vl vr)
+    → DescribesCommon j ss (common_fields ss ts) → DescribesCommon j vl (common vl vr)
 told_records j ss ts vl vr el er h =
-    subst (λ x. Tells j x (common x vr)) el
-    (subst (λ y. Tells j (record_type ss) (common (record_type ss) y)) er (told_record j ss (common_fields ss ts) h))
+    subst (λ x. DescribesCommon j x (common x vr)) el
+    (subst (λ y. DescribesCommon j (record_type ss) (common (record_type ss) y)) er (told_record j ss (common_fields ss ts) h))
 
 -- ---- a field before others
 
@@ -60,7 +60,7 @@ rest_same : (k : List ℕ) (q : Bool) (s t : StaticType) (us ts : FieldTypes) �
 rest_same k q s t us ts e = cc
 
 told_field : (k : List ℕ) (q : Bool) (t : StaticType) (ts : FieldTypes) (j r : Join) (o : Option StaticType) (p : Option FieldTypes)
-    → Tells j t o → Tells r ts p → Tells (join_with r j) (field_type k t q ts) (field_before k q o p)
+    → DescribesCommon j t o → DescribesCommon r ts p → DescribesCommon (join_with r j) (field_type k t q ts) (field_before k q o p)
 told_field k q t ts join.Apart join.Apart o p e h = ap (λ z. field_before k q z p) e
 told_field k q t ts join.Apart join.Left o p e h = ap (λ z. field_before k q z p) e
 told_field k q t ts join.Apart join.Wider o p e h = ap (λ z. field_before k q z p) e
@@ -78,19 +78,19 @@ told_field k q t ts join.Wider join.Wider (Some s) (Some us) e h = (refl, λ g. 
 
 -- two fields that go together
 step_told : (o p : Option FieldPart) (q : FieldPair) (j r : Join) (xs ys : FieldTypes) → some q ≡ paired o p
-    → Tells j (part_view q.left) (common (part_view q.left) (part_view q.right)) → Tells r xs (common_fields xs ys)
-    → Tells (join_with r j) (before o xs) (common_fields (before o xs) (before p ys))
+    → DescribesCommon j (part_view q.left) (common (part_view q.left) (part_view q.right)) → DescribesCommon r xs (common_fields xs ys)
+    → DescribesCommon (join_with r j) (before o xs) (common_fields (before o xs) (before p ys))
 step_told None p q j r xs ys e h g = absurd cc
 step_told (Some a) None q j r xs ys e h g = absurd cc
 step_told (Some a) (Some b) q j r xs ys e h g = at (bytes_eq a.key.now b.key.now && same_requirement a.required b.required) e
   where
     at : (c : Bool)
         → some q ≡ (if c then some {A = FieldPair} (record { key = a.key; left = a.part; right = b.part; required = a.required }) else None)
-        → Tells (join_with r j) (field_type a.key.now (part_view a.part) a.required xs)
+        → DescribesCommon (join_with r j) (field_type a.key.now (part_view a.part) a.required xs)
         (if c then field_before a.key.now a.required (common (part_view a.part) (part_view b.part)) (common_fields xs ys) else None)
     at false f = absurd cc
     at true f =
-        let told = subst (λ (z : FieldPair). Tells j (part_view z.left) (common (part_view z.left) (part_view z.right)))
+        let told = subst (λ (z : FieldPair). DescribesCommon j (part_view z.left) (common (part_view z.left) (part_view z.right)))
         (some_same _ _ f) h in
         told_field a.key.now a.required (part_view a.part) xs j r (common (part_view a.part) (part_view b.part)) (common_fields xs ys) told g
 
@@ -108,8 +108,8 @@ with_with join.Wider join.Wider join.Wider = refl
 -- of all fields, by what is known of those from a place on
 abbrev pub SoFar : Join → FieldTypes → FieldTypes → ℕ → Type 0
 SoFar j vl vr i =
-    (r : Join) → Tells r (fields_behind i vl) (common_fields (fields_behind i vl) (fields_behind i vr))
-    → Tells (join_with r j) vl (common_fields vl vr)
+    (r : Join) → DescribesCommon r (fields_behind i vl) (common_fields (fields_behind i vl) (fields_behind i vr))
+    → DescribesCommon (join_with r j) vl (common_fields vl vr)
 
 pub at_first : (vl vr : FieldTypes) → SoFar join.Left vl vr 0
 at_first vl vr join.Apart h = h
@@ -119,21 +119,21 @@ at_first vl vr join.Wider h = h
 pub one_more : (vl vr : FieldTypes) (i n : ℕ) (o p : Option FieldPart) (q : FieldPair) (j s t : Join) → n ≡ suc i
     → SoFar s vl vr i → fields_behind i vl ≡ before o (fields_behind (suc i) vl)
     → fields_behind i vr ≡ before p (fields_behind (suc i) vr) → some q ≡ paired o p
-    → Tells j (part_view q.left) (common (part_view q.left) (part_view q.right)) → t ≡ join_with j s → SoFar t vl vr n
+    → DescribesCommon j (part_view q.left) (common (part_view q.left) (part_view q.right)) → t ≡ join_with j s → SoFar t vl vr n
 one_more vl vr i n o p q j s t next inv hl hr e h with_j =
     subst (λ m. SoFar t vl vr m) (sym next) (subst (λ u. SoFar u vl vr (suc i)) (sym with_j) step)
   where
     step : SoFar (join_with j s) vl vr (suc i)
     step r rest =
-        subst (λ u. Tells u vl (common_fields vl vr)) (with_with r j s)
+        subst (λ u. DescribesCommon u vl (common_fields vl vr)) (with_with r j s)
         (inv (join_with r j)
-        (subst (λ x. Tells (join_with r j) x (common_fields x (fields_behind i vr))) (sym hl)
-        (subst (λ y. Tells (join_with r j) (before o (fields_behind (suc i) vl)) (common_fields (before o (fields_behind (suc i) vl)) y))
+        (subst (λ x. DescribesCommon (join_with r j) x (common_fields x (fields_behind i vr))) (sym hl)
+        (subst (λ y. DescribesCommon (join_with r j) (before o (fields_behind (suc i) vl)) (common_fields (before o (fields_behind (suc i) vl)) y))
         (sym hr) (step_told o p q j r (fields_behind (suc i) vl) (fields_behind (suc i) vr) e h rest))))
 
 -- behind all fields there is nothing more
 pub at_last : (vl vr : FieldTypes) (i n : ℕ) (s : Join) → SoFar s vl vr i → n ≡ fields_count vl → i ≡ n
-    → fields_behind n vr ≡ no_field_types → Tells s vl (common_fields vl vr)
+    → fields_behind n vr ≡ no_field_types → DescribesCommon s vl (common_fields vl vr)
 at_last vl vr i n s inv count same e =
     let past : fields_count vl ≤ i = omega (arith, count, same) in
     inv join.Left

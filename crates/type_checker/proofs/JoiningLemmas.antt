@@ -9,7 +9,7 @@ use Rattle.grammar_core.specs.declared.expr.Expr.TheVariants as form
 use Rattle.typing.specs.Types as types
 use Rattle.typing.specs.Types.{IsBoolean}
 use Rattle.typing.specs.Environment.{Environment, unexpected}
-use Rattle.typing.specs.Learned.{Pairs}
+use Rattle.typing.specs.Gained.{Pairs}
 use Rattle.typing.specs.Rows.{and_type, MayBeTrue}
 use Rattle.typing.specs.Rows as rows
 use Rattle.typing.specs.Typing as typing

@@ -1,22 +1,22 @@
 -- Lists of pairs, item by item.
 use Rattle.std.proofs.Common.{◌≡◌, ◌+◌, ◌<◌, ℕ, List, [], ◌∷◌, ◌++◌, length, get_or, take, Contains, refl, sym, ap, ◌∙◌}
 use Rattle.std.proofs.lemmas.List.{take_more, map-append}
-use Rattle.typing.specs.Learned as learned
-use Rattle.typing.specs.Learned.{Pairs, InBoth}
+use Rattle.typing.specs.Gained as gained
+use Rattle.typing.specs.Gained.{Pairs, InBoth}
 use Rattle.type_capabilities.specs.declared.pair.Capability.{Capability}
 use Rattle.type_capabilities.specs.Pairs.{pair_of, pairs}
 
 -- the pairs that both lists have, where one more of the first is looked at
 
-pub one_more_kept : {L M N : Pairs} (p : learned.Capability) → Contains M p → InBoth L M N → InBoth (L ++ p ∷ []) M (N ++ p ∷ [])
-one_more_kept p c learned.both_none = learned.both_kept c learned.both_none
-one_more_kept p c (learned.both_kept d h) = learned.both_kept d (one_more_kept p c h)
-one_more_kept p c (learned.both_dropped n h) = learned.both_dropped n (one_more_kept p c h)
+pub one_more_kept : {L M N : Pairs} (p : gained.Capability) → Contains M p → InBoth L M N → InBoth (L ++ p ∷ []) M (N ++ p ∷ [])
+one_more_kept p c gained.both_none = gained.both_kept c gained.both_none
+one_more_kept p c (gained.both_kept d h) = gained.both_kept d (one_more_kept p c h)
+one_more_kept p c (gained.both_dropped n h) = gained.both_dropped n (one_more_kept p c h)
 
-pub one_more_dropped : {L M N : Pairs} (p : learned.Capability) → ¬ Contains M p → InBoth L M N → InBoth (L ++ p ∷ []) M N
-one_more_dropped p c learned.both_none = learned.both_dropped c learned.both_none
-one_more_dropped p c (learned.both_kept d h) = learned.both_kept d (one_more_dropped p c h)
-one_more_dropped p c (learned.both_dropped n h) = learned.both_dropped n (one_more_dropped p c h)
+pub one_more_dropped : {L M N : Pairs} (p : gained.Capability) → ¬ Contains M p → InBoth L M N → InBoth (L ++ p ∷ []) M N
+one_more_dropped p c gained.both_none = gained.both_dropped c gained.both_none
+one_more_dropped p c (gained.both_kept d h) = gained.both_kept d (one_more_dropped p c h)
+one_more_dropped p c (gained.both_dropped n h) = gained.both_dropped n (one_more_dropped p c h)
 
 -- the pairs up to and with the one at this place
 pub up_to_here : (ps : List Capability) (i : ℕ) (x : Capability) → i < length ps → x ≡ get_or ps i x

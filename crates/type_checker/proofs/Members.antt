@@ -7,7 +7,7 @@ use Rattle.grammar_core.specs.declared.expr.Expr.{Expr}
 use Rattle.typing.specs.Types as types
 use Rattle.typing.specs.Environment as environment
 use Rattle.typing.specs.Environment.{Environment}
-use Rattle.typing.specs.Learned.{Pairs}
+use Rattle.typing.specs.Gained.{Pairs}
 use Rattle.typing.specs.Rows.{set_literal_type}
 use Rattle.typing.specs.Typing as typing
 use Rattle.typing.specs.Typing.{Types, TypesEach}

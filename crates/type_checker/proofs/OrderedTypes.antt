@@ -60,7 +60,7 @@ unless_action true o up = tt
 unless_action false o up = up
 
 pub below_transitively : StatedSchemasAreWellFormed → (bytes : List ℕ) (v : StatedSchema) → IsSchemaOf bytes v → (e : EnvironmentOf)
-    → IsTransitive (typing_environment_of v e).may_be_below
+    → IsTransitive (typing_environment_of v e).may_have_ancestor
 below_transitively law bytes v stated e l m n = (law bytes v stated).parents_join l m n
 
 pub attributes_are_ordered : StatedSchemasAreWellFormed → (bytes : List ℕ) (v : StatedSchema) → IsSchemaOf bytes v → (n : List ℕ)

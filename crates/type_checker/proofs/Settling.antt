@@ -21,8 +21,8 @@ use Rattle.grammar_core.specs.declared.expr.Expr.TheOpen.{Expr-F}
 use Rattle.typing.specs.Types as types
 use Rattle.typing.specs.Environment.{Environment}
 use Rattle.typing.specs.Literals as literals
-use Rattle.typing.specs.Literals.{IsLiteral, AreEntityLiterals, ListsEntities, IsActionIn, Settled}
-use Rattle.typing.specs.Literals.{IsUnsettled, ReadsLiteral}
+use Rattle.typing.specs.Literals.{IsLiteral, AreEntityLiterals, ListsEntities, IsActionIn, DecidedByLiterals}
+use Rattle.typing.specs.Literals.{UndecidedByLiterals, ReadsLiteral}
 use Rattle.grammar_core.specs.declared.operator.Binary.{Binary}
 use Rattle.plain.proofs.Members.{Contains-here, Contains-cases, Contains-none}
 
@@ -37,13 +37,13 @@ module _ (env : Environment) where
       subst (λ y. IsLiteral env y (literal.Entity u)) (sym (e ∙ ap form.Variable f))
       (subst (λ w. IsLiteral env (form.Variable variable.Action) (literal.Entity w)) (sym g) literals.action)
 
-  pub no_left_equal : {a b : Expr} → ((l : Literal) → ¬ IsLiteral env a l) → IsUnsettled env binary.Equal a b
+  pub no_left_equal : {a b : Expr} → ((l : Literal) → ¬ IsLiteral env a l) → UndecidedByLiterals env binary.Equal a b
   no_left_equal n r (literals.equal_literals {l} h g d) = n l h
 
-  pub no_right_equal : {a b : Expr} → ((l : Literal) → ¬ IsLiteral env b l) → IsUnsettled env binary.Equal a b
+  pub no_right_equal : {a b : Expr} → ((l : Literal) → ¬ IsLiteral env b l) → UndecidedByLiterals env binary.Equal a b
   no_right_equal n r (literals.equal_literals {m} h g d) = n m g
 
-  pub no_left_in : {a b : Expr} → ((u : EntityUid) → ¬ IsLiteral env a (literal.Entity u)) → IsUnsettled env binary.In a b
+  pub no_left_in : {a b : Expr} → ((u : EntityUid) → ¬ IsLiteral env a (literal.Entity u)) → UndecidedByLiterals env binary.In a b
   no_left_in n r (literals.action_in {u} h i g d) = n u h
 
 pub reads_decimal : {x : Expr} {t : List ℕ} {z : ℤ} → x ≡ form.Literal (literal.Text t) → IsDecimalText t z
@@ -177,19 +177,19 @@ module _ (env : Environment) where
   -- ---- what is not settled
 
   pub no_action_in : {a b : Expr} {u : EntityUid} → IsLiteral env a (literal.Entity u)
-      → ¬ IsTrue (env.is_action_type u.type_name) → IsUnsettled env binary.In a b
+      → ¬ IsTrue (env.is_action_type u.type_name) → UndecidedByLiterals env binary.In a b
   no_action_in h n r (literals.action_in h2 i g d) =
       n (subst (λ v. IsTrue (env.is_action_type v.type_name)) (entity_one h2 h) i)
 
-  pub no_right_in : {a b : Expr} → ((us : List EntityUid) → ¬ ListsEntities env b us) → IsUnsettled env binary.In a b
+  pub no_right_in : {a b : Expr} → ((us : List EntityUid) → ¬ ListsEntities env b us) → UndecidedByLiterals env binary.In a b
   no_right_in n r (literals.action_in {vs} h i g d) = n vs g
 
-  no_others : {op : Binary} {a b : Expr} {r : Bool} → Settled env op a b r → (op ≡ binary.Equal) ⊎ (op ≡ binary.In)
+  no_others : {op : Binary} {a b : Expr} {r : Bool} → DecidedByLiterals env op a b r → (op ≡ binary.Equal) ⊎ (op ≡ binary.In)
   no_others (literals.equal_literals h g d) = inl refl
   no_others (literals.action_in h i g d) = inr refl
 
   pub others_unsettled : (op : Binary) {a b : Expr} → (op ≡ binary.Equal → ⊥) → (op ≡ binary.In → ⊥)
-      → IsUnsettled env op a b
+      → UndecidedByLiterals env op a b
   others_unsettled op n m r h = elim (no_others h) [ inl e ↦ n e | inr e ↦ m e ]
 
 -- ---- what a call reads

@@ -1,5 +1,4 @@
--- Defines the types that a schema declares, as the rules of typing take them, and the environment of typing for each
--- of its environments.
+-- Defines the static types that a schema declares, and the typing environment of each of its environments.
 -- Source: Cedar reference guide 4.0, "Schema JSON format" and "Policy validation"; cedar-spec,
 -- cedar-lean/Cedar/Validation/Types.lean (`EntitySchema`, `TypeEnv`).
 use Rattle.std.specs.Prelude.{ℕ, List, [], Option, Some, None, if◌then◌else◌}
@@ -12,7 +11,8 @@ use Rattle.schema_types.specs.Cedar.{Cedar, CedarFields}
 use Rattle.entities.specs.schema.Schemas.{EnvironmentOf, StatedSchema}
 use Rattle.entities.specs.Entities.{is_action_type}
 
--- `static t` is the type of the values of the declared type `t`.
+-- `static t` is the static type of the values of the declared type `t`, and `static_fields fs` are the declared fields
+-- `fs` with such types.
 abbrev mutual
   pub static : Cedar → StaticType
   static cedar.text = text_type
@@ -28,27 +28,27 @@ abbrev mutual
   static_fields cedar.no_fields = no_field_types
   static_fields (cedar.field k t r fs) = field_type k (static t) r (static_fields fs)
 
--- `field_types_in t` are the fields of a record; other types have none.
+-- `field_types_in t` are the fields of the declared type `t` if it is a record; another type has none.
 abbrev pub field_types_in : Cedar → FieldTypes
 field_types_in (cedar.record_of fs) = static_fields fs
 field_types_in t = no_field_types
 
--- `shape_fields o` are those of a shape, if there is one.
+-- `shape_fields o` are the fields of the shape `o` of an entity type; without a shape it has no fields.
 abbrev pub shape_fields : Option Cedar → FieldTypes
 shape_fields None = no_field_types
 shape_fields (Some t) = field_types_in t
 
--- `attributes_of s n` are the attributes of the entities of a type: the fields of its shape. Neither an action type
--- nor an undeclared one has any.
+-- `attributes_of s n` are the attributes that the schema `s` declares for entities of the type `n`: the fields of its
+-- shape. Neither an action type nor an undeclared type has any.
 abbrev pub attributes_of : StatedSchema → List ℕ → FieldTypes
 attributes_of s n = if is_action_type n then no_field_types else shape_fields (s.shape n)
 
--- `declared_ancestors o` are those of a declared action; another has none.
+-- `declared_ancestors o` are the ancestors `o` of a declared action; an undeclared one (`None`) has none.
 abbrev pub declared_ancestors : Option (List EntityUid) → List EntityUid
 declared_ancestors None = []
 declared_ancestors (Some us) = us
 
--- `typing_environment_of s e` is the environment of typing for an environment of the schema.
+-- `typing_environment_of s e` is the typing environment of the environment `e` of the schema `s`.
 abbrev pub typing_environment_of : StatedSchema → EnvironmentOf → Environment
 typing_environment_of s e = record {
   principal = e.place.principal;
@@ -56,7 +56,7 @@ typing_environment_of s e = record {
   resource = e.place.resource;
   context = field_types_in e.context;
   attributes = attributes_of s;
-  may_be_below = s.may_have_parent;
+  may_have_ancestor = s.may_have_parent;
   is_action_type = is_action_type;
   action_ancestors = λ u. declared_ancestors (s.ancestors u);
 }

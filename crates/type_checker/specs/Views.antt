@@ -1,4 +1,4 @@
--- Defines the abstract views of the code's types, errors and environments, as the rules of typing have them.
+-- Defines the views of the code's types, errors and environments: the values of the typing rules that they represent.
 use Rattle.std.specs.Prelude.{◌≡◌, ◌≢◌, ℕ, List, [], ◌∷◌, Result, Ok, Err, IfErr, MatchResult}
 use Rattle.std.specs.Prelude.{Bool, true, false, if◌then◌else◌, IsTrue, Option, Some, IsSome}
 use Rattle.std.specs.Str.{bytes_eq}
@@ -26,12 +26,13 @@ use Rattle.type_checker.specs.declared.environment.TypingEnvironment.{TypingEnvi
 
 -- ---- types
 
--- `boolean_view t` is the boolean type `t` of the code, and `leaf_view l` the type without parts `l`.
+-- `boolean_view t` is the static type that the boolean type `t` of the code represents.
 abbrev pub boolean_view : BooleanType → types.StaticType
 boolean_view truth.True = true_type
 boolean_view truth.False = false_type
 boolean_view truth.Either = boolean_type
 
+-- `leaf_view l` is the static type that the type without parts `l` of the code represents.
 abbrev pub leaf_view : Leaf → types.StaticType
 leaf_view (leaf.Boolean b) = boolean_view b
 leaf_view leaf.Long = long_type
@@ -40,12 +41,12 @@ leaf_view (leaf.Entity n) = entity_type n.now
 leaf_view leaf.Decimal = decimal_type
 leaf_view leaf.Ipaddr = ipaddr_type
 
--- `built_fields fs` is the list `fs` as the fields of a record type.
+-- `built_fields fs` is the list `fs` of keys, types and requirements as the fields of a record type.
 abbrev pub built_fields : List (Bor (List ℕ) × types.StaticType × Bool) → FieldTypes
 built_fields [] = no_field_types
 built_fields (f ∷ fs) = field_type f.0.now f.1 f.2 (built_fields fs)
 
--- `static_step t` is a node of the code over types.
+-- `static_step t` is the static type with the outermost node `t`, whose parts are static types already.
 abbrev pub static_step : StaticType-F types.StaticType → types.StaticType
 static_step (StaticType-F.Leaf l) = leaf_view l
 static_step (StaticType-F.DeclaredSet t) = set_type (static (cedar_view t.now))
@@ -53,44 +54,47 @@ static_step (StaticType-F.DeclaredRecord fs) = record_type (static_fields (cedar
 static_step (StaticType-F.Set t) = set_type t
 static_step (StaticType-F.Record fs) = record_type (built_fields fs)
 
--- `static_view t` is the type `t` of the code.
+-- `static_view t` is the static type that the type `t` of the code represents.
 abbrev pub static_view : StaticType → types.StaticType
 static_view = fold-StaticType types.StaticType static_step
 
 -- ---- shared types
 
--- A `Holding`: a type that an expression built is shared by its copies; a declared one is borrowed.
-pub record Holding : Type 0 where
-  pub is_held : Bool
-  -- whether it has a field of this name that is shared
+-- A `TypeSharing` says whether a type and its fields are shared, that is, reference-counted. A set or record type that
+-- an expression built is shared by its copies; a declared one is borrowed from the schema.
+pub record TypeSharing : Type 0 where
+  -- whether the type itself is shared
+  pub is_type_shared : Bool
+  -- whether it has a field of this name whose type is shared
   pub at : List ℕ → Bool
 
--- `held_in fs k` tests whether the type of the field `k` is shared.
-abbrev pub held_in : List (Bor (List ℕ) × Holding × Bool) → List ℕ → Bool
-held_in [] k = false
-held_in (f ∷ fs) k = if bytes_eq k f.0.now then f.1.is_held else held_in fs k
+-- `shared_in fs k` tests whether the fields `fs` have a field `k` whose type is shared.
+abbrev pub shared_in : List (Bor (List ℕ) × TypeSharing × Bool) → List ℕ → Bool
+shared_in [] k = false
+shared_in (f ∷ fs) k = if bytes_eq k f.0.now then f.1.is_type_shared else shared_in fs k
 
--- `holding_step t` says whether the node `t` and its fields are shared, given this for its parts.
-abbrev pub holding_step : StaticType-F Holding → Holding
-holding_step (StaticType-F.Leaf l) = record { is_held = false; at = λ k. false }
-holding_step (StaticType-F.DeclaredSet t) = record { is_held = false; at = λ k. false }
-holding_step (StaticType-F.DeclaredRecord fs) = record { is_held = false; at = λ k. false }
-holding_step (StaticType-F.Set t) = record { is_held = true; at = λ k. false }
-holding_step (StaticType-F.Record fs) = record { is_held = true; at = held_in fs }
+-- `type_sharing_step t` says whether the type with the outermost node `t` and its fields are shared, given this for its
+-- parts.
+abbrev pub type_sharing_step : StaticType-F TypeSharing → TypeSharing
+type_sharing_step (StaticType-F.Leaf l) = record { is_type_shared = false; at = λ k. false }
+type_sharing_step (StaticType-F.DeclaredSet t) = record { is_type_shared = false; at = λ k. false }
+type_sharing_step (StaticType-F.DeclaredRecord fs) = record { is_type_shared = false; at = λ k. false }
+type_sharing_step (StaticType-F.Set t) = record { is_type_shared = true; at = λ k. false }
+type_sharing_step (StaticType-F.Record fs) = record { is_type_shared = true; at = shared_in fs }
 
--- `holding t` says whether the type `t` and its fields are shared.
-abbrev pub holding : StaticType → Holding
-holding = fold-StaticType Holding holding_step
+-- `type_sharing t` says whether the type `t` and its fields are shared.
+abbrev pub type_sharing : StaticType → TypeSharing
+type_sharing = fold-StaticType TypeSharing type_sharing_step
 
--- `MayTakeMemory t o` holds if the common type `o` of `t` and another may allocate: there is one, and it is not `t`,
--- or `t` is shared.
+-- `MayTakeMemory t o` holds if computing the common type `o` of `t` and another type may fail with `NoMemory`: there
+-- is a common type, and it is not `t`, or `t` is shared.
 abbrev pub MayTakeMemory : StaticType → Option types.StaticType → Type 0
-MayTakeMemory t o = IsSome o × (o ≡ Some (static_view t) → IsTrue (holding t).is_held)
+MayTakeMemory t o = IsSome o × (o ≡ Some (static_view t) → IsTrue (type_sharing t).is_type_shared)
 
 -- ---- errors
 
--- `fault_view f` is the error `f` of typing. `NoMemory` is not one, and is given one only because every case needs
--- one; users exclude that case first, as `Answers` does below.
+-- `fault_view f` is the typing error that the error `f` of the code represents. `NoMemory` represents none: its clause
+-- only makes the function total, and each use excludes `NoMemory` first, as `Answers` does below.
 abbrev pub fault_view : ExpressionFault → environment.ExpressionFault
 fault_view Unexpected = environment.unexpected
 fault_view NoCommonType = environment.no_common_type
@@ -99,11 +103,11 @@ fault_view EmptySet = environment.empty_set
 fault_view BadExtensionLiteral = environment.bad_extension_literal
 fault_view NoMemory = environment.unexpected
 
--- `Answers r row` holds if `r` is what `row` says, or `NoMemory`.
+-- `Answers r row` holds if `r` is the type or the error of `row`, or `NoMemory`.
 abbrev pub Answers : Result StaticType ExpressionFault → Row → Type 0
 Answers r row = MatchResult r (λ t. row ≡ Ok (static_view t)) (λ f. f ≢ NoMemory → row ≡ Err (fault_view f))
 
--- `TakesMemoryOnly P r` holds if `r` is `NoMemory` only if `P` holds.
+-- `TakesMemoryOnly P r` holds if `P` holds in case `r` is `NoMemory`.
 abbrev pub TakesMemoryOnly : Type 0 → Result StaticType ExpressionFault → Type 0
 TakesMemoryOnly P r = IfErr r (λ f. f ≡ NoMemory → P)
 
@@ -113,6 +117,6 @@ TakesNoMemory r = IfErr r (λ f. f ≢ NoMemory)
 
 -- ---- environments
 
--- `typing_environment e` is the environment `e` of the code.
+-- `typing_environment e` is the environment of the typing rules that the environment `e` of the code represents.
 abbrev pub typing_environment : TypingEnvironment → Environment
 typing_environment e = typing_environment_of (schema_view e.schema.now) (environment_view e.environment.now)

@@ -2,7 +2,7 @@ pub mod Joins
 pub mod Layers
 pub mod Parts
 pub mod Rows
-pub mod Asking
+pub mod RepeatedOperand
 pub mod Joining
 pub mod Judged
 pub mod Literals

@@ -16,7 +16,7 @@ use type_capabilities::Capability;
 
 /// Returns the type of an expression under these known capabilities, with the capabilities that it gains.
 ///
-/// Takes the time of [`judge_all`](crate::judge_all), and one look-up for each known capability.
+/// Takes the time that [`judge_all`](crate::judge_all) takes for `expr`, and one look-up for each of `known`.
 ///
 /// # Errors
 ///

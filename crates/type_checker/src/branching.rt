@@ -1,4 +1,5 @@
-//! The judgement on `&&`, `||` and `if`, from that on their last operand.
+//! The judgement (type with gained capabilities, or error) on `&&`, `||` and `if`, from the judgements on their
+//! operands, of which the last may be an error.
 //!
 //! Each clause says: for all operands, if the judgements on the operands hold, so does the judgement on the whole.
 ghost use Rattle.std.specs.Prelude.{◌≡◌, ◌≢◌, IfOk, MatchResult, Ok, Err, Some, None};
@@ -7,11 +8,11 @@ ghost use Rattle.grammar_core.specs.declared.expr.Expr.TheVariants as form;
 ghost use Rattle.typing.specs.Types.{false_type, boolean_type};
 ghost use Rattle.typing.specs.Rows.{MayBeTrue, and_type, or_type};
 ghost use Rattle.typing.specs.Environment as environment;
-ghost use Rattle.typing.specs.Learned.{Pairs, InBoth, OrLearns};
+ghost use Rattle.typing.specs.Gained.{Pairs, InBoth, OrGains};
 ghost use Rattle.typing.specs.Typing.{Types};
 ghost use Rattle.type_checker.specs.Views.{boolean_view};
 ghost use Rattle.type_capabilities.specs.Pairs.{pairs};
-ghost use Rattle.type_checker.specs.inner.Judged.{Judged, JudgedBehind, ThenTyped};
+ghost use Rattle.type_checker.specs.inner.Judged.{Judged, JudgedUnder, ThenTyped};
 
 use crate::common_types::common;
 use crate::fault::ExpressionFault;
@@ -22,7 +23,7 @@ use plain::NoMemory;
 use std::alloc::Global;
 use type_capabilities::Capability;
 
-/// Returns the type of `&&`, by those of its sides, the left of which may be true.
+/// Returns the type of `&&` by the types of its sides, where the left side may be true.
 pub(crate) fn and_truth(left: BooleanType, right: BooleanType) -> BooleanType
     ensures { boolean_view result ≡ and_type (boolean_view left) (boolean_view right) }
 {
@@ -37,13 +38,14 @@ pub(crate) fn and_truth(left: BooleanType, right: BooleanType) -> BooleanType
     }
 }
 
-/// Returns the judgement on `&&`, whose left side may be true.
+/// Returns the judgement on `&&` whose left side has the type `left` and may be true, by the judgement on its right
+/// side, which has the capabilities of both.
 pub(crate) fn and_typed<'a>(
     left: BooleanType,
     right: Result<Typed<'a>, ExpressionFault>,
 ) -> Result<Typed<'a>, ExpressionFault>
     ensures { (env : environment.Environment) (K L after : Pairs) (a b : Expr) → Types env K a (boolean_view left) L
-        → MayBeTrue (boolean_view left) → JudgedBehind env K L b right.entry after
+        → MayBeTrue (boolean_view left) → JudgedUnder env K L b right.entry after
         → Judged env K (form.And a b) result after }
 {
     let right = match right {
@@ -65,7 +67,7 @@ pub(crate) fn and_typed<'a>(
     }
 }
 
-/// Returns the judgement on `||`, whose left side is False.
+/// Returns the judgement on `||` whose left side has the type False, by the judgement on its right side.
 pub(crate) fn or_behind_false<'a>(
     right: Result<Typed<'a>, ExpressionFault>,
 ) -> Result<Typed<'a>, ExpressionFault>
@@ -85,7 +87,7 @@ pub(crate) fn or_behind_false<'a>(
     }
 }
 
-/// Returns the type of `||`, by that of its right side; its left side may be true or false.
+/// Returns the type of `||` by the type of its right side, where the left side has the type Bool.
 fn or_truth(right: BooleanType) -> BooleanType
     ensures { boolean_view result ≡ or_type (boolean_view right) }
 {
@@ -96,8 +98,8 @@ fn or_truth(right: BooleanType) -> BooleanType
     }
 }
 
-/// Returns what `||` gains, by the type of its right side and what its sides gain; its left side may be true or
-/// false.
+/// Returns the capabilities that `||` gains, by the type of its right side and those that its sides gain, where the
+/// left side has the type Bool.
 #[tactic(auto, using(crate::proofs::Sides::or_none, crate::proofs::Sides::or_left, crate::proofs::Sides::or_both))]
 fn or_learns<'a>(
     alloc: Global,
@@ -105,7 +107,7 @@ fn or_learns<'a>(
     of_left: Vec<Capability<'a>>,
     of_right: &Vec<Capability<'a>>,
 ) -> Result<Vec<Capability<'a>>, NoMemory>
-    ensures { IfOk result (λ both. OrLearns (boolean_view right) (pairs of_left.entry.items)
+    ensures { IfOk result (λ both. OrGains (boolean_view right) (pairs of_left.entry.items)
         (pairs of_right.now.items) (pairs both.items)) }
 {
     match right {
@@ -115,7 +117,8 @@ fn or_learns<'a>(
     }
 }
 
-/// Returns the judgement on `||`, whose left side may be true or false, and gains these capabilities.
+/// Returns the judgement on `||` whose left side has the type Bool and gains the capabilities `left`, by the judgement
+/// on its right side.
 pub(crate) fn or_typed<'a>(
     alloc: Global,
     left: Vec<Capability<'a>>,
@@ -152,7 +155,7 @@ pub(crate) fn or_typed<'a>(
     }
 }
 
-/// Returns the type of an `if` whose branches have this common type, if there is one.
+/// Returns the type of an `if` whose branches have the common type in `kind`, or `NoCommonType` if they have none.
 fn branch_type<'a>(
     kind: Result<Option<StaticType<'a>>, NoMemory>,
 ) -> Result<StaticType<'a>, ExpressionFault>
@@ -166,7 +169,7 @@ fn branch_type<'a>(
     }
 }
 
-/// Returns a type with the capabilities that both branches gain.
+/// Returns the type in `kind` with the capabilities of `alternative` that are in `consequent` too, or its error.
 fn with_both<'a>(
     alloc: Global,
     kind: Result<StaticType<'a>, ExpressionFault>,
@@ -187,7 +190,8 @@ fn with_both<'a>(
     }
 }
 
-/// Returns the judgement on `if`, whose test may be true or false.
+/// Returns the judgement on an `if` whose test has the type Bool: `then` is the type of `then` with the capabilities
+/// of test and `then`, and `other` the judgement on `else`.
 pub(crate) fn branches<'a>(
     alloc: Global,
     then: Typed<'a>,

@@ -15,7 +15,7 @@ use grammar_core::{Expr, Literal, UnaryCall};
 use plain::Text;
 use values::{Decimal, IpNet};
 
-/// Returns the string of a string literal.
+/// Returns the string of a string literal, or `None` for another expression.
 fn as_text(expr: &Expr) -> Option<&Text>
     ensures { MatchOption result ((t : List ℕ) → expr.now ≢ form.Literal (literal.Text t))
         (λ t. expr.now ≡ form.Literal (literal.Text t.now)) }
@@ -26,7 +26,7 @@ fn as_text(expr: &Expr) -> Option<&Text>
     }
 }
 
-/// Returns whether an expression is a string literal of a decimal.
+/// Returns whether an expression is a string literal that denotes a decimal.
 fn is_decimal(expr: &Expr) -> bool
     ensures { IsTrue result ↔ ReadsLiteral unary_call.Decimal expr.now types.decimal_type }
 {
@@ -39,7 +39,7 @@ fn is_decimal(expr: &Expr) -> bool
     }
 }
 
-/// Returns whether an expression is a string literal of an IP address.
+/// Returns whether an expression is a string literal that denotes an IP address.
 fn is_network(expr: &Expr) -> bool
     ensures { IsTrue result ↔ ReadsLiteral unary_call.Ip expr.now types.ipaddr_type }
 {
@@ -52,7 +52,7 @@ fn is_network(expr: &Expr) -> bool
     }
 }
 
-/// Returns a type if the operand is a literal of its extension.
+/// Returns the extension type `leaf` if the operand is a literal of this extension, else `BadExtensionLiteral`.
 fn if_literal<'a>(is_literal: bool, leaf: Leaf<'a>) -> Result<StaticType<'a>, ExpressionFault>
     ensures { MatchResult result (λ t. (is_literal ≡ true) × (static_view t ≡ leaf_view leaf.entry))
         (λ f. (is_literal ≡ false) × (f ≡ ExpressionFault.BadExtensionLiteral)) }
@@ -64,7 +64,7 @@ fn if_literal<'a>(is_literal: bool, leaf: Leaf<'a>) -> Result<StaticType<'a>, Ex
     }
 }
 
-/// Returns the type of a call, by its operand and the operand's type.
+/// Returns the type of a call, by its operand and the type `kind` of the operand.
 pub(crate) fn unary_call_type<'a>(
     called: UnaryCall,
     operand: &Expr,

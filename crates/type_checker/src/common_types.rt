@@ -11,11 +11,15 @@ use crate::type_joins::{Join, join_of, paired};
 use plain::{Items, NoMemory, Shared};
 use std::alloc::Global;
 
-/// Returns the common type of two types, if there is one, or `NoMemory`: of equal types that type, of different
-/// boolean types Bool, of sets by their members, and of records with equal keys and requirements field by field.
+/// Returns the common type of two types, or `None` if they have none.
 ///
-/// Takes time linear in the smaller one's nodes. If the result is the left type, as for one declared type with
-/// itself, it is copied; so only another result allocates.
+/// Equal types have that type as their common type, different boolean types have Bool, sets the set of their members'
+/// common type, and records with equal keys and requirements a record, field by field. Takes time linear in the nodes
+/// of the smaller type. Allocates only if the result differs from the left type.
+///
+/// # Errors
+///
+/// - `NoMemory`: an allocation failed, or the count of references to a shared left type would overflow.
 pub fn common<'a>(
     alloc: Global,
     left: &StaticType<'a>,
@@ -50,6 +54,7 @@ fn common_boolean(left: BooleanType, right: BooleanType) -> BooleanType
     }
 }
 
+/// Returns the common type of two types without parts, or `None` if they have none.
 fn common_leaf<'a>(left: Leaf<'a>, right: Leaf<'a>) -> Option<Leaf<'a>>
     ensures { option_map leaf_view result ≡ common (leaf_view left.entry) (leaf_view right.entry) }
 {
@@ -70,7 +75,7 @@ fn common_leaf<'a>(left: Leaf<'a>, right: Leaf<'a>) -> Option<Leaf<'a>>
     }
 }
 
-/// Returns the type of sets of these members, if there is one.
+/// Returns the type of sets whose members have the type `member`; `None` for `None`.
 fn set_of<'a>(
     alloc: Global,
     member: Option<StaticType<'a>>,
@@ -84,7 +89,7 @@ fn set_of<'a>(
     }
 }
 
-/// Returns the type of two declared records with the same fields; `None` says nothing. Does not allocate.
+/// Returns the common type of two declared records with the same fields; `None` decides nothing. Does not allocate.
 fn declared_record<'a>(left: Fields<'_, 'a>, right: Fields<'_, 'a>) -> Option<StaticType<'a>>
     ensures { IfSome result (λ t. Some (static_view t)
         ≡ option_map record_type (common_fields (fields_view left.entry) (fields_view right.entry))) }
@@ -101,7 +106,7 @@ fn declared_record<'a>(left: Fields<'_, 'a>, right: Fields<'_, 'a>) -> Option<St
     }
 }
 
-/// Returns the type of records with these fields.
+/// Returns the type of records with these fields; never `None`.
 fn record_of<'a>(
     alloc: Global,
     fields: Vec<(&'a str, StaticType<'a>, bool)>,
@@ -113,6 +118,8 @@ fn record_of<'a>(
     Ok(Some(StaticType::Record(fields)))
 }
 
+/// Returns the common type of two types, or `None` if they have none. Sets and records are built, declared records with
+/// the same fields borrowed.
 #[cycle(common_of)]
 fn common_of<'a>(
     alloc: Global,
@@ -133,6 +140,7 @@ fn common_of<'a>(
     }
 }
 
+/// Returns the type without parts `leaf` as a static type; `None` for `None`.
 fn leaf_type<'a>(leaf: Option<Leaf<'a>>) -> Option<StaticType<'a>>
     ensures { option_map (λ t. static_view t) result ≡ option_map leaf_view leaf.entry }
 {
@@ -142,6 +150,7 @@ fn leaf_type<'a>(leaf: Option<Leaf<'a>>) -> Option<StaticType<'a>>
     }
 }
 
+/// Returns the common type of two record types, field by field, or `None` if they have none.
 #[cycle(common_of)]
 fn common_record<'a>(
     alloc: Global,

@@ -1,4 +1,4 @@
-//! The environments that policies are typed in.
+//! The environments in which policies are typed.
 ghost use Rattle.std.specs.Prelude.{◌≡◌, ◌↔◌, [], false, Contains, IsTrue};
 ghost use Rattle.values.specs.Names.{text_cmp};
 ghost use Rattle.schema_types.specs.CedarViews.{cedar_view, cedar_fields_view};
@@ -9,7 +9,7 @@ ghost use Rattle.typing.specs.Ordered.{AreOrdered};
 ghost use Rattle.typing.specs.Rows.{variable_type};
 ghost use Rattle.type_checker.specs.FromSchemas.{static_fields, field_types_in, attributes_of, typing_environment_of};
 ghost use Rattle.type_checker.specs.Views.{static_view, typing_environment};
-ghost use Rattle.type_checker.specs.inner.Parts.{found_view, found_held};
+ghost use Rattle.type_checker.specs.inner.Parts.{found_view, found_shared};
 
 use crate::parts::Part;
 use crate::static_type::{Leaf, StaticType};
@@ -20,10 +20,13 @@ use schema_types::CedarType;
 use std::cmp::Ordering;
 use values::{EntityUid, TypeName};
 
-/// One kind of request, and the schema with the types of entities.
+/// A typing environment: a schema, and one of its environments, that is, an action with the types of its principal,
+/// resource and context.
 #[derive(Clone, Copy)]
 pub struct TypingEnvironment<'a> {
+    /// The schema that declares the types.
     pub schema: &'a Schema,
+    /// One of the environments of the schema.
     pub environment: &'a Environment,
 }
 
@@ -35,13 +38,14 @@ pub fn is_action_type(name: &TypeName) -> bool
     text == "Action" || text.as_bytes().ends_with(b"::Action")
 }
 
+/// Returns an empty list of fields.
 fn no_fields<'a>() -> &'a [(Text, CedarType, bool)]
     ensures { result.now ≡ [] }
 {
     &[]
 }
 
-/// Returns the fields of a record; other types have none.
+/// Returns the fields of a declared record type; another type has none.
 fn fields_in<'a>(ty: &'a CedarType) -> &'a [(Text, CedarType, bool)]
     ensures { static_fields (cedar_fields_view result.now) ≡ field_types_in (cedar_view ty.now) }
 {
@@ -57,7 +61,7 @@ fn fields_in<'a>(ty: &'a CedarType) -> &'a [(Text, CedarType, bool)]
     }
 }
 
-/// Returns the attributes of the entities of a type.
+/// Returns the attributes that the schema declares for entities of a type; action types and undeclared types have none.
 fn attributes_of<'a>(schema: &'a Schema, name: &TypeName) -> &'a [(Text, CedarType, bool)]
     ensures { static_fields (cedar_fields_view result.now) ≡ attributes_of (schema_view schema.now) name.now }
 {
@@ -70,21 +74,21 @@ fn attributes_of<'a>(schema: &'a Schema, name: &TypeName) -> &'a [(Text, CedarTy
     }
 }
 
-/// Compares the name of a field with another.
+/// Compares the name of a field with `key`, by bytes.
 fn compare(field: &(Text, CedarType, bool), key: &str) -> Ordering
     ensures { result ≡ text_cmp field.now.0 key.now }
 {
     field.0.as_str().cmp(key)
 }
 
-/// Returns the declaration of a key in sorted fields. O(log n).
+/// Returns the declaration of `key` in fields that ascend by key, or `None` otherwise. O(log n).
 fn found_in_order<'r, 'a>(
     fields: &'a [(Text, CedarType, bool)],
     key: &str,
 ) -> Option<(Part<'r, 'a>, bool)>
     requires { AreOrdered (static_fields (cedar_fields_view fields.now)) }
     ensures declared { found_view result ≡ field_declared_at key.now (static_fields (cedar_fields_view fields.now)) }
-    ensures lent { found_held result ≡ false }
+    ensures lent { found_shared result ≡ false }
 {
     match fields.binary_search_by(|field| compare(field, key)) {
         Ok(at) => {
@@ -96,7 +100,7 @@ fn found_in_order<'r, 'a>(
 }
 
 impl<'a> TypingEnvironment<'a> {
-    /// Returns an environment of a schema. Does not allocate.
+    /// Creates the typing environment of one of a schema's environments. Does not allocate.
     pub fn new(schema: &'a Schema, environment: &'a Environment) -> TypingEnvironment<'a>
         ensures { typing_environment result
             ≡ typing_environment_of (schema_view schema.now) (environment_view environment.now) }
@@ -129,11 +133,11 @@ impl<'a> TypingEnvironment<'a> {
         &environment.place.action
     }
 
-    /// Returns the declaration of an attribute of an entity type. O(log n).
+    /// Returns the declaration of the attribute `key` of an entity type, or `None` otherwise. O(log n).
     pub(crate) fn attribute<'r>(self, name: &TypeName, key: &str) -> Option<(Part<'r, 'a>, bool)>
         ensures declared { found_view result
             ≡ field_declared_at key.now ((typing_environment self.entry).attributes name.now) }
-        ensures lent { found_held result ≡ false }
+        ensures lent { found_shared result ≡ false }
     {
         self.schema.is_stated();
         stated_schemas_are_well_formed();
@@ -148,16 +152,16 @@ impl<'a> TypingEnvironment<'a> {
     }
 
     /// Returns whether entities of the type `below` may have ancestors of the type `above`. Does not allocate.
-    pub fn may_be_below(self, below: &TypeName, above: &TypeName) -> bool
-        ensures { result ≡ (typing_environment self.entry).may_be_below below.now above.now }
+    pub fn may_have_ancestor(self, below: &TypeName, above: &TypeName) -> bool
+        ensures { result ≡ (typing_environment self.entry).may_have_ancestor below.now above.now }
     {
         self.schema.may_have_parent(below, above)
     }
 
-    /// Returns whether an entity is an ancestor of an action, by the schema. O(log n). Does not allocate.
+    /// Returns whether the schema declares `above` as an ancestor of `action`. O(log n). Does not allocate.
     pub fn is_action_ancestor(self, action: &EntityUid, above: &EntityUid) -> bool
         ensures { IsTrue result ↔ Contains ((typing_environment self.entry).action_ancestors action.now) above.now }
     {
-        self.schema.is_action_above(action, above)
+        self.schema.action_has_ancestor(action, above)
     }
 }

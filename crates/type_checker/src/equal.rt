@@ -1,4 +1,4 @@
-//! Whether two expressions are equal. Does not allocate.
+//! Tests of two expressions for equality, which do not allocate.
 ghost use Rattle.std.specs.Prelude.{◌≡◌, IsTrue, IsSomeAnd};
 
 use grammar_core::Expr;
@@ -11,7 +11,7 @@ pub(crate) fn same_expr(one: &Expr, other: &Expr) -> bool
     compare(one, other).is_eq()
 }
 
-/// Returns whether an expression repeats the previous one, if there is one.
+/// Returns whether an expression equals the previous one, `before`; false without a previous one.
 pub(crate) fn repeats(expr: &Expr, before: Option<&Expr>) -> bool
     ensures { IsTrue result → IsSomeAnd before.entry (λ b. b.now ≡ expr.now) }
 {

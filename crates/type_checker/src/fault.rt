@@ -8,22 +8,22 @@ use thiserror::Error;
 /// Why an expression has no type.
 #[derive(Clone, Copy, PartialEq, Eq, Debug, Error)]
 pub enum ExpressionFault {
-    /// An allocation failed.
+    /// Code 1: an allocation failed.
     #[error("type 1: out of memory")]
     NoMemory,
-    /// Another type is required.
+    /// Code 42: another type is required.
     #[error("type 42: operand of the wrong type")]
     Unexpected,
-    /// Types that must have a common type have none.
+    /// Code 43: types that must have a common type have none.
     #[error("type 43: types without a common type")]
     NoCommonType,
-    /// A field is not declared, or is optional without a known capability.
+    /// Code 44: a field is not declared, or is optional without a known capability.
     #[error("type 44: attribute undeclared, or optional and not known to be present")]
     AttributeMayBeMissing,
-    /// A set literal has no members.
+    /// Code 45: a set literal has no members.
     #[error("type 45: empty set literal; the type of its elements is unknown")]
     EmptySet,
-    /// `ip` or `decimal` without a string literal of its grammar.
+    /// Code 46: the operand of `ip` or `decimal` is not a string literal of the extension's grammar.
     #[error("type 46: ip or decimal without a valid string literal")]
     BadExtensionLiteral,
 }

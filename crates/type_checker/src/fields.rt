@@ -1,12 +1,12 @@
-//! The types of fields and attributes.
+//! The types of `e.f` and `e has f`, for the fields of records and the attributes of entities.
 ghost use Rattle.std.specs.Prelude.{◌≡◌, false, IsTrue, if◌then◌else◌};
 ghost use Rattle.typing.specs.Types.{field_declared_at, true_type};
 ghost use Rattle.typing.specs.Rows.{field_type_of, has_type, access_type, record_has, entity_has};
 ghost use Rattle.schema_types.specs.CedarViews.{cedar_fields_view};
 ghost use Rattle.type_checker.specs.FromSchemas.{static_fields};
-ghost use Rattle.type_checker.specs.Views.{boolean_view, static_view, holding, typing_environment, Answers};
+ghost use Rattle.type_checker.specs.Views.{boolean_view, static_view, type_sharing, typing_environment, Answers};
 ghost use Rattle.type_checker.specs.Views.{TakesNoMemory, TakesMemoryOnly};
-ghost use Rattle.type_checker.specs.inner.Parts.{built_view, fields_view, held_at, found_held, found_view};
+ghost use Rattle.type_checker.specs.inner.Parts.{built_view, fields_view, has_shared_field, found_shared, found_view};
 
 use crate::environment::TypingEnvironment;
 use crate::fault::ExpressionFault;
@@ -15,13 +15,13 @@ use crate::static_type::{BooleanType, Leaf, StaticType};
 use plain::Text;
 use schema_types::CedarType;
 
-/// Returns the declaration of a key in a record type that an expression built, by a linear search.
+/// Returns the declaration of `key` in a record type that an expression built, or `None`, by a linear search.
 fn found_built<'r, 'a>(
     fields: &'r [(&'a str, StaticType<'a>, bool)],
     key: &str,
 ) -> Option<(Part<'r, 'a>, bool)>
     ensures declared { found_view result ≡ field_declared_at key.now (built_view fields.now) }
-    ensures held { found_held result ≡ held_at key.now fields.now }
+    ensures shared { found_shared result ≡ has_shared_field key.now fields.now }
 {
     for field in fields {
         if key == field.0 {
@@ -31,13 +31,13 @@ fn found_built<'r, 'a>(
     None
 }
 
-/// Returns the declaration of a key in a declared record type, by a linear search.
+/// Returns the declaration of `key` in a declared record type, or `None`, by a linear search.
 fn found_declared<'r, 'a>(
     fields: &'a [(Text, CedarType, bool)],
     key: &str,
 ) -> Option<(Part<'r, 'a>, bool)>
     ensures declared { found_view result ≡ field_declared_at key.now (static_fields (cedar_fields_view fields.now)) }
-    ensures lent { found_held result ≡ false }
+    ensures lent { found_shared result ≡ false }
 {
     for field in fields {
         if key == field.0.as_str() {
@@ -47,7 +47,7 @@ fn found_declared<'r, 'a>(
     None
 }
 
-/// Returns the declaration of a key in a record type, by a linear search.
+/// Returns the declaration of `key` in a record type, or `None`, by a linear search.
 fn found<'r, 'a>(fields: Fields<'r, 'a>, key: &str) -> Option<(Part<'r, 'a>, bool)>
     ensures { found_view result ≡ field_declared_at key.now (fields_view fields.entry) }
 {
@@ -57,13 +57,14 @@ fn found<'r, 'a>(fields: Fields<'r, 'a>, key: &str) -> Option<(Part<'r, 'a>, boo
     }
 }
 
-/// Returns the type of a field that is required, or optional with a known capability.
+/// Returns the type of the field with the declaration `declared`, if it is required or has a known capability, else
+/// `AttributeMayBeMissing`.
 fn access<'a>(
     is_known: bool,
     declared: Option<(Part<'_, 'a>, bool)>,
 ) -> Result<StaticType<'a>, ExpressionFault>
     ensures row { Answers result (access_type is_known (found_view declared.entry)) }
-    ensures memory { TakesMemoryOnly (IsTrue (found_held declared.entry)) result }
+    ensures memory { TakesMemoryOnly (IsTrue (found_shared declared.entry)) result }
 {
     match declared {
         Some((part, required)) => {
@@ -77,7 +78,8 @@ fn access<'a>(
     }
 }
 
-/// Returns the type of `has` for a record.
+/// Returns the type of `e has f` for a record `e`, where `is_known` is whether there is a capability for `e.f`, and
+/// `declared` the declaration of `f`, if there is one.
 fn record_has(is_known: bool, declared: Option<(Part<'_, '_>, bool)>) -> BooleanType
     ensures { boolean_view result ≡ if is_known then true_type else record_has (found_view declared.entry) }
 {
@@ -91,7 +93,9 @@ fn record_has(is_known: bool, declared: Option<(Part<'_, '_>, bool)>) -> Boolean
     }
 }
 
-/// Returns the type of `has` for an entity, which may not be stored.
+/// Returns the type of `e has f` for an entity `e`, where `is_known` is whether there is a capability for `e.f`, and
+/// `declared` the declaration of `f`, if there is one. Without a capability it is not True even for a required
+/// attribute, since the entity may not be stored.
 fn entity_has(is_known: bool, declared: Option<(Part<'_, '_>, bool)>) -> BooleanType
     ensures { boolean_view result ≡ if is_known then true_type else entity_has (found_view declared.entry) }
 {
@@ -104,14 +108,16 @@ fn entity_has(is_known: bool, declared: Option<(Part<'_, '_>, bool)>) -> Boolean
     }
 }
 
-/// Returns the type of `e.f`, by the type of `e` and whether it is known that `e` has the field. O(log n) for an
-/// entity. Does not allocate.
+/// Returns the type of `e.f`, where `key` is `f`, `whole` is the type of `e`, and `is_known` whether there is a
+/// capability for `e.f`.
+///
+/// O(log n) for an entity, linear in the number of fields for a record. Does not allocate.
 ///
 /// # Errors
 ///
 /// - `Unexpected`: `e` is neither a record nor an entity.
-/// - `AttributeMayBeMissing`: the field is not declared, or is optional and not known.
-/// - `NoMemory`: only if an expression built the field's type, and the count of references to it would overflow.
+/// - `AttributeMayBeMissing`: the field is not declared, or is optional without a capability.
+/// - `NoMemory`: an expression built the field's type, and the count of references to it would overflow.
 pub fn field_type<'a>(
     env: TypingEnvironment<'a>,
     is_known: bool,
@@ -120,7 +126,7 @@ pub fn field_type<'a>(
 ) -> Result<StaticType<'a>, ExpressionFault>
     ensures row { Answers result
         (field_type_of (typing_environment env.entry) is_known key.now (static_view whole.now)) }
-    ensures memory { TakesMemoryOnly (IsTrue ((holding whole.now).at key.now)) result }
+    ensures memory { TakesMemoryOnly (IsTrue ((type_sharing whole.now).at key.now)) result }
 {
     match whole {
         StaticType::Leaf(Leaf::Entity(name)) => access(is_known, env.attribute(*name, key)),
@@ -132,8 +138,10 @@ pub fn field_type<'a>(
     }
 }
 
-/// Returns the type of `e has f`, by the type of `e` and whether it is known that `e` has the field. O(log n) for an
-/// entity. Does not allocate.
+/// Returns the type of `e has f`, where `key` is `f`, `whole` is the type of `e`, and `is_known` whether there is a
+/// capability for `e.f`.
+///
+/// O(log n) for an entity, linear in the number of fields for a record. Does not allocate.
 ///
 /// # Errors
 ///

@@ -1,13 +1,14 @@
-//! The judgement on an expression, from that on its last operand.
+//! The judgement (type with gained capabilities, or error) on an expression, from the judgements on its operands, of
+//! which the last may be an error.
 //!
 //! Each clause says: for all operands, if the judgements on the operands hold, so does the judgement on the whole.
 ghost use Rattle.std.specs.Prelude.{◌≡◌, ◌≢◌, List, map, IfOk, MatchResult};
 ghost use Rattle.grammar_core.specs.declared.expr.Expr.{Expr};
 ghost use Rattle.grammar_core.specs.declared.expr.Expr.TheVariants as form;
 ghost use Rattle.typing.specs.Environment as environment;
-ghost use Rattle.typing.specs.Learned as learned;
-ghost use Rattle.typing.specs.Learned.{Pairs, has_learns};
-ghost use Rattle.typing.specs.Literals.{IsUnsettled};
+ghost use Rattle.typing.specs.Gained as gained;
+ghost use Rattle.typing.specs.Gained.{Pairs, has_gains};
+ghost use Rattle.typing.specs.Literals.{UndecidedByLiterals};
 ghost use Rattle.typing.specs.Typing.{Types};
 ghost use Rattle.typing.specs.Faults.{Faults};
 ghost use Rattle.type_checker.specs.Views.{static_view, fault_view, typing_environment};
@@ -29,7 +30,7 @@ use plain::NoMemory;
 use std::alloc::Global;
 use type_capabilities::{Capabilities, Capability};
 
-/// Returns the judgement on an operator with its operand.
+/// Returns the judgement on a unary operator by the judgement on its operand.
 pub(crate) fn unary_typed<'a>(
     alloc: Global,
     operator: &Unary,
@@ -45,7 +46,7 @@ pub(crate) fn unary_typed<'a>(
     typed_row(alloc, unary_type(operator, operand.kind))
 }
 
-/// Returns the judgement on an operator with its operands.
+/// Returns the judgement on a binary operator by those on its operands, where literals do not decide its result.
 pub(crate) fn binary_typed<'a>(
     alloc: Global,
     env: TypingEnvironment<'a>,
@@ -54,7 +55,7 @@ pub(crate) fn binary_typed<'a>(
     right: Result<Typed<'a>, ExpressionFault>,
 ) -> Result<Typed<'a>, ExpressionFault>
     ensures { let E = typing_environment env.entry in
-        (K after : Pairs) (a b : Expr) → IsUnsettled E operator a b
+        (K after : Pairs) (a b : Expr) → UndecidedByLiterals E operator a b
         → Types E K a (static_view left.entry.kind) (pairs left.entry.learns.items) → Judged E K b right.entry after
         → Judged E K (form.Binary operator a b) result after }
 {
@@ -71,7 +72,7 @@ pub(crate) fn binary_typed<'a>(
     )
 }
 
-/// Returns the judgement on a method of an extension with its operands.
+/// Returns the judgement on a call of an extension's method by those on its operands.
 pub(crate) fn call_typed<'a>(
     alloc: Global,
     called: BinaryCall,
@@ -92,7 +93,7 @@ pub(crate) fn call_typed<'a>(
     typed_row(alloc, call_type(called, left.kind, right.kind))
 }
 
-/// Returns the judgement on a function of an extension, or a test of an IP address, with its operand.
+/// Returns the judgement on a call of `ip`, `decimal` or a test of an IP address by the judgement on its operand.
 pub(crate) fn unary_call_typed<'a>(
     alloc: Global,
     called: UnaryCall,
@@ -109,7 +110,7 @@ pub(crate) fn unary_call_typed<'a>(
     typed_row(alloc, unary_call_type(called, operand, typed.kind))
 }
 
-/// Returns the judgement on a field or an attribute.
+/// Returns the judgement on `owner.name` by the judgement on `owner`.
 pub(crate) fn field_typed<'a>(
     alloc: Global,
     env: TypingEnvironment<'a>,
@@ -132,10 +133,10 @@ pub(crate) fn field_typed<'a>(
     typed_row(alloc, row)
 }
 
-/// Returns whether `has` of this type gains its capability: if it is neither known nor impossible.
+/// Returns whether a `has` of the type `kind` gains its capability: whether `kind` is Bool.
 #[tactic(auto, using(crate::proofs::Carrying::none_learned))]
 fn is_learned(kind: &StaticType<'_>) -> bool
-    ensures { (p : learned.Capability) → has_learns (static_view kind.now) p ≡ if_learned result p }
+    ensures { (p : gained.Capability) → has_gains (static_view kind.now) p ≡ if_learned result p }
 {
     match kind.as_boolean() {
         Some(BooleanType::Either) => true,
@@ -145,7 +146,7 @@ fn is_learned(kind: &StaticType<'_>) -> bool
     }
 }
 
-/// Returns what `has` gains.
+/// Returns the capabilities that `owner has name` of the type `kind` gains: its own or none.
 fn learned<'a>(
     alloc: Global,
     kind: &StaticType<'a>,
@@ -153,7 +154,7 @@ fn learned<'a>(
     name: &'a str,
 ) -> Result<Vec<Capability<'a>>, NoMemory>
     ensures { IfOk result (λ ps. pairs ps.items
-        ≡ has_learns (static_view kind.now) (owner.entry.now, name.entry.now)) }
+        ≡ has_gains (static_view kind.now) (owner.entry.now, name.entry.now)) }
 {
     let mut learns = Vec::new(alloc);
     if is_learned(kind) {
@@ -162,7 +163,7 @@ fn learned<'a>(
     Ok(learns)
 }
 
-/// Returns the type of `has`, with what it gains.
+/// Returns the type of `owner has name` in `row`, with the capabilities that it gains, or the error in `row`.
 fn has_row<'a>(
     alloc: Global,
     row: Result<StaticType<'a>, ExpressionFault>,
@@ -180,7 +181,7 @@ fn has_row<'a>(
     }
 }
 
-/// Returns the judgement on `has`.
+/// Returns the judgement on `owner has name` by the judgement on `owner`.
 pub(crate) fn has_typed<'a>(
     alloc: Global,
     env: TypingEnvironment<'a>,
@@ -203,7 +204,7 @@ pub(crate) fn has_typed<'a>(
     has_row(alloc, row, owner, name)
 }
 
-/// Returns the judgement on a set literal.
+/// Returns the judgement on a set literal by the types of its members, up to repeats.
 pub(crate) fn set_typed<'a>(
     alloc: Global,
     types: Result<Vec<StaticType<'a>>, ExpressionFault>,
@@ -218,7 +219,7 @@ pub(crate) fn set_typed<'a>(
     typed_row(alloc, set_literal_type(alloc, types))
 }
 
-/// Returns the judgement on a record literal.
+/// Returns the judgement on a record literal by the types of its fields, in the order in which they are written.
 pub(crate) fn record_typed<'a>(
     alloc: Global,
     fields: &'a [Named<Expr>],
@@ -238,7 +239,7 @@ pub(crate) fn record_typed<'a>(
     }
 }
 
-/// Appends the type of one more expression to those of several.
+/// Appends the type in `typed` to `types`, or returns the error in `typed`.
 pub(crate) fn put_type<'a>(
     types: &mut Vec<StaticType<'a>>,
     typed: Result<Typed<'a>, ExpressionFault>,

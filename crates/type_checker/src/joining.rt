@@ -1,9 +1,9 @@
-//! Expressions that are joined by `&&`, to the right: one part after another.
+//! The typing of a conjunction, grouped to the right, one part after another.
 ghost use Rattle.std.specs.Prelude.{◌≡◌, ◌≢◌, ◌++◌, Some, option_map, MatchResult};
 ghost use Rattle.grammar_core.specs.declared.expr.Expr.{Expr};
 ghost use Rattle.grammar_core.specs.declared.expr.Expr.TheVariants as form;
 ghost use Rattle.typing.specs.Types.{IsBoolean};
-ghost use Rattle.typing.specs.Learned.{Pairs};
+ghost use Rattle.typing.specs.Gained.{Pairs};
 ghost use Rattle.typing.specs.Typing.{Types};
 ghost use Rattle.typing.specs.Faults.{Faults};
 ghost use Rattle.type_checker.specs.Views.{boolean_view, static_view, fault_view, typing_environment};
@@ -21,7 +21,8 @@ use grammar_core::Expr;
 use std::alloc::Global;
 use type_capabilities::Capabilities;
 
-/// Returns the boolean type of a left side of `&&`; the capabilities that it gains are pushed.
+/// Returns the boolean type of a left side of `&&`, and pushes the capabilities that it gains onto `known`.
+/// `Unexpected` if it is not boolean.
 fn known_left<'a>(
     known: &mut Capabilities<'a>,
     typed: &Typed<'a>,
@@ -41,7 +42,8 @@ fn known_left<'a>(
     }
 }
 
-/// Returns the boolean type of a left side of `&&` under these known capabilities; those that it gains are pushed.
+/// Types a left side of `&&` under the capabilities `known`, returns its boolean type, and pushes the capabilities that
+/// it gains onto `known`.
 pub(crate) fn left_type<'a>(
     alloc: Global,
     env: TypingEnvironment<'a>,
@@ -60,7 +62,8 @@ pub(crate) fn left_type<'a>(
     }
 }
 
-/// Returns the type of the parts so far, with one more after them.
+/// Returns the type of the conjunction of the parts so far, of the type `so_far` (`None` without parts), and one
+/// more part.
 pub(crate) fn and_one_more(so_far: Option<BooleanType>, truth: BooleanType) -> Option<BooleanType>
     ensures { option_map boolean_view result
         ≡ Some (and_so_far (option_map boolean_view so_far) (boolean_view truth)) }
@@ -71,7 +74,8 @@ pub(crate) fn and_one_more(so_far: Option<BooleanType>, truth: BooleanType) -> O
     }
 }
 
-/// Returns the type of the parts with the last one, by the types of both.
+/// Returns the type of the conjunction of the parts so far, of the type `so_far` (`None` without parts), and the
+/// last part. `Unexpected` if there are others and the last is not boolean.
 pub(crate) fn and_last<'a>(
     so_far: Option<BooleanType>,
     last: StaticType<'a>,

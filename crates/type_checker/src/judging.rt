@@ -1,14 +1,13 @@
-//! The recursion over an expression.
+//! The judgement on an expression: its type with the capabilities that it gains, or its error, by recursion.
 ghost use Rattle.std.specs.Prelude.{map};
 ghost use Rattle.grammar_core.specs.declared.expr.Expr.{Expr};
 ghost use Rattle.grammar_core.specs.declared.expr.Expr.TheVariants as form;
-ghost use Rattle.typing.specs.Learned.{Pairs};
-ghost use Rattle.typing.specs.Literals.{IsUnsettled};
+ghost use Rattle.typing.specs.Gained.{Pairs};
+ghost use Rattle.typing.specs.Literals.{UndecidedByLiterals};
 ghost use Rattle.type_checker.specs.Views.{typing_environment};
 ghost use Rattle.type_capabilities.specs.Pairs.{pairs};
-ghost use Rattle.type_checker.specs.inner.Judged.{Judged, JudgedBehind, JudgedEach, JudgedMembers, ThenJudged};
+ghost use Rattle.type_checker.specs.inner.Judged.{Judged, JudgedUnder, JudgedEach, JudgedMembers, ThenJudged};
 
-use crate::asking::{again_typed, asked_again};
 use crate::branching::{and_typed, branches, or_behind_false, or_typed};
 use crate::environment::TypingEnvironment;
 use crate::equal::repeats;
@@ -20,15 +19,16 @@ use crate::finishing::{
 use crate::known::know_too;
 use crate::literal_types::literal_type;
 use crate::literals::settled;
+use crate::repeated_operand::{repeated_operand_typed, tested_operand_type};
 use crate::static_type::{BooleanType, StaticType};
-use crate::typed::{Then, Typed, both, is_looked_at, learned_too, only, plain, truth_type};
+use crate::typed::{Then, Typed, both, gained_too, is_right_checked, only, plain, truth_type};
 use grammar_core::{Binary, BinaryCall, Expr, Named};
 use plain::{Items, Shared};
 use std::alloc::Global;
 use type_capabilities::{Capabilities, Capability};
 
-/// Returns the judgement on an expression under these known capabilities. They are a stack, which is unchanged if
-/// there is a type.
+/// Returns the judgement on an expression under the capabilities on the stack `known`, which is unchanged if the result
+/// is a type.
 #[cycle(judge)]
 pub(crate) fn type_of<'a>(
     alloc: Global,
@@ -83,29 +83,29 @@ pub(crate) fn type_of<'a>(
 /// gains follow those of `learns`.
 #[cycle(judge)]
 #[inline(never)]
-fn type_behind<'a>(
+fn type_under_gained<'a>(
     alloc: Global,
     expr: &'a Shared<Expr>,
     env: TypingEnvironment<'a>,
     known: &mut Capabilities<'a>,
     learns: Vec<Capability<'a>>,
 ) -> Result<Typed<'a>, ExpressionFault>
-    ensures { JudgedBehind (typing_environment env.entry) known.old (pairs learns.entry.items)
+    ensures { JudgedUnder (typing_environment env.entry) known.old (pairs learns.entry.items)
         expr.entry.now result known.new }
 {
     let height = known.len();
     match know_too(known, &learns) {
         Ok(()) => {
             let typed = type_of(alloc, expr.get(), env, known);
-            known.forget_above(height);
-            learned_too(learns, typed)
+            known.truncate_to(height);
+            gained_too(learns, typed)
         }
         Err(_) => Err(ExpressionFault::NoMemory),
     }
 }
 
-/// Returns the judgement on `&&`: its left side, and then its right, whose first operand is not typed again if the
-/// left side tests its type.
+/// Returns the judgement on `&&`. Types the left side, then the right side, and does not type the first operand of the
+/// right side again if the left side is an `is` test of an equal operand.
 #[cycle(judge)]
 #[inline(never)]
 fn type_and<'a>(
@@ -121,11 +121,11 @@ fn type_and<'a>(
     let test = type_of(alloc, left.get(), env, known);
     match right.get() {
         Expr::Binary(operator, again, other) => {
-            match asked_again(env, &test, left.get(), *operator, again.get(), other.get()) {
+            match tested_operand_type(env, &test, left.get(), *operator, again.get(), other.get()) {
                 Some(name) => {
                     drop(test);
                     let other = type_of(alloc, other.get(), env, known);
-                    let right = again_typed(alloc, env, *operator, name, other);
+                    let right = repeated_operand_typed(alloc, env, *operator, name, other);
                     and_typed(BooleanType::True, right)
                 }
                 None => second_conjunct(alloc, right, env, known, test),
@@ -135,7 +135,7 @@ fn type_and<'a>(
     }
 }
 
-/// Returns the judgement on `||`: its left side, and then its right.
+/// Returns the judgement on `||`. Types the left side, then the right side.
 #[cycle(judge)]
 #[inline(never)]
 fn type_or<'a>(
@@ -152,7 +152,7 @@ fn type_or<'a>(
     second_disjunct(alloc, right, env, known, left)
 }
 
-/// Returns the judgement on an operator with its operands, which are not typed if literals decide the result.
+/// Returns the judgement on a binary operator. Does not type the operands if literals decide the result.
 #[cycle(judge)]
 #[inline(never)]
 fn type_binary<'a>(
@@ -175,7 +175,7 @@ fn type_binary<'a>(
     }
 }
 
-/// Returns the judgement on `&&`, after its left side.
+/// Returns the judgement on `&&` by the judgement on its left side; types the right side only if it is checked.
 #[cycle(judge)]
 #[inline(never)]
 fn second_conjunct<'a>(
@@ -191,11 +191,11 @@ fn second_conjunct<'a>(
     match left {
         Ok(left) => match left.kind.as_boolean() {
             Some(truth) => {
-                if !is_looked_at(truth) {
+                if !is_right_checked(truth) {
                     drop(left);
                     return Ok(plain(alloc, StaticType::boolean(BooleanType::False)));
                 }
-                let right = type_behind(alloc, right, env, known, left.learns);
+                let right = type_under_gained(alloc, right, env, known, left.learns);
                 and_typed(truth, right)
             }
             None => {
@@ -207,7 +207,7 @@ fn second_conjunct<'a>(
     }
 }
 
-/// Returns the judgement on `||`, after its left side.
+/// Returns the judgement on `||` by the judgement on its left side; types the right side only if it is checked.
 #[cycle(judge)]
 #[inline(never)]
 fn second_disjunct<'a>(
@@ -245,7 +245,7 @@ fn second_disjunct<'a>(
     }
 }
 
-/// Returns the judgement on `if` up to its `then`, after its test.
+/// Returns the judgement on test and `then` of an `if` by that on the test; types `then` only if it is checked.
 #[cycle(judge)]
 #[inline(never)]
 fn type_then<'a>(
@@ -262,7 +262,7 @@ fn type_then<'a>(
         Ok(test) => match test.kind.as_boolean() {
             Some(BooleanType::True) => {
                 drop(test.kind);
-                only(type_behind(alloc, consequent, env, known, test.learns))
+                only(type_under_gained(alloc, consequent, env, known, test.learns))
             }
             Some(BooleanType::False) => {
                 drop(test);
@@ -270,7 +270,7 @@ fn type_then<'a>(
             }
             Some(BooleanType::Either) => {
                 drop(test.kind);
-                both(type_behind(alloc, consequent, env, known, test.learns))
+                both(type_under_gained(alloc, consequent, env, known, test.learns))
             }
             None => {
                 drop(test);
@@ -281,7 +281,7 @@ fn type_then<'a>(
     }
 }
 
-/// Returns the judgement on `if`, after its `then`.
+/// Returns the judgement on an `if` by that on test and `then`; types `else` only if it is checked.
 #[cycle(judge)]
 #[inline(never)]
 fn type_else<'a>(
@@ -306,7 +306,7 @@ fn type_else<'a>(
     }
 }
 
-/// Returns the judgement on an operator, after its first operand.
+/// Returns the judgement on a binary operator by that on its first operand, and types the second.
 #[cycle(judge)]
 #[inline(never)]
 fn second_operand<'a>(
@@ -318,7 +318,7 @@ fn second_operand<'a>(
     left: Result<Typed<'a>, ExpressionFault>,
 ) -> Result<Typed<'a>, ExpressionFault>
     ensures { let E = typing_environment env.entry in
-        (K : Pairs) (a : Expr) → IsUnsettled E operator a right.entry.now → Judged E K a left.entry known.old
+        (K : Pairs) (a : Expr) → UndecidedByLiterals E operator a right.entry.now → Judged E K a left.entry known.old
         → Judged E K (form.Binary operator a right.entry.now) result known.new }
 {
     match left {
@@ -330,7 +330,7 @@ fn second_operand<'a>(
     }
 }
 
-/// Returns the judgement on a method of an extension, after its receiver.
+/// Returns the judgement on a call of an extension's method by that on its receiver, and types the argument.
 #[cycle(judge)]
 #[inline(never)]
 fn second_called<'a>(

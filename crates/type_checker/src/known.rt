@@ -1,6 +1,6 @@
-//! Capabilities, as typing uses them.
+//! Operations on known and gained capabilities.
 ghost use Rattle.std.specs.Prelude.{◌≡◌, ◌↔◌, ◌∷◌, [], ◌++◌, IsTrue, IfOk, Contains};
-ghost use Rattle.typing.specs.Learned.{Pairs, InBoth};
+ghost use Rattle.typing.specs.Gained.{Pairs, InBoth};
 ghost use Rattle.type_capabilities.specs.Pairs.{pair_of, pairs};
 
 use grammar_core::Expr;
@@ -8,14 +8,14 @@ use plain::NoMemory;
 use std::alloc::Global;
 use type_capabilities::{Capabilities, Capability};
 
-/// Returns whether the capability is known.
+/// Returns whether the capability for `whole.name` is known.
 pub(crate) fn knows<'a>(known: &Capabilities<'a>, whole: &'a Expr, name: &'a str) -> bool
     ensures { IsTrue result ↔ Contains known.now (whole.entry.now, name.entry.now) }
 {
     known.knows(&Capability { whole, name })
 }
 
-/// Appends the capability to those of both lists, if it is in the second.
+/// Appends the capability `pair` to `both` if it is in `right`.
 fn keep<'a>(
     both: &mut Vec<Capability<'a>>,
     pair: Capability<'a>,
@@ -31,7 +31,7 @@ fn keep<'a>(
     Ok(())
 }
 
-/// Returns those of the capabilities that are known.
+/// Returns the capabilities of `these` that are known, in their order.
 fn known_of<'a>(
     alloc: Global,
     these: &[Capability<'a>],
@@ -46,7 +46,7 @@ fn known_of<'a>(
     Ok(both)
 }
 
-/// Returns the capabilities as a stack, with a look-up for each.
+/// Creates the stack of these capabilities, in their order.
 pub(crate) fn stacked<'a>(
     alloc: Global,
     these: &[Capability<'a>],
@@ -58,7 +58,7 @@ pub(crate) fn stacked<'a>(
     Ok(known)
 }
 
-/// Returns the capabilities of the first list that are in the second too, which is made a stack for its look-ups.
+/// Returns the capabilities of `left` that are in `right` too. Makes `right` a stack, which has fast look-ups.
 pub(crate) fn in_both<'a>(
     alloc: Global,
     left: &[Capability<'a>],
@@ -70,7 +70,7 @@ pub(crate) fn in_both<'a>(
     known_of(alloc, left, &known)
 }
 
-/// Returns the capabilities of the first list that are in the second too.
+/// Returns the capabilities of `left` that are in `right` too.
 pub(crate) fn in_both_lists<'a>(
     alloc: Global,
     left: &Vec<Capability<'a>>,
@@ -93,7 +93,7 @@ pub(crate) fn know_too<'a>(
 }
 
 /// Appends gained capabilities to those gained before.
-pub(crate) fn learn_too<'a>(
+pub(crate) fn gain_too<'a>(
     learns: &mut Vec<Capability<'a>>,
     own: &Vec<Capability<'a>>,
 ) -> Result<(), NoMemory>

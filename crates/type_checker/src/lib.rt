@@ -1,8 +1,11 @@
-//! The type of an expression under the strict validator's rules, or its error: the required types of the operands of
-//! each kind of expression, and its own type. The types that a schema declares are borrowed from it, whole.
+//! The type checker: the type of an expression under the strict validator's rules, or its error. Types that a schema
+//! declares are borrowed from it, not copied.
+//!
+//! The *judgement* on an expression is its type with the capabilities that it gains, or its error. A *capability* for
+//! `e.f` says that `e` is known to have the field `f`: if `e has f` has the type Bool, then the left side of
+//! `e has f && x` gains it, and it is known in `x`.
 #![tactic(auto)]
 
-mod asking;
 mod behind;
 mod branching;
 mod calls;
@@ -20,6 +23,7 @@ mod literal_types;
 mod literals;
 mod operators;
 mod parts;
+mod repeated_operand;
 mod same_types;
 mod static_type;
 mod type_joins;
@@ -30,20 +34,20 @@ pub use behind::judge_behind;
 pub use common_types::common;
 pub use entities::{
     ActionScope, Entity, EntityFault, EntityScope, Environment, Policy, Schema, SchemaFault, Scope,
-    action_types_are_told, bytes_have_one_outcome, canonical_text, canonical_texts_are_read,
+    action_type_test_is_exact, bytes_have_one_outcome, canonical_text, canonical_texts_are_read,
     entities_are_read_as_stated, entities_read_back, json_texts_are_utf8, read_entity, read_schema,
     stated_schemas_are_well_formed,
 };
 pub use environment::{TypingEnvironment, is_action_type};
 pub use fault::ExpressionFault;
 pub use fields::{field_type, has_type};
-pub use laws::environments_are_well_behaved;
+pub use laws::environments_are_ordered;
 pub use literal_types::{literal_type, record_literal_type, set_literal_type};
 pub use operators::{address_test_type, binary_type, call_type, unary_type};
 pub use static_type::{BooleanType, Leaf, StaticType};
 pub use type_capabilities::Capability;
 pub use typed::Typed;
 pub use typing::{
-    expressions_have_one_judgement, parents_tell_ancestors, typed_expressions_are_sound,
+    expressions_have_one_judgement, parents_determine_ancestors, typed_expressions_are_sound,
 };
 pub use whole::judge_all;

@@ -1,4 +1,4 @@
-//! The types of literals.
+//! The types of literals, and of set and record literals by the types of their members and fields.
 ghost use Rattle.std.specs.Prelude.{◌≡◌, map, option_map, IfOk};
 ghost use Rattle.typing.specs.Types.{truth_type, common, common_of, record_type};
 ghost use Rattle.typing.specs.Types.{put_each, put_required, no_field_types};
@@ -37,7 +37,7 @@ pub fn literal_type<'a>(literal: &'a Literal) -> StaticType<'a>
     }
 }
 
-/// Returns the common type of the types so far and one more, if there is one.
+/// Returns the common type of the common type so far, `joined`, and the type `ty`, or `None` if they have none.
 fn joined_with<'a>(
     alloc: Global,
     joined: StaticType<'a>,
@@ -51,7 +51,7 @@ fn joined_with<'a>(
     wider
 }
 
-/// Returns the type of sets of these members, of which there is at least one.
+/// Returns the type of a set literal whose members have the type `first` and the types `rest`.
 fn set_type_of<'a>(
     alloc: Global,
     first: &StaticType<'a>,
@@ -75,7 +75,7 @@ fn set_type_of<'a>(
 /// # Errors
 ///
 /// - `EmptySet`: there are no members.
-/// - `NoCommonType`: they have no common type.
+/// - `NoCommonType`: the types have no common type.
 /// - `NoMemory`: an allocation failed; possible at any point.
 pub fn set_literal_type<'a>(
     alloc: Global,
@@ -89,7 +89,7 @@ pub fn set_literal_type<'a>(
     }
 }
 
-/// Sets the type of a key, whether it had one or not.
+/// Sets the type of `key` to `ty`, and replaces its type if it has one.
 fn put_field<'a>(
     map: BTreeMap<&'a str, StaticType<'a>>,
     key: &'a str,
@@ -103,7 +103,7 @@ fn put_field<'a>(
     Ok(map)
 }
 
-/// Returns the fields of a record type, all of them required.
+/// Returns the entries of `map` as the fields of a record type, all of them required.
 fn listed_fields<'a>(
     alloc: Global,
     map: BTreeMap<&'a str, StaticType<'a>>,
@@ -117,7 +117,7 @@ fn listed_fields<'a>(
     Ok(fields)
 }
 
-/// Returns each name with its type; of equal names, the last one's.
+/// Returns the map from the names of the fields to their types; a repeated name has the type of its last field.
 fn typed_fields<'a>(
     alloc: Global,
     fields: &'a [Named<Expr>],
@@ -143,8 +143,11 @@ fn typed_fields<'a>(
     Ok(map)
 }
 
-/// Returns the type of a record literal whose fields have these types, in the order in which they are written, or
-/// `NoMemory`.
+/// Returns the type of a record literal whose fields have these types, in the order in which they are written.
+///
+/// # Errors
+///
+/// - `NoMemory`: an allocation failed.
 pub fn record_literal_type<'a>(
     alloc: Global,
     fields: &'a [Named<Expr>],

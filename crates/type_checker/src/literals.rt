@@ -1,11 +1,13 @@
-//! What literals decide: `==` of two, and an action's `in` entity literals.
+//! The operators whose result literals decide before any type is checked: `==` of two literals, and `in` of an action
+//! and entity literals.
 ghost use Rattle.std.specs.Prelude.{◌≡◌, ◌↔◌, ◌⊎◌, List, IsTrue, MatchOption, Contains};
 ghost use Rattle.std.specs.Bool.{Decides};
 ghost use Rattle.grammar_core.specs.declared.leaf.Literal.{Literal};
 ghost use Rattle.grammar_core.specs.declared.leaf.Literal.TheVariants as literal;
 ghost use Rattle.grammar_core.specs.declared.operator.Binary.TheVariants as binary;
 ghost use Rattle.values.specs.declared.entity_uid.EntityUid.{EntityUid};
-ghost use Rattle.typing.specs.Literals.{IsLiteral, AreEntityLiterals, ListsEntities, IsActionIn, Settled, IsUnsettled};
+ghost use Rattle.typing.specs.Literals.{IsLiteral, AreEntityLiterals, ListsEntities, IsActionIn};
+ghost use Rattle.typing.specs.Literals.{DecidedByLiterals, UndecidedByLiterals};
 ghost use Rattle.type_checker.specs.Views.{typing_environment};
 ghost use Rattle.type_checker.specs.inner.Literals.{literal_of};
 
@@ -14,7 +16,7 @@ use grammar_core::{Binary, Expr, Literal, Variable};
 use plain::Text;
 use values::EntityUid;
 
-/// A borrowed literal; that of `action` is in the environment.
+/// A borrowed literal: one that an expression has, or the uid of the environment's action, for the variable `action`.
 #[derive(Clone, Copy)]
 pub(crate) enum LiteralRef<'a> {
     Boolean(bool),
@@ -23,6 +25,7 @@ pub(crate) enum LiteralRef<'a> {
     Entity(&'a EntityUid),
 }
 
+/// Returns the literal as a borrowed one.
 fn lend<'a>(literal: &'a Literal) -> LiteralRef<'a>
     ensures { literal_of result ≡ literal.now }
 {
@@ -34,7 +37,8 @@ fn lend<'a>(literal: &'a Literal) -> LiteralRef<'a>
     }
 }
 
-fn same_lent(one: LiteralRef<'_>, other: LiteralRef<'_>) -> bool
+/// Returns whether two borrowed literals are equal.
+fn same_literal(one: LiteralRef<'_>, other: LiteralRef<'_>) -> bool
     ensures { Decides result (literal_of one.entry ≡ literal_of other.entry) }
 {
     match (one, other) {
@@ -46,7 +50,7 @@ fn same_lent(one: LiteralRef<'_>, other: LiteralRef<'_>) -> bool
     }
 }
 
-/// Returns the literal that an expression is; `action` counts as that of its action.
+/// Returns the literal that an expression is, or `None`; the variable `action` counts as the uid of its action.
 fn as_literal<'a>(env: TypingEnvironment<'a>, expr: &'a Expr) -> Option<LiteralRef<'a>>
     ensures { MatchOption result ((l : Literal) → ¬ IsLiteral (typing_environment env.entry) expr.now l)
         (λ b. IsLiteral (typing_environment env.entry) expr.now (literal_of b)) }
@@ -61,7 +65,7 @@ fn as_literal<'a>(env: TypingEnvironment<'a>, expr: &'a Expr) -> Option<LiteralR
     }
 }
 
-/// Returns the entity of an entity literal.
+/// Returns the entity of an entity literal or of the variable `action`, or `None` for another expression.
 fn as_entity<'a>(env: TypingEnvironment<'a>, expr: &'a Expr) -> Option<&'a EntityUid>
     ensures { MatchOption result
         ((u : EntityUid) → ¬ IsLiteral (typing_environment env.entry) expr.now (literal.Entity u))
@@ -74,36 +78,36 @@ fn as_entity<'a>(env: TypingEnvironment<'a>, expr: &'a Expr) -> Option<&'a Entit
     }
 }
 
-/// Returns the result of `==` of two literals.
+/// Returns the result of `==` if both sides are literals, else `None`.
 fn settled_equal<'a>(env: TypingEnvironment<'a>, left: &'a Expr, right: &'a Expr) -> Option<bool>
-    ensures { MatchOption result (IsUnsettled (typing_environment env.entry) binary.Equal left.now right.now)
-        (λ r. Settled (typing_environment env.entry) binary.Equal left.now right.now r) }
+    ensures { MatchOption result (UndecidedByLiterals (typing_environment env.entry) binary.Equal left.now right.now)
+        (λ r. DecidedByLiterals (typing_environment env.entry) binary.Equal left.now right.now r) }
 {
     let one = match as_literal(env, left) {
         Some(one) => one,
         None => return None,
     };
     match as_literal(env, right) {
-        Some(other) => Some(same_lent(one, other)),
+        Some(other) => Some(same_literal(one, other)),
         None => None,
     }
 }
 
-/// Returns whether an action is an entity or a descendant of it, by the schema.
+/// Returns whether `action` is `other` or, by the schema, a descendant of it.
 fn is_action_in(env: TypingEnvironment<'_>, action: &EntityUid, other: &EntityUid) -> bool
     ensures { Decides result (IsActionIn (typing_environment env.entry) action.now other.now) }
 {
     action.same(other) || env.is_action_ancestor(action, other)
 }
 
-/// Returns whether one of the two holds.
+/// Returns whether one of the two is true.
 fn either(one: bool, other: bool) -> bool
     ensures { IsTrue result ↔ (IsTrue one ⊎ IsTrue other) }
 {
     one || other
 }
 
-/// Returns whether an action is in one of these, if all are entity literals.
+/// Returns whether `action` is in one of `members`, or `None` unless all of them are entity literals.
 fn in_some<'a>(env: TypingEnvironment<'a>, action: &EntityUid, members: &'a [Expr]) -> Option<bool>
     ensures { let E = typing_environment env.entry in
         MatchOption result ((us : List EntityUid) → ¬ AreEntityLiterals E members.now us)
@@ -122,7 +126,8 @@ fn in_some<'a>(env: TypingEnvironment<'a>, action: &EntityUid, members: &'a [Exp
     Some(found)
 }
 
-/// Returns whether an action is in the entities that an expression lists, if it lists any.
+/// Returns whether `action` is in one of the entities that `listed` lists, or `None` if it is neither an entity literal
+/// nor a set of at least one.
 fn in_listed<'a>(env: TypingEnvironment<'a>, action: &EntityUid, listed: &'a Expr) -> Option<bool>
     ensures { let E = typing_environment env.entry in
         MatchOption result ((us : List EntityUid) → ¬ ListsEntities E listed.now us)
@@ -146,10 +151,11 @@ fn in_listed<'a>(env: TypingEnvironment<'a>, action: &EntityUid, listed: &'a Exp
     }
 }
 
-/// Returns the result of an action's `in` entity literals.
+/// Returns the result of `in` if the left side is an action's literal and the right side lists entity literals, else
+/// `None`.
 fn settled_in<'a>(env: TypingEnvironment<'a>, left: &'a Expr, right: &'a Expr) -> Option<bool>
-    ensures { MatchOption result (IsUnsettled (typing_environment env.entry) binary.In left.now right.now)
-        (λ r. Settled (typing_environment env.entry) binary.In left.now right.now r) }
+    ensures { MatchOption result (UndecidedByLiterals (typing_environment env.entry) binary.In left.now right.now)
+        (λ r. DecidedByLiterals (typing_environment env.entry) binary.In left.now right.now r) }
 {
     let action = match as_entity(env, left) {
         Some(action) => action,
@@ -164,15 +170,15 @@ fn settled_in<'a>(env: TypingEnvironment<'a>, left: &'a Expr, right: &'a Expr) -
     }
 }
 
-/// Returns the result that literals decide, before any type is checked.
+/// Returns the result of an operator if literals decide it, before any type is checked, else `None`.
 pub(crate) fn settled<'a>(
     env: TypingEnvironment<'a>,
     operator: Binary,
     left: &'a Expr,
     right: &'a Expr,
 ) -> Option<bool>
-    ensures { MatchOption result (IsUnsettled (typing_environment env.entry) operator left.now right.now)
-        (λ r. Settled (typing_environment env.entry) operator left.now right.now r) }
+    ensures { MatchOption result (UndecidedByLiterals (typing_environment env.entry) operator left.now right.now)
+        (λ r. DecidedByLiterals (typing_environment env.entry) operator left.now right.now r) }
 {
     match operator {
         Binary::Equal => settled_equal(env, left, right),

@@ -22,7 +22,7 @@ use std::alloc::Global;
 use values::TypeName;
 
 /// Returns the type of a negated boolean.
-fn turned(truth: BooleanType) -> BooleanType
+fn negation_type(truth: BooleanType) -> BooleanType
     ensures { unary_type Not (boolean_view truth) ≡ Ok (boolean_view result) }
 {
     match truth {
@@ -32,6 +32,7 @@ fn turned(truth: BooleanType) -> BooleanType
     }
 }
 
+/// Returns the type of a unary operator on an operand of this kind.
 fn unary_of<'a>(
     operator: &Unary,
     operand: TypeKind<'_, 'a>,
@@ -41,7 +42,7 @@ fn unary_of<'a>(
 {
     match (operator, operand) {
         (Unary::Not, TypeKind::Leaf(Leaf::Boolean(truth))) => {
-            Ok(StaticType::boolean(turned(truth)))
+            Ok(StaticType::boolean(negation_type(truth)))
         }
         (Unary::Negate, TypeKind::Leaf(Leaf::Long)) => Ok(StaticType::Leaf(Leaf::Long)),
         (Unary::Like(_), TypeKind::Leaf(Leaf::Text)) => {
@@ -55,11 +56,11 @@ fn unary_of<'a>(
     }
 }
 
-/// Returns the type of an operator's result on an operand of this type. Does not allocate.
+/// Returns the type of a unary operator on an operand of this type. Does not allocate.
 ///
 /// # Errors
 ///
-/// - `Unexpected`: the operator requires another type.
+/// - `Unexpected`: the operator demands another type.
 pub fn unary_type<'a>(
     operator: &Unary,
     operand: StaticType<'a>,
@@ -72,15 +73,16 @@ pub fn unary_type<'a>(
     row
 }
 
-/// Returns the type of an operator's result on operands of these types. Does not allocate. Takes time linear in the
-/// smaller one's nodes.
+/// Returns the type of a binary operator on operands of these types.
+///
+/// Takes time linear in the nodes of the smaller type. Does not allocate.
 ///
 /// # Errors
 ///
 /// In this order:
 ///
-/// - `Unexpected`: the operator requires other types.
-/// - `NoCommonType`: the operator requires a common type, and the operands have none.
+/// - `Unexpected`: the operator demands other types.
+/// - `NoCommonType`: the operator demands a common type, which does not exist.
 pub fn binary_type<'a>(
     _alloc: Global,
     env: TypingEnvironment<'a>,
@@ -98,6 +100,7 @@ pub fn binary_type<'a>(
     row
 }
 
+/// Returns the type of a binary operator on operands of these types, each built or declared.
 fn binary_of<'a>(
     env: TypingEnvironment<'a>,
     operator: Binary,
@@ -121,7 +124,7 @@ fn binary_of<'a>(
     }
 }
 
-/// Returns Bool if two types have a common type.
+/// Returns Bool if two types have a common type, else `NoCommonType`.
 fn if_common<'a>(left: Part<'_, 'a>, right: Part<'_, 'a>) -> Result<StaticType<'a>, ExpressionFault>
     ensures row { Answers result (if_common (common (part_view left.entry) (part_view right.entry))) }
     ensures memory { TakesNoMemory result }
@@ -132,7 +135,7 @@ fn if_common<'a>(left: Part<'_, 'a>, right: Part<'_, 'a>) -> Result<StaticType<'
     }
 }
 
-/// Returns the name of an entity type.
+/// Returns the name of an entity type, or `None` for another type.
 fn entity_of<'a>(kind: TypeKind<'_, 'a>) -> Option<&'a TypeName>
     ensures { option_map (λ n. n.now) result ≡ entity_type_in (kind_view kind.entry) }
 {
@@ -142,7 +145,7 @@ fn entity_of<'a>(kind: TypeKind<'_, 'a>) -> Option<&'a TypeName>
     }
 }
 
-/// Returns the name of an entity type, or that of a set's members.
+/// Returns the name of an entity type or of the entity type of a set's members, or `None` for another type.
 fn entities_of<'a>(kind: TypeKind<'_, 'a>) -> Option<&'a TypeName>
     ensures { option_map (λ n. n.now) result ≡ entities_in (kind_view kind.entry) }
 {
@@ -152,7 +155,7 @@ fn entities_of<'a>(kind: TypeKind<'_, 'a>) -> Option<&'a TypeName>
     }
 }
 
-/// Returns False for entities of two types; otherwise Bool if there is a common type.
+/// Returns the type of `==`: False for two different entity types, else Bool if there is a common type.
 fn equal_of<'a>(left: Part<'_, 'a>, right: Part<'_, 'a>) -> Result<StaticType<'a>, ExpressionFault>
     ensures row { Answers result (equal_type (part_view left.entry) (part_view right.entry)) }
     ensures memory { TakesNoMemory result }
@@ -163,7 +166,7 @@ fn equal_of<'a>(left: Part<'_, 'a>, right: Part<'_, 'a>) -> Result<StaticType<'a
     if_common(left, right)
 }
 
-/// Returns whether there are two names, and they differ.
+/// Returns whether both names are present and differ.
 fn are_unequal(left: Option<&TypeName>, right: Option<&TypeName>) -> bool
     ensures { result ≡ are_unequal (option_map (λ n. n.now) left.entry) (option_map (λ n. n.now) right.entry) }
 {
@@ -176,16 +179,18 @@ fn are_unequal(left: Option<&TypeName>, right: Option<&TypeName>) -> bool
     }
 }
 
-/// Returns whether an entity of one type may be in one of another.
+/// Returns whether an entity of the type `left` may be in one of the type `right`: one of these is an action type, or
+/// they are equal, or `right` is an ancestor type of `left`.
 fn may_be_in(env: TypingEnvironment<'_>, left: &TypeName, right: &TypeName) -> bool
     ensures { result ≡ may_be_in (typing_environment env.entry) left.now right.now }
 {
     is_action_type(left)
         || is_action_type(right)
         || left.as_str() == right.as_str()
-        || env.may_be_below(left, right)
+        || env.may_have_ancestor(left, right)
 }
 
+/// Returns the type of `in` on operands of these kinds.
 fn in_of<'a>(
     env: TypingEnvironment<'a>,
     left: TypeKind<'_, 'a>,
@@ -205,7 +210,7 @@ fn in_of<'a>(
     }
 }
 
-/// Returns this type for two integers.
+/// Returns the type `given` if both operands are of the type Long, else `Unexpected`.
 fn of_numbers<'a>(
     given: Leaf<'a>,
     left: TypeKind<'_, 'a>,
@@ -220,6 +225,7 @@ fn of_numbers<'a>(
     }
 }
 
+/// Returns the type of `contains` on a set of this kind and a member of this type.
 fn contains_of<'a>(
     left: TypeKind<'_, 'a>,
     right: Part<'_, 'a>,
@@ -233,6 +239,7 @@ fn contains_of<'a>(
     }
 }
 
+/// Returns the type of `containsAll` or `containsAny` on operands of these kinds.
 fn sets_of<'a>(
     left: TypeKind<'_, 'a>,
     right: TypeKind<'_, 'a>,
@@ -250,7 +257,7 @@ fn sets_of<'a>(
 ///
 /// # Errors
 ///
-/// - `Unexpected`: the operand is of another type.
+/// - `Unexpected`: the operand is not of the type ipaddr.
 pub fn address_test_type<'a>(operand: StaticType<'a>) -> Result<StaticType<'a>, ExpressionFault>
     ensures row { Answers result (address_test_type (static_view operand.entry)) }
     ensures memory { TakesNoMemory result }
@@ -270,7 +277,7 @@ fn address_test_of<'a>(operand: TypeKind<'_, 'a>) -> Result<StaticType<'a>, Expr
     }
 }
 
-/// Returns the type of a method of an extension, by its operands' types. Does not allocate.
+/// Returns the type of a call of an extension's method, by its operands' types. Does not allocate.
 ///
 /// # Errors
 ///
@@ -305,6 +312,7 @@ fn is_ipaddr(kind: TypeKind<'_, '_>) -> bool
     matches!(kind, TypeKind::Leaf(Leaf::Ipaddr))
 }
 
+/// Returns the type of a call of an extension's method on operands of these kinds.
 fn call_of<'a>(
     called: BinaryCall,
     left: TypeKind<'_, 'a>,

@@ -1,9 +1,9 @@
-//! Types and their parts, one layer at a time, both those that expressions build and those that the schema declares.
+//! Types taken apart one layer at a time, in one form for those that expressions build and those that schemas declare.
 ghost use Rattle.std.specs.Prelude.{◌≡◌, suc, IsTrue, IfOk, IfErr};
 ghost use Rattle.schema_types.specs.CedarViews.{cedar_view, cedar_fields_view};
 ghost use Rattle.type_checker.specs.FromSchemas.{static, static_fields};
 ghost use Rattle.type_checker.specs.Views.{static_view};
-ghost use Rattle.type_checker.specs.inner.Parts.{part_view, part_held, kind_view, built_view};
+ghost use Rattle.type_checker.specs.inner.Parts.{part_view, part_shared, kind_view, built_view};
 ghost use Rattle.type_checker.specs.inner.Parts.{fields_view, fields_count, fields_behind, before};
 
 use crate::static_type::{BooleanType, Leaf, StaticType, same_leaf};
@@ -24,7 +24,7 @@ pub(crate) enum Fields<'r, 'a> {
     Declared(&'a [(Text, CedarType, bool)]),
 }
 
-/// A type by its kind.
+/// A type by its outermost layer, with its parts.
 #[derive(Clone, Copy)]
 pub(crate) enum TypeKind<'r, 'a> {
     Leaf(Leaf<'a>),
@@ -33,7 +33,7 @@ pub(crate) enum TypeKind<'r, 'a> {
     Record(Fields<'r, 'a>),
 }
 
-/// A field of a record type.
+/// A field of a record type: its key, its type, and whether it is required.
 #[derive(Clone, Copy)]
 pub(crate) struct FieldPart<'r, 'a> {
     pub(crate) key: &'a str,
@@ -51,7 +51,7 @@ pub(crate) struct FieldPair<'r, 's, 'a> {
 }
 
 impl<'r, 'a> Part<'r, 'a> {
-    /// Returns the kind of the type, with its parts.
+    /// Returns the outermost layer of the type, with its parts.
     pub(crate) fn kind(self) -> TypeKind<'r, 'a>
         ensures { kind_view result ≡ part_view self.entry }
     {
@@ -65,10 +65,10 @@ impl<'r, 'a> Part<'r, 'a> {
     ///
     /// # Errors
     ///
-    /// - `NoMemory`: an allocation failed; never for a declared type.
+    /// - `NoMemory`: an expression built the type, and the count of references to it would overflow.
     pub(crate) fn taken(self) -> Result<StaticType<'a>, NoMemory>
         ensures same { IfOk result (λ t. static_view t ≡ part_view self.entry) }
-        ensures memory { IfErr result (λ _. IsTrue (part_held self.entry)) }
+        ensures memory { IfErr result (λ _. IsTrue (part_shared self.entry)) }
     {
         match self {
             Part::Built(ty) => ty.copy(),
@@ -77,6 +77,7 @@ impl<'r, 'a> Part<'r, 'a> {
     }
 }
 
+/// Returns the outermost layer of a type that an expression built or borrowed.
 fn kind_of<'r, 'a>(ty: &'r StaticType<'a>) -> TypeKind<'r, 'a>
     ensures { kind_view result ≡ static_view ty.now }
 {
@@ -89,6 +90,7 @@ fn kind_of<'r, 'a>(ty: &'r StaticType<'a>) -> TypeKind<'r, 'a>
     }
 }
 
+/// Returns the outermost layer of a declared type.
 fn declared_kind<'r, 'a>(ty: &'a CedarType) -> TypeKind<'r, 'a>
     ensures { kind_view result ≡ static (cedar_view ty.now) }
 {

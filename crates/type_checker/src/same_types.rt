@@ -1,4 +1,4 @@
-//! Whether two declared types are the same, by a walk over both in step that builds nothing.
+//! A test of whether two declared types are the same, by a walk over both in step that builds nothing.
 ghost use Rattle.std.specs.Prelude.{◌≡◌, ◌&&◌, Some, None, if◌then◌else◌};
 ghost use Rattle.std.specs.Str.{bytes_eq};
 ghost use Rattle.typing.specs.Types.{common, common_fields, same_requirement};
@@ -23,6 +23,7 @@ enum Layer<'a> {
     Entity(&'a TypeName),
 }
 
+/// Returns a declared type by its outermost layer.
 fn outermost<'a>(ty: &'a CedarType) -> Layer<'a>
     ensures { layer_view result ≡ static (cedar_view ty.now) }
 {
@@ -38,14 +39,14 @@ fn outermost<'a>(ty: &'a CedarType) -> Layer<'a>
     }
 }
 
-/// Returns whether two fields have one key and the same requirement.
+/// Returns whether two fields have the same key and the same requirement.
 fn same_key(left: &(Text, CedarType, bool), right: &(Text, CedarType, bool)) -> bool
     ensures { result ≡ (bytes_eq left.now.0 right.now.0 && same_requirement left.now.2 right.now.2) }
 {
     left.0.as_str() == right.0.as_str() && left.2 == right.2
 }
 
-/// Returns whether two declared types are the same: their common type is then the left one, and otherwise there is
+/// Returns whether two declared types are the same. If they are, their common type is the left type; else they have
 /// none. Does not allocate.
 #[cycle(same_type)]
 fn same_type(left: &CedarType, right: &CedarType) -> bool
@@ -65,7 +66,7 @@ fn same_type(left: &CedarType, right: &CedarType) -> bool
     }
 }
 
-/// Returns whether two declared records have the same fields, as `same_type` does for types.
+/// Returns whether two declared records have the same fields: the same keys, requirements and types, in order.
 #[cycle(same_type)]
 pub(crate) fn same_fields(
     left: &[(Text, CedarType, bool)],

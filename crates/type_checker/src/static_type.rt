@@ -5,7 +5,7 @@ ghost use Rattle.typing.specs.Types.{false_type, IsBoolean};
 ghost use Rattle.typing.specs.Rows.{MayBeTrue, MayBeFalse};
 ghost use Rattle.schema_types.specs.CedarViews.{cedar_view};
 ghost use Rattle.type_checker.specs.FromSchemas.{static};
-ghost use Rattle.type_checker.specs.Views.{boolean_view, static_view, holding};
+ghost use Rattle.type_checker.specs.Views.{boolean_view, static_view, type_sharing};
 
 use crate::parts::{Part, TypeKind};
 use plain::{Items, NoMemory, Shared, Text};
@@ -19,7 +19,7 @@ pub enum BooleanType {
     True,
     /// False for each request.
     False,
-    /// True or false: Bool.
+    /// True or false, not known before the request: Bool.
     Either,
 }
 
@@ -60,17 +60,22 @@ impl BooleanType {
 /// A type without parts.
 #[derive(Clone, Copy)]
 pub enum Leaf<'a> {
+    /// True, False or Bool.
     Boolean(BooleanType),
+    /// Integers in signed 64 bits.
     Long,
+    /// Strings.
     Text,
-    /// Entities of one type.
+    /// Entities of the type with this name.
     Entity(&'a TypeName),
+    /// The extension type `decimal`.
     Decimal,
+    /// The extension type `ipaddr`: IP addresses and ranges.
     Ipaddr,
 }
 
-/// The type of an expression. Declared types are borrowed from the schema, and names from the schema and the
-/// expression. A type that an expression builds is shared by its copies.
+/// The type of an expression. Declared types are borrowed from the schema, and names from the schema or the
+/// expression. A set or record type that an expression builds is shared by its copies.
 ///
 /// Source: Cedar reference guide, "Policy validation".
 #[derive(Drop)]
@@ -82,7 +87,7 @@ pub enum StaticType<'a> {
     DeclaredRecord(&'a [(Text, CedarType, bool)]),
     /// A set, by the type of its members.
     Set(Shared<StaticType<'a>>),
-    /// Each key with its type, and whether it is required.
+    /// A record: each key with its type, and whether it is required.
     Record(Shared<Items<(&'a str, StaticType<'a>, bool)>>),
 }
 
@@ -110,11 +115,14 @@ impl<'a> StaticType<'a> {
         StaticType::Leaf(Leaf::Boolean(truth))
     }
 
-    /// Returns a copy of the type, without allocating. `NoMemory` only if an expression built it, and the count of
-    /// references to it would overflow.
+    /// Returns a copy of the type. Does not allocate: a set or record type that an expression built is shared.
+    ///
+    /// # Errors
+    ///
+    /// - `NoMemory`: an expression built the type, and the count of references to it would overflow.
     pub fn copy(&self) -> Result<StaticType<'a>, NoMemory>
         ensures same { IfOk result (λ t. static_view t ≡ static_view self.now) }
-        ensures memory { IfErr result (λ _. IsTrue (holding self.now).is_held) }
+        ensures memory { IfErr result (λ _. IsTrue (type_sharing self.now).is_type_shared) }
     {
         match self {
             StaticType::Leaf(leaf) => Ok(StaticType::Leaf(same_leaf(leaf))),
@@ -136,7 +144,7 @@ impl<'a> StaticType<'a> {
         }
     }
 
-    /// Returns whether it is the type False. Does not allocate.
+    /// Returns whether this is the type False. Does not allocate.
     pub fn is_false(&self) -> bool
         ensures { Decides result (static_view self.now ≡ false_type) }
     {
@@ -146,7 +154,7 @@ impl<'a> StaticType<'a> {
         }
     }
 
-    /// Returns whether it is a boolean type that may be true. Does not allocate.
+    /// Returns whether this is a boolean type whose value may be true. Does not allocate.
     pub fn may_be_true(&self) -> bool
         ensures { IsTrue result ↔ MayBeTrue (static_view self.now) }
     {
@@ -156,7 +164,7 @@ impl<'a> StaticType<'a> {
         }
     }
 
-    /// Returns whether it is a boolean type that may be false. Does not allocate.
+    /// Returns whether this is a boolean type whose value may be false. Does not allocate.
     pub fn may_be_false(&self) -> bool
         ensures { IsTrue result ↔ MayBeFalse (static_view self.now) }
     {

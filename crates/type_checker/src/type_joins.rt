@@ -1,9 +1,9 @@
-//! Whether two types have a common type, by a walk over their nodes that builds nothing.
+//! A test of whether two types have a common type, by a walk over their nodes that builds nothing.
 ghost use Rattle.std.specs.Prelude.{◌≡◌, IfSome};
 ghost use Rattle.std.specs.Bool.{Decides};
 ghost use Rattle.typing.specs.Types.{common, common_fields};
 ghost use Rattle.type_checker.specs.Views.{boolean_view, leaf_view};
-ghost use Rattle.type_checker.specs.inner.Joins.{Tells, join_with};
+ghost use Rattle.type_checker.specs.inner.Joins.{DescribesCommon, join_with};
 ghost use Rattle.type_checker.specs.inner.Parts.{part_view, fields_view};
 ghost use Rattle.type_checker.specs.inner.Rows.{paired};
 
@@ -14,11 +14,11 @@ use crate::static_type::{BooleanType, Leaf};
 /// The common type of two types, compared with the left one.
 #[derive(Clone, Copy)]
 pub(crate) enum Join {
-    /// The two types have no join.
+    /// There is no common type.
     Apart,
-    /// It is the left one.
+    /// The common type is the left type.
     Left,
-    /// It is another type.
+    /// The common type is not the left type.
     Wider,
 }
 
@@ -32,7 +32,7 @@ impl Join {
         }
     }
 
-    /// Returns the join of the fields so far and one more.
+    /// Returns the join of all fields, where `self` is the join of the first ones and `more` that of the rest.
     fn with(self, more: Join) -> Join
         ensures { result ≡ join_with more self }
     {
@@ -47,8 +47,9 @@ impl Join {
     }
 }
 
+/// Returns the join of two boolean types.
 fn join_of_booleans(left: BooleanType, right: BooleanType) -> Join
-    ensures { Tells result (boolean_view left) (common (boolean_view left) (boolean_view right)) }
+    ensures { DescribesCommon result (boolean_view left) (common (boolean_view left) (boolean_view right)) }
 {
     match left {
         BooleanType::True => match right {
@@ -63,8 +64,9 @@ fn join_of_booleans(left: BooleanType, right: BooleanType) -> Join
     }
 }
 
+/// Returns the join of two types without parts.
 fn join_of_leaves(left: Leaf<'_>, right: Leaf<'_>) -> Join
-    ensures { Tells result (leaf_view left.entry) (common (leaf_view left.entry) (leaf_view right.entry)) }
+    ensures { DescribesCommon result (leaf_view left.entry) (common (leaf_view left.entry) (leaf_view right.entry)) }
 {
     match (left, right) {
         (Leaf::Boolean(a), Leaf::Boolean(b)) => join_of_booleans(a, b),
@@ -83,7 +85,7 @@ fn join_of_leaves(left: Leaf<'_>, right: Leaf<'_>) -> Join
     }
 }
 
-/// Returns two fields as a pair, if they have one key and the same requirement.
+/// Returns two fields as a pair if both are present with one key and the same requirement, else `None`.
 pub(crate) fn paired<'r, 's, 'a>(
     left: Option<FieldPart<'r, 'a>>,
     right: Option<FieldPart<'s, 'a>>,
@@ -110,10 +112,10 @@ pub(crate) fn paired<'r, 's, 'a>(
     }
 }
 
-/// Returns the join of two declared records, and `None` for others. Declared booleans are Bool, so the common fields
-/// are the left ones, or do not exist.
+/// Returns the join of two declared records, and `None` unless both are declared. Each declared boolean has the type
+/// Bool, so the common type of declared records, if there is one, is the left one.
 fn join_of_declared(left: Fields<'_, '_>, right: Fields<'_, '_>) -> Option<Join>
-    ensures { IfSome result (λ j. Tells j (fields_view left.entry)
+    ensures { IfSome result (λ j. DescribesCommon j (fields_view left.entry)
         (common_fields (fields_view left.entry) (fields_view right.entry))) }
 {
     match (left, right) {
@@ -128,10 +130,10 @@ fn join_of_declared(left: Fields<'_, '_>, right: Fields<'_, '_>) -> Option<Join>
     }
 }
 
-/// Returns the join of two types. Does not allocate. Takes time linear in the smaller one's nodes.
+/// Returns the join of two types. Takes time linear in the nodes of the smaller type. Does not allocate.
 #[cycle(join_of)]
 pub(crate) fn join_of<'a>(left: Part<'_, 'a>, right: Part<'_, 'a>) -> Join
-    ensures { Tells result (part_view left.entry) (common (part_view left.entry) (part_view right.entry)) }
+    ensures { DescribesCommon result (part_view left.entry) (common (part_view left.entry) (part_view right.entry)) }
 {
     match (left.kind(), right.kind()) {
         (TypeKind::Leaf(a), TypeKind::Leaf(b)) => join_of_leaves(a, b),
@@ -144,9 +146,11 @@ pub(crate) fn join_of<'a>(left: Part<'_, 'a>, right: Part<'_, 'a>) -> Join
     }
 }
 
+/// Returns the join of two record types, field by field.
 #[cycle(join_of)]
 fn join_of_fields<'a>(left: Fields<'_, 'a>, right: Fields<'_, 'a>) -> Join
-    ensures { Tells result (fields_view left.entry) (common_fields (fields_view left.entry) (fields_view right.entry)) }
+    ensures { DescribesCommon result (fields_view left.entry)
+        (common_fields (fields_view left.entry) (fields_view right.entry)) }
 {
     let mut join = Join::Left;
     let count = left.len();

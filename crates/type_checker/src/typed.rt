@@ -1,4 +1,4 @@
-//! The judgement on an expression, as it is computed.
+//! The type of an expression with the capabilities that it gains, and the steps that form it.
 ghost use Rattle.std.specs.Prelude.{◌≡◌, ◌↔◌, [], IsTrue, Ok, Err};
 ghost use Rattle.typing.specs.Types as types;
 ghost use Rattle.typing.specs.Rows.{MayBeTrue};
@@ -6,7 +6,7 @@ ghost use Rattle.type_checker.specs.Views.{boolean_view};
 ghost use Rattle.type_checker.specs.inner.Judged.{IsRow, AddsLearned, IsBranch};
 
 use crate::fault::ExpressionFault;
-use crate::known::learn_too;
+use crate::known::gain_too;
 use crate::static_type::{BooleanType, StaticType};
 use std::alloc::Global;
 use type_capabilities::Capability;
@@ -25,9 +25,9 @@ pub struct Typed<'a> {
 pub(crate) enum Then<'a> {
     /// The test is False: only `else` is checked.
     Skipped,
-    /// The test is True: only `then` is checked. It gains what both do.
+    /// The test is True: only `then` is checked. The capabilities are those of the test and of `then`.
     Only(Typed<'a>),
-    /// Both branches are checked.
+    /// The test is Bool: both branches are checked. The capabilities are those of the test and of `then`.
     Both(Typed<'a>),
 }
 
@@ -42,8 +42,8 @@ pub(crate) fn truth_type(truth: bool) -> BooleanType
     }
 }
 
-/// Returns whether the right side of `&&` is checked: if the left side may be true.
-pub(crate) fn is_looked_at(left: BooleanType) -> bool
+/// Returns whether the right side of `&&` is checked: whether the left side, of the type `left`, may be true.
+pub(crate) fn is_right_checked(left: BooleanType) -> bool
     ensures { IsTrue result ↔ MayBeTrue (boolean_view left) }
 {
     left.may_be_true()
@@ -60,7 +60,7 @@ pub(crate) fn plain<'a>(alloc: Global, kind: StaticType<'a>) -> Typed<'a>
     }
 }
 
-/// Returns the type of a row, without gained capabilities.
+/// Returns the type or error in `row`, the type without gained capabilities.
 pub(crate) fn typed_row<'a>(
     alloc: Global,
     row: Result<StaticType<'a>, ExpressionFault>,
@@ -73,8 +73,8 @@ pub(crate) fn typed_row<'a>(
     }
 }
 
-/// Returns the judgement with these gained capabilities in front of its own.
-pub(crate) fn learned_too<'a>(
+/// Returns the judgement `typed` with the capabilities `learns` in front of its own.
+pub(crate) fn gained_too<'a>(
     learns: Vec<Capability<'a>>,
     typed: Result<Typed<'a>, ExpressionFault>,
 ) -> Result<Typed<'a>, ExpressionFault>
@@ -82,11 +82,11 @@ pub(crate) fn learned_too<'a>(
 {
     let Typed { kind, learns: own } = typed?;
     let mut learns = learns;
-    learn_too(&mut learns, &own)?;
+    gain_too(&mut learns, &own)?;
     Ok(Typed { kind, learns })
 }
 
-/// Returns the only branch.
+/// Returns the judgement on `then` as that of the only branch that is checked.
 pub(crate) fn only<'a>(
     typed: Result<Typed<'a>, ExpressionFault>,
 ) -> Result<Then<'a>, ExpressionFault>
@@ -98,7 +98,7 @@ pub(crate) fn only<'a>(
     }
 }
 
-/// Returns the first branch of two.
+/// Returns the judgement on `then` as that of the first of two branches that are checked.
 pub(crate) fn both<'a>(
     typed: Result<Typed<'a>, ExpressionFault>,
 ) -> Result<Then<'a>, ExpressionFault>

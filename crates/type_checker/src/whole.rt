@@ -1,6 +1,6 @@
-//! The type of joined expressions, without known capabilities.
+//! The type of a conjunction of expressions, without known capabilities.
 ghost use Rattle.std.specs.Prelude.{◌≢◌, [], IfOk, IfErr};
-ghost use Rattle.typing.specs.Learned.{Pairs};
+ghost use Rattle.typing.specs.Gained.{Pairs};
 ghost use Rattle.typing.specs.Typing.{Types};
 ghost use Rattle.typing.specs.Faults.{Faults};
 ghost use Rattle.type_checker.specs.Views.{static_view, fault_view, typing_environment};
@@ -11,23 +11,23 @@ use crate::fault::ExpressionFault;
 use crate::joining::{and_last, and_one_more, left_type};
 use crate::judging::type_of;
 use crate::static_type::{BooleanType, StaticType};
-use crate::typed::is_looked_at;
+use crate::typed::is_right_checked;
 use grammar_core::Expr;
 use std::alloc::Global;
 use type_capabilities::Capabilities;
 
-/// Returns the type of expressions that are joined by `&&`, to the right, with the last one by itself, as
-/// `a && (b && last)`, in an environment without known capabilities.
+/// Returns the type of the conjunction of `parts` and `last`, grouped to the right as in `a && (b && last)`, without
+/// known capabilities. Without parts it is the type of `last`.
 ///
-/// Declared types are borrowed from the schema. Takes time linear in the expressions, except for known capabilities,
-/// each of which takes one look-up in an ordered map, and for each common type of two records, which are compared
-/// field by field. An `e` that occurs twice, as in `e is T && e in f`, or that is repeated as the next member of a
-/// set, is typed once, and then compared with itself, node by node. Recursive: the stack grows with the height of the
-/// highest part, and not with their number.
+/// Declared types are borrowed from the schema. Takes time linear in the nodes of the expressions, with two exceptions:
+/// each capability takes a look-up in an ordered map, and record types that need a common type are compared field by
+/// field. An `e` that occurs twice, as in `e is T && e in f`, or that is repeated as the next member of a set, is typed
+/// once; its occurrences are compared node by node. Recursive: the stack grows with the height of the highest part,
+/// not with the number of parts.
 ///
 /// # Errors
 ///
-/// - The first error: that of the first operand, in order, that has one, and then that of the expression itself.
+/// - The error of the conjunction: that of the first operand, in order, that has one, else that of `&&` itself.
 /// - `NoMemory`: an allocation failed; possible at any point.
 ///
 /// Source: Cedar reference guide, "Policy validation".
@@ -47,7 +47,7 @@ pub fn judge_all<'a>(
     for part in parts {
         match left_type(alloc, env, part, &mut known) {
             Ok(truth) => {
-                if !is_looked_at(truth) {
+                if !is_right_checked(truth) {
                     return Ok(StaticType::boolean(BooleanType::False));
                 }
                 so_far = and_one_more(so_far, truth);

@@ -15,9 +15,9 @@ use Rattle.typing.specs.Types
 use Rattle.typing.specs.Types.{StaticType, IsBoolean}
 use Rattle.typing.specs.Environment
 use Rattle.typing.specs.Environment.{Environment, ExpressionFault}
-use Rattle.typing.specs.Learned.{Pairs, has_learns}
+use Rattle.typing.specs.Gained.{Pairs, has_gains}
 use Rattle.typing.specs.Literals
-use Rattle.typing.specs.Literals.{IsUnsettled, ReadsLiteral, TakesText}
+use Rattle.typing.specs.Literals.{UndecidedByLiterals, ReadsLiteral, TakesText}
 use Rattle.typing.specs.Rows
 use Rattle.typing.specs.Rows.{Row}
 use Rattle.typing.specs.Typing
@@ -137,7 +137,7 @@ module _ (env : Environment) where
       → all K (form.Binary op a b) ≡ Judging.settled_or i (Judging.operands_with env op (all K a) (all K b))
   settled_from K op a b i e = Judging.at_binary env K op a b ∙ ap (λ j. Judging.settled_or j (Judging.operands_with env op (all K a) (all K b))) e
 
-  operands_from : (K : Pairs) (op : Binary) (a b : Expr) (r : Judgement) → IsUnsettled env op a b → all K a ≡ r
+  operands_from : (K : Pairs) (op : Binary) (a b : Expr) (r : Judgement) → UndecidedByLiterals env op a b → all K a ≡ r
       → all K (form.Binary op a b) ≡ Judging.operands_with env op r (all K b)
   operands_from K op a b r n e = settled_from K op a b None (Tests.no_settlement env n) ∙ ap (λ x. Judging.operands_with env op x (all K b)) e
 
@@ -182,7 +182,7 @@ module _ (env : Environment) where
     types_is (Typing.types_binary {K} {L} op a b {s} {t} n h g e) =
         operands_from K op a b _ n (types_is h) ∙ (ap (Judging.operands_with env op (typed s L)) (types_is g) ∙ ap (typed_row Judging.learns_none) e)
     types_is (Typing.types_field {K} a k {is_known} h d e) = field_from K a k is_known _ d (types_is h) ∙ ap (typed_row Judging.learns_none) e
-    types_is (Typing.types_has {K} a k {is_known} h d e) = has_from K a k is_known _ d (types_is h) ∙ ap (typed_row (λ t. has_learns t (a, k))) e
+    types_is (Typing.types_has {K} a k {is_known} h d e) = has_from K a k is_known _ d (types_is h) ∙ ap (typed_row (λ t. has_gains t (a, k))) e
     types_is (Typing.types_set {K} xs h e) = Judging.at_set env K xs ∙ (ap Judging.members_type (each_is h) ∙ ap (typed_row Judging.learns_none) e)
     types_is (Typing.types_record {K} xs h) = Judging.at_record env K xs ∙ ap (Judging.record_typed (Judging.names env xs)) (each_is h)
     types_is (Typing.types_literal_call {K} called a {s} h g) = unary_call_from K called a _ (types_is h) ∙ ap (typed_row Judging.learns_none) (literal_is s g)
@@ -242,7 +242,7 @@ module _ (env : Environment) where
     faults_is (Faults.fault_of_binary {K} {L} op a b {s} n h g e) =
         operands_from K op a b _ n (types_is h) ∙ (ap (Judging.operands_with env op (typed s L)) (types_is g) ∙ ap (typed_row Judging.learns_none) e)
     faults_is (Faults.fault_of_field {K} a k {is_known} h d e) = field_from K a k is_known _ d (types_is h) ∙ ap (typed_row Judging.learns_none) e
-    faults_is (Faults.fault_of_has {K} a k {is_known} h d e) = has_from K a k is_known _ d (types_is h) ∙ ap (typed_row (λ t. has_learns t (a, k))) e
+    faults_is (Faults.fault_of_has {K} a k {is_known} h d e) = has_from K a k is_known _ d (types_is h) ∙ ap (typed_row (λ t. has_gains t (a, k))) e
     faults_is (Faults.fault_of_set {K} xs h e) = Judging.at_set env K xs ∙ (ap Judging.members_type (each_is h) ∙ ap (typed_row Judging.learns_none) e)
     faults_is (Faults.no_literal {K} called a {s} i h g) = unary_call_from K called a _ (types_is h) ∙ ap (typed_row Judging.learns_none) (no_literal_is called a s i g)
     faults_is (Faults.fault_of_address_test {K} called a {s} i h e) =

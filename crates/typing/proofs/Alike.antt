@@ -5,32 +5,32 @@ use Rattle.std.proofs.Common.{inl, inr, sym, subst}
 use Rattle.evaluator.specs.grammar_core.declared.expr.Expr.{Expr}
 use Rattle.typing.specs.Types.{StaticType}
 use Rattle.typing.specs.Environment.{Environment, ExpressionFault}
-use Rattle.typing.specs.Learned
-use Rattle.typing.specs.Learned.{Capability, Pairs, InBoth, OrLearns, has_learns}
+use Rattle.typing.specs.Gained
+use Rattle.typing.specs.Gained.{Capability, Pairs, InBoth, OrGains, has_gains}
 use Rattle.typing.specs.Typing
 use Rattle.typing.specs.Typing.{Types, TypesEach}
 use Rattle.typing.specs.Faults
 use Rattle.typing.specs.Faults.{Faults, FaultsEach}
-use Rattle.typing.specs.Laws.{AreSamePairs, KnownPairsAreASet}
+use Rattle.typing.specs.Laws.{AreSamePairs, CapabilitiesAreASet}
 use Rattle.std.proofs.lemmas.List.Elements.{Contains-append_cases}
 use Rattle.plain.proofs.Members.{Contains-here, Contains-there, Contains-cases, Contains-none}
 use Rattle.typing.proofs.KnownPairs.{in_both, in_both_holds}
 
 pub both_members : {L M N : Pairs} → InBoth L M N → (p : Capability) → Contains N p → Contains L p × Contains M p
-both_members Learned.both_none p c = Contains-none p c
-both_members (Learned.both_kept {p = x} {left = L} {right = M} {both = N} m h) p c = elim (Contains-cases x N p c) [
+both_members Gained.both_none p c = Contains-none p c
+both_members (Gained.both_kept {p = x} {left = L} {right = M} {both = N} m h) p c = elim (Contains-cases x N p c) [
   | inl e ↦ (subst (λ y. Contains (x ∷ L) y) e (Contains-here x L), subst (λ y. Contains M y) e m)
   | inr d ↦ let r = both_members h p d in (Contains-there x L p r.0, r.1)
 ]
-both_members (Learned.both_dropped {p = x} {left = L} {right = M} {both = N} n h) p c = let r = both_members h p c in (Contains-there x L p r.0, r.1)
+both_members (Gained.both_dropped {p = x} {left = L} {right = M} {both = N} n h) p c = let r = both_members h p c in (Contains-there x L p r.0, r.1)
 
 members_both : {L M N : Pairs} → InBoth L M N → (p : Capability) → Contains L p → Contains M p → Contains N p
-members_both Learned.both_none p c d = c
-members_both (Learned.both_kept {p = x} {left = L} {right = M} {both = N} m h) p c d = elim (Contains-cases x L p c) [
+members_both Gained.both_none p c d = c
+members_both (Gained.both_kept {p = x} {left = L} {right = M} {both = N} m h) p c d = elim (Contains-cases x L p c) [
   | inl e ↦ subst (λ y. Contains (x ∷ N) y) e (Contains-here x N)
   | inr l ↦ Contains-there x N p (members_both h p l d)
 ]
-members_both (Learned.both_dropped {p = x} {left = L} {right = M} {both = N} n h) p c d = elim (Contains-cases x L p c) [
+members_both (Gained.both_dropped {p = x} {left = L} {right = M} {both = N} n h) p c d = elim (Contains-cases x L p c) [
   | inl e ↦ absurd (n (subst (λ y. Contains M y) (sym e) d))
   | inr l ↦ members_both h p l d
 ]
@@ -67,11 +67,11 @@ in_both_alike {P} {Q} s t h = record {
   back = λ p c. let m = both_members (in_both_holds P Q) p c in members_both h p (s.back p m.0) (t.back p m.1);
 }
 
-or_alike : {t : StaticType} {L M N P Q : Pairs} → AreSamePairs L P → AreSamePairs M Q → OrLearns t L M N
-    → (B : Pairs) × AreSamePairs N B × OrLearns t P Q B
-or_alike s t Learned.or_learns_none = ([], itself [], Learned.or_learns_none)
-or_alike {P} s t Learned.or_learns_left = (P, s, Learned.or_learns_left)
-or_alike {P} {Q} s t (Learned.or_learns_both h) = (in_both P Q, in_both_alike s t h, Learned.or_learns_both (in_both_holds P Q))
+or_alike : {t : StaticType} {L M N P Q : Pairs} → AreSamePairs L P → AreSamePairs M Q → OrGains t L M N
+    → (B : Pairs) × AreSamePairs N B × OrGains t P Q B
+or_alike s t Gained.or_gains_none = ([], itself [], Gained.or_gains_none)
+or_alike {P} s t Gained.or_gains_left = (P, s, Gained.or_gains_left)
+or_alike {P} {Q} s t (Gained.or_gains_both h) = (in_both P Q, in_both_alike s t h, Gained.or_gains_both (in_both_holds P Q))
 
 known_alike : {K M : Pairs} (p : Capability) (r : Bool) → AreSamePairs K M → Decides r (Contains K p) → Decides r (Contains M p)
 known_alike p r s d = (λ e. s.there p (d.0 e), λ c. d.1 (s.back p c))
@@ -114,7 +114,7 @@ module _ (env : Environment) where
     types_alike s (Typing.types_field a k {is_known} h d e) =
         ([], itself [], Typing.types_field a k (types_alike s h).2 (known_alike (a, k) is_known s d) e)
     types_alike s (Typing.types_has a k {is_known} {t} h d e) =
-        (has_learns t (a, k), itself _, Typing.types_has a k (types_alike s h).2 (known_alike (a, k) is_known s d) e)
+        (has_gains t (a, k), itself _, Typing.types_has a k (types_alike s h).2 (known_alike (a, k) is_known s d) e)
     types_alike s (Typing.types_set xs h e) = ([], itself [], Typing.types_set xs (each_alike s h) e)
     types_alike s (Typing.types_record xs h) = ([], itself [], Typing.types_record xs (each_alike s h))
     types_alike s (Typing.types_literal_call called a h g) = ([], itself [], Typing.types_literal_call called a (types_alike s h).2 g)
@@ -160,5 +160,5 @@ module _ (env : Environment) where
     faults_each_alike s (Faults.fault_here h) = Faults.fault_here (faults_alike s h)
     faults_each_alike s (Faults.fault_later h g) = Faults.fault_later (types_alike s h).2 (faults_each_alike s g)
 
-pub known_pairs_are_a_set : KnownPairsAreASet
-known_pairs_are_a_set env K M x s = (λ t L h. types_alike env s h, λ n h. faults_alike env s h)
+pub capabilities_are_a_set : CapabilitiesAreASet
+capabilities_are_a_set env K M x s = (λ t L h. types_alike env s h, λ n h. faults_alike env s h)

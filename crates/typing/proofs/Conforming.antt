@@ -21,8 +21,8 @@ use Rattle.typing.specs.Types.{StaticType, declared_as, field_declared_at}
 use Rattle.typing.specs.Membership
 use Rattle.typing.specs.Membership.{Of, FieldOf}
 use Rattle.typing.specs.Conforming.{Conforms}
-use Rattle.typing.specs.Learned.{Capability}
-use Rattle.typing.specs.Literals.{IsUnsettled}
+use Rattle.typing.specs.Gained.{Capability}
+use Rattle.typing.specs.Literals.{UndecidedByLiterals}
 use Rattle.typing.specs.Rows
 use Rattle.typing.specs.Typing
 use Rattle.typing.specs.Typing.{Types}
@@ -124,12 +124,12 @@ action_above u a i (inl e) =
 action_above u a i (inr e) = absurd (false≢true (subst (λ v. IsTrue (environment.is_action_type v.type_name)) (sym e.0) i))
 
 type_above : (u a : EntityUid) → IsFalse (environment.is_action_type u.type_name) → IsEdge u a
-    → IsTrue (environment.may_be_below u.type_name a.type_name)
+    → IsTrue (environment.may_have_ancestor u.type_name a.type_name)
 unfolding IsEdge
 type_above u a n (inl e) = absurd (false≢true (sym (subst (λ v. IsFalse (environment.is_action_type v.type_name)) (sym e.0) n)))
 type_above u a n (inr e) =
-    subst (λ v. IsTrue (environment.may_be_below v.type_name a.type_name)) e.0
-    (subst (λ b. IsTrue (environment.may_be_below alice.type_name b.type_name)) e.1 refl)
+    subst (λ v. IsTrue (environment.may_have_ancestor v.type_name a.type_name)) e.0
+    (subst (λ b. IsTrue (environment.may_have_ancestor alice.type_name b.type_name)) e.1 refl)
 
 has_parents : (u a : EntityUid) → IsEdge u a → Contains (alice ∷ view ∷ []) u
 unfolding IsEdge
@@ -155,7 +155,7 @@ something_conforms = (conforms, λ u a m. has_parents u a (edge u a m))
 
 -- ---- and what is typed there
 
-unsettled : (a b : Expr) → IsUnsettled environment binary.Less a b
+unsettled : (a b : Expr) → UndecidedByLiterals environment binary.Less a b
 unsettled a b r s = elim s [ ]
 
 nothing_known : (p : Capability) → Decides false (Contains [] p)

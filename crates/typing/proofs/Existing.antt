@@ -16,7 +16,7 @@ use Rattle.typing.specs.Types
 use Rattle.typing.specs.Types.{StaticType, IsBoolean}
 use Rattle.typing.specs.Environment
 use Rattle.typing.specs.Environment.{Environment, ExpressionFault}
-use Rattle.typing.specs.Learned.{Pairs, has_learns}
+use Rattle.typing.specs.Gained.{Pairs, has_gains}
 use Rattle.typing.specs.Literals.{ReadsLiteral, TakesText}
 use Rattle.typing.specs.Rows
 use Rattle.typing.specs.Rows.{Row}
@@ -61,7 +61,7 @@ module _ (env : Environment) where
       → Holds K (form.Has a k) (Judging.has_with env (KnownPairs.knows K (a, k)) a k r)
   has_case K a k (typed s L) h =
       let d = KnownPairs.knows_holds K (a, k) in
-      row_case K (form.Has a k) (λ t. has_learns t (a, k)) (Rows.has_type env (KnownPairs.knows K (a, k)) k s)
+      row_case K (form.Has a k) (λ t. has_gains t (a, k)) (Rows.has_type env (KnownPairs.knows K (a, k)) k s)
       (λ t e. Typing.types_has a k h d e) (λ n e. Faults.fault_of_has a k h d e)
   has_case K a k (faulty n) h = Faults.fault_in_operand (Faults.of_has a k) (Faults.fault_here h)
 

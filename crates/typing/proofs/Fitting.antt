@@ -192,12 +192,12 @@ module _ (env : Environment) (W : Entities) (q : Request) (C : Conforms env W q)
   in_allowed : (a b : EntityUid) → IsIn W.parents a b → may_be_in env a.type_name b.type_name ≡ true
   in_allowed a b (inl e) =
       or_second (env.is_action_type a.type_name) _ (or_second (env.is_action_type b.type_name) _
-      (or_first (bytes_eq a.type_name b.type_name) (env.may_be_below a.type_name b.type_name)
+      (or_first (bytes_eq a.type_name b.type_name) (env.may_have_ancestor a.type_name b.type_name)
       ((bytes_eq-Decides a.type_name b.type_name).1 (ap (λ u. u.type_name) e))))
   in_allowed a b (inr p) = elim (cases_Bool (env.is_action_type a.type_name)) [
     | inl i ↦ or_first (env.is_action_type a.type_name) _ i
     | inr n ↦ or_second (env.is_action_type a.type_name) _ (or_second (env.is_action_type b.type_name) _
-        (or_second (bytes_eq a.type_name b.type_name) (env.may_be_below a.type_name b.type_name) (C.ancestors a b n p)))
+        (or_second (bytes_eq a.type_name b.type_name) (env.may_have_ancestor a.type_name b.type_name) (C.ancestors a b n p)))
   ]
 
   may_be : (a b : EntityUid) (m n : List ℕ) → a.type_name ≡ m → b.type_name ≡ n → IsIn W.parents a b → may_be_in env m n ≡ true

@@ -5,7 +5,7 @@ use Rattle.grammar_core.specs.declared.expr.Expr.{Expr}
 use Rattle.typing.specs.Types
 use Rattle.typing.specs.Types.{StaticType, IsBoolean, true_type, false_type, boolean_type}
 use Rattle.typing.specs.Environment.{Environment, ExpressionFault}
-use Rattle.typing.specs.Learned.{Pairs}
+use Rattle.typing.specs.Gained.{Pairs}
 use Rattle.typing.specs.Rows
 use Rattle.typing.specs.Rows.{MayBeTrue, MayBeFalse}
 use Rattle.typing.specs.Typing.{Types, TypesEach, types_none, types_more}

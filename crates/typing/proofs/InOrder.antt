@@ -25,7 +25,7 @@ use Rattle.typing.specs.Types.{StaticType, FieldTypes, Declared, IsBoolean, comm
 use Rattle.typing.specs.Types.{declared_as, field_declared_at, put_required, put_each, field_before, same_requirement}
 use Rattle.typing.specs.Types.{truth_type}
 use Rattle.typing.specs.Environment.{Environment}
-use Rattle.typing.specs.Learned.{Pairs}
+use Rattle.typing.specs.Gained.{Pairs}
 use Rattle.typing.specs.Literals
 use Rattle.typing.specs.Literals.{ReadsLiteral}
 use Rattle.typing.specs.Rows

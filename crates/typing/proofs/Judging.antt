@@ -22,7 +22,7 @@ use Rattle.typing.specs.Types
 use Rattle.typing.specs.Types.{StaticType}
 use Rattle.typing.specs.Environment
 use Rattle.typing.specs.Environment.{Environment, ExpressionFault}
-use Rattle.typing.specs.Learned.{Pairs, has_learns}
+use Rattle.typing.specs.Gained.{Pairs, has_gains}
 use Rattle.typing.specs.Rows
 use Rattle.typing.specs.Rows.{Row}
 use Rattle.typing.specs.Judgement.{Judgement, typed, faulty}
@@ -136,7 +136,7 @@ module _ (env : Environment) where
   field_with is_known k r = on_typed r (λ s L. row (Rows.field_type_of env is_known k s) learns_none)
 
   abbrev pub has_with : Bool → Expr → List ℕ → Judgement → Judgement
-  has_with is_known a k r = on_typed r (λ s L. row (Rows.has_type env is_known k s) (λ t. has_learns t (a, k)))
+  has_with is_known a k r = on_typed r (λ s L. row (Rows.has_type env is_known k s) (λ t. has_gains t (a, k)))
 
   abbrev pub unary_call_with : UnaryCall → Bool → Judgement → Judgement
   unary_call_with called is_literal r = on_typed r (λ s L. row (unary_call_type called is_literal s) learns_none)

@@ -7,8 +7,8 @@ use Rattle.values.specs.extensions.Decided.{Decided, told}
 use Rattle.values.specs.extensions.inner.Deciding.{decided_as, both_decided, text_decided}
 use Rattle.typing.specs.Types
 use Rattle.typing.specs.Types.{StaticType}
-use Rattle.typing.specs.Learned
-use Rattle.typing.specs.Learned.{Capability, Pairs, InBoth, OrLearns}
+use Rattle.typing.specs.Gained
+use Rattle.typing.specs.Gained.{Capability, Pairs, InBoth, OrGains}
 use Rattle.typing.proofs.Same.{two, same_decided}
 use Rattle.typing.proofs.Members.{told_iff, contains_decided, told_not}
 
@@ -42,18 +42,18 @@ in_both [] M = []
 in_both (p ∷ L) M = kept (knows M p) p (in_both L M)
 
 pub in_both_is : {L M N : Pairs} → InBoth L M N → in_both L M ≡ N
-in_both_is Learned.both_none = refl
-in_both_is (Learned.both_kept {p} {left = L} {right = M} {both = N} c h) =
+in_both_is Gained.both_none = refl
+in_both_is (Gained.both_kept {p} {left = L} {right = M} {both = N} c h) =
     ap (λ b. kept b p (in_both L M)) ((told_iff (known M p)).1 c) ∙ ap (λ (P : Pairs). p ∷ P) (in_both_is h)
-in_both_is (Learned.both_dropped {p} {left = L} {right = M} {both = N} n h) =
+in_both_is (Gained.both_dropped {p} {left = L} {right = M} {both = N} n h) =
     ap (λ b. kept b p (in_both L M)) (told_not (known M p) n) ∙ in_both_is h
 
 keep : (p : Capability) (L M N : Pairs) (d : Decided (Contains M p)) → InBoth L M N → InBoth (p ∷ L) M (kept (told d) p N)
-keep p L M N (inl c) h = Learned.both_kept c h
-keep p L M N (inr n) h = Learned.both_dropped n h
+keep p L M N (inl c) h = Gained.both_kept c h
+keep p L M N (inr n) h = Gained.both_dropped n h
 
 pub in_both_holds : (L M : Pairs) → InBoth L M (in_both L M)
-in_both_holds [] M = Learned.both_none
+in_both_holds [] M = Gained.both_none
 in_both_holds (p ∷ L) M = keep p L M (in_both L M) (known M p) (in_both_holds L M)
 
 abbrev pub or_learns : StaticType → Pairs → Pairs → Pairs
@@ -61,12 +61,12 @@ or_learns Types.true_type L M = []
 or_learns Types.false_type L M = L
 or_learns t L M = in_both L M
 
-pub or_learns_is : {t : StaticType} {L M N : Pairs} → OrLearns t L M N → or_learns t L M ≡ N
-or_learns_is Learned.or_learns_none = refl
-or_learns_is Learned.or_learns_left = refl
-or_learns_is (Learned.or_learns_both h) = in_both_is h
+pub or_learns_is : {t : StaticType} {L M N : Pairs} → OrGains t L M N → or_learns t L M ≡ N
+or_learns_is Gained.or_gains_none = refl
+or_learns_is Gained.or_gains_left = refl
+or_learns_is (Gained.or_gains_both h) = in_both_is h
 
-pub or_learns_holds : {t : StaticType} (L M : Pairs) → Types.IsBoolean t → OrLearns t L M (or_learns t L M)
-or_learns_holds L M Types.is_true = Learned.or_learns_none
-or_learns_holds L M Types.is_false = Learned.or_learns_left
-or_learns_holds L M Types.is_either = Learned.or_learns_both (in_both_holds L M)
+pub or_learns_holds : {t : StaticType} (L M : Pairs) → Types.IsBoolean t → OrGains t L M (or_learns t L M)
+or_learns_holds L M Types.is_true = Gained.or_gains_none
+or_learns_holds L M Types.is_false = Gained.or_gains_left
+or_learns_holds L M Types.is_either = Gained.or_gains_both (in_both_holds L M)

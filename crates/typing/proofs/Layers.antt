@@ -7,11 +7,11 @@ use Rattle.grammar_core.specs.declared.expr.Expr.TheOpen.{Expr-F}
 use Rattle.grammar_core.specs.declared.expr.Expr.TheViews.{out-Expr}
 use Rattle.typing.specs.Types.{StaticType, IsBoolean, false_type, boolean_type}
 use Rattle.typing.specs.Environment.{Environment, ExpressionFault}
-use Rattle.typing.specs.Learned.{Pairs}
+use Rattle.typing.specs.Gained.{Pairs}
 use Rattle.typing.specs.Rows.{MayBeTrue, MayBeFalse}
 use Rattle.typing.specs.Typing.{Types, TypesEach, types_none, types_more}
 use Rattle.typing.specs.Faults as faults
-use Rattle.typing.specs.Faults.{Faults, FaultsEach, WantsTypes}
+use Rattle.typing.specs.Faults.{Faults, FaultsEach, NeedsTypes}
 use Rattle.typing.specs.Blamed.{Blame, at_itself, at_operand, under, blamed, blamed_each}
 use Rattle.typing.specs.Places.{operands_in}
 
@@ -60,7 +60,7 @@ module _ (env : Environment) where
       → LayerFaults K x y n d → LayerFaults K x (out-Expr x) n d
   seen_at K x y n d e h = subst (λ z. LayerFaults K x z n d) (sym e) h
 
-  in_operand : {K : Pairs} {x : Expr} {xs : List Expr} {n : ExpressionFault} → WantsTypes env x xs
+  in_operand : {K : Pairs} {x : Expr} {xs : List Expr} {n : ExpressionFault} → NeedsTypes env x xs
       → (g : FaultsEach env K xs n) → LayerFaults K x (out-Expr x) n (blamed_each 0 g)
   in_operand {K} {n = n} (faults.of_unary op a) g =
       seen_at K (form.Unary op a) (Expr-F.Unary op a) n (blamed_each 0 g) (form.outs-Unary op a) (in_each g refl)

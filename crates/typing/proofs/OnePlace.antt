@@ -7,7 +7,7 @@ use Rattle.grammar_core.specs.declared.expr.Expr.TheOpen.{Expr-F}
 use Rattle.typing.specs.Types
 use Rattle.typing.specs.Types.{StaticType}
 use Rattle.typing.specs.Environment.{Environment, ExpressionFault}
-use Rattle.typing.specs.Learned.{Pairs}
+use Rattle.typing.specs.Gained.{Pairs}
 use Rattle.typing.specs.Typing.{types_none, types_more}
 use Rattle.typing.specs.Faults as faults
 use Rattle.typing.specs.Faults.{Faults, FaultsEach}

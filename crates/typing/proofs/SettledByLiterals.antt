@@ -34,7 +34,7 @@ use Rattle.typing.specs.Types.{StaticType, truth_type}
 use Rattle.typing.specs.Membership
 use Rattle.typing.specs.Environment.{Environment}
 use Rattle.typing.specs.Literals
-use Rattle.typing.specs.Literals.{IsLiteral, AreEntityLiterals, ListsEntities, IsActionIn, Settled, ReadsLiteral}
+use Rattle.typing.specs.Literals.{IsLiteral, AreEntityLiterals, ListsEntities, IsActionIn, DecidedByLiterals, ReadsLiteral}
 use Rattle.typing.specs.Conforming.{Conforms, Fits}
 use Rattle.plain.proofs.Members.{Contains-here, Contains-cases, Contains-none}
 use Rattle.typing.proofs.Members.{Contains-mapped, Contains-unmapped}
@@ -197,7 +197,7 @@ module _ (env : Environment) (W : Entities) (q : Request) (C : Conforms env W q)
   in_goes b0 h i l d (gives.left_fails g) = literal_errs h g
   in_goes b0 h i l d (gives.right_fails g k) = listed_errs l k
 
-  pub settled_goes : {op : Binary} {a b : Expr} {b0 : Bool} {r : EvaluationResult} → Settled env op a b b0 → TwoGive W q a b (BinaryGives W op) r → Fits (truth_type b0) r
+  pub settled_goes : {op : Binary} {a b : Expr} {b0 : Bool} {r : EvaluationResult} → DecidedByLiterals env op a b b0 → TwoGive W q a b (BinaryGives W op) r → Fits (truth_type b0) r
   settled_goes {b0} (Literals.equal_literals h g d) k = equal_goes b0 h g d k
   settled_goes {b0} (Literals.action_in h i g d) k = in_goes b0 h i g d k
 

@@ -27,8 +27,8 @@ use Rattle.typing.specs.Types.{StaticType, FieldTypes, IsBoolean, common, common
 use Rattle.typing.specs.Membership
 use Rattle.typing.specs.Membership.{Of}
 use Rattle.typing.specs.Environment.{Environment}
-use Rattle.typing.specs.Learned
-use Rattle.typing.specs.Learned.{Pairs, InBoth, OrLearns, has_learns}
+use Rattle.typing.specs.Gained
+use Rattle.typing.specs.Gained.{Pairs, InBoth, OrGains, has_gains}
 use Rattle.typing.specs.Rows
 use Rattle.typing.specs.Rows.{Row}
 use Rattle.typing.specs.Typing
@@ -104,15 +104,15 @@ module _ (env : Environment) (W : Entities) (q : Request) (C : Conforms env W q)
   both_right : {L M N : Pairs} → InBoth L M N → Present M → Present N
   both_right h m = record { each = λ p c. m.each p (both_members h p c).1 }
 
-  or_left_learns : {t : StaticType} {L M N : Pairs} → OrLearns t L M N → Present L → Present N
-  or_left_learns Learned.or_learns_none l = nothing
-  or_left_learns Learned.or_learns_left l = l
-  or_left_learns (Learned.or_learns_both h) l = both_left h l
+  or_left_learns : {t : StaticType} {L M N : Pairs} → OrGains t L M N → Present L → Present N
+  or_left_learns Gained.or_gains_none l = nothing
+  or_left_learns Gained.or_gains_left l = l
+  or_left_learns (Gained.or_gains_both h) l = both_left h l
 
-  or_right_learns : {t : StaticType} {L M N : Pairs} → OrLearns t L M N → Of (boolean true) t → Present M → Present N
-  or_right_learns Learned.or_learns_none h m = nothing
-  or_right_learns Learned.or_learns_left h m = elim h [ ]
-  or_right_learns (Learned.or_learns_both g) h m = both_right g m
+  or_right_learns : {t : StaticType} {L M N : Pairs} → OrGains t L M N → Of (boolean true) t → Present M → Present N
+  or_right_learns Gained.or_gains_none h m = nothing
+  or_right_learns Gained.or_gains_left h m = elim h [ ]
+  or_right_learns (Gained.or_gains_both g) h m = both_right g m
 
   -- one outcome
   same_outcome : {x : Expr} {r s : EvaluationResult} → EvaluatesTo W q x r → EvaluatesTo W q x s → r ≡ s
@@ -164,7 +164,7 @@ module _ (env : Environment) (W : Entities) (q : Request) (C : Conforms env W q)
   right_true : {t : StaticType} {b : Bool} → Of (boolean b) t → (let m : EvaluationResult = Ok (boolean b) in m ≡ Ok (boolean true)) → Of (boolean true) t
   right_true {t} h e = subst (λ v. Of v t) (Ok-same e) h
 
-  or_goes : {a b : Expr} {t : StaticType} {L M N : Pairs} {r : EvaluationResult} → Goes a Types.boolean_type L → Goes b t M → IsBoolean t → OrLearns t L M N
+  or_goes : {a b : Expr} {t : StaticType} {L M N : Pairs} {r : EvaluationResult} → Goes a Types.boolean_type L → Goes b t M → IsBoolean t → OrGains t L M N
       → OrGives W q a b r → Right (Rows.or_type t) N r
   or_goes f k i l (gives.left_true g) = record { fits = or_true_fits i; learned = λ e. or_left_learns l ((f _ g).learned refl) }
   or_goes f k i l (gives.right_gives g h) = let b = k _ h in record { fits = or_fits i b.fits; learned = λ e. or_right_learns l (right_true b.fits e) (b.learned e) }
@@ -226,7 +226,7 @@ module _ (env : Environment) (W : Entities) (q : Request) (C : Conforms env W q)
     ];
   }
 
-  pair_learned : (t : StaticType) (a : Expr) (k : List ℕ) → IsPresent W q (a, k) → Present (has_learns t (a, k))
+  pair_learned : (t : StaticType) (a : Expr) (k : List ℕ) → IsPresent W q (a, k) → Present (has_gains t (a, k))
   pair_learned Types.boolean_type a k h = one_present h
   pair_learned t a k h = nothing
 

@@ -26,7 +26,7 @@ use Rattle.typing.specs.Types
 use Rattle.typing.specs.Types.{StaticType}
 use Rattle.typing.specs.Environment.{Environment}
 use Rattle.typing.specs.Literals
-use Rattle.typing.specs.Literals.{IsLiteral, AreEntityLiterals, ListsEntities, IsActionIn, Settled, IsUnsettled}
+use Rattle.typing.specs.Literals.{IsLiteral, AreEntityLiterals, ListsEntities, IsActionIn, DecidedByLiterals, UndecidedByLiterals}
 use Rattle.typing.specs.Literals.{ReadsLiteral}
 use Rattle.typing.proofs.Same.{two, literal_decided, uid_decided}
 use Rattle.typing.proofs.Members.{told_iff, contains_decided, some_decided}
@@ -181,7 +181,7 @@ module _ (env : Environment) where
   in_some_decided : (a : EntityUid) (vs : List EntityUid) → Decided ((v : EntityUid) × Contains vs v × IsActionIn env a v)
   in_some_decided a vs = some_decided (IsActionIn env a) (action_in_decided a) vs
 
-  pub settled_one : {op : Binary} {a b : Expr} {r s : Bool} → Settled env op a b r → Settled env op a b s → r ≡ s
+  pub settled_one : {op : Binary} {a b : Expr} {r s : Bool} → DecidedByLiterals env op a b r → DecidedByLiterals env op a b s → r ≡ s
   settled_one {r} {s} (Literals.equal_literals {l} {m} h g d) (Literals.equal_literals {l = l2} {m = m2} h2 g2 d2) =
       one_answer r s d (subst (λ n. Decides s (n ≡ m)) (literal_one h2 h) (subst (λ n. Decides s (l2 ≡ n)) (literal_one g2 g) d2))
   settled_one {r} {s} (Literals.action_in {u} {vs} h i g d) (Literals.action_in {u = u2} {vs = vs2} h2 i2 g2 d2) =
@@ -189,14 +189,14 @@ module _ (env : Environment) where
       (subst (λ x. Decides s ((v : EntityUid) × Contains vs v × IsActionIn env x v)) (entity_one h2 h)
       (subst (λ xs. Decides s ((v : EntityUid) × Contains xs v × IsActionIn env u2 v)) (lists_one g2 g) d2))
 
-  equal_known : (a b : Expr) → Decided ((r : Bool) × Settled env binary.Equal a b r)
+  equal_known : (a b : Expr) → Decided ((r : Bool) × DecidedByLiterals env binary.Equal a b r)
   equal_known a b =
       decided_as
       (λ h. (told (literal_decided h.0.0 h.1.0), Literals.equal_literals h.0.1 h.1.1 (told_iff (literal_decided h.0.0 h.1.0))))
       (λ h. parts h.1)
       (both_decided (literal_known a) (literal_known b))
     where
-      parts : {a b : Expr} {r : Bool} → Settled env binary.Equal a b r
+      parts : {a b : Expr} {r : Bool} → DecidedByLiterals env binary.Equal a b r
           → ((l : Literal) × IsLiteral env a l) × ((m : Literal) × IsLiteral env b m)
       parts (Literals.equal_literals {l} {m} h g d) = ((l, h), (m, g))
 
@@ -213,7 +213,7 @@ module _ (env : Environment) where
       (truth_known (env.is_action_type u.type_name))
   action_case a (inr n) = inr (λ j. n (j.0, j.1))
 
-  in_known : (a b : Expr) → Decided ((r : Bool) × Settled env binary.In a b r)
+  in_known : (a b : Expr) → Decided ((r : Bool) × DecidedByLiterals env binary.In a b r)
   in_known a b =
       decided_as
       (λ h. (
@@ -223,25 +223,25 @@ module _ (env : Environment) where
       (λ h. parts h.1)
       (both_decided (action_case a (entity_known a)) (lists_known b))
     where
-      parts : {a b : Expr} {r : Bool} → Settled env binary.In a b r
+      parts : {a b : Expr} {r : Bool} → DecidedByLiterals env binary.In a b r
           → IsAction a × ((us : List EntityUid) × ListsEntities env b us)
       parts (Literals.action_in {u} {vs} h i g d) = ((u, h, i), (vs, g))
 
   -- only `==` and `in` are settled
-  no_others : {op : Binary} {a b : Expr} {r : Bool} → Settled env op a b r → (op ≡ binary.Equal) ⊎ (op ≡ binary.In)
+  no_others : {op : Binary} {a b : Expr} {r : Bool} → DecidedByLiterals env op a b r → (op ≡ binary.Equal) ⊎ (op ≡ binary.In)
   no_others (Literals.equal_literals h g d) = inl refl
   no_others (Literals.action_in h i g d) = inr refl
 
   unsettled : (op : Binary) (a b : Expr) → (op ≡ binary.Equal → ⊥) → (op ≡ binary.In → ⊥)
-      → Decided ((r : Bool) × Settled env op a b r)
+      → Decided ((r : Bool) × DecidedByLiterals env op a b r)
   unsettled op a b n m = inr (λ h. elim (no_others h.1) [ inl e ↦ n e | inr e ↦ m e ])
 
-  pub settled_known : (op : Binary) (a b : Expr) → Decided ((r : Bool) × Settled env op a b r)
+  pub settled_known : (op : Binary) (a b : Expr) → Decided ((r : Bool) × DecidedByLiterals env op a b r)
   settled_known binary.Equal a b = equal_known a b
   settled_known binary.In a b = in_known a b
   settled_known op a b = unsettled op a b (λ e. cc) (λ e. cc)
 
-  abbrev pub answer_of : {op : Binary} {a b : Expr} → Decided ((r : Bool) × Settled env op a b r) → Option Bool
+  abbrev pub answer_of : {op : Binary} {a b : Expr} → Decided ((r : Bool) × DecidedByLiterals env op a b r) → Option Bool
   answer_of (inl h) = Some h.0
   answer_of (inr n) = None
 
@@ -249,36 +249,36 @@ module _ (env : Environment) where
   abbrev pub settlement : Binary → Expr → Expr → Option Bool
   settlement op a b = answer_of (settled_known op a b)
 
-  some_answer : {op : Binary} {a b : Expr} {r : Bool} (d : Decided ((s : Bool) × Settled env op a b s)) → Settled env op a b r
+  some_answer : {op : Binary} {a b : Expr} {r : Bool} (d : Decided ((s : Bool) × DecidedByLiterals env op a b s)) → DecidedByLiterals env op a b r
       → answer_of d ≡ Some r
   some_answer (inl (s, g)) h = ap Some (settled_one g h)
   some_answer {r} (inr n) h = absurd (n (r, h))
 
-  no_answer : {op : Binary} {a b : Expr} (d : Decided ((s : Bool) × Settled env op a b s)) → IsUnsettled env op a b
+  no_answer : {op : Binary} {a b : Expr} (d : Decided ((s : Bool) × DecidedByLiterals env op a b s)) → UndecidedByLiterals env op a b
       → answer_of d ≡ None
   no_answer (inl (s, g)) n = absurd (n s g)
   no_answer (inr m) n = refl
 
-  pub settlement_is : {op : Binary} {a b : Expr} {r : Bool} → Settled env op a b r → settlement op a b ≡ Some r
+  pub settlement_is : {op : Binary} {a b : Expr} {r : Bool} → DecidedByLiterals env op a b r → settlement op a b ≡ Some r
   settlement_is {op} {a} {b} h = some_answer (settled_known op a b) h
 
-  pub no_settlement : {op : Binary} {a b : Expr} → IsUnsettled env op a b → settlement op a b ≡ None
+  pub no_settlement : {op : Binary} {a b : Expr} → UndecidedByLiterals env op a b → settlement op a b ≡ None
   no_settlement {op} {a} {b} n = no_answer (settled_known op a b) n
 
-  answer_holds : {op : Binary} {a b : Expr} (d : Decided ((s : Bool) × Settled env op a b s)) (r : Bool) → answer_of d ≡ Some r
-      → Settled env op a b r
-  answer_holds {op} {a} {b} (inl (s, g)) r e = subst (λ t. Settled env op a b t) (Some-same e) g
+  answer_holds : {op : Binary} {a b : Expr} (d : Decided ((s : Bool) × DecidedByLiterals env op a b s)) (r : Bool) → answer_of d ≡ Some r
+      → DecidedByLiterals env op a b r
+  answer_holds {op} {a} {b} (inl (s, g)) r e = subst (λ t. DecidedByLiterals env op a b t) (Some-same e) g
   answer_holds (inr n) r e = None-Some e
 
-  none_holds : {op : Binary} {a b : Expr} (d : Decided ((s : Bool) × Settled env op a b s)) → answer_of d ≡ None
-      → IsUnsettled env op a b
+  none_holds : {op : Binary} {a b : Expr} (d : Decided ((s : Bool) × DecidedByLiterals env op a b s)) → answer_of d ≡ None
+      → UndecidedByLiterals env op a b
   none_holds (inl (s, g)) e = None-Some (sym e)
   none_holds (inr n) e = λ s g. n (s, g)
 
-  pub settlement_holds : (op : Binary) (a b : Expr) (r : Bool) → settlement op a b ≡ Some r → Settled env op a b r
+  pub settlement_holds : (op : Binary) (a b : Expr) (r : Bool) → settlement op a b ≡ Some r → DecidedByLiterals env op a b r
   settlement_holds op a b r e = answer_holds (settled_known op a b) r e
 
-  pub none_settled : (op : Binary) (a b : Expr) → settlement op a b ≡ None → IsUnsettled env op a b
+  pub none_settled : (op : Binary) (a b : Expr) → settlement op a b ≡ None → UndecidedByLiterals env op a b
   none_settled op a b e = none_holds (settled_known op a b) e
 
 -- ---- literals of extensions

@@ -1,15 +1,15 @@
 -- Defines the expression that a typing error blames: the path to it, the form whose demand is not met, and the types
 -- that this demand is about.
--- Source: the rules of typing (Faults.antt of `typing`), whose derivations say why an expression has no type.
--- Rules of this product: the first operand with an error is blamed, down to a form whose operands all have types. If
--- this form demands a boolean of one operand, or is an operator or `has` with one operand, that operand is blamed;
--- else the form itself. Operands are numbered from 0, as they are written in the form.
+-- Source: the rules of Faults.antt, whose derivations say why an expression has no type.
+-- Rules of this product: the first operand with an error is blamed, down to a form that has an error of its own. If
+-- this form demands that one operand is boolean, or is a unary operator or `has`, that operand is blamed; else the form
+-- itself. Operands are numbered from 0, as they are written in the form.
 use Rattle.std.specs.Prelude.{ℕ, suc, List, [], ◌∷◌}
 use Rattle.grammar_core.specs.declared.expr.Expr.{Expr}
 use Rattle.grammar_core.specs.declared.expr.Expr.TheVariants as form
 use Rattle.typing.specs.Types.{StaticType}
 use Rattle.typing.specs.Environment.{Environment, ExpressionFault}
-use Rattle.typing.specs.Learned.{Pairs}
+use Rattle.typing.specs.Gained.{Pairs}
 use Rattle.typing.specs.Faults.{Faults, FaultsEach, fault_in_operand, fault_of_unary, fault_of_binary}
 use Rattle.typing.specs.Faults.{fault_of_field, fault_of_has, fault_of_set, no_literal, fault_of_address_test}
 use Rattle.typing.specs.Faults.{fault_of_call, fault_left_of_and, left_of_and_no_boolean}
@@ -35,12 +35,12 @@ at_itself x ts = record { path = []; form = x; types = ts }
 abbrev pub at_operand : ℕ → Expr → List StaticType → Blame
 at_operand i x ts = record { path = i ∷ []; form = x; types = ts }
 
--- `under i b` blames what `b` blames in the operand `i`.
+-- `under i b` blames, in the operand `i`, what `b` blames.
 abbrev pub under : ℕ → Blame → Blame
 under i b = record { path = i ∷ b.path; form = b.form; types = b.types }
 
 abbrev mutual
-  -- what a derivation blames, one clause a rule
+  -- `blamed g` is what the derivation `g` of an error blames, by one clause for each rule
   pub blamed : {env : Environment} {K : Pairs} {x : Expr} {n : ExpressionFault} → Faults env K x n → Blame
   blamed (fault_in_operand w g) = blamed_each 0 g
   blamed (fault_of_unary op a {s} h e) = at_operand 0 (form.Unary op a) (s ∷ [])
@@ -66,7 +66,7 @@ abbrev mutual
   blamed (fault_in_else a b c h i g) = under 2 (blamed g)
   blamed (branches_differ a b c {s} {t} h g i e) = at_itself (form.If a b c) (s ∷ t ∷ [])
 
-  -- what the first operand with an error blames, among several the first of which has this index
+  -- `blamed_each i g` is what the first operand with an error blames, where the first of the operands has the index `i`
   pub blamed_each : {env : Environment} {K : Pairs} {xs : List Expr} {n : ExpressionFault} → ℕ → FaultsEach env K xs n
       → Blame
   blamed_each i (fault_here g) = under i (blamed g)

@@ -8,7 +8,7 @@ use Rattle.values.specs.declared.entity_uid.EntityUid.{EntityUid}
 use Rattle.values.specs.declared.request.Request.{Request}
 use Rattle.values.specs.Fields.{Field}
 use Rattle.values.specs.Values.{boolean, record_of, fields_of}
-use Rattle.evaluator.specs.ancestor_search.Hierarchy.{IsAncestor, IsAllAbove}
+use Rattle.evaluator.specs.ancestor_search.Hierarchy.{IsAncestor, AreAllAncestorsOf}
 use Rattle.evaluator.specs.grammar_core.declared.expr.Expr.TheVariants as form
 use Rattle.evaluator.specs.declared.fault.EvalFault.{EvalFault}
 use Rattle.evaluator.specs.declared.fault.EvalFault.TheVariants.{EntityDoesNotExist, ArithBoundsError}
@@ -18,11 +18,12 @@ use Rattle.evaluator.specs.Evaluation.{EvaluatesTo}
 use Rattle.typing.specs.Types.{StaticType, record_type}
 use Rattle.typing.specs.Membership.{Of}
 use Rattle.typing.specs.Environment.{Environment}
-use Rattle.typing.specs.Learned.{Capability, Pairs}
+use Rattle.typing.specs.Gained.{Capability, Pairs}
 
--- `Conforms env W q` holds if the request `q` is of the environment's kind, the attributes of each stored entity are
--- those of its type, the ancestors of an action are those that the schema states, and those of another entity are of
--- types that may be ancestor types of its own.
+-- `Conforms env W q` holds if the request `q` has the action of the environment `env` and its types of principal,
+-- resource and context, and if in the entity data `W` the attributes of each stored entity are those of its type, the
+-- ancestors of an action are those that the schema states, and the ancestors of any other entity are of types that may
+-- be ancestor types of its own.
 pub record Conforms (env : Environment) (W : Entities) (q : Request) : Type 0 where
   pub principal : q.principal.type_name ≡ env.principal
   pub action : q.action ≡ env.action
@@ -31,11 +32,12 @@ pub record Conforms (env : Environment) (W : Entities) (q : Request) : Type 0 wh
   pub attributes : (u : EntityUid) (fs : List Field) → W.stored u ≡ Some fs
       → Of (record_of (fields_of fs)) (record_type (env.attributes u.type_name))
   pub actions : (u : EntityUid) → IsTrue (env.is_action_type u.type_name)
-      → IsAllAbove W.parents u (env.action_ancestors u)
+      → AreAllAncestorsOf W.parents u (env.action_ancestors u)
   pub ancestors : (u a : EntityUid) → IsFalse (env.is_action_type u.type_name) → IsAncestor W.parents a u
-      → IsTrue (env.may_be_below u.type_name a.type_name)
+      → IsTrue (env.may_have_ancestor u.type_name a.type_name)
 
--- `IsPermittedError e` holds for the two errors that remain: `EntityDoesNotExist` and `ArithBoundsError`.
+-- `IsPermittedError e` holds for the two errors that typing does not exclude: `EntityDoesNotExist` and
+-- `ArithBoundsError`.
 pub data IsPermittedError : EvalFault → Type 0 where
   entity_is_missing : IsPermittedError EntityDoesNotExist
   number_out_of_bounds : IsPermittedError ArithBoundsError
@@ -45,15 +47,16 @@ abbrev pub Fits : StaticType → EvaluationResult → Type 0
 Fits t (Ok v) = Of v t
 Fits t (Err e) = IsPermittedError e
 
--- `IsPresent W q p` holds if the expression of the capability `p` has its field.
+-- `IsPresent W q p` holds if the expression of the capability `p` has the field of `p`.
 abbrev pub IsPresent : Entities → Request → Capability → Type 0
 IsPresent W q p = EvaluatesTo W q (form.Has p.0 p.1) (Ok (boolean true))
 
--- `ArePresent W q K` holds if each capability of `K` holds.
+-- `ArePresent W q K` holds if `IsPresent W q p` does for each capability `p` of `K`.
 pub record ArePresent (W : Entities) (q : Request) (K : Pairs) : Type 0 where
   pub each : (p : Capability) → Contains K p → IsPresent W q p
 
--- `IsSoundOutcome W q t L r` holds if `r` fits the type `t`, and each capability of `L` holds if `r` is true.
+-- `IsSoundOutcome W q t L r` holds if `r` fits the type `t` and, if `r` is true, the fields of the capabilities `L` are
+-- present.
 pub record IsSoundOutcome (W : Entities) (q : Request) (t : StaticType) (L : Pairs) (r : EvaluationResult)
     : Type 0 where
   pub fits : Fits t r

@@ -9,6 +9,7 @@ use Rattle.typing.specs.Types.{FieldTypes}
 pub record Environment : Type 0 where
   -- the type of the principal
   pub principal : List ℕ
+  -- the action itself
   pub action : EntityUid
   -- the type of the resource
   pub resource : List ℕ
@@ -17,13 +18,13 @@ pub record Environment : Type 0 where
   -- the attributes of the entities of a type; those of an action type have none
   pub attributes : List ℕ → FieldTypes
   -- whether entities of the first type may have ancestors of the second
-  pub may_be_below : List ℕ → List ℕ → Bool
+  pub may_have_ancestor : List ℕ → List ℕ → Bool
   -- whether the entities of a type are actions
   pub is_action_type : List ℕ → Bool
   -- the ancestors of each action
   pub action_ancestors : EntityUid → List EntityUid
 
--- An `ExpressionFault` is why an expression has no type; the numbers are the codes of the errors.
+-- An `ExpressionFault` is the reason why an expression has no type; the numbers are the codes of the errors.
 pub data ExpressionFault : Type 0 where
   -- 42: another type is required
   unexpected : ExpressionFault

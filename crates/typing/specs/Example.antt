@@ -1,5 +1,5 @@
--- Defines an example of a request and entities that conform: Alice, who is among the staff, views a plan, which
--- readers may do. So the theorem about conforming requests is not vacuous.
+-- Defines an example of a request and entities that conform: Alice, a member of the group of staff, views a plan, by an
+-- action in the group of readers' actions. So the theorem about conforming requests is not vacuous.
 use Rattle.std.specs.Prelude.{ℕ, List, [], ◌∷◌, pos, true, false, ◌&&◌, codes, Option, Some, None, if◌then◌else◌}
 use Rattle.std.specs.Ordering.{is_eq}
 use Rattle.std.specs.Str.{bytes_eq}
@@ -17,7 +17,7 @@ use Rattle.evaluator.specs.grammar_core.declared.expr.Expr.TheVariants as form
 use Rattle.evaluator.specs.Operators.{Entities}
 use Rattle.typing.specs.Types.{FieldTypes, no_field_types, field_type, boolean_type, long_type}
 use Rattle.typing.specs.Environment.{Environment}
-use Rattle.typing.specs.Learned.{Capability}
+use Rattle.typing.specs.Gained.{Capability}
 
 -- `uid type_name id` is the uid of these parts.
 abbrev pub uid : List ℕ → List ℕ → EntityUid
@@ -47,7 +47,7 @@ readers = uid (codes "Action") (codes "readers")
 abbrev pub user_attributes : FieldTypes
 user_attributes = field_type (codes "age") long_type false no_field_types
 
--- `environment`: the context of a request says whether its sender is known.
+-- `environment` is the environment of the example; the context of a request says whether its sender is known.
 abbrev pub environment : Environment
 environment = record {
   principal = codes "User";
@@ -55,7 +55,7 @@ environment = record {
   resource = codes "Doc";
   context = field_type (codes "known") boolean_type true no_field_types;
   attributes = λ n. if bytes_eq n (codes "User") then user_attributes else no_field_types;
-  may_be_below = λ m n. bytes_eq m (codes "User") && bytes_eq n (codes "Group");
+  may_have_ancestor = λ m n. bytes_eq m (codes "User") && bytes_eq n (codes "Group");
   is_action_type = λ n. bytes_eq n (codes "Action");
   action_ancestors = λ u. if is_eq (uid_cmp view u) then readers ∷ [] else [];
 }
@@ -70,11 +70,11 @@ stored u =
     if is_eq (uid_cmp alice u) then Some ((codes "age", long (pos 30)) ∷ [])
     else (if is_eq (uid_cmp plan u) then Some [] else None)
 
--- `world` has these attributes and parents.
+-- `world` is the entity data with these attributes and parents.
 abbrev pub world : Entities
 world = record { stored = stored; parents = parents }
 
--- `request` is the request: its sender is known.
+-- `request` is the request of the example; its sender is known.
 abbrev pub request : Request
 request = record { principal = alice; action = view; resource = plan; context = (codes "known", boolean true) ∷ [] }
 

@@ -1,5 +1,5 @@
--- Defines the error of an expression without a type: that of the first operand, in order, that has none, else that of
--- the expression itself. The left operands of `&&` and of `||`, and the test of an `if`, must be boolean before the
+-- Defines the error of an expression without a type: that of the first operand, in order, that has no type, else that
+-- of the expression itself. The left operands of `&&` and of `||`, and the test of an `if`, must be boolean before the
 -- next operand is checked.
 -- Source: the rules of Typing.antt, and the order in which operands are evaluated.
 use Rattle.std.specs.Prelude.{◌≡◌, ℕ, List, [], ◌∷◌, ◌++◌, map, Contains, Bool, None, Err}
@@ -14,35 +14,36 @@ use Rattle.evaluator.specs.grammar_core.declared.expr.Expr.TheVariants as form
 use Rattle.evaluator.specs.Operators.{TakesAddress}
 use Rattle.typing.specs.Types.{StaticType, false_type, boolean_type, IsBoolean, common}
 use Rattle.typing.specs.Environment.{Environment, ExpressionFault, unexpected, no_common_type, bad_extension_literal}
-use Rattle.typing.specs.Learned.{Pairs}
-use Rattle.typing.specs.Literals.{IsUnsettled, TakesText, ReadsLiteral}
+use Rattle.typing.specs.Gained.{Pairs}
+use Rattle.typing.specs.Literals.{UndecidedByLiterals, TakesText, ReadsLiteral}
 use Rattle.typing.specs.Rows.{unary_type, binary_type, MayBeTrue, MayBeFalse, field_type_of, has_type}
 use Rattle.typing.specs.Rows.{set_literal_type, address_test_type, call_type}
 use Rattle.typing.specs.Typing.{Types, TypesEach}
 
--- `WantsTypes env x xs` holds if `x` needs the types of all of its operands `xs`, in order. `if`, `&&` and `||` only
--- need some, and `==` and `in` that literals decide need none.
-pub data WantsTypes (env : Environment) : Expr → List Expr → Type 0 where
-  of_unary : (op : Unary) (a : Expr) → WantsTypes env (form.Unary op a) (a ∷ [])
-  of_binary : (op : Binary) (a b : Expr) → IsUnsettled env op a b → WantsTypes env (form.Binary op a b) (a ∷ b ∷ [])
-  of_field : (a : Expr) (k : List ℕ) → WantsTypes env (form.Field a k) (a ∷ [])
-  of_has : (a : Expr) (k : List ℕ) → WantsTypes env (form.Has a k) (a ∷ [])
-  of_set : (xs : List Expr) → WantsTypes env (form.Set xs) xs
-  of_record : (xs : List (Named Expr)) → WantsTypes env (form.Record xs) (map (λ x. x.value) xs)
-  of_unary_call : (called : UnaryCall) (a : Expr) → WantsTypes env (form.UnaryCall called a) (a ∷ [])
-  of_binary_call : (called : BinaryCall) (a b : Expr) → WantsTypes env (form.BinaryCall called a b) (a ∷ b ∷ [])
+-- `NeedsTypes env x xs` holds if `x` needs the types of all of its operands `xs`, in order. `if`, `&&` and `||` need
+-- only some of them; an `==` or `in` that literals decide needs none.
+pub data NeedsTypes (env : Environment) : Expr → List Expr → Type 0 where
+  of_unary : (op : Unary) (a : Expr) → NeedsTypes env (form.Unary op a) (a ∷ [])
+  of_binary : (op : Binary) (a b : Expr) → UndecidedByLiterals env op a b
+      → NeedsTypes env (form.Binary op a b) (a ∷ b ∷ [])
+  of_field : (a : Expr) (k : List ℕ) → NeedsTypes env (form.Field a k) (a ∷ [])
+  of_has : (a : Expr) (k : List ℕ) → NeedsTypes env (form.Has a k) (a ∷ [])
+  of_set : (xs : List Expr) → NeedsTypes env (form.Set xs) xs
+  of_record : (xs : List (Named Expr)) → NeedsTypes env (form.Record xs) (map (λ x. x.value) xs)
+  of_unary_call : (called : UnaryCall) (a : Expr) → NeedsTypes env (form.UnaryCall called a) (a ∷ [])
+  of_binary_call : (called : BinaryCall) (a b : Expr) → NeedsTypes env (form.BinaryCall called a b) (a ∷ b ∷ [])
 
 mutual
   -- `Faults env K x n` holds if `x` has the error `n`, where the capabilities `K` are known.
   pub data Faults (env : Environment) : Pairs → Expr → ExpressionFault → Type 0 where
     -- the first operand with an error decides
-    fault_in_operand : {K : Pairs} {x : Expr} {xs : List Expr} {n : ExpressionFault} → WantsTypes env x xs
+    fault_in_operand : {K : Pairs} {x : Expr} {xs : List Expr} {n : ExpressionFault} → NeedsTypes env x xs
         → FaultsEach env K xs n → Faults env K x n
     -- else the types of the operands decide
     fault_of_unary : {K L : Pairs} (op : Unary) (a : Expr) {s : StaticType} {n : ExpressionFault} → Types env K a s L
         → unary_type op s ≡ Err n → Faults env K (form.Unary op a) n
     fault_of_binary : {K L M : Pairs} (op : Binary) (a b : Expr) {s t : StaticType} {n : ExpressionFault}
-        → IsUnsettled env op a b → Types env K a s L → Types env K b t M → binary_type env op s t ≡ Err n
+        → UndecidedByLiterals env op a b → Types env K a s L → Types env K b t M → binary_type env op s t ≡ Err n
         → Faults env K (form.Binary op a b) n
     fault_of_field : {K L : Pairs} (a : Expr) (k : List ℕ) {is_known : Bool} {s : StaticType} {n : ExpressionFault}
         → Types env K a s L → Decides is_known (Contains K (a, k)) → field_type_of env is_known k s ≡ Err n
@@ -61,7 +62,7 @@ mutual
     fault_of_call : {K L M : Pairs} (called : BinaryCall) (a b : Expr) {s t : StaticType} {n : ExpressionFault}
         → Types env K a s L → Types env K b t M → call_type called s t ≡ Err n
         → Faults env K (form.BinaryCall called a b) n
-    -- `&&`, `||` and `if`: the left operand or the test, then that it is boolean, and only then the next operand
+    -- `&&`, `||` and `if`: first the left operand or the test is typed, then it must be boolean, then the next is typed
     fault_left_of_and : {K : Pairs} (a b : Expr) {n : ExpressionFault} → Faults env K a n
         → Faults env K (form.And a b) n
     left_of_and_no_boolean : {K L : Pairs} (a b : Expr) {s : StaticType} → Types env K a s L → ¬ IsBoolean s

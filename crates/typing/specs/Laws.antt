@@ -12,7 +12,7 @@ use Rattle.evaluator.specs.Operators.{Entities}
 use Rattle.evaluator.specs.Evaluation.{EvaluatesTo}
 use Rattle.typing.specs.Types.{StaticType, false_type, boolean_type, IsBoolean}
 use Rattle.typing.specs.Environment.{Environment, ExpressionFault, attribute_may_be_missing}
-use Rattle.typing.specs.Learned.{Capability, Pairs}
+use Rattle.typing.specs.Gained.{Capability, Pairs}
 use Rattle.typing.specs.Ordered.{IsOrdered, HasOrderedTypes}
 use Rattle.typing.specs.Typing.{Types}
 use Rattle.typing.specs.Faults.{Faults}
@@ -20,8 +20,8 @@ use Rattle.typing.specs.Judgement.{Judgement, Judges}
 use Rattle.typing.specs.Example.{environment, world, request, parents, alice, view, age_of_principal, has_age, is_aged}
 use Rattle.typing.specs.Conforming.{Conforms, Fits, ArePresent, IsSoundOutcome}
 
--- `HaveOneJudgement`: whatever is known, each expression has exactly one judgement: a type with the capabilities that
--- it gains, or an error.
+-- `HaveOneJudgement`: whatever capabilities are known, each expression has exactly one judgement: a type with the
+-- capabilities that it gains, or an error.
 abbrev pub HaveOneJudgement : Type 0
 HaveOneJudgement = (env : Environment) (K : Pairs) (x : Expr)
     → (r : Judgement) × Judges env K x r × ((s : Judgement) → Judges env K x s → s ≡ r)
@@ -31,10 +31,10 @@ pub record AreSamePairs (K M : Pairs) : Type 0 where
   pub there : (p : Capability) → Contains K p → Contains M p
   pub back : (p : Capability) → Contains M p → Contains K p
 
--- `KnownPairsAreASet`: judgements see the known capabilities as a set: whatever their order and repeats, an
--- expression has the same type and the same error, and gains the same capabilities.
-abbrev pub KnownPairsAreASet : Type 0
-KnownPairsAreASet = (env : Environment) (K M : Pairs) (x : Expr) → AreSamePairs K M
+-- `CapabilitiesAreASet`: judgements depend on the known capabilities only as a set: whatever their order and repeats,
+-- an expression has the same type or the same error, and gains the same set of capabilities.
+abbrev pub CapabilitiesAreASet : Type 0
+CapabilitiesAreASet = (env : Environment) (K M : Pairs) (x : Expr) → AreSamePairs K M
     → ((t : StaticType) (L : Pairs) → Types env K x t L → (N : Pairs) × AreSamePairs L N × Types env M x t N)
     × ((n : ExpressionFault) → Faults env K x n → Faults env M x n)
 
@@ -44,9 +44,9 @@ abbrev pub TypesAreOrdered : Type 0
 TypesAreOrdered = (env : Environment) → HasOrderedTypes env → (K L : Pairs) (x : Expr) (t : StaticType)
     → Types env K x t L → IsOrdered t
 
--- `AreSoundIn W` holds if typing is sound in `W`: if a request and the entities conform and each known capability
--- holds, each outcome of an expression of type `t` is a value of `t` or one of two errors, and if it is true each
--- gained capability holds.
+-- `AreSoundIn W` holds if typing is sound over the entity data `W`: if a request and `W` conform and the fields of the
+-- known capabilities are present, each outcome of an expression of type `t` is a value of `t` or one of two errors, and
+-- if it is true the fields of the gained capabilities are present.
 abbrev pub AreSoundIn : Entities → Type 0
 AreSoundIn W = (env : Environment) (q : Request) → Conforms env W q → (K L : Pairs) (x : Expr) (t : StaticType)
     → ArePresent W q K → Types env K x t L → (r : EvaluationResult) → EvaluatesTo W q x r → IsSoundOutcome W q t L r
@@ -68,15 +68,15 @@ PoliciesAreSound = (W : Entities) (above : EntityUid → EntityUid → Bool) →
     → Types env [] x t L
     → (r : EvaluationResult) → EvaluatesTo W q x r → Fits boolean_type r × (t ≡ false_type → r ≢ Ok (boolean true))
 
--- `SomethingConforms`: the example conforms, where two entities have parents.
+-- `SomethingConforms`: the example conforms, and at most two entities in it have parents.
 abbrev pub SomethingConforms : Type 0
 SomethingConforms = Conforms environment world request × HaveAllParents parents (alice ∷ view ∷ [])
 
--- `SomethingIsTyped`: in it the age of a principal that has one may be accessed after `&&`.
+-- `SomethingIsTyped`: in the example, the age of the principal may be accessed in `principal has age && ..`.
 abbrev pub SomethingIsTyped : Type 0
 SomethingIsTyped = Types environment [] (form.And has_age is_aged) boolean_type (age_of_principal ∷ [])
 
--- `SomethingIsFaulty`: it may not be accessed after `||`.
+-- `SomethingIsFaulty`: in the example, the age may not be accessed in `principal has age || ..`.
 abbrev pub SomethingIsFaulty : Type 0
 SomethingIsFaulty = Faults environment [] (form.Or has_age is_aged) attribute_may_be_missing
 
@@ -88,11 +88,12 @@ IsTransitive below = (l m n : List ℕ) → IsTrue (below l m) → IsTrue (below
 -- type that may be an ancestor type of the entity's.
 abbrev pub ParentsAreAllowed : Environment → Parents → Type 0
 ParentsAreAllowed env parents = (u p : EntityUid) → IsFalse (env.is_action_type u.type_name) → Contains (parents u) p
-    → IsTrue (env.may_be_below u.type_name p.type_name) × IsFalse (env.is_action_type p.type_name)
+    → IsTrue (env.may_have_ancestor u.type_name p.type_name) × IsFalse (env.is_action_type p.type_name)
 
--- `ParentsTellAncestors`: the ancestors of entities conform if their parents do.
-abbrev pub ParentsTellAncestors : Type 0
-ParentsTellAncestors = (env : Environment) (parents : Parents) → IsTransitive env.may_be_below
+-- `ParentsDetermineAncestors`: if the parents of entities that are not actions are allowed, and the relation of
+-- ancestor types is transitive, then the types of all ancestors of such an entity are allowed.
+abbrev pub ParentsDetermineAncestors : Type 0
+ParentsDetermineAncestors = (env : Environment) (parents : Parents) → IsTransitive env.may_have_ancestor
     → ParentsAreAllowed env parents → (u a : EntityUid) → IsFalse (env.is_action_type u.type_name)
     → IsAncestor parents a u
-    → IsTrue (env.may_be_below u.type_name a.type_name)
+    → IsTrue (env.may_have_ancestor u.type_name a.type_name)

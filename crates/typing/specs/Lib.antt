@@ -5,7 +5,7 @@ pub mod Example
 pub mod Faults
 pub mod Judgement
 pub mod Laws
-pub mod Learned
+pub mod Gained
 pub mod Literals
 pub mod Membership
 pub mod Ordered

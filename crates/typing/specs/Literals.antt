@@ -1,4 +1,4 @@
--- Defines what literals decide by themselves, before any type is checked.
+-- Defines which results literals decide by themselves, before any type is checked.
 -- Source: Cedar reference guide 4.0, "Policy validation"; cedar-spec, cedar-lean/Cedar/Validation/Typechecker.lean
 -- (`typeOfEq`, `typeOfInₑ`).
 -- Rules of this product: an action `in` entity literals is True or False by the schema's actions; `ip` and `decimal`
@@ -32,7 +32,8 @@ pub data AreEntityLiterals (env : Environment) : List Expr → List EntityUid �
   literal_before : {x : Expr} {xs : List Expr} {u : EntityUid} {us : List EntityUid}
       → IsLiteral env x (literal.Entity u) → AreEntityLiterals env xs us → AreEntityLiterals env (x ∷ xs) (u ∷ us)
 
--- `ListsEntities env x us` holds if `x` is an entity literal, or a set literal of at least one.
+-- `ListsEntities env x us` holds if `x` is an entity literal, or a set literal of at least one, and `us` are these
+-- entities.
 pub data ListsEntities (env : Environment) : Expr → List EntityUid → Type 0 where
   alone : {x : Expr} {u : EntityUid} → IsLiteral env x (literal.Entity u) → ListsEntities env x (u ∷ [])
   in_set : {x : Expr} {xs : List Expr} {us : List EntityUid} → AreEntityLiterals env (x ∷ xs) us
@@ -42,20 +43,20 @@ pub data ListsEntities (env : Environment) : Expr → List EntityUid → Type 0 
 abbrev pub IsActionIn : Environment → EntityUid → EntityUid → Type 0
 IsActionIn env a b = (a ≡ b) ⊎ Contains (env.action_ancestors a) b
 
--- `Settled env op a b r` holds if literals decide that the result is `r`: `==` of two, and an action's `in` entity
--- literals.
-pub data Settled (env : Environment) : Binary → Expr → Expr → Bool → Type 0 where
+-- `DecidedByLiterals env op a b r` holds if literals decide that the result of `op` on `a` and `b` is `r`: that of `==`
+-- between two literals, and that of `in` between an action's literal and entity literals.
+pub data DecidedByLiterals (env : Environment) : Binary → Expr → Expr → Bool → Type 0 where
   equal_literals : {a b : Expr} {l m : Literal} {r : Bool} → IsLiteral env a l → IsLiteral env b m
-      → Decides r (l ≡ m) → Settled env Equal a b r
+      → Decides r (l ≡ m) → DecidedByLiterals env Equal a b r
   action_in : {a b : Expr} {u : EntityUid} {vs : List EntityUid} {r : Bool} → IsLiteral env a (literal.Entity u)
       → IsTrue (env.is_action_type u.type_name) → ListsEntities env b vs
-      → Decides r ((v : EntityUid) × Contains vs v × IsActionIn env u v) → Settled env In a b r
+      → Decides r ((v : EntityUid) × Contains vs v × IsActionIn env u v) → DecidedByLiterals env In a b r
 
--- `IsUnsettled env op a b` holds if literals do not decide the result.
-abbrev pub IsUnsettled : Environment → Binary → Expr → Expr → Type 0
-IsUnsettled env op a b = (r : Bool) → ¬ Settled env op a b r
+-- `UndecidedByLiterals env op a b` holds if literals do not decide the result of `op` on `a` and `b`.
+abbrev pub UndecidedByLiterals : Environment → Binary → Expr → Expr → Type 0
+UndecidedByLiterals env op a b = (r : Bool) → ¬ DecidedByLiterals env op a b r
 
--- `TakesText called` holds if the call takes a string.
+-- `TakesText called` holds if the call `called` takes a string.
 abbrev pub TakesText : UnaryCall → Type 0
 TakesText Ip = ⊤
 TakesText Decimal = ⊤

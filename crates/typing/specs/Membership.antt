@@ -1,4 +1,4 @@
--- Defines which values are of a type: plain membership. A record has each required field and no undeclared one.
+-- Defines which values are of a type. A value of a record type has each required field and no undeclared one.
 -- Source: cedar-spec, cedar-lean/Cedar/Validation/RequestEntityValidator.lean (`instanceOfType`).
 use Rattle.std.specs.Prelude.{◌≡◌, ℕ, ℤ, List, Bool, true, false, Option, Some, None}
 use Rattle.values.specs.extensions.Network.{Network}
@@ -31,7 +31,7 @@ mutual
     each_none : {t : StaticType} → EachOf no_values t
     each_more : {v : PlainValue} {vs : PlainValues} {t : StaticType} → Of v t → EachOf vs t → EachOf (value v vs) t
 
-  -- `FieldOf o declared` holds if the value at a key, if any, fits its declaration.
+  -- `FieldOf o declared` holds if the value `o` at a key, if there is one, fits the declaration of the key.
   pub data FieldOf : Option PlainValue → Declared → Type 0 where
     absent : FieldOf None undeclared
     left_out : {t : StaticType} → FieldOf None (optional t)

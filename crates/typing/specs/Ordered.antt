@@ -1,4 +1,4 @@
--- Defines that the keys of record types ascend, at every depth.
+-- Defines when the keys of record types ascend, at every depth.
 use Rattle.std.specs.Prelude.{◌≡◌, ⊤, ℕ, List}
 use Rattle.std.specs.declared.cmp.Ordering.TheVariants.{Less}
 use Rattle.values.specs.Uids.{text_cmp}
@@ -10,6 +10,8 @@ abbrev pub IsBefore : List ℕ → FieldTypes → Type 0
 IsBefore k no_field_types = ⊤
 IsBefore k (field_type l t r ts) = text_cmp k l ≡ Less
 
+-- `IsOrdered t` holds if the keys of each record type in `t` ascend strictly, and `AreOrdered ts` if the keys `ts` do,
+-- and those in their types.
 abbrev mutual
   pub IsOrdered : StaticType → Type 0
   IsOrdered (set_type t) = IsOrdered t
@@ -20,7 +22,7 @@ abbrev mutual
   AreOrdered no_field_types = ⊤
   AreOrdered (field_type k t r ts) = IsOrdered t × IsBefore k ts × AreOrdered ts
 
--- `HasOrderedTypes env` holds if the keys ascend in the types that the schema states.
+-- `HasOrderedTypes env` holds if the keys ascend in the types of the context and of the attributes of `env`.
 pub record HasOrderedTypes (env : Environment) : Type 0 where
   pub context : AreOrdered env.context
   pub attributes : (n : List ℕ) → AreOrdered (env.attributes n)

@@ -1,6 +1,7 @@
 -- Defines the operands of an expression, and the expression to which a path of their indexes leads.
--- Source: docs/language.md, "Core expressions". Rules of this product: operands are numbered from 0, in the order in
--- which they are written: of `if` the test is 0, then 1, and else 2.
+-- Source: docs/language.md, "Core expressions".
+-- Rules of this product: operands are numbered from 0, in the order in which they are written. Of an `if` the test is
+-- 0, `then` is 1, and `else` is 2.
 use Rattle.std.specs.Prelude.{◌≡◌, ℕ, List, [], ◌∷◌, map, Option, Some, None, MatchOption, slice_get}
 use Rattle.std.specs.Borrow.{Bor}
 use Rattle.grammar_core.specs.declared.expr.Expr.{Expr}
@@ -23,9 +24,11 @@ operands_in (Expr-F.Record fs) = map (λ f. f.value) fs
 operands_in (Expr-F.UnaryCall called a) = a ∷ []
 operands_in (Expr-F.BinaryCall called a b) = a ∷ b ∷ []
 
+-- `operands_of x` are the operands of the expression `x`.
 abbrev pub operands_of : Expr → List Expr
 operands_of x = operands_in (out-Expr x)
 
+-- `and_then o f` is `f` of the expression `o`, or `None` if `o` is `None`.
 abbrev pub and_then : Option Expr → (Expr → Option Expr) → Option Expr
 and_then None f = None
 and_then (Some x) f = f x

@@ -2,7 +2,7 @@
 -- Source: Cedar reference guide 4.0, "Policy validation" and "Operators and functions"; cedar-spec,
 -- cedar-lean/Cedar/Validation/Typechecker.lean (`typeOfUnaryApp`, `typeOfBinaryApp`, `typeOfGetAttr`,
 -- `typeOfHasAttr`, `typeOfSet`, `typeOfCall`).
--- Rules of this product: `in` is False of unrelated types.
+-- Rules of this product: `in` between unrelated entity types has the type False.
 use Rattle.std.specs.Prelude.{ℕ, List, [], ◌∷◌, Bool, true, false, ◌||◌, Option, Some, None, Result, Ok, Err}
 use Rattle.std.specs.Prelude.{if◌then◌else◌}
 use Rattle.std.specs.Str.{bytes_eq}
@@ -49,7 +49,7 @@ variable_type env Context = record_type env.context
 
 -- ---- operators
 
--- `unary_type op t` is the type of `op` on an operand of the type `t`.
+-- `unary_type op t` is the type of the operator `op` on an operand of the type `t`.
 abbrev pub unary_type : Unary → StaticType → Row
 unary_type Not true_type = Ok false_type
 unary_type Not false_type = Ok true_type
@@ -59,7 +59,7 @@ unary_type (Like pattern) text_type = Ok boolean_type
 unary_type (Is n) (entity_type m) = Ok (truth_type (bytes_eq m n))
 unary_type op t = Err unexpected
 
--- `if_common o` is Bool, if there is a common type.
+-- `if_common o` is Bool if there is a common type `o`.
 abbrev pub if_common : Option StaticType → Row
 if_common None = Err no_common_type
 if_common (Some t) = Ok boolean_type
@@ -74,9 +74,9 @@ equal_type s t = if_common (common s t)
 -- they are equal, or `n` is an ancestor type of `m`.
 abbrev pub may_be_in : Environment → List ℕ → List ℕ → Bool
 may_be_in env m n =
-    env.is_action_type m || (env.is_action_type n || (bytes_eq m n || env.may_be_below m n))
+    env.is_action_type m || (env.is_action_type n || (bytes_eq m n || env.may_have_ancestor m n))
 
--- `in_type env m n` is the type of `in` for these entity types.
+-- `in_type env m n` is the type of `in` between entities of the types `m` and `n`.
 abbrev pub in_type : Environment → List ℕ → List ℕ → StaticType
 in_type env m n = if may_be_in env m n then boolean_type else false_type
 
@@ -85,7 +85,7 @@ abbrev pub of_numbers : StaticType → StaticType → StaticType → Row
 of_numbers t long_type long_type = Ok t
 of_numbers t r s = Err unexpected
 
--- `binary_type env op s t` is the type of `op` on operands of these types.
+-- `binary_type env op s t` is the type of the operator `op` on operands of the types `s` and `t`.
 abbrev pub binary_type : Environment → Binary → StaticType → StaticType → Row
 binary_type env Equal s t = equal_type s t
 binary_type env In (entity_type m) (entity_type n) = Ok (in_type env m n)
@@ -126,7 +126,8 @@ or_type t = boolean_type
 
 -- ---- fields; `is_known` says whether there is a capability for the field
 
--- `access_type is_known declared` is the type of `e.f`: of a required field, or of an optional one with a capability.
+-- `access_type is_known declared` is the type of `e.f`: that of a required field, or of an optional one with a
+-- capability.
 abbrev pub access_type : Bool → Declared → Row
 access_type is_known undeclared = Err attribute_may_be_missing
 access_type is_known (required t) = Ok t
@@ -145,7 +146,8 @@ record_has undeclared = false_type
 record_has (required t) = true_type
 record_has (optional t) = boolean_type
 
--- `entity_has declared` is that for an entity: Bool also for a required field, since the entity may not be stored.
+-- `entity_has declared` is the type of `e has f` for an entity, without the capability: Bool also for a required field,
+-- since the entity may not be stored.
 abbrev pub entity_has : Declared → StaticType
 entity_has undeclared = false_type
 entity_has (required t) = boolean_type
@@ -186,7 +188,7 @@ abbrev pub of_addresses : StaticType → StaticType → Row
 of_addresses ipaddr_type ipaddr_type = Ok boolean_type
 of_addresses s t = Err unexpected
 
--- `call_type called s t` is the type of a call on operands of these types.
+-- `call_type called s t` is the type of the call `called` on operands of the types `s` and `t`.
 abbrev pub call_type : BinaryCall → StaticType → StaticType → Row
 call_type LessThan s t = of_decimals s t
 call_type LessThanOrEqual s t = of_decimals s t

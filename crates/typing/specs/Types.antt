@@ -39,19 +39,20 @@ abbrev pub declared_as : Bool → StaticType → Declared
 declared_as true t = required t
 declared_as false t = optional t
 
--- `field_declared_at k ts` is the declaration of the key `k`.
+-- `field_declared_at k ts` is the declaration of the key `k` in `ts`.
 abbrev pub field_declared_at : List ℕ → FieldTypes → Declared
 field_declared_at k no_field_types = undeclared
 field_declared_at k (field_type l t r ts) = if bytes_eq k l then declared_as r t else field_declared_at k ts
 
--- `put_required k t fields` are the fields, with a required one of type `t` at `k`.
+-- `put_required k t fields` are the fields `fields` with a required one of type `t` at `k`.
 abbrev pub put_required : List ℕ → StaticType → FieldTypes → FieldTypes
 put_required k t no_field_types = field_type k t true no_field_types
 put_required k t (field_type l s r ts) =
     match_ordering (text_cmp k l) (field_type k t true (field_type l s r ts)) (field_type l t true ts)
     (field_type l s r (put_required k t ts))
 
--- `put_each ks ts fields` are the fields, with each name of `ks` set to its type of `ts`, in order.
+-- `put_each ks ts fields` are the fields `fields` with a required one at each name of `ks`, of the type at its index in
+-- `ts`; of equal names the last counts.
 abbrev pub put_each : List (List ℕ) → List StaticType → FieldTypes → FieldTypes
 put_each (k ∷ ks) (t ∷ ts) fields = put_each ks ts (put_required k t fields)
 put_each ks ts fields = fields
@@ -67,20 +68,21 @@ pub data IsBoolean : StaticType → Type 0 where
   is_false : IsBoolean false_type
   is_either : IsBoolean boolean_type
 
--- `same_requirement r q` tests whether both are required or both optional.
+-- `same_requirement r q` tests whether two fields, required if `r` and `q`, are both required or both optional.
 abbrev pub same_requirement : Bool → Bool → Bool
 same_requirement true r = r
 same_requirement false true = false
 same_requirement false false = true
 
--- `field_before k r t ts` is the field `k` of type `t` in front of `ts`, if both have a common type.
+-- `field_before k r t ts` is the field `k` of the common type `t`, required if `r`, in front of the common fields `ts`;
+-- `None` if one of these is missing.
 abbrev pub field_before : List ℕ → Bool → Option StaticType → Option FieldTypes → Option FieldTypes
 field_before k r (Some t) (Some ts) = Some (field_type k t r ts)
 field_before k r (Some t) None = None
 field_before k r None ts = None
 
--- `common s t` is the common type of two: of equal types that type, of different boolean types Bool, of sets by their
--- members, of records with equal keys and requirements field by field; other types have none.
+-- `common s t` is the common type of `s` and `t`: of equal types that type; of different boolean types Bool; of sets by
+-- their members; of records with equal keys and requirements field by field (`common_fields`). Other types have none.
 abbrev mutual
   pub common : StaticType → StaticType → Option StaticType
   common true_type true_type = Some true_type
@@ -107,7 +109,7 @@ abbrev mutual
       if bytes_eq k l && same_requirement r q then field_before k r (common s t) (common_fields ss ts) else None
   common_fields ss ts = None
 
--- `common_of t ss` is the common type of `t` and each of `ss` in turn.
+-- `common_of t ss` is the common type of `t` and all of `ss`, formed one after another.
 abbrev pub common_of : StaticType → List StaticType → Option StaticType
 common_of t [] = Some t
 common_of t (s ∷ ss) = option_and_then (λ u. common_of u ss) (common t s)

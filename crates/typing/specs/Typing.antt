@@ -1,8 +1,8 @@
 -- Defines the type of an expression, and the capabilities that it gains, by one case for each rule.
 -- Source: Cedar reference guide 4.0, "Policy validation"; cedar-spec, cedar-lean/Cedar/Validation/Typechecker.lean
 -- (`typeOf`).
--- Rules of this product: those of Literals.antt on actions, and that `&&` whose right side is False gains what both
--- sides do.
+-- Rules of this product: those of Literals.antt on actions, and that `&&` whose right side is False gains the
+-- capabilities of both sides.
 use Rattle.std.specs.Prelude.{◌≡◌, ℕ, List, [], ◌∷◌, ◌++◌, map, Contains, Bool, Some, Ok}
 use Rattle.std.specs.Bool.{Decides}
 use Rattle.evaluator.specs.grammar_core.declared.leaf.Literal.{Literal}
@@ -18,8 +18,8 @@ use Rattle.evaluator.specs.Operators.{TakesAddress}
 use Rattle.typing.specs.Types.{StaticType, true_type, false_type, boolean_type, record_type}
 use Rattle.typing.specs.Types.{no_field_types, put_each, truth_type, IsBoolean, common}
 use Rattle.typing.specs.Environment.{Environment}
-use Rattle.typing.specs.Learned.{Pairs, InBoth, OrLearns, has_learns}
-use Rattle.typing.specs.Literals.{Settled, IsUnsettled, ReadsLiteral}
+use Rattle.typing.specs.Gained.{Pairs, InBoth, OrGains, has_gains}
+use Rattle.typing.specs.Literals.{DecidedByLiterals, UndecidedByLiterals, ReadsLiteral}
 use Rattle.typing.specs.Rows.{literal_type, variable_type, unary_type, binary_type, MayBeTrue, and_type, or_type}
 use Rattle.typing.specs.Rows.{field_type_of, has_type, set_literal_type, address_test_type, call_type}
 
@@ -39,20 +39,20 @@ mutual
     or_of_false : {K L M : Pairs} (a b : Expr) {t : StaticType} → Types env K a false_type L → Types env K b t M
         → IsBoolean t → Types env K (form.Or a b) t M
     or_of_both : {K L M N : Pairs} (a b : Expr) {t : StaticType} → Types env K a boolean_type L
-        → Types env K b t M → IsBoolean t → OrLearns t L M N → Types env K (form.Or a b) (or_type t) N
+        → Types env K b t M → IsBoolean t → OrGains t L M N → Types env K (form.Or a b) (or_type t) N
     -- the test is True or False: the other branch is not checked
     if_of_true : {K L M : Pairs} (a b c : Expr) {t : StaticType} → Types env K a true_type L
         → Types env (K ++ L) b t M → Types env K (form.If a b c) t (L ++ M)
     if_of_false : {K L M : Pairs} (a b c : Expr) {t : StaticType} → Types env K a false_type L
         → Types env K c t M → Types env K (form.If a b c) t M
-    -- it gains `B`: what both `else`, which gains `N`, and the test and `then` together, which gain `L ++ M`, do
+    -- the whole gains `B`: the capabilities `N` of `else` that the test and `then` together (`L ++ M`) gain too
     if_of_both : {K L M N B : Pairs} (a b c : Expr) {s t u : StaticType} → Types env K a boolean_type L
         → Types env (K ++ L) b s M → Types env K c t N → common s t ≡ Some u → InBoth N (L ++ M) B
         → Types env K (form.If a b c) u B
     -- literals that decide the result have no further types
-    types_settled : {K : Pairs} (op : Binary) (a b : Expr) {r : Bool} → Settled env op a b r
+    types_settled : {K : Pairs} (op : Binary) (a b : Expr) {r : Bool} → DecidedByLiterals env op a b r
         → Types env K (form.Binary op a b) (truth_type r) []
-    types_binary : {K L M : Pairs} (op : Binary) (a b : Expr) {s t u : StaticType} → IsUnsettled env op a b
+    types_binary : {K L M : Pairs} (op : Binary) (a b : Expr) {s t u : StaticType} → UndecidedByLiterals env op a b
         → Types env K a s L → Types env K b t M → binary_type env op s t ≡ Ok u
         → Types env K (form.Binary op a b) u []
     types_field : {K L : Pairs} (a : Expr) (k : List ℕ) {is_known : Bool} {s t : StaticType} → Types env K a s L
@@ -60,7 +60,7 @@ mutual
         → Types env K (form.Field a k) t []
     types_has : {K L : Pairs} (a : Expr) (k : List ℕ) {is_known : Bool} {s t : StaticType} → Types env K a s L
         → Decides is_known (Contains K (a, k)) → has_type env is_known k s ≡ Ok t
-        → Types env K (form.Has a k) t (has_learns t (a, k))
+        → Types env K (form.Has a k) t (has_gains t (a, k))
     types_set : {K : Pairs} (xs : List Expr) {ts : List StaticType} {t : StaticType} → TypesEach env K xs ts
         → set_literal_type ts ≡ Ok t → Types env K (form.Set xs) t []
     -- all fields are required

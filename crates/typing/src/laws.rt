@@ -1,6 +1,6 @@
-//! Theorems about the definitions. The functions are no-ops.
-ghost use Rattle.typing.specs.Laws.{HaveOneJudgement, KnownPairsAreASet, TypesAreOrdered, TypedIsSound};
-ghost use Rattle.typing.specs.Laws.{TypedIsSoundInFiniteHierarchies, ParentsTellAncestors};
+//! Theorems about typing. The functions are no-ops.
+ghost use Rattle.typing.specs.Laws.{HaveOneJudgement, CapabilitiesAreASet, TypesAreOrdered, TypedIsSound};
+ghost use Rattle.typing.specs.Laws.{TypedIsSoundInFiniteHierarchies, ParentsDetermineAncestors};
 ghost use Rattle.typing.specs.Laws.{PoliciesAreSound, SomethingConforms, SomethingIsTyped, SomethingIsFaulty};
 
 use evaluator::expressions_have_one_outcome;
@@ -11,10 +11,10 @@ pub fn expressions_have_one_judgement()
     ensures { HaveOneJudgement }
 {}
 
-/// Proves that judgements see the known capabilities as a set: their order and repeats change no type, no error and
-/// no gained capability. No-op.
-pub fn known_pairs_are_a_set()
-    ensures { KnownPairsAreASet }
+/// Proves that judgements depend on the known capabilities only as a set: their order and repeats change no type, no
+/// error and no gained capability. No-op.
+pub fn capabilities_are_a_set()
+    ensures { CapabilitiesAreASet }
 {}
 
 /// Proves that the keys of record types ascend in the type of each expression, if they do so in the schema's types.
@@ -26,9 +26,10 @@ pub fn types_are_ordered()
 /// Proves that typing is sound, if a test decides the ancestor relation, as it does if finitely many entities have
 /// parents. No-op.
 ///
-/// If a request and the entities conform and each known capability holds, a typed expression gives a value of its
-/// type, `EntityDoesNotExist` or `ArithBoundsError`; and if it gives true, each capability that it gains holds. So a
-/// policy's condition of boolean type gives a boolean or one of these errors, and is never true if its type is False.
+/// If a request and the entities conform and the fields of the known capabilities are present, a typed expression gives
+/// a value of its type, `EntityDoesNotExist` or `ArithBoundsError`; and if it gives true, the fields of the
+/// capabilities that it gains are present. So a policy's expression of boolean type gives a boolean or one of these
+/// errors, and is never true if its type is False.
 pub fn typed_expressions_are_sound()
     ensures decided { TypedIsSound }
     ensures finite { TypedIsSoundInFiniteHierarchies }
@@ -45,11 +46,11 @@ pub fn something_conforms()
     ensures faulty { SomethingIsFaulty }
 {}
 
-/// Proves that the ancestors of entities conform if their parents do, where the ancestor relation of types is
+/// Proves that the types of ancestors are allowed if those of parents are, and the relation of ancestor types is
 /// transitive. No-op.
 ///
-/// If each parent of an entity that is not an action is not an action, and of a type that may be an ancestor type of
-/// the entity's, each ancestor is of such a type.
-pub fn parents_tell_ancestors()
-    ensures { ParentsTellAncestors }
+/// For entities that are not actions: if no parent is an action, and the type of each parent may be an ancestor type of
+/// the entity's, then the type of each ancestor may be one too.
+pub fn parents_determine_ancestors()
+    ensures { ParentsDetermineAncestors }
 {}

@@ -8,7 +8,7 @@ mod operands;
 mod path_laws;
 
 pub use laws::{
-    expressions_have_one_judgement, known_pairs_are_a_set, parents_tell_ancestors,
+    capabilities_are_a_set, expressions_have_one_judgement, parents_determine_ancestors,
     something_conforms, typed_expressions_are_sound, types_are_ordered,
 };
 pub use operands::{at_path, operand};

@@ -4,7 +4,7 @@ ghost use Rattle.typing.specs.Places.{IsAt, operands_of, follow};
 
 use grammar_core::{Expr, Named};
 
-/// Returns the only operand, at index 0.
+/// Returns the only operand if the index is 0.
 fn one_at<'a>(a: &'a Expr, at: usize) -> Option<&'a Expr>
     ensures item { IsAt (a.entry.now ∷ []) at result }
     ensures few { IsSome result → at < usize.MAX }
@@ -12,7 +12,7 @@ fn one_at<'a>(a: &'a Expr, at: usize) -> Option<&'a Expr>
     if at == 0 { Some(a) } else { None }
 }
 
-/// Returns the operand of this index, of two.
+/// Returns the operand at an index of two operands.
 fn two_at<'a>(a: &'a Expr, b: &'a Expr, at: usize) -> Option<&'a Expr>
     ensures item { IsAt (a.entry.now ∷ b.entry.now ∷ []) at result }
     ensures few { IsSome result → at < usize.MAX }
@@ -24,7 +24,7 @@ fn two_at<'a>(a: &'a Expr, b: &'a Expr, at: usize) -> Option<&'a Expr>
     }
 }
 
-/// Returns the operand of this index, of three.
+/// Returns the operand at an index of three operands.
 fn three_at<'a>(a: &'a Expr, b: &'a Expr, c: &'a Expr, at: usize) -> Option<&'a Expr>
     ensures item { IsAt (a.entry.now ∷ b.entry.now ∷ c.entry.now ∷ []) at result }
     ensures few { IsSome result → at < usize.MAX }
@@ -37,7 +37,7 @@ fn three_at<'a>(a: &'a Expr, b: &'a Expr, c: &'a Expr, at: usize) -> Option<&'a 
     }
 }
 
-/// Returns the member of this index.
+/// Returns the member at an index.
 fn member_at<'a>(members: &'a [Expr], at: usize) -> Option<&'a Expr>
     ensures item { IsAt members.entry.now at result }
     ensures few { IsSome result → at < usize.MAX }
@@ -49,7 +49,7 @@ fn member_at<'a>(members: &'a [Expr], at: usize) -> Option<&'a Expr>
     }
 }
 
-/// Returns the value of the field of this index.
+/// Returns the value of the field at an index.
 fn field_at<'a>(fields: &'a [Named<Expr>], at: usize) -> Option<&'a Expr>
     ensures item { IsAt (map (λ f. f.value) fields.entry.now) at result }
     ensures few { IsSome result → at < usize.MAX }
@@ -62,6 +62,8 @@ fn field_at<'a>(fields: &'a [Named<Expr>], at: usize) -> Option<&'a Expr>
 }
 
 /// Returns the operand at the index `at`, or `None` if `expr` has fewer operands. Does not allocate.
+///
+/// The clause `few` lets a caller that got an operand go on to the next index without overflow.
 pub fn operand<'a>(expr: &'a Expr, at: usize) -> Option<&'a Expr>
     ensures item { IsAt (operands_of expr.entry.now) at result }
     ensures few { IsSome result → at < usize.MAX }

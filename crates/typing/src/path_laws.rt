@@ -1,4 +1,4 @@
-//! Theorems on the definitions. The functions are no-ops.
+//! Theorems about the expression that a typing error blames. The functions are no-ops.
 ghost use Rattle.typing.specs.PathLaws.{BlamesArePlaced, OneBlame};
 
 use crate::laws::expressions_have_one_judgement;

@@ -20,7 +20,7 @@ use Rattle.validator.specs.Names.{names_of}
 use Rattle.validator.specs.Passing
 use Rattle.validator.specs.Passing.{environments_of, HasType, HasBooleanType, IsVerdict, IsCheckRefused}
 use Rattle.validator.specs.inner.Checking.{scope_parts, typed_in, IsJudged, AreJudged}
-use Rattle.validator.specs.inner.Walking.{WalkResult, names_told, parts_told}
+use Rattle.validator.specs.inner.Walking.{WalkResult, names_check, parts_check}
 use Rattle.validator.proofs.KnownLemmas.{ReportsNames, names_tell}
 use Rattle.validator.proofs.WalkLemmas.{parts_walked}
 
@@ -83,13 +83,13 @@ mapped f g [] = refl
 mapped f g (x ∷ xs) = ap (λ ys. g (f x) ∷ ys) (mapped f g xs)
 
 module _ (s : StatedSchema) (policy : Policy) (parts : List Expr) (are : parts ≡ scope_parts policy.scope) where
-  told_is : parts_told s parts policy.condition ≡ names_told s (names_of policy)
-  told_is = ap (λ es. parts_told s es policy.condition) are ∙ parts_walked s _ _ _ policy.condition
+  told_is : parts_check s parts policy.condition ≡ names_check s (names_of policy)
+  told_is = ap (λ es. parts_check s es policy.condition) are ∙ parts_walked s _ _ _ policy.condition
 
-  names_come : (r : WalkResult) → r ≡ parts_told s parts policy.condition → ReportsNames s (names_of policy) r
+  names_come : (r : WalkResult) → r ≡ parts_check s parts policy.condition → ReportsNames s (names_of policy) r
   names_come r e = subst (ReportsNames s (names_of policy)) (sym (e ∙ told_is)) (names_tell s (names_of policy))
 
-  pub name_refused : (f : TypeFault) → Err f ≡ parts_told s parts policy.condition → IsCheckRefused s policy f
+  pub name_refused : (f : TypeFault) → Err f ≡ parts_check s parts policy.condition → IsCheckRefused s policy f
   name_refused f e = Passing.for_name (names_come (Err f) e)
 
   module _ (ps : List given.Environment) (all : map environment_view ps ≡ s.environments) where
@@ -100,13 +100,13 @@ module _ (s : StatedSchema) (policy : Policy) (parts : List Expr) (are : parts �
         → AreJudged (expression_of policy) true (environments_of s) r
     moved r h = subst (λ es. AreJudged (expression_of policy) true es r) environments h
 
-    pub type_refused : Ok tt ≡ parts_told s parts policy.condition → (f : TypeFault)
+    pub type_refused : Ok tt ≡ parts_check s parts policy.condition → (f : TypeFault)
         → AreJudged (expression_of policy) true (typed_in s ps) (Err f) → f ≢ NoMemory → IsCheckRefused s policy f
     type_refused e f h n =
         let k = moved (Err f) h n in
         subst (IsCheckRefused s policy) (sym k.1) (Passing.for_type (names_come (Ok tt) e) k.2)
 
-    pub passed : Ok tt ≡ parts_told s parts policy.condition → (b : Bool)
+    pub passed : Ok tt ≡ parts_check s parts policy.condition → (b : Bool)
         → AreJudged (expression_of policy) true (typed_in s ps) (Ok b)
         → IsVerdict s policy b
     passed e b h =

@@ -7,7 +7,7 @@ use Rattle.type_checker.specs.policy_grammar.declared.policy.Policy.{Policy}
 use Rattle.type_checker.specs.policy_grammar.Whole.{expression_of}
 use Rattle.type_checker.specs.typing.Types.{StaticType, false_type}
 use Rattle.type_checker.specs.typing.Environment.{Environment}
-use Rattle.type_checker.specs.typing.Learned.{Pairs}
+use Rattle.type_checker.specs.typing.Gained.{Pairs}
 use Rattle.type_checker.specs.typing.Typing.{Types}
 use Rattle.type_checker.specs.typing.Faults.{Faults}
 use Rattle.type_checker.specs.typing.Laws.{HaveOneJudgement}

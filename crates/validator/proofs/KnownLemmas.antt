@@ -21,7 +21,7 @@ use Rattle.validator.specs.Names.{Name, tested_type, entity}
 use Rattle.validator.specs.Unknown
 use Rattle.validator.specs.Unknown.{IsEntityType, IsTypeOfAction, IsUnknown, IsKnown, FirstUnknown}
 use Rattle.validator.specs.inner.Walking.{WalkResult, and_then, or_fault, is_type_of_action, is_declared_action}
-use Rattle.validator.specs.inner.Walking.{action_told, other_told, name_told, names_told}
+use Rattle.validator.specs.inner.Walking.{action_check, other_check, name_check, names_check}
 
 -- ---- actions
 
@@ -97,11 +97,11 @@ other_case s u i true e = λ f h. not_other h i e
 other_case s u i false e = Unknown.unknown_type u i (λ t. false≢true (sym e ∙ t))
 
 entity_case : (s : StatedSchema) (u : EntityUid) (a : Bool) → is_action_type u.type_name ≡ a
-    → ReportsName s (entity u) (if a then action_told s u else other_told s u)
+    → ReportsName s (entity u) (if a then action_check s u else other_check s u)
 entity_case s u true i = action_case s u i (is_declared_action s u) refl
 entity_case s u false i = other_case s u i (is_some (s.shape u.type_name)) refl
 
-pub name_tells : (s : StatedSchema) (n : Name) → ReportsName s n (name_told s n)
+pub name_tells : (s : StatedSchema) (n : Name) → ReportsName s n (name_check s n)
 name_tells s (tested_type n) = tested_case s n (is_some (s.shape n)) (is_type_of_action s n) refl refl
 name_tells s (entity u) = entity_case s u (is_action_type u.type_name) refl
 
@@ -120,9 +120,9 @@ more_tell s n ns (Ok u) (Ok v) h g = All-cons (IsKnown s) n ns h g
 more_tell s n ns (Ok u) (Err f) h g = Unknown.unknown_later h g
 more_tell s n ns (Err f) q h g = Unknown.unknown_here h
 
-pub names_tell : (s : StatedSchema) (ns : List Name) → ReportsNames s ns (names_told s ns)
+pub names_tell : (s : StatedSchema) (ns : List Name) → ReportsNames s ns (names_check s ns)
 names_tell s [] = All-nil (IsKnown s)
-names_tell s (n ∷ ns) = more_tell s n ns (name_told s n) (names_told s ns) (name_tells s n) (names_tell s ns)
+names_tell s (n ∷ ns) = more_tell s n ns (name_check s n) (names_check s ns) (name_tells s n) (names_tell s ns)
 
 -- the first undeclared name has one error at most
 pub one_first : (s : StatedSchema) (ns : List Name) (f g : TypeFault) → FirstUnknown s ns f → FirstUnknown s ns g → f ≡ g

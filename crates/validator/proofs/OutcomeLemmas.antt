@@ -12,7 +12,7 @@ use Rattle.type_checker.specs.schema.Schemas.{StatedSchema}
 use Rattle.type_checker.specs.typing.Types
 use Rattle.type_checker.specs.typing.Types.{StaticType, IsBoolean, false_type}
 use Rattle.type_checker.specs.typing.Environment.{Environment, ExpressionFault, unexpected}
-use Rattle.type_checker.specs.typing.Learned.{Pairs}
+use Rattle.type_checker.specs.typing.Gained.{Pairs}
 use Rattle.type_checker.specs.typing.Rows
 use Rattle.type_checker.specs.typing.Rows.{MayBeTrue}
 use Rattle.type_checker.specs.typing.Typing
@@ -30,7 +30,7 @@ use Rattle.validator.specs.Passing.{environments_of, HasType, HasBooleanType, Fi
 use Rattle.validator.specs.Outcomes
 use Rattle.validator.specs.Outcomes.{CheckResult, IsCheckResult, PoliciesHaveOneOutcome, NoEnvironmentIsImpossible}
 use Rattle.validator.specs.Outcomes.{PassingPoliciesAreSound, PassingIsNotRefused}
-use Rattle.validator.specs.inner.Walking.{WalkResult, names_told}
+use Rattle.validator.specs.inner.Walking.{WalkResult, names_check}
 use Rattle.validator.proofs.KnownLemmas.{ReportsNames, names_tell, one_first, none_first}
 
 -- ---- `&&` has a boolean type or a fault
@@ -206,7 +206,7 @@ module _ (one : HaveOneJudgement) (s : StatedSchema) (policy : Policy) where
   named_outcome (Err f) h = (Outcomes.refused f, Passing.for_name h)
 
   some_outcome : (o : CheckResult) × IsCheckResult s policy o
-  some_outcome = named_outcome (names_told s (names_of policy)) (names_tell s (names_of policy))
+  some_outcome = named_outcome (names_check s (names_of policy)) (names_tell s (names_of policy))
 
 pub policies_have_one_outcome : HaveOneJudgement → PoliciesHaveOneOutcome
 policies_have_one_outcome one s policy =

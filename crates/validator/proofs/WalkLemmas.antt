@@ -14,8 +14,8 @@ use Rattle.grammar_core.specs.declared.expr.Expr.{Expr}
 use Rattle.grammar_core.specs.declared.expr.Expr.TheVariants as form
 use Rattle.type_checker.specs.schema.Schemas.{StatedSchema}
 use Rattle.validator.specs.Names.{Name, literal_names, operator_names, joined, names_step, names_in}
-use Rattle.validator.specs.inner.Walking.{WalkResult, and_then, in_turn, literal_told, operator_told, walk_step, walk}
-use Rattle.validator.specs.inner.Walking.{named_walk, name_told, names_told, parts_told}
+use Rattle.validator.specs.inner.Walking.{WalkResult, and_then, in_turn, literal_check, operator_check, walk_step, walk}
+use Rattle.validator.specs.inner.Walking.{named_walk, name_check, names_check, parts_check}
 
 and_assoc : (p q r : WalkResult) → and_then p (and_then q r) ≡ and_then (and_then p q) r
 and_assoc (Ok u) q r = refl
@@ -27,22 +27,22 @@ and_end (Err f) = refl
 
 module _ (s : StatedSchema) where
   abbrev told : List Name → WalkResult
-  told = names_told s
+  told = names_check s
 
   told_joined : (ms ns : List Name) → told (ms ++ ns) ≡ and_then (told ms) (told ns)
   told_joined [] ns = refl
-  told_joined (m ∷ ms) ns = ap (and_then (name_told s m)) (told_joined ms ns) ∙ and_assoc (name_told s m) (told ms) (told ns)
+  told_joined (m ∷ ms) ns = ap (and_then (name_check s m)) (told_joined ms ns) ∙ and_assoc (name_check s m) (told ms) (told ns)
 
   two : (r q : WalkResult) (ms ns : List Name) → r ≡ told ms → q ≡ told ns → and_then r q ≡ told (ms ++ ns)
   two r q ms ns e f = ap (λ x. and_then x q) e ∙ ap (and_then (told ms)) f ∙ sym (told_joined ms ns)
 
-  of_literal : (l : Literal) → literal_told s l ≡ told (literal_names l)
+  of_literal : (l : Literal) → literal_check s l ≡ told (literal_names l)
   of_literal (literal.Boolean b) = refl
   of_literal (literal.Long z) = refl
   of_literal (literal.Text t) = refl
   of_literal (literal.Entity u) = sym (and_end _)
 
-  of_operator : (op : Unary) → operator_told s op ≡ told (operator_names op)
+  of_operator : (op : Unary) → operator_check s op ≡ told (operator_names op)
   of_operator unary.Not = refl
   of_operator unary.Negate = refl
   of_operator (unary.Like p) = refl
@@ -82,7 +82,7 @@ module _ (s : StatedSchema) where
     or_form = λ a b f g. at (form.Or a b) _ _ (fold_or WalkResult (walk_step s) a b) (fold_or (List Name) names_step a b)
         (two (walk s a) (walk s b) (names_in a) (names_in b) f g);
     unary = λ op a f. at (form.Unary op a) _ _ (fold_unary WalkResult (walk_step s) op a) (fold_unary (List Name) names_step op a)
-        (two (walk s a) (operator_told s op) (names_in a) (operator_names op) f (of_operator op));
+        (two (walk s a) (operator_check s op) (names_in a) (operator_names op) f (of_operator op));
     binary = λ op a b f g. at (form.Binary op a b) _ _ (fold_binary WalkResult (walk_step s) op a b) (fold_binary (List Name) names_step op a b)
         (two (walk s a) (walk s b) (names_in a) (names_in b) f g);
     field = λ a k f. at (form.Field a k) _ _ (fold_field WalkResult (walk_step s) a k) (fold_field (List Name) names_step a k) f;
@@ -103,7 +103,7 @@ module _ (s : StatedSchema) where
 
   -- the parts of a scope and a condition, in turn, are the whole
   pub parts_walked : (p a r c : Expr)
-      → parts_told s (p ∷ a ∷ r ∷ []) c ≡ told (names_in (form.And p (form.And a (form.And r c))))
+      → parts_check s (p ∷ a ∷ r ∷ []) c ≡ told (names_in (form.And p (form.And a (form.And r c))))
   parts_walked p a r c =
       sym (and_assoc (walk s p) (and_then (walk s a) (and_then (walk s r) (Ok tt))) (walk s c))
       ∙ ap (and_then (walk s p)) (sym (and_assoc (walk s a) (and_then (walk s r) (Ok tt)) (walk s c))

@@ -1,5 +1,6 @@
--- Defines the codes of the validator's errors, which are a rule of this product, and which of them are errors of
--- typing.
+-- Defines the codes of the validator's errors, and the validator's error for each error of typing.
+-- Source: docs/codes.md.
+-- Rules of this product: the codes.
 use Rattle.std.specs.Prelude.{ℕ}
 use Rattle.type_checker.specs.typing.Environment as typing
 use Rattle.type_checker.specs.declared.fault.ExpressionFault.{ExpressionFault}
@@ -20,7 +21,7 @@ code_of AttributeMayBeMissing = 44
 code_of EmptySet = 45
 code_of BadExtensionLiteral = 46
 
--- `of_typing n` is the validator's error for the typing rules' error `n`.
+-- `of_typing n` is the validator's error for the error `n` of the typing rules.
 abbrev pub of_typing : typing.ExpressionFault → TypeFault
 of_typing typing.unexpected = Unexpected
 of_typing typing.no_common_type = NoCommonType
@@ -28,7 +29,7 @@ of_typing typing.attribute_may_be_missing = AttributeMayBeMissing
 of_typing typing.empty_set = EmptySet
 of_typing typing.bad_extension_literal = BadExtensionLiteral
 
--- `of_types f` is the validator's error for the type checker's error `f`.
+-- `of_types f` is the validator's error for the error `f` of the type checker's code.
 abbrev pub of_types : ExpressionFault → TypeFault
 of_types found.NoMemory = NoMemory
 of_types found.Unexpected = Unexpected

@@ -1,8 +1,8 @@
--- Defines the names in a policy: entity types and entity literals, in the order of its text.
+-- Defines the names in a policy: the entity types after `is` and the entity literals, in the order of its text.
 -- Source: Cedar reference guide 4.0, "Policy validation" and "Grammar specification for Cedar policy syntax".
--- Desugaring keeps operands in the order of the text. It may repeat an operand, as `e is T in f` is
--- `e is T && e in f`: the names of `e` then occur again after T. So the first name of a kind is the same here and in
--- the text.
+-- Desugaring keeps operands in the order of the text. It may repeat an operand: `e is T in f` becomes
+-- `e is T && e in f`, where the names of `e` occur again after T. Each repeated name occurs earlier too, so the first
+-- undeclared name is the same here and in the text.
 use Rattle.std.specs.Prelude.{ℕ, List, [], ◌∷◌, ◌++◌}
 use Rattle.values.specs.declared.entity_uid.EntityUid.{EntityUid}
 use Rattle.grammar_core.specs.Size.{values_of}
@@ -38,7 +38,8 @@ abbrev pub joined : List (List Name) → List Name
 joined [] = []
 joined (names ∷ rest) = names ++ joined rest
 
--- `names_step form` is the list of names of an expression `form` whose operands have the names in it.
+-- `names_step form` is the list of names in an expression of the form `form`, which has the names of each operand in
+-- place of the operand.
 abbrev pub names_step : Expr-F (List Name) → List Name
 names_step (Expr-F.Literal l) = literal_names l
 names_step (Expr-F.Variable x) = []

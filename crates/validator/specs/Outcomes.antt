@@ -18,12 +18,12 @@ use Rattle.validator.specs.Names.{names_of}
 use Rattle.validator.specs.Unknown.{IsKnown}
 use Rattle.validator.specs.Passing.{environments_of, Passes, IsImpossible, IsVerdict, IsCheckRefused}
 
--- A `CheckResult` is `passes impossible`, or `refused f` for an error `f`.
+-- A `CheckResult` is `passes b`, where `b` is whether the policy is impossible, or `refused f`, where `f` is the error.
 pub data CheckResult : Type 0 where
   passes : Bool → CheckResult
   refused : TypeFault → CheckResult
 
--- `IsCheckResult s policy o` holds if `o` is an outcome of validating `policy` under `s`.
+-- `IsCheckResult s policy o` holds if `o` is an outcome of validating `policy` under the schema `s`.
 abbrev pub IsCheckResult : StatedSchema → Policy → CheckResult → Type 0
 IsCheckResult s policy (passes impossible) = IsVerdict s policy impossible
 IsCheckResult s policy (refused f) = IsCheckRefused s policy f
@@ -44,9 +44,9 @@ abbrev pub NoEnvironmentIsImpossible : Type 0
 NoEnvironmentIsImpossible = (s : StatedSchema) (policy : Policy) → s.environments ≡ []
     → All (IsKnown s) (names_of policy) → IsCheckResult s policy (passes true)
 
--- Validation is sound: if the request and the entities conform to an environment of the schema, each result of a
--- passing policy's expression is a boolean, `EntityDoesNotExist` or `ArithBoundsError`; if the policy is impossible,
--- it is never true.
+-- `PassingPoliciesAreSound`: if the request and the entities conform to an environment of the schema, each result of
+-- the expression of a policy that passes is a boolean, `EntityDoesNotExist` or `ArithBoundsError`; if the policy is
+-- impossible, it is never true.
 abbrev pub PassingPoliciesAreSound : Type 0
 PassingPoliciesAreSound = (s : StatedSchema) (policy : Policy) → Passes s policy
     → (W : Entities) (above : EntityUid → EntityUid → Bool) → hierarchy.Decides W.parents above

@@ -3,7 +3,7 @@
 -- cedar-lean/Cedar/Validation/Validator.lean (`typecheckPolicyWithEnvironments`).
 -- Rules of this product: names are checked before types, and the error is that of the first environment that has one.
 -- A policy that is False in each environment passes here, as impossible; cedar-spec rejects it. If a schema has no
--- environment, so does each policy whose names are all declared.
+-- environment, each policy whose names are all declared passes, as impossible.
 use Rattle.std.specs.Prelude.{◌↔◌, List, [], ◌∷◌, map, All, Bool, IsTrue}
 use Rattle.grammar_core.specs.declared.expr.Expr.{Expr}
 use Rattle.type_checker.specs.policy_grammar.declared.policy.Policy.{Policy}
@@ -11,7 +11,7 @@ use Rattle.type_checker.specs.policy_grammar.Whole.{expression_of}
 use Rattle.type_checker.specs.schema.Schemas.{StatedSchema}
 use Rattle.type_checker.specs.typing.Types.{StaticType, false_type, IsBoolean}
 use Rattle.type_checker.specs.typing.Environment.{Environment, ExpressionFault}
-use Rattle.type_checker.specs.typing.Learned.{Pairs}
+use Rattle.type_checker.specs.typing.Gained.{Pairs}
 use Rattle.type_checker.specs.typing.Typing.{Types}
 use Rattle.type_checker.specs.typing.Faults.{Faults}
 use Rattle.type_checker.specs.FromSchemas.{typing_environment_of}
@@ -20,11 +20,12 @@ use Rattle.validator.specs.Faults.{of_typing}
 use Rattle.validator.specs.Names.{names_of}
 use Rattle.validator.specs.Unknown.{IsKnown, FirstUnknown}
 
--- `environments_of s` is the list of environments of `s`, ascending by action, principal type and resource type.
+-- `environments_of s` is the list of typing environments of the schema `s`, ascending by action, principal type and
+-- resource type.
 abbrev pub environments_of : StatedSchema → List Environment
 environments_of s = map (typing_environment_of s) s.environments
 
--- `HasType x t env` holds if `x` has type `t` in `env` with no capabilities at the start.
+-- `HasType x t env` holds if `x` has the type `t` in `env`, without known capabilities.
 abbrev pub HasType : Expr → StaticType → Environment → Type 0
 HasType x t env = (L : Pairs) × Types env [] x t L
 
@@ -32,8 +33,8 @@ HasType x t env = (L : Pairs) × Types env [] x t L
 abbrev pub HasBooleanType : Expr → Environment → Type 0
 HasBooleanType x env = (t : StaticType) × IsBoolean t × HasType x t env
 
--- `FirstFaulty x envs n` holds if `n` is an error of typing `x` in one of `envs`, and `x` has a boolean type in each
--- before it.
+-- `FirstFaulty x envs n` holds if `n` is an error of typing `x` in one of the environments `envs`, and `x` has a
+-- boolean type in each environment before that one.
 pub data FirstFaulty (x : Expr) : List Environment → ExpressionFault → Type 0 where
   faulty_here : {env : Environment} {envs : List Environment} {n : ExpressionFault} → Faults env [] x n
       → FirstFaulty x (env ∷ envs) n
@@ -50,7 +51,7 @@ pub record Passes (s : StatedSchema) (policy : Policy) : Type 0 where
 abbrev pub IsImpossible : StatedSchema → Policy → Type 0
 IsImpossible s policy = All (HasType (expression_of policy) false_type) (environments_of s)
 
--- `IsVerdict s policy told` holds if `policy` passes, and `told` is whether it is impossible.
+-- `IsVerdict s policy told` holds if `policy` passes, and `told` is true if and only if it is impossible.
 pub record IsVerdict (s : StatedSchema) (policy : Policy) (told : Bool) : Type 0 where
   pub passes : Passes s policy
   pub impossible : IsTrue told ↔ IsImpossible s policy

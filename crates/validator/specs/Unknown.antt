@@ -20,7 +20,7 @@ IsEntityType s n = IsSome (s.shape n)
 abbrev pub IsTypeOfAction : StatedSchema → List ℕ → Type 0
 IsTypeOfAction s n = (u : EntityUid) × Contains s.actions u × (u.type_name ≡ n)
 
--- `IsUnknown s n f` holds if `s` does not declare the name `n`, which is error `f`.
+-- `IsUnknown s n f` holds if `s` does not declare the name `n`, and `f` is the error for this.
 pub data IsUnknown (s : StatedSchema) : Name → TypeFault → Type 0 where
   -- an `is` names neither a declared entity type nor the type of a declared action
   unknown_tested_type : (n : List ℕ) → ¬ IsEntityType s n → ¬ IsTypeOfAction s n
@@ -32,7 +32,7 @@ pub data IsUnknown (s : StatedSchema) : Name → TypeFault → Type 0 where
   unknown_action : (u : EntityUid) → IsTrue (is_action_type u.type_name) → ¬ Contains s.actions u
       → IsUnknown s (entity u) UnknownAction
 
--- `IsKnown s n` holds if `s` declares the name `n`: no error is due for it.
+-- `IsKnown s n` holds if `s` declares the name `n`: there is no error for it.
 abbrev pub IsKnown : StatedSchema → Name → Type 0
 IsKnown s n = (f : TypeFault) → ¬ IsUnknown s n f
 

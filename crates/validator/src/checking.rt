@@ -1,17 +1,16 @@
 //! Validation of a policy under a schema.
-ghost use Rattle.std.specs.Prelude.{◌≡◌, ◌≢◌, ◌&&◌, IfOk, IfErr, true};
+ghost use Rattle.std.specs.Prelude.{◌≡◌, ◌≢◌, IfOk, IfErr, true};
 ghost use Rattle.type_checker.specs.policy_grammar.Whole.{expression_of};
 ghost use Rattle.type_checker.specs.schema.Views.{schema_view, environment_view};
 ghost use Rattle.type_checker.specs.FromSchemas.{typing_environment_of};
 ghost use Rattle.validator.specs.Passing.{IsVerdict, IsCheckRefused};
 ghost use Rattle.validator.specs.inner.Checking.{scope_parts, typed_in, ReportsFalse, IsJudged, AreJudged};
-ghost use Rattle.validator.specs.inner.Walking.{parts_told};
+ghost use Rattle.validator.specs.inner.Walking.{parts_check};
 
 use crate::fault::TypeFault;
 use crate::scope::parts_of;
 use crate::walking::{walk, walk_each};
 use grammar_core::Expr;
-use plain::NoMemory;
 use std::alloc::Global;
 use type_checker::{
     Environment, ExpressionFault, Policy, Schema, StaticType, TypingEnvironment,
@@ -21,29 +20,23 @@ use type_checker::{
 /// The result of validating a policy that passes.
 #[derive(Clone, Copy, PartialEq, Eq)]
 pub struct Verdict {
-    /// Whether the policy's type is False in each environment of the schema: then no conforming request satisfies it.
+    /// Whether the policy's type is False in each environment of the schema. No conforming request satisfies such a
+    /// policy.
     pub impossible: bool,
 }
 
-/// Returns the expressions of a policy's scope: principal, action, resource.
-fn scope_of(alloc: Global, policy: &Policy) -> Result<Vec<Expr>, NoMemory>
-    ensures { IfOk result (λ parts. parts.items ≡ scope_parts policy.now.scope) }
-{
-    parts_of(alloc, policy.scope.get())
-}
-
-/// Checks that each name of a policy is declared, first those of its scope, then those of its conditions; returns the
-/// error of the first that is not.
+/// Checks that each name of a policy is declared, first those of its scope, `parts`, then those of its conditions.
+/// Returns the error of the first that is not.
 fn check_names(schema: &Schema, parts: &[Expr], policy: &Policy) -> Result<(), TypeFault>
-    ensures { result ≡ parts_told (schema_view schema.now) parts.now policy.now.condition }
+    ensures { result ≡ parts_check (schema_view schema.now) parts.now policy.now.condition }
 {
     let condition = policy.condition.get();
     walk_each(schema, parts)?;
     walk(schema, condition)
 }
 
-/// Returns whether the found type is False, or the error for which there is no type.
-fn told<'a>(found: Result<StaticType<'a>, ExpressionFault>) -> Result<bool, TypeFault>
+/// Returns whether the type in `found` is False, or the validator's error for the error in `found`.
+fn reported_false<'a>(found: Result<StaticType<'a>, ExpressionFault>) -> Result<bool, TypeFault>
     ensures { ReportsFalse found.entry result }
 {
     match found {
@@ -52,7 +45,8 @@ fn told<'a>(found: Result<StaticType<'a>, ExpressionFault>) -> Result<bool, Type
     }
 }
 
-/// Returns whether a policy's type is False in an environment, or the error for which it has no type there.
+/// Returns whether a policy's type is False in an environment, or the error of typing it there. `parts` are the
+/// expressions of its scope.
 fn is_false_at(
     alloc: Global,
     schema: &Schema,
@@ -66,16 +60,10 @@ fn is_false_at(
 {
     expressions_have_one_judgement();
     let env = TypingEnvironment::new(schema, environment);
-    told(judge_all(alloc, env, parts, policy.condition.get()))
+    reported_false(judge_all(alloc, env, parts, policy.condition.get()))
 }
 
-fn both(first: bool, second: bool) -> bool
-    ensures { result ≡ (first && second) }
-{
-    first && second
-}
-
-/// Returns whether a policy's type is False in each environment, or the error of the first environment that has one.
+/// Returns whether a policy's type is False in each of `environments`, or the error of the first that has one.
 fn is_false_everywhere(
     alloc: Global,
     schema: &Schema,
@@ -89,7 +77,7 @@ fn is_false_everywhere(
     let mut all_false = true;
     for environment in environments {
         let is_false = is_false_at(alloc, schema, environment, parts, policy)?;
-        all_false = both(all_false, is_false);
+        all_false &= is_false;
     }
     Ok(all_false)
 }
@@ -103,7 +91,7 @@ fn is_false_everywhere(
 /// # Errors
 ///
 /// The names of the whole policy are checked first, in the order of its text. Then its expression is typed in each
-/// environment: environments ascend by action, principal type and resource type. The first error is returned:
+/// environment, in ascending order of action, principal type and resource type. The first error is returned:
 ///
 /// - `UnknownType` (40), `UnknownAction` (41): a name is not declared, also if its operand is never evaluated.
 /// - `Unexpected` (42), `NoCommonType` (43), `AttributeMayBeMissing` (44), `EmptySet` (45), `BadExtensionLiteral`
@@ -119,7 +107,7 @@ pub fn check(alloc: Global, schema: &Schema, policy: &Policy) -> Result<Verdict,
     ensures refused { IfErr result
         (λ f. f ≢ TypeFault.NoMemory → IsCheckRefused (schema_view schema.now) policy.now f) }
 {
-    let scope = scope_of(alloc, policy)?;
+    let scope = parts_of(alloc, policy)?;
     let parts = scope.as_slice();
     check_names(schema, parts, policy)?;
     let environments = schema.environments();

@@ -11,28 +11,28 @@ use type_checker::ExpressionFault;
 /// The first error of validating a policy under a schema.
 #[derive(Clone, Copy, PartialEq, Eq, Debug, Error)]
 pub enum TypeFault {
-    /// An allocation failed.
+    /// Code 1: an allocation failed.
     #[error("type 1: out of memory")]
     NoMemory,
-    /// The policy names an entity type that is not declared.
+    /// Code 40: the policy names an entity type that is not declared.
     #[error("type 40: undeclared entity type")]
     UnknownType,
-    /// The policy names an entity of an action type that is not a declared action.
+    /// Code 41: the policy names an entity of an action type that is not a declared action.
     #[error("type 41: undeclared action")]
     UnknownAction,
-    /// An operand does not have the kind of type that its operator needs.
+    /// Code 42: an operand does not have the kind of type that its operator demands.
     #[error("type 42: operand of the wrong type")]
     Unexpected,
-    /// Operands that need a common type have none.
+    /// Code 43: operands that need a common type have none.
     #[error("type 43: types without a common type")]
     NoCommonType,
-    /// An attribute is not declared, or it is optional and no capability shows that it is present.
+    /// Code 44: an attribute is not declared, or it is optional and no capability shows that it is present.
     #[error("type 44: attribute undeclared, or optional and not known to be present")]
     AttributeMayBeMissing,
-    /// A set literal has no elements.
+    /// Code 45: a set literal has no members.
     #[error("type 45: empty set literal; the type of its elements is unknown")]
     EmptySet,
-    /// The argument of `ip` or `decimal` is not a string literal of its grammar.
+    /// Code 46: the argument of `ip` or `decimal` is not a string literal of the extension's grammar.
     #[error("type 46: ip or decimal without a valid string literal")]
     BadExtensionLiteral,
 }

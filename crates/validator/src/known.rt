@@ -1,34 +1,25 @@
-//! Whether a schema declares a name.
-ghost use Rattle.std.specs.Prelude.{◌≡◌, is_some, slice_get, MatchOption};
+//! Tests of whether a schema declares a name of a policy.
+ghost use Rattle.std.specs.Prelude.{◌≡◌, slice_get, MatchOption};
 ghost use Rattle.std.specs.Ordering.{is_lt};
 ghost use Rattle.values.specs.Names.{text_cmp};
 ghost use Rattle.type_checker.specs.schema.Views.{schema_view};
-ghost use Rattle.validator.specs.inner.Walking.{type_at, is_type_of_action, is_declared_action, tested_type_told};
+ghost use Rattle.validator.specs.inner.Walking.{type_at, is_type_of_action, is_declared_action, tested_type_check};
 ghost use Rattle.validator.specs.Names.{entity, tested_type};
 ghost use Rattle.validator.specs.Unknown.{IsKnown, IsUnknown};
-ghost use Rattle.validator.specs.inner.Walking.{action_told, other_told, entity_told};
+ghost use Rattle.validator.specs.inner.Walking.{other_check, entity_check};
 
 use crate::fault::TypeFault;
 use type_checker::{Schema, is_action_type, stated_schemas_are_well_formed};
 use values::{EntityUid, TypeName};
 
-fn is_entity_type(schema: &Schema, name: &TypeName) -> bool
-    ensures { result ≡ is_some ((schema_view schema.now).shape name.now) }
-{
-    match schema.entity_type(name) {
-        Some(_) => true,
-        None => false,
-    }
-}
-
-/// Returns whether an action's type is less than a name.
+/// Returns whether the name of an action's type is less than `name`, by bytes.
 fn is_before(action: &EntityUid, name: &TypeName) -> bool
     ensures { result ≡ is_lt (text_cmp action.now.type_name name.now) }
 {
     action.type_name.cmp(name).is_lt()
 }
 
-/// Returns whether there is an action at an index of a list, and it has a type.
+/// Returns whether `actions` has an action at the index `at`, and its type is `name`.
 fn has_type_at(actions: &[EntityUid], at: usize, name: &TypeName) -> bool
     ensures { result ≡ type_at name.now (slice_get actions.now at) }
 {
@@ -38,7 +29,7 @@ fn has_type_at(actions: &[EntityUid], at: usize, name: &TypeName) -> bool
     }
 }
 
-/// Returns whether some action has this type. O(log n) comparisons of names.
+/// Returns whether the schema declares an action of the type `name`, by O(log n) comparisons of names.
 fn is_type_of_action(schema: &Schema, name: &TypeName) -> bool
     ensures { result ≡ is_type_of_action (schema_view schema.now) name.now }
 {
@@ -49,7 +40,7 @@ fn is_type_of_action(schema: &Schema, name: &TypeName) -> bool
     has_type_at(actions, first, name)
 }
 
-/// Returns whether an entity is a declared action. Looks up its parents: only declared actions have stated parents.
+/// Returns whether an entity is a declared action.
 fn is_declared_action(schema: &Schema, uid: &EntityUid) -> bool
     ensures { result ≡ is_declared_action (schema_view schema.now) uid.now }
 {
@@ -58,45 +49,44 @@ fn is_declared_action(schema: &Schema, uid: &EntityUid) -> bool
     schema.is_action(uid)
 }
 
-/// Checks the type of an `is`: it is a declared entity type, or the type of a declared action.
+/// Checks that the type after an `is` is a declared entity type or the type of a declared action.
 pub(crate) fn check_tested_type(schema: &Schema, name: &TypeName) -> Result<(), TypeFault>
-    ensures { result ≡ tested_type_told (schema_view schema.now) name.now }
+    ensures { result ≡ tested_type_check (schema_view schema.now) name.now }
 {
-    if is_entity_type(schema, name) || is_type_of_action(schema, name) {
+    if let Some(_) = schema.entity_type(name) {
+        return Ok(());
+    }
+    if is_type_of_action(schema, name) {
         return Ok(());
     }
     Err(TypeFault::UnknownType)
 }
 
-fn check_action(schema: &Schema, uid: &EntityUid) -> Result<(), TypeFault>
-    ensures { result ≡ action_told (schema_view schema.now) uid.now }
-{
-    if is_declared_action(schema, uid) {
-        return Ok(());
-    }
-    Err(TypeFault::UnknownAction)
-}
-
+/// Checks that the type of an entity literal is a declared entity type.
 fn check_other(schema: &Schema, uid: &EntityUid) -> Result<(), TypeFault>
-    ensures { result ≡ other_told (schema_view schema.now) uid.now }
+    ensures { result ≡ other_check (schema_view schema.now) uid.now }
 {
-    if is_entity_type(schema, &uid.type_name) {
-        return Ok(());
+    match schema.entity_type(&uid.type_name) {
+        Some(_) => Ok(()),
+        None => Err(TypeFault::UnknownType),
     }
-    Err(TypeFault::UnknownType)
 }
 
-/// Checks an entity literal: it is a declared action, or its type is a declared entity type.
+/// Checks that an entity literal is a declared action, if its type is an action type, or else that its type is a
+/// declared entity type.
 pub(crate) fn check_entity(schema: &Schema, uid: &EntityUid) -> Result<(), TypeFault>
-    ensures { result ≡ entity_told (schema_view schema.now) uid.now }
+    ensures { result ≡ entity_check (schema_view schema.now) uid.now }
 {
     if is_action_type(&uid.type_name) {
-        return check_action(schema, uid);
+        if is_declared_action(schema, uid) {
+            return Ok(());
+        }
+        return Err(TypeFault::UnknownAction);
     }
     check_other(schema, uid)
 }
 
-/// Returns the error of an entity that a schema does not declare, or `None` if it declares it. Does not allocate.
+/// Returns the error for an entity literal that the schema does not declare, or `None` if it does. Does not allocate.
 pub fn unknown_entity(schema: &Schema, uid: &EntityUid) -> Option<TypeFault>
     ensures { MatchOption result (IsKnown (schema_view schema.now) (entity uid.now))
         (λ f. IsUnknown (schema_view schema.now) (entity uid.now) f) }
@@ -107,8 +97,7 @@ pub fn unknown_entity(schema: &Schema, uid: &EntityUid) -> Option<TypeFault>
     }
 }
 
-/// Returns the error of a type after `is` that a schema does not declare, or `None` if it declares it. Does not
-/// allocate.
+/// Returns the error for a type after `is` that the schema does not declare, or `None` if it does. Does not allocate.
 pub fn unknown_tested_type(schema: &Schema, name: &TypeName) -> Option<TypeFault>
     ensures { MatchOption result (IsKnown (schema_view schema.now) (tested_type name.now))
         (λ f. IsUnknown (schema_view schema.now) (tested_type name.now) f) }

@@ -1,4 +1,4 @@
-//! The core expressions of a policy's scope, which precede its conditions.
+//! The core expressions of a policy's scope, and the policy's whole expression.
 ghost use Rattle.std.specs.Prelude.{◌≡◌, map, IfOk};
 ghost use Rattle.grammar_core.specs.declared.leaf.Variable.TheVariants.{Resource};
 ghost use Rattle.grammar_core.specs.declared.expr.Expr.TheVariants as form;
@@ -12,12 +12,14 @@ use std::alloc::Global;
 use type_checker::{ActionScope, EntityScope, Policy, Scope};
 use values::{EntityUid, TypeName};
 
+/// Returns the literal of an entity.
 fn entity_literal(uid: &EntityUid) -> Result<Expr, NoMemory>
     ensures { IfOk result (λ x. x ≡ entity_literal uid.now) }
 {
     Ok(Expr::Literal(Literal::Entity(uid.copy()?)))
 }
 
+/// Returns `variable == uid`.
 fn equal_to(alloc: Global, variable: Variable, uid: &EntityUid) -> Result<Expr, NoMemory>
     ensures { IfOk result (λ x. x ≡ is_equal variable uid.now) }
 {
@@ -25,6 +27,7 @@ fn equal_to(alloc: Global, variable: Variable, uid: &EntityUid) -> Result<Expr, 
     Expr::binary(alloc, Binary::Equal, Expr::Variable(variable), uid)
 }
 
+/// Returns `variable in uid`.
 fn within(alloc: Global, variable: Variable, uid: &EntityUid) -> Result<Expr, NoMemory>
     ensures { IfOk result (λ x. x ≡ is_in variable uid.now) }
 {
@@ -32,6 +35,7 @@ fn within(alloc: Global, variable: Variable, uid: &EntityUid) -> Result<Expr, No
     Expr::binary(alloc, Binary::In, Expr::Variable(variable), uid)
 }
 
+/// Returns `variable is name`.
 fn of_type(alloc: Global, variable: Variable, name: &TypeName) -> Result<Expr, NoMemory>
     ensures { IfOk result (λ x. x ≡ entity_part variable (EntityScope.Is name.now)) }
 {
@@ -39,6 +43,7 @@ fn of_type(alloc: Global, variable: Variable, name: &TypeName) -> Result<Expr, N
     Expr::unary(alloc, Unary::Is(name), Expr::Variable(variable))
 }
 
+/// Returns `variable is name in uid`, desugared.
 fn of_type_within(
     alloc: Global,
     variable: Variable,
@@ -65,6 +70,7 @@ fn entity_part(alloc: Global, variable: Variable, scope: &EntityScope) -> Result
     }
 }
 
+/// Returns the literals of the entities, in order.
 fn entity_literals(alloc: Global, uids: &[EntityUid]) -> Result<Items<Expr>, NoMemory>
     ensures { IfOk result (λ xs. xs ≡ map entity_literal uids.now) }
 {
@@ -75,6 +81,7 @@ fn entity_literals(alloc: Global, uids: &[EntityUid]) -> Result<Items<Expr>, NoM
     Ok(Items::from_vec(literals))
 }
 
+/// Returns `action in` the set of these entities; `false` for none.
 fn within_list(alloc: Global, uids: &Items<EntityUid>) -> Result<Expr, NoMemory>
     ensures { IfOk result (λ x. x ≡ action_part (ActionScope.InList uids.now)) }
 {
@@ -99,10 +106,11 @@ fn action_part(alloc: Global, scope: &ActionScope) -> Result<Expr, NoMemory>
     }
 }
 
-/// Returns the expressions of a scope: principal, action, resource.
-pub(crate) fn parts_of(alloc: Global, scope: &Scope) -> Result<Vec<Expr>, NoMemory>
-    ensures { IfOk result (λ parts. parts.items ≡ scope_parts scope.now) }
+/// Returns the expressions of a policy's scope: principal, action, resource.
+pub(crate) fn parts_of(alloc: Global, policy: &Policy) -> Result<Vec<Expr>, NoMemory>
+    ensures { IfOk result (λ parts. parts.items ≡ scope_parts policy.now.scope) }
 {
+    let scope = policy.scope.get();
     let mut parts = Vec::with_capacity(alloc, 3)?;
     parts.push(entity_part(alloc, Variable::Principal, &scope.principal)?)?;
     parts.push(action_part(alloc, &scope.action)?)?;
@@ -110,7 +118,7 @@ pub(crate) fn parts_of(alloc: Global, scope: &Scope) -> Result<Vec<Expr>, NoMemo
     Ok(parts)
 }
 
-/// Returns the scope's test of the resource, joined with the conditions.
+/// Returns the conjunction of the scope's constraint on the resource and the conditions.
 fn resource_and_condition(
     alloc: Global,
     scope: &Scope,
@@ -124,7 +132,8 @@ fn resource_and_condition(
     Ok(Expr::And(resource, condition))
 }
 
-/// Returns the scope's test of the action, joined with the rest.
+/// Returns the conjunction of the scope's constraint on the action, that on the resource, and the conditions, grouped
+/// to the right.
 fn behind_principal(
     alloc: Global,
     scope: &Scope,
@@ -138,12 +147,12 @@ fn behind_principal(
     Expr::and(alloc, action, rest)
 }
 
-/// Returns the expression of a policy: its scope's three parts and its conditions, joined to the right. The conditions
-/// are shared with the policy, not copied.
+/// Returns the expression of a policy: the conjunction of its scope's three parts and its conditions, grouped to the
+/// right. The conditions are shared with the policy, not copied.
 ///
 /// # Errors
 ///
-/// * `NoMemory`: an allocation failed.
+/// - `NoMemory`: an allocation failed.
 pub fn expression_of(alloc: Global, policy: &Policy) -> Result<Expr, NoMemory>
     ensures { IfOk result (λ x. x ≡ expression_of policy.now) }
 {

@@ -1,7 +1,7 @@
-//! Checks the names of an expression, in the order of the text.
+//! The check that a schema declares each name of an expression, in the order of the text.
 ghost use Rattle.std.specs.Prelude.{◌≡◌, map};
 ghost use Rattle.type_checker.specs.schema.Views.{schema_view};
-ghost use Rattle.validator.specs.inner.Walking.{in_turn, literal_told, operator_told, walk, named_walk};
+ghost use Rattle.validator.specs.inner.Walking.{in_turn, literal_check, operator_check, walk, named_walk};
 ghost use Rattle.grammar_core.specs.Size.{values_of};
 
 use crate::fault::TypeFault;
@@ -10,8 +10,9 @@ use grammar_core::{Expr, Literal, Named, Unary};
 use plain::Shared;
 use type_checker::Schema;
 
+/// Checks the entity of a literal; other literals have no name.
 fn check_literal(schema: &Schema, literal: &Literal) -> Result<(), TypeFault>
-    ensures { result ≡ literal_told (schema_view schema.now) literal.now }
+    ensures { result ≡ literal_check (schema_view schema.now) literal.now }
 {
     match literal {
         Literal::Entity(uid) => check_entity(schema, uid),
@@ -19,8 +20,9 @@ fn check_literal(schema: &Schema, literal: &Literal) -> Result<(), TypeFault>
     }
 }
 
+/// Checks the type after an `is`; other operators have no name.
 fn check_operator(schema: &Schema, operator: &Unary) -> Result<(), TypeFault>
-    ensures { result ≡ operator_told (schema_view schema.now) operator.now }
+    ensures { result ≡ operator_check (schema_view schema.now) operator.now }
 {
     match operator {
         Unary::Is(name) => check_tested_type(schema, name),
@@ -28,8 +30,8 @@ fn check_operator(schema: &Schema, operator: &Unary) -> Result<(), TypeFault>
     }
 }
 
-/// Checks that each name of an expression is declared, also in operands that are never evaluated; returns the error
-/// of the first that is not.
+/// Checks that each name of an expression is declared, also in operands that are never evaluated. Returns the error of
+/// the first that is not.
 ///
 /// Does not allocate. The stack grows with the height of the expression.
 #[cycle(walk)]
@@ -83,6 +85,7 @@ pub(crate) fn walk_each(schema: &Schema, exprs: &[Expr]) -> Result<(), TypeFault
     Ok(())
 }
 
+/// Checks the values of a record's fields in turn; returns the first error.
 #[cycle(walk)]
 fn walk_fields(schema: &Schema, fields: &[Named<Expr>]) -> Result<(), TypeFault>
     ensures { result ≡ in_turn (values_of (map (named_walk (schema_view schema.now)) fields.now)) }

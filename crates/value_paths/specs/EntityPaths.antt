@@ -1,7 +1,8 @@
 -- Defines the path to the part of an entity's JSON that is at fault under a schema.
 -- Source: Cedar reference guide 4.0, "Entities and context: JSON format".
--- Rules of this product: a uid is one part. An error of the form leads to the first part without the form; 31 and 32 to
--- `uid`, 38 to `tags`; 33, 34 and 35 into `attrs`; 36 and 37 to the first parent that the entity may not have.
+-- Rules of this product: a uid is one part. An error of the form (30) leads to the first part without the form; of the
+-- type (31, 32) to `uid`; of tags (38) to `tags`; of attributes (33, 34, 35) into `attrs`; of parents (36, 37) to the
+-- first parent that the entity may not have.
 use Rattle.std.specs.Prelude.{◌≡◌, ℕ, ◌+◌, List, [], ◌∷◌, Bool, true}
 use Rattle.std.specs.Prelude.{false, is_some, Option, Some, None, Ok, Err, codes}
 use Rattle.std.specs.Prelude.{if◌then◌else◌, option_and_then}
@@ -22,7 +23,7 @@ use Rattle.value_paths.specs.declared.steps.Step.{Step}
 use Rattle.value_paths.specs.declared.steps.Step.TheVariants.{Key, Index}
 use Rattle.value_paths.specs.Paths.{RecordFaultAt}
 
--- `to_key key` is the path to the member at `key`; `to_parent i` that to the parent at index `i`.
+-- `to_key key` is the path to the member at `key`; `to_parent i` is the path to the parent at the index `i`.
 abbrev pub to_key : List ℕ → List Step
 to_key key = Key key ∷ []
 
@@ -31,16 +32,17 @@ to_parent i = Key (codes "parents") ∷ Index i ∷ []
 
 -- ---- the form
 
--- A `Demand` is a test, with the path to the part that it is of.
+-- A `Demand` is the result of a test of a part, with the path to that part.
 abbrev pub Demand : Type 0
 Demand = Bool × List Step
 
--- `first_unmet demands` is the path of the first demand that is not met, if there is one.
+-- `first_unmet demands` is the path of the first of `demands` whose test failed, if there is one.
 abbrev pub first_unmet : List Demand → Option (List Step)
 first_unmet [] = None
 first_unmet (demand ∷ more) = if demand.0 then first_unmet more else Some demand.1
 
--- `is_uid o` tests for a uid, which must be present; `is_absent_or_array o` for an array, or an absent value.
+-- `is_uid o` tests whether the value `o` is present and a uid; `is_absent_or_array o` tests whether it is absent or an
+-- array.
 abbrev pub is_uid : Option Data → Bool
 is_uid None = false
 is_uid (Some d) = is_some (uid_in d)
@@ -49,17 +51,17 @@ abbrev pub is_absent_or_array : Option Data → Bool
 is_absent_or_array None = true
 is_absent_or_array (Some d) = is_some (as_array d)
 
--- `items_at o` are the items of an array; an absent or another value has none.
+-- `items_at o` are the items of the array `o`; none if `o` is absent or another value.
 abbrev pub items_at : Option Data → Items
 items_at None = no_items
 items_at (Some d) = with_or (as_array d) (λ ds. ds) no_items
 
--- `parent_demands i ds`: each of the parents `ds`, counted from `i`, is a uid.
+-- `parent_demands i ds` demand that each of the parents `ds`, counted from `i`, is a uid.
 abbrev pub parent_demands : ℕ → Items → List Demand
 parent_demands i no_items = []
 parent_demands i (item d ds) = (is_some (uid_in d), to_parent i) ∷ parent_demands (i + 1) ds
 
--- `parents_demands o`: the parents, if present, are an array of uids.
+-- `parents_demands o` demand that the parents `o`, if present, are an array of uids.
 abbrev pub parents_demands : Option Data → List Demand
 parents_demands o = (is_absent_or_array o, to_key (codes "parents")) ∷ parent_demands 0 (items_at o)
 
@@ -74,15 +76,16 @@ form_demands d =
 
 -- ---- attributes and parents
 
--- `uid_at o` is the uid that a value names, and `shape_at s o` the shape of the type of that entity.
+-- `uid_at o` is the uid that the value `o` states, if it states one; `shape_at s o` is the shape of the type of that
+-- entity, if the schema `s` declares it.
 abbrev pub uid_at : Option Data → Option EntityUid
 uid_at o = option_and_then uid_in o
 
 abbrev pub shape_at : StatedSchema → Option Data → Option Cedar
 shape_at s o = option_and_then (λ uid. s.shape uid.type_name) (uid_at o)
 
--- `IsInAttributes s d path` holds if `path` leads to the fault of the attributes, read by the shape of the entity's
--- type.
+-- `IsInAttributes s d path` holds if `path` leads to the part of the attributes of the entity `d` that is at fault
+-- under the shape of the entity's type.
 pub data IsInAttributes (s : StatedSchema) (d : Data) : List Step → Type 0 where
   in_attributes : (e : StatedEntity) (shape : Cedar) (path : List Step) → stated_in d ≡ Ok e
       → s.shape e.uid.type_name ≡ Some shape → RecordFaultAt shape (or_empty (get (codes "attrs") d)) path
@@ -96,7 +99,7 @@ pub data FirstUnfit (s : StatedSchema) (uid : EntityUid) : ℕ → List EntityUi
   later_parent : (i : ℕ) (parent : EntityUid) (more : List EntityUid) (j : ℕ) → parent_fits s uid parent ≡ Ok tt
       → FirstUnfit s uid (i + 1) more j → FirstUnfit s uid i (parent ∷ more) j
 
--- `IsAtParent s d path` holds if `path` leads to that parent of the entity.
+-- `IsAtParent s d path` holds if `path` leads to the first parent that the entity `d` may not have.
 pub data IsAtParent (s : StatedSchema) (d : Data) : List Step → Type 0 where
   at_parent : (e : StatedEntity) (i : ℕ) → stated_in d ≡ Ok e → FirstUnfit s e.uid 0 e.parents i
       → IsAtParent s d (to_parent i)

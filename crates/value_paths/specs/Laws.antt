@@ -1,5 +1,5 @@
--- Defines the theorems that a rejected value has exactly one path to its fault, that an accepted one has no path, and
--- that the words on the part of an entity or a request are determined.
+-- Defines the theorems that a rejected value has exactly one path to the part at fault, that an accepted one has no
+-- path, and that the words that name the part at fault of an entity or a request are determined.
 use Rattle.std.specs.Prelude.{◌≡◌, ℕ, List, Option, Result, Ok, Err}
 use Rattle.serde_json.specs.Data.{Data}
 use Rattle.schema_types.specs.Cedar.{Cedar}
@@ -21,36 +21,37 @@ HasPath (Ok x) LeadsTo = (path : List Step) → LeadsTo path → ⊥
 HasPath (Err f) LeadsTo =
     (path : List Step) × LeadsTo path × ((other : List Step) → LeadsTo other → other ≡ path)
 
--- `ValuesHavePaths`: a value that a type rejects has exactly one path to its fault, one that it accepts has no path.
+-- `ValuesHavePaths`: JSON that a type rejects has exactly one path to the part at fault; JSON that it accepts has no
+-- path.
 abbrev pub ValuesHavePaths : Type 0
 ValuesHavePaths = (t : Cedar) (d : Data) → HasPath (typed_value t d) (FaultAt t d)
 
--- `RecordsHavePaths`: the same of attributes and contexts.
+-- `RecordsHavePaths`: the same holds for attributes and contexts.
 abbrev pub RecordsHavePaths : Type 0
 RecordsHavePaths = (t : Cedar) (d : Data) → HasPath (record_in t d) (RecordFaultAt t d)
 
--- `HasPathOf r LeadsTo` holds if `LeadsTo` holds, with the error that `r` is, of exactly one path.
+-- `HasPathOf r LeadsTo` holds if `r` is a value, or an error with which `LeadsTo` holds of exactly one path.
 abbrev pub HasPathOf : {A F : Type 0} → Result A F → (F → List Step → Type 0) → Type 0
 HasPathOf (Ok x) LeadsTo = Unit {0}
 HasPathOf (Err f) LeadsTo =
     (path : List Step) × LeadsTo f path × ((other : List Step) → LeadsTo f other → other ≡ path)
 
--- `EntitiesHavePaths`: an entity that is rejected has, with its error, exactly one path.
+-- `EntitiesHavePaths`: JSON that is rejected as an entity has exactly one path to the part that its error is about.
 abbrev pub EntitiesHavePaths : Type 0
 EntitiesHavePaths = (s : StatedSchema) (d : Data) → HasPathOf (entity_stated_in s d) (IsPathOf s d)
 
--- `RequestsHavePaths`: a request that is rejected has, with its error, exactly one path.
+-- `RequestsHavePaths`: JSON that is rejected as a request has exactly one path to the part that its error is about.
 abbrev pub RequestsHavePaths : Type 0
 RequestsHavePaths = (s : StatedSchema) (d : Data) (f : EntityFault) → RequestRefused s d f
     → (path : List Step) × IsRequestPathOf s d f path
     × ((other : List Step) → IsRequestPathOf s d f other → other ≡ path)
 
--- `EntitiesAreToldOnce`: two texts that say where a value is at fault as an entity are the same.
+-- `EntitiesAreToldOnce`: at most one text names the part at fault of a value as an entity.
 abbrev pub EntitiesAreToldOnce : Type 0
 EntitiesAreToldOnce = (s : StatedSchema) (o : Option Data) (words others : List ℕ) → IsEntityTold s o words
     → IsEntityTold s o others → words ≡ others
 
--- `RequestsAreToldOnce`: two texts that say where a value is at fault as a request are the same.
+-- `RequestsAreToldOnce`: at most one text names the part at fault of a value as a request.
 abbrev pub RequestsAreToldOnce : Type 0
 RequestsAreToldOnce = (s : StatedSchema) (o : Option Data) (words others : List ℕ) → IsRequestTold s o words
     → IsRequestTold s o others → words ≡ others

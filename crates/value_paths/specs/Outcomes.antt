@@ -1,6 +1,6 @@
 -- Defines the result of the search for the part at fault.
--- Rules of this product: it is the error that parsing gives, with the path to the part at fault; nothing if parsing
--- gives a value.
+-- Rules of this product: the result is the error that parsing gives, with the path to the part at fault, or `None` if
+-- parsing gives a value.
 use Rattle.std.specs.Prelude.{◌≡◌, Option, MatchOption, Ok, Err}
 use Rattle.serde_json.specs.Data.{Data}
 use Rattle.values.specs.declared.request.Request.{Request}
@@ -18,7 +18,8 @@ abbrev pub IsEntityFault : StatedSchema → Data → Option PlacedFault → Type
 IsEntityFault s d o = MatchOption o ((e : Entity) × (entity_stated_in s d ≡ Ok e))
     (λ x. (entity_stated_in s d ≡ Err x.fault) × IsPathOf s d x.fault x.path)
 
--- `IsRequestFault s d o` holds if `o` is the same of `d` as a request.
+-- `IsRequestFault s d o` holds if `o` is the error of `d` as a request under the schema `s`, with the path to the part
+-- at fault; or if `o` is `None`, and `d` states a request.
 abbrev pub IsRequestFault : StatedSchema → Data → Option PlacedFault → Type 0
 IsRequestFault s d o = MatchOption o ((q : Request) × StatesRequest s d q)
     (λ x. RequestRefused s d x.fault × IsRequestPathOf s d x.fault x.path)

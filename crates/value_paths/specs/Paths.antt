@@ -18,15 +18,16 @@ use Rattle.entities.specs.Typing.{typed_value, typed_members}
 use Rattle.value_paths.specs.declared.steps.Step.{Step}
 use Rattle.value_paths.specs.declared.steps.Step.TheVariants.{Key, Index}
 
--- `is_set t d` tests for an array where the type `t` is a set type; `is_record t d` for an object where it is a record
--- type. Other values have no parts.
+-- `is_set t d` tests whether `t` is a set type and `d` an array; `is_record t d` tests whether `t` is a record type and
+-- `d` an object. Other values have no parts.
 abbrev pub is_set : Cedar → Data → Bool
 is_set t d = is_some (as_array d) && is_some (element_of t)
 
 abbrev pub is_record : Cedar → Data → Bool
 is_record t d = is_some (as_object d) && is_some (fields_in t)
 
--- `FirstAbsent fs d key` holds if `key` is the first key of `fs` that is required and absent from the object `d`.
+-- `FirstAbsent fs d key` holds if `key` is the first key of the fields `fs` that is required and absent from the object
+-- `d`.
 pub data FirstAbsent : CedarFields → Data → List ℕ → Type 0 where
   first_absent : (key : List ℕ) (t : Cedar) (fs : CedarFields) (d : Data) → get key d ≡ None
       → FirstAbsent (type.field key t true fs) d key
@@ -35,7 +36,7 @@ pub data FirstAbsent : CedarFields → Data → List ℕ → Type 0 where
       → FirstAbsent (type.field other t required fs) d key
 
 mutual
-  -- `FaultAt t d path` holds if `d` is no value of the type `t`, and `path` leads from `d` to the part at fault.
+  -- `FaultAt t d path` holds if `d` states no value of the type `t`, and `path` leads from `d` to the part at fault.
   pub data FaultAt : Cedar → Data → List Step → Type 0 where
     whole : (t : Cedar) (d : Data) (f : ValueFault) → (is_set t d || is_record t d) ≡ false
         → typed_value t d ≡ Err f → FaultAt t d []
@@ -46,16 +47,16 @@ mutual
     lacks_key : (fs : CedarFields) (ms : Members) (read : List Field) (key : List ℕ) → typed_members fs ms ≡ Ok read
         → FirstAbsent fs (object ms) key → FaultAt (type.record_of fs) (object ms) (Key key ∷ [])
 
-  -- `ItemFaultAt t i ds path`: `path` leads to the fault of the first of the items `ds`, counted from `i`, that is no
-  -- value of the type `t`.
+  -- `ItemFaultAt t i ds path` holds if `path` leads from an array with the items `ds`, counted from `i`, to the part at
+  -- fault of the first item that states no value of the type `t`.
   pub data ItemFaultAt : Cedar → ℕ → Items → List Step → Type 0 where
     this_item : (t : Cedar) (i : ℕ) (d : Data) (ds : Items) (path : List Step) → FaultAt t d path
         → ItemFaultAt t i (item d ds) (Index i ∷ path)
     later_item : (t : Cedar) (i : ℕ) (d : Data) (ds : Items) (v : PlainValue) (path : List Step)
         → typed_value t d ≡ Ok v → ItemFaultAt t (i + 1) ds path → ItemFaultAt t i (item d ds) path
 
-  -- `MemberFaultAt fs ms path`: `path` leads to the fault of the first of the members `ms` whose key is not declared in
-  -- `fs`, or whose value is not of the type declared for it.
+  -- `MemberFaultAt fs ms path` holds if `path` leads from an object with the members `ms` to the part at fault of the
+  -- first member whose key is not declared in `fs`, or whose value is not of the type declared for it.
   pub data MemberFaultAt : CedarFields → Members → List Step → Type 0 where
     undeclared : (fs : CedarFields) (key : List ℕ) (d : Data) (ms : Members) → declared_at key fs ≡ None
         → MemberFaultAt fs (member key d ms) (Key key ∷ [])
@@ -65,8 +66,8 @@ mutual
         (path : List Step) → declared_at key fs ≡ Some t → typed_value t d ≡ Ok v → MemberFaultAt fs ms path
         → MemberFaultAt fs (member key d ms) path
 
--- `RecordFaultAt t d path`: the same of `d` parsed as attributes or as a context, by the type `t`. If `d` is not an
--- object, or `t` not a record type, `d` is at fault as a whole.
+-- `RecordFaultAt t d path` holds if `path` leads from `d`, parsed as attributes or as a context by the type `t`, to the
+-- part at fault. If `d` is not an object, or `t` is not a record type, `d` is at fault as a whole.
 pub data RecordFaultAt : Cedar → Data → List Step → Type 0 where
   no_record : (t : Cedar) (d : Data) → is_record t d ≡ false → RecordFaultAt t d []
   within_record : (t : Cedar) (d : Data) (path : List Step) → is_record t d ≡ true → FaultAt t d path

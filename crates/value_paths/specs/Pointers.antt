@@ -6,7 +6,7 @@ use Rattle.std.specs.List.{flat_map}
 use Rattle.value_paths.specs.declared.steps.Step.{Step}
 use Rattle.value_paths.specs.declared.steps.Step.TheVariants.{Key, Index}
 
--- `escaped_char c` are the characters that represent the character `c` of a key.
+-- `escaped_char c` are the characters that represent the character `c` of a key (126 is `~`, 47 is `/`).
 abbrev pub escaped_char : ℕ → List ℕ
 escaped_char c = if c == 126 then codes "~0" else (if c == 47 then codes "~1" else c ∷ [])
 
@@ -14,11 +14,12 @@ escaped_char c = if c == 126 then codes "~0" else (if c == 47 then codes "~1" el
 abbrev pub escaped : List ℕ → List ℕ
 escaped key = encode_utf8_all (flat_map escaped_char (chars key))
 
--- `token_of step` is the reference token of a step.
+-- `token_of step` is the reference token of the step `step`.
 abbrev pub token_of : Step → List ℕ
 token_of (Key key) = escaped key
 token_of (Index i) = decimal i
 
--- `pointer_of path` is the pointer of a path; that of the whole value is empty.
+-- `pointer_of path` is the pointer of the path `path`: `/` (47) and a token for each step. That of the whole value is
+-- empty.
 abbrev pub pointer_of : List Step → List ℕ
 pointer_of path = flat_map (λ step. 47 ∷ token_of step) path

@@ -1,7 +1,7 @@
 -- Defines the path to the part of a request's JSON that is at fault under a schema.
 -- Source: Cedar reference guide 4.0, "Authorization request".
--- Rules of this product: the name of an entity is one part. An error of the form leads to the first part without the
--- form; 39 to `action`; 33, 34 and 35 into `context`.
+-- Rules of this product: the name of an entity is one part. An error of the form (30) leads to the first part without
+-- the form; that the action does not apply (39) to `action`; an error of the context (33, 34, 35) into `context`.
 use Rattle.std.specs.Prelude.{◌≡◌, ℕ, List, [], ◌∷◌, true, false, is_some, Option, Some, codes}
 use Rattle.serde_json.specs.Data.{Data}
 use Rattle.serde_json.specs.Find.{get, as_object}
@@ -19,7 +19,7 @@ use Rattle.value_paths.specs.declared.steps.Step.TheVariants.{Key}
 use Rattle.value_paths.specs.Paths.{RecordFaultAt}
 use Rattle.value_paths.specs.EntityPaths.{to_key}
 
--- `IsNamedAt key d` holds if the value at `key` names an entity.
+-- `IsNamedAt key d` holds if the value of `d` at `key` names an entity.
 abbrev pub IsNamedAt : List ℕ → Data → Type 0
 IsNamedAt key d = (uid : EntityUid) × NamesAt key d uid
 
@@ -35,16 +35,19 @@ pub data FormFaultAt (d : Data) : List Step → Type 0 where
   no_context : IsNamedAt (codes "principal") d → IsNamedAt (codes "action") d → IsNamedAt (codes "resource") d
       → is_absent_or_object (get (codes "context") d) ≡ false → FormFaultAt d (to_key (codes "context"))
 
--- `context_type s asked` is the type of the context of a request for these three.
+-- `context_type s asked` is the type of the context of a request with the principal, action and resource `asked`;
+-- `None` if the action does not apply to the two types.
 abbrev pub context_type : StatedSchema → Asked → Option Cedar
 context_type s asked =
     context_where (is_place asked.action asked.principal.type_name asked.resource.type_name) s.environments
 
--- `IsContextType s d t` holds if `t` is that type for the three that `d` names, if it has the form of a request.
+-- `IsContextType s d t` holds if `t` is `context_type` for the principal, action and resource that `d` names, or `d`
+-- does not have the form of a request.
 abbrev pub IsContextType : StatedSchema → Data → Option Cedar → Type 0
 IsContextType s d t = (asked : Asked) → Asks d asked → t ≡ context_type s asked
 
--- `IsInContext s d path` holds if `path` leads to the fault of the context, read by that type.
+-- `IsInContext s d path` holds if `path` leads to the part of the context of the request `d` that is at fault under the
+-- type of the context.
 pub data IsInContext (s : StatedSchema) (d : Data) : List Step → Type 0 where
   in_context : (asked : Asked) (t : Cedar) (path : List Step) → Asks d asked → context_type s asked ≡ Some t
       → RecordFaultAt t (or_empty (get (codes "context") d)) path → IsInContext s d (Key (codes "context") ∷ path)

@@ -1,8 +1,9 @@
--- Defines the words of an explanation on the part at fault of an entity or a request.
--- Source: RFC 6901, of JSON pointers; docs/formats.md, of the names of types.
--- Rules of this product: `at ` and the JSON pointer of the part, from the item of the array or from the request; for an
--- error of an attribute or of a context (33, 34, 35) also the type that is declared for the part, if one is, a set and
--- a record without their parts. Nothing if the whole is at fault, or if no part is, as for a uid that occurs twice.
+-- Defines the words in which an explanation names the part at fault of an entity or a request.
+-- Source: RFC 6901, for JSON pointers; docs/formats.md, for the names of types.
+-- Rules of this product: the words are `at ` and the JSON pointer of the part, from the item of the array or from the
+-- request; for an error of an attribute or of a context (33, 34, 35) also the type that is declared for the part, if
+-- one is, a set and a record without their parts. There are no words if the whole is at fault, or if no part is, as
+-- for a uid that occurs twice.
 use Rattle.std.specs.Prelude.{◌≡◌, ℕ, Bool, true, false, if◌then◌else◌, List, [], ◌∷◌, ◌++◌, codes}
 use Rattle.std.specs.Prelude.{Option, Some, None, MatchOption, option_and_then}
 use Rattle.serde_json.specs.Data.{Data}
@@ -39,14 +40,14 @@ abbrev pub declared_words : Option Cedar → List ℕ
 declared_words None = []
 declared_words (Some t) = codes ": " ++ type_word t ++ codes " is declared"
 
--- `is_of_value f` tests for an error of an attribute or of a context.
+-- `is_of_value f` tests whether `f` is an error of an attribute or of a context.
 abbrev pub is_of_value : EntityFault → Bool
 is_of_value Undeclared = true
 is_of_value Missing = true
 is_of_value WrongType = true
 is_of_value f = false
 
--- `type_behind whole path` is the type of the part to which the steps of `path` behind the first one lead from a value
+-- `type_behind whole path` is the type of the part to which the steps of `path` after the first one lead from a value
 -- of the type `whole`.
 abbrev pub type_behind : Cedar → List Step → Option Cedar
 type_behind whole [] = None
@@ -69,12 +70,12 @@ abbrev pub part_words : Option PlacedFault → Option Cedar → List ℕ
 part_words None whole = []
 part_words (Some x) whole = pointer_words (pointer_of x.path) ++ declared_words (type_of_part x whole)
 
--- `item_at text index` is the item at this index of the array that `text` is, if there is one.
+-- `item_at text index` is the item at the index `index` of the JSON array `text`, if there is one.
 abbrev pub item_at : List ℕ → ℕ → Option Data
 item_at text index = option_and_then (at index) (json_of text)
 
--- `IsEntityTold s d words` holds if `words` name the part at fault of `d` as an entity under the schema `s`, and
--- `IsRequestTold s d words` if they name that of `d` as a request; for an absent value they are empty.
+-- `IsEntityTold s o words` holds if `words` name the part at fault of the value `o` as an entity under the schema `s`,
+-- and `IsRequestTold s o words` if they name that of `o` as a request. For an absent value they are empty.
 abbrev pub IsEntityTold : StatedSchema → Option Data → List ℕ → Type 0
 IsEntityTold s o words = MatchOption o (words ≡ []) (λ d. (found : Option PlacedFault) × IsEntityFault s d found
     × (words ≡ part_words found (shape_at s (get (codes "uid") d))))
@@ -83,12 +84,12 @@ abbrev pub IsRequestTold : StatedSchema → Option Data → List ℕ → Type 0
 IsRequestTold s o words = MatchOption o (words ≡ []) (λ d. (found : Option PlacedFault) × (whole : Option Cedar)
     × IsRequestFault s d found × IsContextType s d whole × (words ≡ part_words found whole))
 
--- `IsItemTold s text index words` holds if `words` name the part at fault of the entity at this index of `text`; they
--- are empty for a text without that index.
+-- `IsItemTold s text index words` holds if `words` name the part at fault of the entity at the index `index` of the
+-- JSON array `text`; they are empty if there is no such item.
 abbrev pub IsItemTold : StatedSchema → List ℕ → Option ℕ → List ℕ → Type 0
 IsItemTold s text index words = IsEntityTold s (option_and_then (item_at text) index) words
 
--- `IsAskedTold s text words` holds if `words` name the part at fault of the request `text`; they are empty for other
--- texts.
+-- `IsAskedTold s text words` holds if `words` name the part at fault of the JSON `text` as a request; they are empty
+-- for a text that is not JSON.
 abbrev pub IsAskedTold : StatedSchema → List ℕ → List ℕ → Type 0
 IsAskedTold s text words = IsRequestTold s (json_of text) words

@@ -1,4 +1,4 @@
-//! The part of an entity's JSON that is at fault.
+//! The search for the part of an entity's JSON that is at fault.
 ghost use Rattle.std.specs.Prelude.{◌≡◌, IfOk, Err, option_map};
 ghost use Rattle.serde_json.specs.View.{view};
 ghost use Rattle.schema_types.specs.CedarViews.{cedar_view};
@@ -20,8 +20,19 @@ use plain::NoMemory;
 use schema_types::CedarType;
 use serde_json::{Map, Value};
 use std::alloc::Global;
+use values::TypeName;
 
-/// Returns the shape of the type of the entity that a value names.
+/// Returns the shape of a type of entities.
+fn shape_of<'s>(schema: &'s Schema, name: &TypeName) -> Option<&'s CedarType>
+    ensures { option_map (λ t. cedar_view t.now) result ≡ (schema_view schema.now).shape name.now }
+{
+    match schema.entity_type(name) {
+        Some(entity_type) => Some(&entity_type.shape),
+        None => None,
+    }
+}
+
+/// Returns the shape of the type of the entity that a value names, if it names one and the type is declared.
 pub(crate) fn shape_at<'s>(
     alloc: Global,
     schema: &'s Schema,
@@ -31,15 +42,17 @@ pub(crate) fn shape_at<'s>(
         ≡ shape_at (schema_view schema.now) (option_map (λ v. view v.now) found.entry)) }
 {
     match uid_at(alloc, found)? {
-        Some(uid) => match schema.entity_type(&uid.type_name) {
-            Some(entity_type) => Ok(Some(&entity_type.shape)),
-            None => Ok(None),
-        },
+        Some(uid) => {
+            let shape = shape_of(schema, &uid.type_name);
+            drop(uid);
+            Ok(shape)
+        }
         None => Ok(None),
     }
 }
 
-/// Returns the path to the fault of a record, which is empty if it is absent.
+/// Returns the path to the part of a record that is at fault, if there is one. An absent record counts as an empty
+/// object.
 pub(crate) fn find_in_fields(
     alloc: Global,
     found: Option<&Value>,
@@ -57,7 +70,7 @@ pub(crate) fn find_in_fields(
     }
 }
 
-/// Returns the path to the fault of the attributes, if there is one.
+/// Returns the path to the part of the attributes that is at fault, if there is one.
 #[tactic(auto, unfolding(crate::specs::inner::FoundParts::attributes_path))]
 fn find_in_attributes(
     alloc: Global,

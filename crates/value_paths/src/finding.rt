@@ -1,4 +1,4 @@
-//! The way down to the part of a value that is at fault.
+//! The search for the part of a value that is at fault.
 ghost use Rattle.std.specs.Prelude.{◌≡◌, IfOk, option_map};
 ghost use Rattle.serde_json.specs.View.{view, items_view, members_view};
 ghost use Rattle.schema_types.specs.CedarViews.{cedar_view, cedar_fields_view};
@@ -12,11 +12,13 @@ use schema_types::CedarType;
 use serde_json::{Map, Value};
 use std::alloc::Global;
 
+/// A field of a record type: its name, its type, and whether it is required.
 pub(crate) type Field = (Text, CedarType, bool);
 
+/// The fields of a record type.
 pub(crate) type Fields = Items<Field>;
 
-/// Returns the type of a set's members.
+/// Returns the type of a set's members; `None` if the type is not a set type.
 pub(crate) fn element(ty: &CedarType) -> Option<&CedarType>
     ensures { option_map (λ t. cedar_view t.now) result ≡ element_of (cedar_view ty.now) }
 {
@@ -26,7 +28,7 @@ pub(crate) fn element(ty: &CedarType) -> Option<&CedarType>
     }
 }
 
-/// Returns the fields of a record.
+/// Returns the fields of a record type; `None` if the type is not a record type.
 pub(crate) fn fields(ty: &CedarType) -> Option<&Fields>
     ensures { option_map (λ fs. cedar_fields_view fs.now) result ≡ fields_in (cedar_view ty.now) }
 {
@@ -36,7 +38,7 @@ pub(crate) fn fields(ty: &CedarType) -> Option<&Fields>
     }
 }
 
-/// Returns the type of a field.
+/// Returns the type of the field of this name, if there is one.
 pub(crate) fn declared<'t>(fields: &'t Fields, name: &str) -> Option<&'t CedarType>
     ensures { option_map (λ t. cedar_view t.now) result ≡ declared_at name.now (cedar_fields_view fields.now) }
 {
@@ -85,6 +87,7 @@ fn find(alloc: Global, value: &Value, ty: &CedarType) -> Result<Option<Trail>, N
     }
 }
 
+/// Returns the path to the part at fault of the first rejected item of an array, if one is.
 #[cycle(find)]
 fn find_item(alloc: Global, items: &Vec<Value>, ty: &CedarType) -> Result<Option<Trail>, NoMemory>
     ensures { IfOk result (λ o. o ≡ item_path (cedar_view ty.now) 0 (items_view items.now.items)) }
@@ -98,6 +101,7 @@ fn find_item(alloc: Global, items: &Vec<Value>, ty: &CedarType) -> Result<Option
     Ok(None)
 }
 
+/// Returns the path to the part at fault of the first undeclared or rejected member of an object, if one is.
 #[cycle(find)]
 fn find_member(
     alloc: Global,

@@ -1,4 +1,4 @@
-//! The form of an entity's JSON.
+//! The search for the part of an entity's JSON that does not have the form of an entity.
 ghost use Rattle.std.specs.Prelude.{◌≡◌, ◌∷◌, [], IfOk, Some, codes, is_some, option_map};
 ghost use Rattle.serde_json.specs.Find.{as_object};
 ghost use Rattle.serde_json.specs.View.{view, items_view};
@@ -6,13 +6,14 @@ ghost use Rattle.entities.specs.Stated.{is_absent_or_object};
 ghost use Rattle.value_paths.specs.EntityPaths.{is_uid, to_parent, parent_demands, parents_demands, form_demands};
 ghost use Rattle.value_paths.specs.EntityPaths.{first_unmet};
 
+use crate::placed::was_some;
 use crate::steps::{Trail, at_key, under_index, under_key};
 use entities::read_uid;
 use plain::NoMemory;
 use serde_json::Value;
 use std::alloc::Global;
 
-/// Returns the path to the parent at an index.
+/// Returns the path to the parent at an index. Always `Some`.
 pub(crate) fn at_parent(alloc: Global, index: usize) -> Result<Option<Trail>, NoMemory>
     ensures { IfOk result (λ o. o ≡ Some (to_parent index)) }
 {
@@ -27,7 +28,10 @@ fn is_uid(alloc: Global, found: Option<&Value>) -> Result<bool, NoMemory>
     ensures { IfOk result (λ yes. yes ≡ is_uid (option_map (λ v. view v.now) found.entry)) }
 {
     match found {
-        Some(value) => Ok(read_uid(alloc, value)?.is_some()),
+        Some(value) => {
+            let uid = read_uid(alloc, value)?;
+            Ok(was_some(uid))
+        }
         None => Ok(false),
     }
 }
@@ -49,7 +53,7 @@ pub(crate) fn is_absent_or_object(found: Option<&Value>) -> bool
     }
 }
 
-/// Returns the path to the first item that is not a uid, if there is one.
+/// Returns the path to the first of the parents that is not a uid, if there is one.
 fn find_nameless(alloc: Global, parents: &[Value]) -> Result<Option<Trail>, NoMemory>
     ensures { IfOk result (λ o. o ≡ first_unmet (parent_demands 0 (items_view parents.now))) }
 {
@@ -62,7 +66,7 @@ fn find_nameless(alloc: Global, parents: &[Value]) -> Result<Option<Trail>, NoMe
     Ok(None)
 }
 
-/// Returns the path to the first part of the parents without their form, if there is one.
+/// Returns the path to the first part of the parents that does not have the form of parents, if there is one.
 fn find_in_parents(alloc: Global, found: Option<&Value>) -> Result<Option<Trail>, NoMemory>
     ensures { IfOk result
         (λ o. o ≡ first_unmet (parents_demands (option_map (λ v. view v.now) found.entry))) }

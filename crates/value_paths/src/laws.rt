@@ -1,11 +1,13 @@
-//! Theorems. The functions are no-ops.
+//! Theorems about the paths to parts at fault. The functions are no-ops.
 ghost use Rattle.value_paths.specs.Laws.{ValuesHavePaths, RecordsHavePaths, EntitiesHavePaths};
 ghost use Rattle.value_paths.specs.Laws.{RequestsHavePaths, EntitiesAreToldOnce, RequestsAreToldOnce};
 
 use entities::{names_read_back, requests_have_one_outcome, texts_have_one_reading};
 
-/// Proves that a value that a type rejects has exactly one path to the part at fault, and a value of the type has no
-/// path; and the same of attributes and contexts. No-op.
+/// Proves that JSON that a type rejects has exactly one path to the part at fault, and JSON that it accepts has no
+/// path. No-op.
+///
+/// The same holds for attributes and contexts.
 pub fn rejected_values_have_one_path()
     ensures values { ValuesHavePaths }
     ensures records { RecordsHavePaths }
@@ -24,14 +26,14 @@ pub fn rejected_requests_have_one_path()
     texts_have_one_reading();
 }
 
-/// Proves that the schema and the JSON determine the words on the part at fault of an entity. No-op.
+/// Proves that the schema and the JSON determine the words that name the part at fault of an entity. No-op.
 pub fn entities_are_told_once()
     ensures { EntitiesAreToldOnce }
 {
     rejected_entities_have_one_path();
 }
 
-/// Proves that the schema and the JSON determine the words on the part at fault of a request. No-op.
+/// Proves that the schema and the JSON determine the words that name the part at fault of a request. No-op.
 pub fn requests_are_told_once()
     ensures { RequestsAreToldOnce }
 {

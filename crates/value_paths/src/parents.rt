@@ -1,4 +1,4 @@
-//! The parents that an entity may not have.
+//! The search for a parent that an entity may not have.
 ghost use Rattle.std.specs.Prelude.{◌≡◌, ◌&&◌, not, IfOk, Some, None, option_map, codes};
 ghost use Rattle.serde_json.specs.View.{view, items_view};
 ghost use Rattle.serde_json.specs.Find.{get};
@@ -15,7 +15,7 @@ use serde_json::Value;
 use std::alloc::Global;
 use values::EntityUid;
 
-/// Returns the uid of a value, if it is present and one.
+/// Returns the uid that a value states, if it is present and states one.
 pub(crate) fn uid_at(alloc: Global, found: Option<&Value>) -> Result<Option<EntityUid>, NoMemory>
     ensures { IfOk result (λ o. o ≡ uid_at (option_map (λ v. view v.now) found.entry)) }
 {
@@ -32,7 +32,8 @@ fn fits(schema: &Schema, uid: &EntityUid, parent: &EntityUid) -> bool
     parent != uid && schema.may_have_parent(&uid.type_name, &parent.type_name)
 }
 
-/// Returns the path to the first of these parents that an entity may not have, if there is one.
+/// Returns the path to the first of these parents that an entity may not have; `None` if it may have
+/// all parents before the first item that is not a uid.
 fn find_unfit(
     alloc: Global,
     schema: &Schema,
@@ -54,8 +55,7 @@ fn find_unfit(
     Ok(None)
 }
 
-/// Returns the path to the first parent that an entity may not have, where the parents are the value `found`, if there
-/// is one.
+/// Returns the path to the first parent in the array `found` that an entity may not have, if there is one.
 #[tactic(auto, unfolding(crate::specs::inner::FoundParts::unfit_path))]
 fn find_unfit_at(
     alloc: Global,
@@ -75,7 +75,7 @@ fn find_unfit_at(
     }
 }
 
-/// Returns the path to the first parent that the entity may not have, if there is one.
+/// Returns the path to the first parent that the entity of a value may not have, if there is one.
 #[tactic(auto, unfolding(crate::specs::inner::FoundParts::parents_path))]
 pub(crate) fn find_bad_parent(
     alloc: Global,
@@ -85,7 +85,11 @@ pub(crate) fn find_bad_parent(
     ensures { IfOk result (λ o. o ≡ parents_path (schema_view schema.now) (view value.now)) }
 {
     match uid_at(alloc, value.get("uid"))? {
-        Some(uid) => find_unfit_at(alloc, schema, &uid, value.get("parents")),
+        Some(uid) => {
+            let found = find_unfit_at(alloc, schema, &uid, value.get("parents"));
+            drop(uid);
+            found
+        }
         None => Ok(None),
     }
 }

@@ -1,5 +1,5 @@
 //! Errors with the part that they are about.
-ghost use Rattle.std.specs.Prelude.{IfOk};
+ghost use Rattle.std.specs.Prelude.{◌≡◌, IfOk, is_some};
 ghost use Rattle.value_paths.specs.inner.Placing.{IsFaultOf, IsPlaced};
 
 use crate::steps::{Step, Trail};
@@ -11,11 +11,11 @@ use plain::{Items, NoMemory};
 pub struct PlacedFault {
     /// The error of parsing the JSON.
     pub fault: EntityFault,
-    /// The steps to the part; empty if the whole is at fault. A required key that is absent is the last step.
+    /// The steps to the part; empty if the whole is at fault. If a required key is absent, it is the last step.
     pub path: Items<Step>,
 }
 
-/// Returns the error that reading gave, or `None` if it gave a value. The only error is `NoMemory`.
+/// Returns the error that parsing gave, or `None` if it gave a value. The only error is `NoMemory`.
 pub(crate) fn fault_of<T: Drop>(
     read: Result<T, EntityFault>,
 ) -> Result<Option<EntityFault>, NoMemory>
@@ -33,7 +33,7 @@ pub(crate) fn fault_of<T: Drop>(
     }
 }
 
-/// Returns an error with its path.
+/// Returns an error with its path, or `None` if no path was found.
 pub(crate) fn placed(fault: EntityFault, found: Option<Trail>) -> Option<PlacedFault>
     ensures { IsPlaced fault found result }
 {
@@ -43,5 +43,18 @@ pub(crate) fn placed(fault: EntityFault, found: Option<Trail>) -> Option<PlacedF
             path: trail.into_path(),
         }),
         None => None,
+    }
+}
+
+/// Returns whether there is a value, and drops it.
+pub(crate) fn was_some<T: Drop>(found: Option<T>) -> bool
+    ensures { result ≡ is_some found }
+{
+    match found {
+        Some(value) => {
+            drop(value);
+            true
+        }
+        None => false,
     }
 }

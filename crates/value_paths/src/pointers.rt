@@ -35,7 +35,7 @@ fn push_index(out: &mut String, index: usize) -> Result<(), NoMemory>
     Ok(())
 }
 
-/// Appends a step.
+/// Appends a step: `/` and its reference token.
 fn push_step(out: &mut String, step: &Step) -> Result<(), NoMemory>
     ensures { OnOk result (string_bytes out.new ≡ string_bytes out.old ++ (47 ∷ token_of step.now)) }
 {
@@ -46,8 +46,8 @@ fn push_step(out: &mut String, step: &Step) -> Result<(), NoMemory>
     }
 }
 
-/// Returns the JSON pointer of a path (RFC 6901), as `/attrs/home/zip`; the empty text for the whole value. The only
-/// error is `NoMemory`.
+/// Returns the JSON pointer of a path (RFC 6901), such as `/attrs/home/zip`; the empty string for the whole value. The
+/// only error is `NoMemory`.
 ///
 /// In a key `~` is written `~0`, and `/` is written `~1`. O(n) in the size of the result.
 pub fn pointer(alloc: Global, path: &[Step]) -> Result<Text, NoMemory>

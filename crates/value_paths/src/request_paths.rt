@@ -1,4 +1,4 @@
-//! The part of a request's JSON that is at fault.
+//! The search for the part of a request's JSON that is at fault.
 ghost use Rattle.std.specs.Prelude.{◌≡◌, IfOk, option_map};
 ghost use Rattle.serde_json.specs.View.{view};
 ghost use Rattle.schema_types.specs.CedarViews.{cedar_view};
@@ -15,7 +15,7 @@ ghost use Rattle.value_paths.specs.RequestPaths.{IsContextType};
 
 use crate::entity_paths::find_in_fields;
 use crate::forms::{is_absent_or_object, is_object};
-use crate::placed::{PlacedFault, fault_of, placed};
+use crate::placed::{PlacedFault, fault_of, placed, was_some};
 use crate::steps::{Trail, at_key, under_key};
 use entities::{EntityFault, Environment, Schema, names_read_back, read_name, read_request};
 use plain::NoMemory;
@@ -38,11 +38,12 @@ fn name_at(alloc: Global, found: Option<&Value>) -> Result<Option<EntityUid>, No
 fn is_named(alloc: Global, found: Option<&Value>) -> Result<bool, NoMemory>
     ensures { IfOk result (IsNamed (option_map (λ v. view v.now) found.entry)) }
 {
-    Ok(name_at(alloc, found)?.is_some())
+    let name = name_at(alloc, found)?;
+    Ok(was_some(name))
 }
 
-/// Returns the path to the first part without the form of a request, if there is one; the three booleans say which
-/// names are given.
+/// Returns the path to the first part without the form of a request, if there is one. The three booleans say which
+/// entities are named.
 fn first_unmet(
     alloc: Global,
     value: &Value,
@@ -114,7 +115,7 @@ fn context_type<'s>(
     None
 }
 
-/// Returns the same if all three names are given.
+/// Returns the type of the context of a request for these three, if all are named and the action applies to them.
 fn named_type<'s>(
     schema: &'s Schema,
     principal: &Option<EntityUid>,
@@ -136,7 +137,7 @@ fn named_type<'s>(
     context_type(schema, principal, action, resource)
 }
 
-/// Returns the same for the resource that a request names.
+/// Returns the type of the context of a request for these two and the resource that the request names.
 fn type_for_resource<'s>(
     alloc: Global,
     schema: &'s Schema,
@@ -151,7 +152,8 @@ fn type_for_resource<'s>(
     Ok(named_type(schema, principal, action, &resource))
 }
 
-/// Returns the same for the action and the resource that a request names.
+/// Returns the type of the context of a request for this principal, and the action and the resource that the request
+/// names.
 fn type_for_action<'s>(
     alloc: Global,
     schema: &'s Schema,
@@ -179,7 +181,7 @@ pub(crate) fn asked_type<'s>(
     type_for_action(alloc, schema, value, &principal)
 }
 
-/// Returns the path to the fault of a context of this type, if there is one.
+/// Returns the path to the part of a context of this type that is at fault, if there is one.
 fn find_in_context_of(
     alloc: Global,
     value: &Value,
@@ -196,7 +198,7 @@ fn find_in_context_of(
     }
 }
 
-/// Returns the path to the fault of the context, if there is one.
+/// Returns the path to the part of the context that is at fault, if there is one.
 fn find_in_context(alloc: Global, schema: &Schema, value: &Value) -> Result<Option<Trail>, NoMemory>
     ensures { IfOk result (IsContextSearched (schema_view schema.now) (view value.now)) }
 {
@@ -237,8 +239,9 @@ fn placed_fault(
 /// Returns the error of a value as a request under a schema, and the path to the part at fault; `None` if the value
 /// states a request. The only error is `NoMemory`.
 ///
-/// The path of `BadShape` leads to the first part without the form of a request, that of `NotApplicable` to the action,
-/// any other into the context, as in [`entity_fault`](crate::entity_fault).
+/// The path of `BadShape` leads to the first part without the form of a request, and that of `NotApplicable` to the
+/// action. That of any other error leads to the innermost part of the context at fault, as in
+/// [`entity_fault`](crate::entity_fault).
 pub fn request_fault(
     alloc: Global,
     schema: &Schema,

@@ -1,4 +1,4 @@
-//! Paths, step by step.
+//! Paths to the parts of a JSON value, and their steps.
 ghost use Rattle.std.specs.Prelude.{◌≡◌, [], ◌∷◌, IfOk, Some, reverse};
 ghost use Rattle.value_paths.specs.declared.steps.Step.TheVariants as step;
 
@@ -59,7 +59,7 @@ impl Trail {
     }
 }
 
-/// Returns the path under a key, if there is one.
+/// Returns the path with a key in front of it. Always `Some`, since callers return optional paths.
 pub(crate) fn under_key(alloc: Global, key: &str, trail: Trail) -> Result<Option<Trail>, NoMemory>
     ensures { IfOk result (λ o. o ≡ Some (step.Key key.now ∷ trail)) }
 {
@@ -67,14 +67,14 @@ pub(crate) fn under_key(alloc: Global, key: &str, trail: Trail) -> Result<Option
     Ok(Some(trail.under(Step::Key(key))?))
 }
 
-/// Returns the path that has this key alone.
+/// Returns the path whose only step is this key. Always `Some`.
 pub(crate) fn at_key(alloc: Global, key: &str) -> Result<Option<Trail>, NoMemory>
     ensures { IfOk result (λ o. o ≡ Some (step.Key key.now ∷ [])) }
 {
     under_key(alloc, key, Trail::here(alloc))
 }
 
-/// Returns the path under an index.
+/// Returns the path with an index in front of it. Always `Some`.
 pub(crate) fn under_index(index: usize, trail: Trail) -> Result<Option<Trail>, NoMemory>
     ensures { IfOk result (λ o. o ≡ Some (step.Index index ∷ trail)) }
 {

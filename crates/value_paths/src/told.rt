@@ -1,4 +1,4 @@
-//! The part at fault, in words.
+//! The words in which an explanation names the part at fault.
 ghost use Rattle.std.specs.Prelude.{◌≡◌, ◌++◌, IfOk, OnOk, option_and_then, option_map, string_bytes};
 ghost use Rattle.serde_json.specs.Find.{at};
 ghost use Rattle.serde_json.specs.View.{view};
@@ -49,7 +49,7 @@ fn is_of_value(fault: EntityFault) -> bool
     }
 }
 
-/// Returns the declared type of the part to which a path leads, behind its first step.
+/// Returns the declared type of the part to which the steps of a path after the first one lead.
 fn type_behind<'s>(whole: &'s CedarType, path: &[Step]) -> Option<&'s CedarType>
     ensures { option_map (λ t. cedar_view t.now) result ≡ type_behind (cedar_view whole.now) path.now }
 {
@@ -74,7 +74,7 @@ fn type_of_part<'s>(found: &PlacedFault, whole: Option<&'s CedarType>) -> Option
     }
 }
 
-/// Appends the words on a part at this pointer.
+/// Appends that the part is at this pointer; nothing for the whole value.
 fn push_pointer(out: &mut String, pointer: &str) -> Result<(), NoMemory>
     ensures { OnOk result (string_bytes out.new ≡ string_bytes out.old ++ pointer_words pointer.now) }
 {
@@ -82,8 +82,7 @@ fn push_pointer(out: &mut String, pointer: &str) -> Result<(), NoMemory>
         return Ok(());
     }
     out.push_str("at ")?;
-    out.push_str(pointer)?;
-    Ok(())
+    out.push_str(pointer)
 }
 
 /// Appends that a type is declared, if there is one.
@@ -95,14 +94,13 @@ fn push_declared(out: &mut String, ty: Option<&CedarType>) -> Result<(), NoMemor
         Some(ty) => {
             out.push_str(": ")?;
             out.push_str(type_word(ty))?;
-            out.push_str(" is declared")?;
-            Ok(())
+            out.push_str(" is declared")
         }
         None => Ok(()),
     }
 }
 
-/// Appends the words on the part that an error is about, if there is one.
+/// Appends the words that name the part that an error is about, if there is an error.
 fn push_part(
     alloc: Global,
     out: &mut String,
@@ -116,14 +114,13 @@ fn push_part(
         Some(found) => {
             let pointer = pointer(alloc, found.path.as_slice())?;
             push_pointer(out, pointer.as_str())?;
-            push_declared(out, type_of_part(found, whole))?;
-            Ok(())
+            push_declared(out, type_of_part(found, whole))
         }
         None => Ok(()),
     }
 }
 
-/// Returns these words.
+/// Returns the words that name the part that an error is about; none if there is no error.
 fn part_words(
     alloc: Global,
     found: &Option<PlacedFault>,
@@ -137,7 +134,7 @@ fn part_words(
     Ok(Text::from_string(out))
 }
 
-/// Returns the words on the part at fault of a value as an entity.
+/// Returns the words that name the part at fault of a value as an entity.
 fn told_entity(alloc: Global, schema: &Schema, value: Option<&Value>) -> Result<Text, NoMemory>
     ensures { IfOk result
         (IsEntityTold (schema_view schema.now) (option_map (λ v. view v.now) value.entry)) }
@@ -152,7 +149,7 @@ fn told_entity(alloc: Global, schema: &Schema, value: Option<&Value>) -> Result<
     }
 }
 
-/// Returns the words on the part at fault of a value as a request.
+/// Returns the words that name the part at fault of a value as a request.
 fn told_request(alloc: Global, schema: &Schema, value: Option<&Value>) -> Result<Text, NoMemory>
     ensures { IfOk result
         (IsRequestTold (schema_view schema.now) (option_map (λ v. view v.now) value.entry)) }
@@ -167,7 +164,7 @@ fn told_request(alloc: Global, schema: &Schema, value: Option<&Value>) -> Result
     }
 }
 
-/// Returns the item of an array at an index, if there are both.
+/// Returns the item of an array at an index, if there are an array, an index and such an item.
 fn item_of(value: Option<&Value>, index: Option<usize>) -> Option<&Value>
     ensures { option_map (λ v. view v.now) result
         ≡ option_and_then (λ i. option_and_then (at i) (option_map (λ v. view v.now) value.entry)) index }
@@ -181,13 +178,15 @@ fn item_of(value: Option<&Value>, index: Option<usize>) -> Option<&Value>
     }
 }
 
-/// Returns the words on the entity at an index of an array of entities, which a schema rejects: `at ` and the JSON
-/// pointer, from that item on, of the part at fault, with the type that is declared for a part of the attributes. They
-/// are empty if the whole item is at fault, if no item is at this index, or if the item alone is an entity.
+/// Returns the words that name the part at fault of the entity at an index of an array, which a schema rejects.
+///
+/// They are `at ` and the JSON pointer of the part, from that item on, with the type that is declared for a part of the
+/// attributes. They are empty if the whole item is at fault, if no item is at this index, or if the item alone is an
+/// entity.
 ///
 /// # Errors
 ///
-/// - `NoMemory`: an allocation failed.
+/// - `NoMemory` (1): an allocation failed.
 pub fn entity_part(
     alloc: Global,
     schema: &Schema,
@@ -200,13 +199,14 @@ pub fn entity_part(
     told_entity(alloc, schema, item_of(value.as_ref(), index))
 }
 
-/// Returns the words on a request that a schema rejects: `at ` and the JSON pointer of the part at fault, with the type
-/// that is declared for a part of the context. They are empty if the whole is at fault, if the text is not JSON, or if
-/// it is a request.
+/// Returns the words that name the part at fault of a request that a schema rejects.
+///
+/// They are `at ` and the JSON pointer of the part, with the type that is declared for a part of the context. They are
+/// empty if the whole is at fault, if the text is not JSON, or if it is a request.
 ///
 /// # Errors
 ///
-/// - `NoMemory`: an allocation failed.
+/// - `NoMemory` (1): an allocation failed.
 pub fn request_part(alloc: Global, schema: &Schema, text: &[u8]) -> Result<Text, NoMemory>
     ensures { IfOk result (IsAskedTold (schema_view schema.now) text.now) }
 {

@@ -7,7 +7,7 @@ use crate::finding::{declared, element, fields};
 use crate::steps::Step;
 use schema_types::CedarType;
 
-/// Returns the type of the part that a step leads to.
+/// Returns the type of the part that a step leads to, if one is declared.
 fn type_under<'t>(ty: &'t CedarType, step: &Step) -> Option<&'t CedarType>
     ensures { option_map (λ t. cedar_view t.now) result ≡ type_under (cedar_view ty.now) step.now }
 {
@@ -20,8 +20,8 @@ fn type_under<'t>(ty: &'t CedarType, step: &Step) -> Option<&'t CedarType>
     }
 }
 
-/// Returns the declared type of the part to which `path` leads in a value of the type `whole`, or `None` at an
-/// undeclared key. Does not allocate.
+/// Returns the declared type of the part to which `path` leads in a value of the type `whole`, or `None` if a step has
+/// no declared type, as at an undeclared key. Does not allocate.
 pub fn type_at<'t>(whole: &'t CedarType, path: &[Step]) -> Option<&'t CedarType>
     ensures { option_map (λ t. cedar_view t.now) result ≡ type_at (cedar_view whole.now) path.now }
 {

@@ -1,4 +1,4 @@
-//! Values without parts, which are read or rejected as a whole.
+//! Values without parts, which are accepted or rejected as a whole.
 ghost use Rattle.std.specs.Prelude.{◌≡◌, ◌≢◌, [], IfOk, false, is_ok};
 ghost use Rattle.serde_json.specs.Data.{object, member, no_members};
 ghost use Rattle.serde_json.specs.View.{view};
@@ -15,7 +15,7 @@ use schema_types::CedarType;
 use serde_json::{Map, Value, put};
 use std::alloc::Global;
 
-/// Returns an object with this value alone.
+/// Returns an object whose only member is this value, under the empty key.
 fn object_with(alloc: Global, value: &Value) -> Result<Value, NoMemory>
     ensures { IfOk result (λ v. view v ≡ object (member [] (view value.now) no_members)) }
 {
@@ -25,7 +25,7 @@ fn object_with(alloc: Global, value: &Value) -> Result<Value, NoMemory>
     Ok(Value::Object(members))
 }
 
-/// Returns the type of records with a field of this type alone.
+/// Returns the type of records whose only field has this type. The field is optional, and its name is empty.
 fn record_with(alloc: Global, ty: &CedarType) -> Result<CedarType, NoMemory>
     ensures { IfOk result (λ t. cedar_view t ≡ record_of (field [] (cedar_view ty.now) false no_fields)) }
 {
@@ -36,7 +36,7 @@ fn record_with(alloc: Global, ty: &CedarType) -> Result<CedarType, NoMemory>
     Ok(CedarType::Record(Shared::new(alloc, fields)?))
 }
 
-/// Returns `false` for an error of a value: it is rejected.
+/// Returns `false` for an error of a value, which is thus rejected. The only error is `NoMemory`.
 fn rejected(fault: ValueFault) -> Result<bool, NoMemory>
     ensures { IfOk result (λ yes. (yes ≡ false) × (fault ≢ ValueFault.NoMemory)) }
 {
@@ -48,7 +48,7 @@ fn rejected(fault: ValueFault) -> Result<bool, NoMemory>
 
 /// Returns whether a type accepts a value: whether a record with only this value is accepted.
 ///
-/// So the parser of records decides, and this crate has no typing rules of its own.
+/// Thus the parser of records decides, and this crate has no typing rules of its own.
 fn is_read(alloc: Global, value: &Value, ty: &CedarType) -> Result<bool, NoMemory>
     ensures { IfOk result (λ yes. yes ≡ is_ok (typed_value (cedar_view ty.now) (view value.now))) }
 {
@@ -60,7 +60,7 @@ fn is_read(alloc: Global, value: &Value, ty: &CedarType) -> Result<bool, NoMemor
     }
 }
 
-/// Returns the path to the fault of a value without parts, which is the value itself.
+/// Returns the path of a value without parts to itself if the type rejects it, else `None`.
 pub(crate) fn find_whole(
     alloc: Global,
     value: &Value,

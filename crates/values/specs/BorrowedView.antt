@@ -1,11 +1,11 @@
--- Defines the values of borrowed parts.
+-- Defines the abstract value of a borrowed value.
 use Rattle.values.specs.Values.{PlainValue, boolean, long, text, entity, set, record_of, decimal, ipaddr, values_of}
 use Rattle.values.specs.Values.{fields_of}
 use Rattle.values.specs.declared.value_ref.BorrowedKind.{BorrowedKind}
 use Rattle.values.specs.declared.value_ref.BorrowedKind.TheVariants.{Boolean, Long, Text, Entity, Set, Record, Decimal}
 use Rattle.values.specs.declared.value_ref.BorrowedKind.TheVariants.{IpAddr}
 
--- `of_borrowed v` is the value that the borrowed part `v` represents.
+-- `of_borrowed v` is the abstract value of `v`, a kind of value with its content borrowed.
 abbrev pub of_borrowed : BorrowedKind → PlainValue
 of_borrowed (Boolean b) = boolean b
 of_borrowed (Long z) = long z

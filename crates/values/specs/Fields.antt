@@ -13,7 +13,8 @@ Field = List ℕ × PlainValue
 abbrev pub AreKeysAscending : List Field → Type 0
 AreKeysAscending fs = IsStrictlySortedBy text_cmp (map (λ f. f.0) fs)
 
--- `put k v fs` are the fields `fs`, with the value `v` at the key `k`.
+-- `put k v fs` are the fields `fs` with the value `v` at the key `k`, added in the order of the keys or in place of the
+-- value there.
 abbrev pub put : List ℕ → PlainValue → List Field → List Field
 put k v [] = (k, v) ∷ []
 put k v (f ∷ fs) = match_ordering (text_cmp k f.0) ((k, v) ∷ f ∷ fs) ((f.0, v) ∷ fs) (f ∷ put k v fs)

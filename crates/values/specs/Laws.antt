@@ -9,11 +9,12 @@ use Rattle.values.specs.WellFormed.{IsWellFormed}
 
 -- ---- sets
 
--- `SetsHoldTheirMembers`: the set of some values ascends strictly, and has exactly these members.
+-- `SetsHoldTheirMembers`: the list that `set_list` makes of some values ascends strictly, and has exactly these
+-- members.
 abbrev pub SetsHoldTheirMembers : Type 0
 SetsHoldTheirMembers = (vs : List PlainValue) → IsSetOf vs (set_list vs)
 
--- `SetsAreOneList`: the set of some values is the only list that ascends strictly and has exactly these members.
+-- `SetsAreOneList`: the list that `set_list` makes is the only one that ascends strictly and has exactly these members.
 abbrev pub SetsAreOneList : Type 0
 SetsAreOneList = (vs s : List PlainValue) → IsSetOf vs s → s ≡ set_list vs
 
@@ -45,12 +46,12 @@ OrderOfFieldsDoesNotMatter = (key other : List ℕ) (value next : PlainValue) (f
     → AreKeysAscending fields → key ≢ other →
     put key value (put other next fields) ≡ put other next (put key value fields)
 
--- `LaterValueStays`: of two values that are set at one key, the later stays.
+-- `LaterValueStays`: of two values that are set at one key, the record has the later.
 abbrev pub LaterValueStays : Type 0
 LaterValueStays = (key : List ℕ) (value earlier : PlainValue) (fields : List Field) → AreKeysAscending fields →
     put key value (put key earlier fields) ≡ put key value fields
 
--- ---- every depth
+-- ---- well-formed values
 
 -- `SetsAreWellFormed`: a set of well-formed values is well formed.
 abbrev pub SetsAreWellFormed : Type 0

@@ -18,14 +18,14 @@ use Rattle.values.specs.declared.name.Name.TheVariants.{Policy, Entity}
 use Rattle.values.specs.declared.request.Request.{Request}
 use Rattle.values.specs.ValueOrder.{record_cmp, record_cmp-IsTotalOrder, record_cmp-IsAntisymmetric}
 
--- `name_cmp a b` orders names: policies before entities.
+-- `name_cmp a b` compares two names: policies come before entities.
 abbrev pub name_cmp : Name → Name → Ordering
 name_cmp (Policy a) (Policy b) = text_cmp a b
 name_cmp (Policy a) (Entity b) = Less
 name_cmp (Entity a) (Policy b) = Greater
 name_cmp (Entity a) (Entity b) = uid_cmp a b
 
--- `request_cmp a b` orders requests by principal, then action, then resource, then context.
+-- `request_cmp a b` compares two requests by principal, then action, then resource, then context.
 abbrev pub request_cmp : Request → Request → Ordering
 request_cmp a b =
     ordering_then (uid_cmp a.principal b.principal)

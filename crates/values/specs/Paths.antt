@@ -1,4 +1,4 @@
--- Defines the Path of a list of words, and whether a string is a Path, as a test that computes.
+-- Defines the Path that a list of words makes, and tests, which compute, whether a string is an identifier or a Path.
 -- Source: Cedar reference guide 4.0, "Grammar specification for Cedar policy syntax", Path = Ident { "::" Ident },
 -- without blanks or comments.
 use Prim.Native.Char.{code}
@@ -12,23 +12,24 @@ abbrev pub path_of : List (List ℕ) → List ℕ
 path_of [] = []
 path_of (first ∷ more) = joined_path first more
 
--- `is_word word` tests for a letter, followed by letters and digits.
+-- `is_word word` tests whether `word` is a letter or `_`, followed by letters, `_` and digits.
 abbrev pub is_word : List ℕ → Bool
 is_word [] = false
 is_word (c ∷ cs) = is_letter c && list_all is_word_byte cs
 
--- `is_ident word` tests for a word that is not reserved.
+-- `is_ident word` tests whether `word` is a word that is not reserved.
 abbrev pub is_ident : List ℕ → Bool
 is_ident word = is_word word && not (list_any (bytes_eq word) reserved_words)
 
--- `pieces word text` are the pieces of a string between each two `::`; `word` is the beginning of the first.
+-- `pieces word text` are the pieces of `word` followed by `text`, which each `::` in `text` separates; `word` begins
+-- the first piece, and `pieces [] text` are those of `text`.
 unfoldable pub pieces : List ℕ → List ℕ → List (List ℕ)
 pieces word [] = word ∷ []
 pieces word (c ∷ []) = (word ++ c ∷ []) ∷ []
 pieces word (c ∷ d ∷ rest) =
     if c == code ":" && d == code ":" then word ∷ pieces [] rest else pieces (word ++ c ∷ []) (d ∷ rest)
 
--- `is_path text` tests whether each piece is an identifier.
+-- `is_path text` tests whether each piece of `text` is an identifier.
 unfoldable pub is_path : List ℕ → Bool
 is_path text = list_all is_ident (pieces [] text)
 

@@ -11,15 +11,15 @@ use Rattle.std.proofs.Common.{ap, sym, ◌∙◌}
 use Rattle.std.proofs.lemmas.Cmp.{nat_list_cmp_total, then_total, on_total, tied_itself}
 use Rattle.values.specs.declared.entity_uid.EntityUid.{EntityUid}
 
--- `text_cmp a b` orders strings by their bytes.
+-- `text_cmp a b` compares two strings by their bytes.
 abbrev pub text_cmp : List ℕ → List ℕ → Ordering
 text_cmp = slice_cmp nat_cmp
 
--- `uid_cmp a b` orders uids by the type's name, then by the id.
+-- `uid_cmp a b` compares two uids by the type's name, then by the id.
 abbrev pub uid_cmp : EntityUid → EntityUid → Ordering
 uid_cmp a b = ordering_then (text_cmp a.type_name b.type_name) (text_cmp a.id b.id)
 
--- Both are total, and only equal values compare as equal.
+-- Both orders are total, and only equal strings or uids compare as equal.
 
 pub text_cmp-IsTotalOrder : IsTotalOrder text_cmp
 text_cmp-IsTotalOrder = nat_list_cmp_total
@@ -31,6 +31,8 @@ pub uid_cmp-IsTotalOrder : IsTotalOrder uid_cmp
 uid_cmp-IsTotalOrder = then_total (on_total (λ u. u.type_name) nat_list_cmp_total)
     (on_total (λ u. u.id) nat_list_cmp_total)
 
+-- `both_equal`: if `ordering_then r s`, which is `s` where `r` is `Equal` and else `r`, is `Equal`, then so are `r` and
+-- `s`.
 pub both_equal : (r s : Ordering) → ordering_then r s ≡ Equal → (r ≡ Equal) × (s ≡ Equal)
 both_equal Less s h = absurd (cc)
 both_equal Equal s h = (refl, h)

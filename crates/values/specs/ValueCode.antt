@@ -1,4 +1,4 @@
--- Defines a value as a list of tokens, which determines it, and which gives the order of values.
+-- Defines a code of values: each value as a list of tokens, which determines the value and gives the order of values.
 use Rattle.std.specs.Prelude.{◌≡◌, ℕ, ℤ, pos, List, [], ◌∷◌, ◌++◌, Bool, true, false, cond, ◌==◌, refl}
 use Rattle.std.specs.Coded.{Coded, code_by, coded×, coded_ℕ, coded_ℤ, coded_list}
 use Rattle.std.proofs.Common.{ap, sym, ◌∙◌, append_assoc}
@@ -8,7 +8,9 @@ use Rattle.extensions.specs.Order.{version_number, network_of, network_of-networ
 use Rattle.values.specs.Values.{PlainValue, boolean, long, text, entity, set, record_of, decimal, ipaddr, PlainValues}
 use Rattle.values.specs.Values.{no_values, value, PlainFields, no_fields, field}
 
--- A `Token` is what it begins, a number, and two strings.
+-- A `Token` is a tag, a number, and two strings. The tag says what the token is: 0 the end of a set or record, 1 to 8 a
+-- value of a kind, in the order of kinds (`kind_rank` of ValueOrder), where 5 only begins a set and 6 a record, and 9 a
+-- key of a record.
 abbrev pub Token : Type 0
 Token = ℕ × (ℤ × (List ℕ × List ℕ))
 
@@ -34,6 +36,8 @@ list_network (v ∷ a ∷ []) = network_of (v, (a, 0))
 list_network (v ∷ a ∷ p ∷ more) = network_of (v, (a, p))
 
 abbrev mutual
+  -- `tokens v` are the tokens of the value `v`; `set_tokens` and `record_tokens` are those of members and of fields,
+  -- with an end.
   pub tokens : PlainValue → List Token
   tokens (boolean b) = (1, (as_number b, ([], []))) ∷ []
   tokens (long z) = (2, (z, ([], []))) ∷ []
@@ -52,13 +56,14 @@ abbrev mutual
   record_tokens no_fields = (0, (pos 0, ([], []))) ∷ []
   record_tokens (field k v fs) = (9, (pos 0, (k, []))) ∷ (tokens v ++ record_tokens fs)
 
--- An `Item` is what a token that was read represents.
+-- An `Item` is what reading makes of tokens: the end of a set or record, a key of a record, or a whole value.
 pub data Item : Type 0 where
   end : Item
   key : List ℕ → Item
   whole : PlainValue → Item
 
--- `members st` are the values up to the next end, and `behind st` is what follows it.
+-- `members st` are the values of `st` up to the next end, `fields st` are the keys with their values up to there, and
+-- `behind st` are the items after it.
 abbrev pub members : List Item → PlainValues
 members [] = no_values
 members (end ∷ st) = no_values
@@ -80,7 +85,8 @@ behind (end ∷ st) = st
 behind (key k ∷ st) = behind st
 behind (whole v ∷ st) = behind st
 
--- `read_one n z s t st` are the items `st` with the next token, whose parts are `n`, `z`, `s` and `t`, in front.
+-- `read_one n z s t st` are the items of a token with the parts `n`, `z`, `s` and `t`, and of the tokens after it,
+-- whose items are `st`. A token that begins a set or record takes its members or fields from `st`.
 abbrev pub read_one : ℕ → ℤ → List ℕ → List ℕ → List Item → List Item
 read_one n z s t st =
     cond (n == 0) (end ∷ st) (cond (n == 1) (whole (boolean (is_one z)) ∷ st)
@@ -91,11 +97,13 @@ read_one n z s t st =
     (cond (n == 7) (whole (decimal z) ∷ st)
     (cond (n == 8) (whole (ipaddr (list_network s)) ∷ st) (key s ∷ st)))))))))
 
--- `read ts` reads the tokens `ts`, from the last to the first.
+-- `read ts` are the items of the tokens `ts`, read from the last to the first.
 abbrev pub read : List Token → List Item
 read [] = []
 read (t ∷ ts) = read_one t.0 t.1.0 t.1.1.0 t.1.1.1 (read ts)
 
+-- `items_of vs st` are the members `vs` as items, then an end and `st`; `field_items fs st` says the same of fields.
+-- The lemmas prove that reading finds again what was written.
 abbrev items_of : PlainValues → List Item → List Item
 items_of no_values st = end ∷ st
 items_of (value v vs) st = whole v ∷ items_of vs st
@@ -151,6 +159,7 @@ mutual
       ∙ ap (λ st. key k ∷ st) (read-tokens v (record_tokens fs ++ ts)
       ∙ ap (λ st. whole v ∷ st) (read-record_tokens fs ts))
 
+-- `first_of st` is the first item of `st`, if it is a value; `from_tokens ts` is the value of the tokens `ts`.
 abbrev first_of : List Item → PlainValue
 first_of [] = boolean false
 first_of (end ∷ st) = boolean false

@@ -1,4 +1,5 @@
--- Defines the proof that the content of a value nests less deeply than the value.
+-- Defines proofs that the height of a value (`height`) exceeds that of each value in its content, which recursion on
+-- values needs.
 use Rattle.std.specs.Prelude.{◌+◌, ◌≤◌, max, List, [], ◌∷◌, map, String}
 use Rattle.std.proofs.Common.{arith}
 use Rattle.std.specs.declared.alloc.Global.{Global}
@@ -9,15 +10,18 @@ use Rattle.values.specs.declared.value.Kind.{Kind}
 use Rattle.values.specs.declared.value.Kind.TheVariants.{Boolean, Long, Text, Entity, Set, Record, Decimal, IpAddr}
 use Rattle.values.specs.declared.record.Record.TheDeep.{deep-Kind}
 
+-- The members of a set are lower than the set.
 pub most_le-heights : (vs : List PlainValue) → most (λ v. height v + 1) vs ≤ heights (values_of vs)
 most_le-heights [] = omega arith
 most_le-heights (v ∷ vs) = omega (arith, most_le-heights vs)
 
+-- The values of a record's fields are lower than the record.
 pub most_le-field_heights : (es : List (String Global × PlainValue))
     → most (λ v. height v + 1) (map (λ e. e.1) es) ≤ field_heights (fields_of (of_entries es))
 most_le-field_heights [] = omega arith
 most_le-field_heights (e ∷ es) = omega (arith, most_le-field_heights es)
 
+-- The content of a kind is at most as high as the value of that kind.
 pub deep_le-height : (k : Kind) → max (deep-Kind k) 0 ≤ height (of_kind k)
 deep_le-height (Boolean b) = omega arith
 deep_le-height (Long z) = omega arith

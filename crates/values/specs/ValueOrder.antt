@@ -1,7 +1,7 @@
 -- Defines the order of values.
--- Rules of this product: values are ordered by kind, and within a kind: false before true, integers and decimals by
--- value, strings by bytes, entities by uid, sets by their members and records by their fields, item by item, a prefix
--- first, and IP addresses by version, address and prefix.
+-- Rules of this product: values are ordered by kind, in the order of `kind_rank`. Within a kind, false comes before
+-- true; integers and decimals are ordered by value, strings by bytes, entities by uid, IP addresses by version, address
+-- and prefix; sets are ordered member by member and records field by field, where a prefix comes first.
 use Rattle.std.specs.Prelude.{◌≡◌, ℕ, pos, List, [], ◌∷◌, ◌++◌, Bool, true, false, refl}
 use Rattle.std.proofs.Common.{ap, sym, ◌∙◌, append_assoc}
 use Rattle.std.proofs.lemmas.List.{append-nil}
@@ -21,7 +21,7 @@ use Rattle.extensions.specs.Order.{version_number, network_cmp}
 use Rattle.values.specs.Uids.{text_cmp, uid_cmp}
 use Rattle.values.specs.ValueCode.{network_list, Token, as_number, tokens, set_tokens, record_tokens, same_from_tokens}
 
--- `kind_rank v` is the rank of the kind of `v`.
+-- `kind_rank v` is the rank of the kind of `v` in the order of values.
 abbrev pub kind_rank : PlainValue → ℕ
 kind_rank (boolean b) = 1
 kind_rank (long z) = 2
@@ -32,8 +32,8 @@ kind_rank (record_of fs) = 6
 kind_rank (decimal z) = 7
 kind_rank (ipaddr n) = 8
 
--- `value_cmp v w` orders values; `values_cmp vs ws` and `fields_cmp fs gs` order lists of values and of fields, item by
--- item, a prefix first, and a field by its key and then by its value.
+-- `value_cmp v w` compares two values; `values_cmp vs ws` and `fields_cmp fs gs` compare lists of members and of fields
+-- item by item, where a prefix comes first, and fields by the key, then by the value.
 abbrev mutual
   pub value_cmp : PlainValue → PlainValue → Ordering
   value_cmp (boolean a) (boolean b) = bool_cmp a b
@@ -66,8 +66,9 @@ abbrev mutual
   fields_cmp (field k v fs) (field l w gs) =
       ordering_then (text_cmp k l) (ordering_then (value_cmp v w) (fields_cmp fs gs))
 
--- ---- the same order by tokens, which is total
+-- ---- the same order by the tokens of ValueCode, which proves that it is total
 
+-- `token_cmp x y` compares two tokens part by part, and `tokens_cmp xs ys` two lists of tokens.
 abbrev token_cmp : Token → Token → Ordering
 token_cmp = then_cmp (on (λ t. t.0) nat_cmp)
     (then_cmp (on (λ t. t.1.0) int_cmp) (then_cmp (on (λ t. t.1.1.0) text_cmp) (on (λ t. t.1.1.1) text_cmp)))
@@ -91,6 +92,8 @@ then_into o p q e = ap (ordering_then o) e
 then_same : (o p q : Ordering) → o ≡ p → ordering_then o q ≡ ordering_then p q
 then_same o p q e = ap (λ r. ordering_then r q) e
 
+-- An end comes before the first token of each value, so a prefix comes first; `end_last` says the same from the other
+-- side.
 end_first : (w : PlainValue) (s t : List Token) → tokens_cmp ((0, (pos 0, ([], []))) ∷ s) (tokens w ++ t) ≡ Less
 end_first (boolean b) s t = refl
 end_first (long z) s t = refl
@@ -125,6 +128,8 @@ network_by_numbers m n =
     ∙ sym (then_equal (text_cmp (network_list m) (network_list n)))
 
 mutual
+  -- Comparing two values and then two lists of tokens is comparing the values' tokens, each followed by its list; the
+  -- same holds of members and fields.
   value_by_tokens : (v w : PlainValue) (s t : List Token)
       → ordering_then (value_cmp v w) (tokens_cmp s t) ≡ tokens_cmp (tokens v ++ s) (tokens w ++ t)
   value_by_tokens (boolean b) (boolean b') s t = then_same _ _ _ (bool_by_number b b' ∙ sym (then_equal _))
@@ -218,6 +223,7 @@ mutual
       ∙ sym (rw (append_assoc (tokens v) (record_tokens fs) s, append_assoc (tokens w) (record_tokens gs) t)
       (then_same _ _ _ (then_equal (text_cmp k l)))))
 
+-- Values compare as their tokens do.
 by_tokens : (v w : PlainValue) → value_cmp v w ≡ tokens_cmp (tokens v) (tokens w)
 by_tokens v w =
     sym (then_equal (value_cmp v w)) ∙ (value_by_tokens v w [] [] ∙ rw (append-nil (tokens v), append-nil (tokens w)))
@@ -230,7 +236,7 @@ token_cmp_total = then_total (on_total (λ t. t.0) nat_cmp_total)
 by_tokens_total : IsTotalOrder (on tokens tokens_cmp)
 by_tokens_total = on_total tokens (lists_total token_cmp_total)
 
--- The order of values is total.
+-- `value_cmp-IsTotalOrder`: the order of values is total.
 pub value_cmp-IsTotalOrder : IsTotalOrder value_cmp
 value_cmp-IsTotalOrder = record {
   antisymm = λ x y. by_tokens x y ∙ (by_tokens_total.antisymm x y ∙ ap ordering_reverse (sym (by_tokens y x)));
@@ -259,22 +265,22 @@ token_same x y e =
     let s = slice_cmp-IsAntisymmetric nat_cmp-IsAntisymmetric x.1.1.1 y.1.1.1 c.1 in
     same_token x y p q r s
 
--- Only equal values compare as equal.
+-- `value_cmp-IsAntisymmetric`: only equal values compare as equal.
 pub value_cmp-IsAntisymmetric : IsAntisymmetric value_cmp
 value_cmp-IsAntisymmetric v w e =
     same_from_tokens v w (slice_cmp-IsAntisymmetric token_same (tokens v) (tokens w) (sym (by_tokens v w) ∙ e))
 
 -- ---- sets and records
 
--- `set_cmp a b` orders sets, member by member.
+-- `set_cmp a b` compares two sets, member by member.
 abbrev pub set_cmp : List PlainValue → List PlainValue → Ordering
 set_cmp a b = values_cmp (values_of a) (values_of b)
 
--- `record_cmp a b` orders records, field by field.
+-- `record_cmp a b` compares two records, field by field.
 abbrev pub record_cmp : List (List ℕ × PlainValue) → List (List ℕ × PlainValue) → Ordering
 record_cmp a b = fields_cmp (fields_of a) (fields_of b)
 
--- `field_cmp f g` orders fields by the key, and then by the value.
+-- `field_cmp f g` compares two fields by the key, and then by the value.
 abbrev pub field_cmp : List ℕ × PlainValue → List ℕ × PlainValue → Ordering
 field_cmp f g = ordering_then (text_cmp f.0 g.0) (value_cmp f.1 g.1)
 

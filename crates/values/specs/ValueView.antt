@@ -1,4 +1,4 @@
--- Defines the abstract view of the parts of a value.
+-- Defines the abstract value (`PlainValue`) that a value in the code represents.
 use Rattle.std.specs.Prelude.{List, map, String, string_bytes, ℕ}
 use Rattle.std.specs.declared.alloc.Global.{Global}
 use Rattle.values.specs.declared.value.Kind.{Kind}
@@ -6,7 +6,7 @@ use Rattle.values.specs.declared.value.Kind.TheVariants.{Boolean, Long, Text, En
 use Rattle.values.specs.Values.{PlainValue, boolean, long, text, entity, set, record_of, decimal, ipaddr, values_of}
 use Rattle.values.specs.Values.{fields_of}
 
--- `of_kind k` is the abstract value of the kind `k` with its content.
+-- `of_kind k` is the abstract value of a value with the kind and content `k`.
 abbrev pub of_kind : Kind → PlainValue
 of_kind (Boolean b) = boolean b
 of_kind (Long z) = long z

@@ -6,9 +6,9 @@ use Rattle.std.proofs.Common.{ap}
 use Rattle.extensions.specs.Network.{Network}
 use Rattle.values.specs.declared.entity_uid.EntityUid.{EntityUid}
 
--- A `PlainValue` represents a string by its bytes, a set by its members, a record by its keys with their values, and a
--- decimal by its number of ten-thousandths. The lists of members and of fields are types of their own, since a data
--- type cannot contain lists of itself.
+-- A `PlainValue` is an abstract value. It represents a string by its bytes, a set by its members, a record by its keys
+-- with their values, and a decimal by its number of ten-thousandths. The lists of members and of fields are types of
+-- their own, since a data type cannot contain lists of itself.
 mutual
   pub data PlainValue : Type 0 where
     boolean : Bool → PlainValue
@@ -48,6 +48,7 @@ abbrev pub fields_of : List (List ℕ × PlainValue) → PlainFields
 fields_of [] = no_fields
 fields_of (f ∷ fs) = field f.0 f.1 (fields_of fs)
 
+-- `list_of` and `values_of` are inverse to each other, and so are `pairs_of` and `fields_of`.
 pub values_of-list_of : (vs : PlainValues) → values_of (list_of vs) ≡ vs
 values_of-list_of no_values = refl
 values_of-list_of (value v vs) = ap (value v) (values_of-list_of vs)
@@ -64,7 +65,8 @@ pub pairs_of-fields_of : (fs : List (List ℕ × PlainValue)) → pairs_of (fiel
 pairs_of-fields_of [] = refl
 pairs_of-fields_of (f ∷ fs) = ap (λ w. f ∷ w) (pairs_of-fields_of fs)
 
--- `height v` is the depth to which sets and records nest in `v`.
+-- `height v` measures how deeply sets and records nest in `v`: it is greater than the height of each member of a set
+-- and of each value in a record, and 0 for all other kinds.
 abbrev mutual
   pub height : PlainValue → ℕ
   height (boolean b) = 0

@@ -1,6 +1,6 @@
 -- Defines values that are well formed at every depth: the members of each set ascend strictly, and so do the keys of
--- each record. So equal sets and equal records are equal lists.
--- Rules of this product: these orders.
+-- each record. Sets with the same members are then equal lists, and so are records with the same fields.
+-- Rules of this product: members ascend in the order of values, and keys by their bytes.
 use Rattle.std.specs.Prelude.{⊤}
 use Rattle.std.specs.List.Sorted.{IsStrictlySortedBy}
 use Rattle.values.specs.Fields.{AreKeysAscending}

@@ -7,19 +7,20 @@ use extensions::NoMemory;
 
 /// The uid of an entity: its type's name and its id. Contracts see a record of two lists of bytes.
 ///
-/// Uids are ordered by the bytes of the type's name, and then by those of the id. Both strings are shared: a copy
-/// takes sixteen bytes, and does not allocate.
+/// Uids are ordered by the bytes of the type's name, and then by those of the id. Copies share both strings: each takes
+/// sixteen bytes, and does not allocate.
 #[derive(PartialEq, Eq, PartialOrd, Ord, Drop)]
 pub struct EntityUid {
     /// The entity's type.
     pub type_name: TypeName,
-    /// The entity's id: any string.
+    /// The entity's id, which may be any string.
     pub id: SharedText,
 }
 
 impl EntityUid {
-    /// Returns whether two uids are equal. Compares ids first, since they differ more often than types do. Does not
-    /// allocate.
+    /// Returns whether two uids are equal. Does not allocate.
+    ///
+    /// Ids are compared first, since they differ more often than types do.
     pub fn same(&self, other: &EntityUid) -> bool
         ensures { IsTrue result ↔ (self.now ≡ other.now) }
     {
@@ -30,7 +31,7 @@ impl EntityUid {
     ///
     /// # Errors
     ///
-    /// - `NoMemory`: the count of references to a string would overflow.
+    /// - `NoMemory`: the count of references to a string would exceed 2^64 - 1.
     pub fn copy(&self) -> Result<EntityUid, NoMemory>
         ensures { IfOk result (λ u. u ≡ self.now) }
     {

@@ -1,4 +1,4 @@
-//! Theorems about sets and records. The functions are no-ops.
+//! Theorems about sets, records, values and names. The functions are no-ops.
 ghost use Rattle.std.specs.Prelude.{◌≡◌, ◌≢◌, ℕ, List, Some};
 ghost use Rattle.values.specs.Fields.{find_field, put};
 ghost use Rattle.values.specs.Laws.{SetsHoldTheirMembers, SetsAreOneList, MemberTestIsExact, MembersAreFound};
@@ -10,8 +10,9 @@ ghost use Rattle.values.specs.Paths.{IdentTestIsExact, PathTestIsExact};
 use crate::record::Record;
 use crate::value::Value;
 
-/// Proves that a set is determined by its members: its list ascends strictly, has the members that it was made of,
-/// and is the only list that does; and that the test for a member and a binary search find exactly these. No-op.
+/// Proves that a set is determined by its members: its list ascends strictly and has exactly the members that it was
+/// made of, and no other list does; and that the test for a member, and a binary search, find exactly the members.
+/// No-op.
 pub fn sets_hold_their_members()
     ensures made { SetsHoldTheirMembers }
     ensures one { SetsAreOneList }
@@ -32,11 +33,11 @@ pub fn records_are_maps()
     ensures later { LaterValueStays }
 {}
 
-/// Proves that values stay well formed at every depth: in each set the members ascend strictly, and in each record
-/// the keys. No-op.
+/// Proves that values stay well formed at every depth: the members of each set ascend strictly, and so do the keys of
+/// each record. No-op.
 ///
-/// A set of well-formed values is well formed, and so is a record with one more well-formed field; so are the members
-/// and the fields of a well-formed value.
+/// A set of well-formed values is well formed, and so is a well-formed record in which a field is set to a well-formed
+/// value. The members of a well-formed set, and the values of a well-formed record's fields, are well formed.
 pub fn values_stay_well_formed()
     ensures sets { SetsAreWellFormed }
     ensures members { MembersAreWellFormed }
@@ -44,7 +45,7 @@ pub fn values_stay_well_formed()
     ensures fields { FieldsAreWellFormed }
 {}
 
-/// Proves that the tests for identifiers and for Paths accept exactly these. No-op.
+/// Proves that the test `is_ident` accepts exactly the identifiers, and `is_path` exactly the Paths. No-op.
 pub fn paths_are_told()
     ensures idents { IdentTestIsExact }
     ensures paths { PathTestIsExact }

@@ -1,4 +1,4 @@
-//! Names of entries: of a policy, or of an entity.
+//! Names of the entries of a store: of policies and of entities.
 ghost use Rattle.std.specs.Prelude.{◌≡◌, IfOk};
 
 use crate::entity_uid::EntityUid;

@@ -60,7 +60,7 @@ impl Record {
         }
     }
 
-    /// Sets the value of a field. After `NoMemory` the record is unchanged.
+    /// Sets the value of a field; a value that it had is dropped. After `NoMemory` the record is unchanged.
     pub fn insert(&mut self, key: Text, value: Value) -> Result<(), NoMemory>
         ensures ok { OnOk result (self.new ≡ put key value self.old) }
         ensures err { OnErr result (self.new ≡ self.old) }
@@ -107,7 +107,7 @@ impl Record {
     }
 }
 
-/// Compares two records.
+/// Compares two records, field by field: by key, then by value.
 #[cycle(compare)]
 pub(crate) fn compare_fields(a: &Record, b: &Record) -> Ordering
     ensures { result ≡ record_cmp a.now b.now }

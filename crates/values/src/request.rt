@@ -8,7 +8,7 @@ use std::alloc::Global;
 
 /// An authorization request: may this principal perform this action on this resource, in this context?
 ///
-/// Ordered by principal, then action, then resource, then context.
+/// Requests are ordered by principal, then action, then resource, then context.
 #[derive(PartialEq, Eq, PartialOrd, Ord, Drop)]
 pub struct Request {
     /// The principal.

@@ -124,7 +124,7 @@ fn all_well_formed(values: &[Value])
     }
 }
 
-/// Compares two sets.
+/// Compares two sets, member by member.
 #[cycle(compare)]
 pub(crate) fn compare_members(a: &Set, b: &Set) -> Ordering
     ensures { result ≡ set_cmp a.now b.now }

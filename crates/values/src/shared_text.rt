@@ -10,10 +10,10 @@ use std::alloc::Global;
 use std::cmp::Ordering;
 use std::marker::Model;
 
-/// A string of a name, stored once however many references it has. Contracts see its bytes in UTF-8.
+/// A reference-counted string, used in names. Contracts see its bytes in UTF-8, however many references there are.
 ///
 /// Each further reference takes eight bytes, and does not allocate. Equal strings that were created separately are
-/// stored separately. They are equal if their bytes are, and ordered by bytes.
+/// stored separately. Strings are equal if their bytes are, and are ordered by bytes.
 #[derive(Drop)]
 pub struct SharedText {
     content: Shared<Text>,
@@ -58,8 +58,11 @@ impl SharedText {
         self.as_str() == other.as_str()
     }
 
-    /// Returns one more reference to the string, without allocating. `NoMemory` only if the count of references would
-    /// exceed 2^64 - 1.
+    /// Returns one more reference to the string. Does not allocate.
+    ///
+    /// # Errors
+    ///
+    /// - `NoMemory`: the count of references would exceed 2^64 - 1.
     pub fn copy(&self) -> Result<SharedText, NoMemory>
         ensures { IfOk result (λ t. t ≡ self.now) }
     {

@@ -38,8 +38,8 @@ impl Model for TypeName {
 }
 
 impl TypeName {
-    /// Returns the type name of a string, or `None` if it is not a Path without whitespace and comments. The only
-    /// error is `NoMemory`.
+    /// Returns the type name that a string is, or `None` if it is not a Path written without whitespace and comments.
+    /// The only error is `NoMemory`.
     pub fn parse(alloc: Global, text: &str) -> Result<Option<TypeName>, NoMemory>
         ensures { IfOk result (λ o. MatchOption o (IsPath text.now → ⊥) (λ t. IsPath text.now × (t ≡ text.now))) }
     {
@@ -50,8 +50,9 @@ impl TypeName {
         Ok(Some(TypeName { text }))
     }
 
-    /// Returns the type name of these identifiers, with `::` between each two. They may be those of a Path that has
-    /// whitespace or comments between its words. The only error is `NoMemory`.
+    /// Returns the type name of the identifiers `words`, with `::` between each two. The only error is `NoMemory`.
+    ///
+    /// The parser uses it for a Path of a policy, which may have whitespace and comments between its words.
     pub fn from_words(alloc: Global, words: &[&str]) -> Result<TypeName, NoMemory>
         requires some { 0 < length words.now }
         requires idents { AreIdents (map (λ w. w.now) words.now) }
@@ -93,8 +94,11 @@ impl TypeName {
         self.text.same(&other.text)
     }
 
-    /// Returns a copy that shares its string, without allocating. `NoMemory` only if the count of references to the
-    /// string would overflow.
+    /// Returns a copy that shares its string. Does not allocate.
+    ///
+    /// # Errors
+    ///
+    /// - `NoMemory`: the count of references to the string would exceed 2^64 - 1.
     pub fn copy(&self) -> Result<TypeName, NoMemory>
         ensures { IfOk result (λ t. t ≡ self.now) }
     {

@@ -19,15 +19,17 @@ use std::alloc::Global;
 use std::cmp::Ordering;
 use std::marker::Model;
 
-/// A value of the policy language. Contracts see it as a `PlainValue`, an algebraic data type: values are equal if and
-/// only if their `PlainValue`s are. These are well formed at every depth; `stays_well_formed` proves this for a value.
+/// A value of the policy language. Contracts see a value as a `PlainValue`, an algebraic data type: two values are
+/// equal if and only if their `PlainValue`s are.
+///
+/// A value is well formed at every depth; `stays_well_formed` proves this of a value.
 #[cycle(value)]
 #[derive(Drop)]
 pub struct Value {
     kind: Kind,
 }
 
-/// A value by its kind, with its content.
+/// A kind of value, with its content.
 #[cycle(value)]
 #[derive(Drop)]
 pub enum Kind {
@@ -154,22 +156,22 @@ impl Value {
         }
     }
 
-    /// Proves that the value is well formed at every depth: in each set the members ascend strictly, and in each
-    /// record the keys. No-op.
+    /// Proves that the value is well formed at every depth: the members of each set ascend strictly, and so do the keys
+    /// of each record. No-op.
     pub fn stays_well_formed(&self)
         ensures { IsWellFormed self.now }
     {
         let _kind = &self.kind;
     }
 
-    /// Returns the value by its kind, borrowed. Does not allocate.
+    /// Returns the kind of the value with its content, borrowed. Does not allocate.
     pub fn kind(&self) -> &Kind
         ensures { of_kind result.now ≡ self.now }
     {
         &self.kind
     }
 
-    /// Returns the value, borrowed. Does not allocate.
+    /// Returns the value as a borrowed value. Does not allocate.
     pub fn as_ref(&self) -> ValueRef<'_>
         ensures { result ≡ self.now }
     {
@@ -185,7 +187,7 @@ impl Value {
     }
 }
 
-/// Compares two values.
+/// Compares two values by kind, and then by content.
 #[cycle(compare)]
 pub(crate) fn compare(a: &Value, b: &Value) -> Ordering
     ensures { result ≡ value_cmp a.now b.now }

@@ -14,8 +14,10 @@ use std::alloc::Global;
 use std::cmp::Ordering;
 use std::marker::Model;
 
-/// A value by its kind, with its content borrowed if that owns memory. So a string, or the uid of an entity, is a value
-/// without a copy. Contracts see the value by `of_borrowed`.
+/// A kind of value, with its content borrowed where that content owns memory.
+///
+/// So a string, or the uid of an entity, is a value without being copied. `of_borrowed` is the value that it
+/// represents.
 #[derive(Clone, Copy)]
 pub enum BorrowedKind<'a> {
     /// True or false.
@@ -102,7 +104,7 @@ impl<'a> ValueRef<'a> {
         }
     }
 
-    /// Returns the value of a kind, borrowed.
+    /// Returns the value of a kind with its content, borrowed.
     pub(crate) fn of_kind(kind: &'a Kind) -> ValueRef<'a>
         ensures { result ≡ of_kind kind.now }
     {
@@ -120,7 +122,7 @@ impl<'a> ValueRef<'a> {
         }
     }
 
-    /// Returns the value by its kind, with its content borrowed. Does not allocate.
+    /// Returns the kind of the value, with its content borrowed. Does not allocate.
     pub fn kind(&self) -> BorrowedKind<'a>
         ensures { of_borrowed result ≡ self.now }
     {

@@ -24,6 +24,6 @@ abbrev pub site_at : Ptr → Option the_row.Denot → Fml
 site_at p None = ftrue
 site_at p (Some site) = owned_at the_row p site
 
--- `site_coded` is the code by which proofs store the value of a pointer that may own a site.
+-- `site_coded` is the code by which proofs store the value of a `SitePointer`, which may own a site.
 abbrev pub site_coded : Coded (Option the_row.Denot)
 site_coded = coded_option the_row.coded

@@ -1,4 +1,5 @@
--- Defines what a call on a slot returns and writes, and which site it leaves there.
+-- Defines what a call on a slot, the memory that a C program keeps for a site, returns and writes, and which site it
+-- leaves there.
 -- Source: docs/embedding.md.
 -- Rules of this product: a slot has at most one site; a call without a site does nothing and returns the status 0.
 use Rattle.std.specs.Prelude.{◌≡◌, ◌⊎◌, ◌<◌, ℕ, Bool, List, Option, Some, None, is_some, length}
@@ -15,8 +16,9 @@ use Rattle.weirbowl.specs.declared.opening.OpenError.{OpenError}
 abbrev pub not_open : CallResult
 not_open = record { status = 0; length = 0 }
 
--- `Calls old call r before after new` holds if the site in the slot answers `call`: `r` is the status and the length of
--- the body, and `after` is `before` with the body copied into it. If no site is open, nothing happens.
+-- `Calls old call r before after new` holds if the site in the slot, `old` and then `new`, answers `call`: `r` is the
+-- status and the length of the body. The caller's memory for the body held `before`, and `after` is that with the body
+-- copied into it. If no site is open, nothing happens.
 abbrev pub Calls : Option EmbeddedSite → Call → CallResult → List ℕ → List ℕ → Option EmbeddedSite → Type 0
 Calls (Some old) call r before after new =
     (e : EmbeddedSite) × (status : StatusCode) × (new ≡ Some e) × IsCalled old call status e

@@ -1,5 +1,5 @@
 -- Defines what a call over texts, without a site, returns and writes.
--- Source: docs/formats.md, of `decide` and `check`.
+-- Source: docs/formats.md, "The answer line" and "The lines of `check`".
 -- Rules of this product: the status is 200 for an answer, and for policies that all pass; 422 for rejected texts, and
 -- if one of the policies does not pass; 503 without a body if out of memory.
 use Rattle.std.specs.Prelude.{◌≡◌, ◌⊎◌, ℕ, Bool, List, length, if◌then◌else◌}
@@ -45,7 +45,8 @@ DecidesUnder schema policies entities request r before after =
 abbrev pub checked_status : Bool → ℕ
 checked_status some_rejected = if some_rejected then 422 else 200
 
--- `Checks schema policies r before after` is the same relation for the lines of the checked policies, one for each.
+-- `Checks schema policies r before after` is the same relation for the lines of the checked policies, one for each
+-- policy.
 abbrev pub Checks : List ℕ → List ℕ → CallResult → List ℕ → List ℕ → Type 0
 Checks schema policies r before after =
     ((text : List ℕ) × (some_rejected : Bool) × IsChecked schema policies text some_rejected

@@ -1,13 +1,13 @@
-//! What a call returns to C.
+//! The result of a call from C.
 
-/// What a call returns: a status, and how long the body of the reply is.
+/// The result of a call: a status, and the length of the reply's body.
 ///
-/// The body is in the memory that the call was given, if it is long enough.
+/// The body is at the beginning of the memory that the call was given, if that memory is long enough.
 #[repr(C)]
 #[derive(Clone, Copy)]
 pub struct CallResult {
-    /// 200; 404, 409 or 422 of an error; 503 if out of memory; 0 if no site is open.
+    /// 200; 404, 409 or 422 for an error; 503 if out of memory; 0 if no site is open.
     pub status: u32,
-    /// The bytes of the body.
+    /// The number of bytes of the body.
     pub length: usize,
 }

@@ -11,7 +11,7 @@ use std::alloc::Global;
 #[derive(Drop)]
 pub struct EmbeddedSite {
     pub(crate) alloc: Global,
-    // reused for each JSON that is parsed, since a new one is zeroed whole
+    // memory for parsed JSON, reused because new memory would be zeroed whole
     pub(crate) scratch: Scratch,
     /// The site.
     pub site: Site,
@@ -24,8 +24,8 @@ impl EmbeddedSite {
     ghost use Rattle.site_calls.specs.Calls.{call_of};
     ghost use Rattle.weirbowl.specs.Embedding.{IsCalled};
 
-    /// Answers a call: at most one step of the site. Returns the status of the reply and keeps its body, in place of
-    /// the last one. Out of memory is a reply too (503).
+    /// Answers a call: makes at most one step of the site, keeps the body of the reply in place of the last one, and
+    /// returns the status. Out of memory is a reply too (503).
     pub fn call(&mut self, call: &Call<'_>) -> StatusCode
         ensures { IsCalled self.old (call_of call.now) result self.new }
     {

@@ -10,7 +10,7 @@ ghost use Rattle.weirbowl.specs.Opening.{IsOpened, IsOpenError, code_of};
 use crate::embedded::EmbeddedSite;
 use plain::{NoMemory, Shared};
 use schema_decisions::{Refusal, Schema, schema_in};
-use site_calls::{LINE_ROOM, Scratch, Site, is_site_name, site_names_are_told};
+use site_calls::{LINE_ROOM, Scratch, Site, is_site_name, site_names_are_recognized};
 use std::alloc::Global;
 
 /// Why no site is opened.
@@ -88,18 +88,18 @@ fn open_as(alloc: Global, schema: &[u8], name: &str) -> Result<EmbeddedSite, Ope
     }
 }
 
-/// Returns a text, if it is the name of a site.
+/// Returns `text` if it is a site name.
 fn valid_name(text: &str) -> Option<&str>
     ensures { MatchOption result (IsSiteName text.now → ⊥) (λ t. IsSiteName t.now × (t.now ≡ text.now)) }
 {
     if is_site_name(text) { Some(text) } else { None }
 }
 
-/// Returns bytes as the name of a site, if they are one.
+/// Returns bytes as a site name, if they are one.
 fn site_name_of(bytes: &[u8]) -> Option<&str>
     ensures { MatchOption result (IsSiteName bytes.now → ⊥) (λ t. IsSiteName t.now × (t.now ≡ bytes.now)) }
 {
-    site_names_are_told();
+    site_names_are_recognized();
     match str::from_utf8(bytes) {
         Ok(text) => valid_name(text),
         Err(_) => None,

@@ -1,4 +1,8 @@
-//! The exports for C on the site of a slot.
+//! The exports for C that use the site of a slot.
+//!
+//! Opening and closing return a number or a boolean. Each other call copies the body of its reply to the beginning of
+//! `out`, if `out` is long enough, and returns the reply's status and the body's length; if no site is open, it does
+//! nothing and returns the status 0.
 ghost use Rattle.site_calls.specs.Calls as call;
 ghost use Rattle.weirbowl.specs.SlotCalls.{Calls, Opens, Closes, RepeatsBody};
 
@@ -8,7 +12,8 @@ use crate::slot_calls::{call_in, close_in, open_in, repeat_body};
 use site_calls::Call;
 use std::alloc::Global;
 
-/// Opens a site with nothing stored. Returns 0; 3 if one is open there; else the number of the error.
+/// Opens an empty site in the slot. Returns 0; 3 if a site is open there already; else the number of the error: 2 for
+/// the name, 20 to 25 for the schema, 1 if out of memory.
 #[unsafe(no_mangle)]
 pub extern "C" fn weirbowl_open(
     alloc: Global,
@@ -29,7 +34,7 @@ pub extern "C" fn weirbowl_close(alloc: Global, slot: &mut SiteSlot) -> bool
     close_in(alloc, slot)
 }
 
-/// Copies the body of the last reply again.
+/// Copies the body of the last reply to `out` again.
 #[unsafe(no_mangle)]
 pub extern "C" fn weirbowl_last_body(
     alloc: Global,
@@ -41,7 +46,7 @@ pub extern "C" fn weirbowl_last_body(
     repeat_body(alloc, slot, out)
 }
 
-/// Decides a request: its JSON.
+/// Decides the request with this JSON.
 #[unsafe(no_mangle)]
 pub extern "C" fn weirbowl_authorize(
     alloc: Global,
@@ -54,7 +59,7 @@ pub extern "C" fn weirbowl_authorize(
     call_in(alloc, slot, &Call::Authorize(request), out)
 }
 
-/// Puts a policy: its id, and its text.
+/// Puts the policy with this id and this text.
 #[unsafe(no_mangle)]
 pub extern "C" fn weirbowl_put_policy(
     alloc: Global,
@@ -69,7 +74,7 @@ pub extern "C" fn weirbowl_put_policy(
     call_in(alloc, slot, &Call::PutPolicy(id, text), out)
 }
 
-/// Looks up the policy of an id.
+/// Looks up the policy with this id.
 #[unsafe(no_mangle)]
 pub extern "C" fn weirbowl_get_policy(
     alloc: Global,
@@ -82,7 +87,7 @@ pub extern "C" fn weirbowl_get_policy(
     call_in(alloc, slot, &Call::GetPolicy(id), out)
 }
 
-/// Deletes the policy of an id.
+/// Deletes the policy with this id.
 #[unsafe(no_mangle)]
 pub extern "C" fn weirbowl_delete_policy(
     alloc: Global,
@@ -95,7 +100,7 @@ pub extern "C" fn weirbowl_delete_policy(
     call_in(alloc, slot, &Call::DeletePolicy(id), out)
 }
 
-/// Puts an entity: its JSON.
+/// Puts the entity with this JSON.
 #[unsafe(no_mangle)]
 pub extern "C" fn weirbowl_put_entity(
     alloc: Global,
@@ -108,7 +113,7 @@ pub extern "C" fn weirbowl_put_entity(
     call_in(alloc, slot, &Call::PutEntity(entity), out)
 }
 
-/// Deletes an entity: the JSON of its uid.
+/// Deletes the entity with the uid in this JSON.
 #[unsafe(no_mangle)]
 pub extern "C" fn weirbowl_delete_entity(
     alloc: Global,
@@ -137,7 +142,7 @@ pub extern "C" fn weirbowl_summary(alloc: Global, slot: &mut SiteSlot, out: &mut
     call_in(alloc, slot, &Call::Summary, out)
 }
 
-/// Writes the entries that another site is missing: that site's summary.
+/// Writes the entries that the site with this summary is missing.
 #[unsafe(no_mangle)]
 pub extern "C" fn weirbowl_delta(
     alloc: Global,

@@ -11,5 +11,5 @@ pub struct SiteSlot {
     pub is_open: bool,
     /// The site.
     pub pointer: SitePointer,
-    pub ghost tells: { is_open ≡ is_some pointer.site },
+    pub ghost is_consistent: { is_open ≡ is_some pointer.site },
 }

@@ -36,7 +36,7 @@ fn report(status: StatusCode, body: &[u8], out: &mut [u8]) -> CallResult
     }
 }
 
-/// Opens a site in a slot.
+/// Opens an empty site in a slot. Returns 0, 3 if a site is open there already, else the number of the error.
 pub(crate) fn open_in(alloc: Global, slot: &mut SiteSlot, schema: &[u8], name: &[u8]) -> u32
     ensures { Opens slot.old.pointer.site schema.now name.now result slot.new.pointer.site }
 {
@@ -88,7 +88,7 @@ pub(crate) fn call_in(
     outcome
 }
 
-/// Copies the body of the last reply again.
+/// Copies the body of the last reply into `out` again.
 pub(crate) fn repeat_body(alloc: Global, slot: &mut SiteSlot, out: &mut [u8]) -> CallResult
     ensures { RepeatsBody slot.old.pointer.site result out.old out.new slot.new.pointer.site }
 {

@@ -10,7 +10,7 @@ use schema_decisions::{Refusal, check_texts, decide_texts, decide_under};
 use site_calls::error_line;
 use std::alloc::Global;
 
-/// Returns the result if out of memory.
+/// Returns the result if out of memory, which has no body.
 fn no_memory() -> CallResult
     ensures { result ≡ no_memory }
 {
@@ -20,7 +20,7 @@ fn no_memory() -> CallResult
     }
 }
 
-/// Returns the result of a text, which is copied.
+/// Copies a text into `out`, and returns this status and the text's length.
 fn report_text(status: u32, text: &[u8], out: &mut [u8]) -> CallResult
     ensures { Returns status text.now result out.old out.new }
 {
@@ -31,7 +31,8 @@ fn report_text(status: u32, text: &[u8], out: &mut [u8]) -> CallResult
     }
 }
 
-/// Returns the result of an error, whose line is copied.
+/// Copies the line of an error into `out`, and returns the status 422; for out of memory copies nothing, and returns
+/// 503.
 fn report_error(alloc: Global, refusal: Refusal, out: &mut [u8]) -> CallResult
     ensures { Rejects (λ f. (f ≡ refusal) × (refusal ≡ memory_refused → ⊥)) result out.old out.new }
 {
@@ -44,14 +45,15 @@ fn report_error(alloc: Global, refusal: Refusal, out: &mut [u8]) -> CallResult
     }
 }
 
-/// Returns the status of policies that were checked.
+/// Returns the status of policies that were checked: 422 if one is rejected, else 200.
 fn checked_status(some_rejected: bool) -> u32
     ensures { result ≡ checked_status some_rejected }
 {
     if some_rejected { 422 } else { 200 }
 }
 
-/// Decides over texts of policies and of entities, without a schema.
+/// Decides over texts of policies and of entities, without a schema: copies the answer line (200) or the error line
+/// (422) into `out`.
 #[unsafe(no_mangle)]
 pub extern "C" fn weirbowl_decide(
     alloc: Global,
@@ -68,7 +70,8 @@ pub extern "C" fn weirbowl_decide(
     }
 }
 
-/// Decides over texts of policies and of entities, under a schema.
+/// Decides over texts of policies and of entities, under a schema: copies the answer line (200) or the error line (422)
+/// into `out`.
 #[unsafe(no_mangle)]
 pub extern "C" fn weirbowl_decide_under(
     alloc: Global,
@@ -86,7 +89,8 @@ pub extern "C" fn weirbowl_decide_under(
     }
 }
 
-/// Checks a file of policies under a schema: a line for each policy.
+/// Checks a file of policies under a schema: copies a line for each policy (200, or 422 if one is rejected) or the
+/// error line (422) into `out`.
 #[unsafe(no_mangle)]
 pub extern "C" fn weirbowl_check(
     alloc: Global,

@@ -17,11 +17,11 @@ pub record TakesChild (xs ps : List EntityUid) (child : EntityUid)
       Contains (after x) y ⊎ ((child ≡ y) × Contains xs x × (Contains ps x → ⊥))
   pub taken : (x : EntityUid) → Contains xs x → (Contains ps x → ⊥) → Contains (after x) child → ⊥
 
--- `firsts xs` are the entities of the pairs `xs` (an entity with its list).
+-- `firsts xs` are the entities of the pairs `xs`, each of an entity and its list.
 abbrev pub firsts : List (EntityUid × Vec EntityUid Global) → List EntityUid
 firsts xs = map (λ x. x.0) xs
 
--- `written xs q old` is the list of `q`, after the lists `xs` were written over `old`.
+-- `written xs q old` is the list of `q` that `xs` has, or `old` if `xs` has none.
 abbrev pub written : List (EntityUid × Vec EntityUid Global) → EntityUid → List EntityUid → List EntityUid
 written [] q old = old
 written (x ∷ xs) q old = if is_eq (uid_cmp x.0 q) then x.1.items else written xs q old
@@ -30,12 +30,12 @@ written (x ∷ xs) q old = if is_eq (uid_cmp x.0 q) then x.1.items else written 
 abbrev pub IsInOwn : List (EntityUid × Vec EntityUid Global) → EntityUid → Type 0
 IsInOwn lists x = (list : Vec EntityUid Global) × Contains lists (x, list) × Contains list.items x
 
--- `ListsAscend lists` holds if these lists ascend.
+-- `ListsAscend lists` holds if each list of `lists` ascends.
 abbrev pub ListsAscend : List (EntityUid × Vec EntityUid Global) → Type 0
 ListsAscend lists = (x : EntityUid) (list : Vec EntityUid Global) → Contains lists (x, list) → IsAscending list.items
 
--- `Enters lists before after` holds if `after` has the entities of `before` and possibly others, each in its own list
--- of `lists`.
+-- `Enters lists before after` holds if `after` has the entities of `before`, and no others except some that are in
+-- their own lists (`IsInOwn`).
 pub record Enters (lists : List (EntityUid × Vec EntityUid Global)) (before after : List EntityUid) : Type 0 where
   pub kept : (x : EntityUid) → Contains before x → Contains after x
   pub from : (x : EntityUid) → Contains after x → Contains before x ⊎ IsInOwn lists x
@@ -49,8 +49,9 @@ pub record Leaves (entities : List EntityUid) (ancestors : EntityUid → List En
       Contains after x ⊎ (Contains entities x × (Contains (ancestors x) x → ⊥))
   pub taken : (x : EntityUid) → Contains entities x → (Contains (ancestors x) x → ⊥) → Contains after x → ⊥
 
--- `IsPlanned parents uid ancestors children change` holds if `change` has the parents of `uid` before and after, the
--- entity and its descendants, and their new lists.
+-- `IsPlanned parents uid ancestors children change` holds if `change` has the former and the new parents of `uid`, the
+-- entity and its descendants, and the new lists of these. `ancestors` and `children` are those before the change,
+-- `parents` is the hierarchy after it.
 pub record IsPlanned (parents : Parents) (uid : EntityUid) (ancestors children : EntityUid → List EntityUid)
     (change : Change) : Type 0 where
   pub uid_is : change.uid ≡ uid
@@ -64,8 +65,8 @@ pub record IsPlanned (parents : Parents) (uid : EntityUid) (ancestors children :
   pub right : (q : EntityUid) (list : Vec EntityUid Global) → Contains change.lists.items (q, list) →
       IsListOf parents q list.items
 
--- `AreListsBut uid after ancestors children` holds if these were the ancestors of each entity and its children before
--- the parents of `uid` changed.
+-- `AreListsBut uid after ancestors children` holds if `ancestors` and `children` are those of each entity in a
+-- hierarchy that differs from `after` at most in the parents of `uid`.
 pub record AreListsBut (uid : EntityUid) (after : Parents)
     (ancestors children : EntityUid → List EntityUid) : Type 0 where
   pub before : Parents

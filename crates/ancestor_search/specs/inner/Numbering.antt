@@ -1,4 +1,4 @@
--- Defines entities by number: an entity's number is its index in a list.
+-- Defines entities by number: an entity's number is its index in a list of entities.
 use Rattle.std.specs.Prelude.{◌≡◌, ℕ, ◌<◌, Bool, false, IsTrue, List, length, Contains, ◌↔◌, slice_index_or, Vec}
 use Rattle.std.specs.declared.alloc.Global.{Global}
 use Rattle.values.specs.declared.entity_uid.EntityUid.{EntityUid}
@@ -13,7 +13,8 @@ IsNumber us i x = (i < length us) × (slice_index_or us i x ≡ x)
 abbrev pub NumbersAmong : List EntityUid → List EntityUid → List ℕ → Type 0
 NumbersAmong us ps ns = (j : ℕ) → Contains ns j ↔ ((x : EntityUid) × Contains ps x × IsNumber us j x)
 
--- `AreNumbered p us k es` holds if the edges of the numbers below `k` are the numbers of their parents.
+-- `AreNumbered p us k es` holds if, for each index below `k` in `us`, the edges in `es` are the numbers of the entity's
+-- parents under `p`.
 abbrev pub AreNumbered : Parents → List EntityUid → ℕ → List (Vec ℕ Global) → Type 0
 AreNumbered p us k es = (i : ℕ) (x : EntityUid) → i < k → IsNumber us i x → NumbersAmong us (p x) (edges_of es i)
 
@@ -21,7 +22,8 @@ AreNumbered p us k es = (i : ℕ) (x : EntityUid) → i < k → IsNumber us i x 
 abbrev pub IsNoNumber : List EntityUid → EntityUid → Type 0
 IsNoNumber us x = Contains us x → ⊥
 
--- `MarkedBefore us marks k found` holds if `found` are the marked ones of the first `k`.
+-- `MarkedBefore us marks k found` holds if `found` are those of the first `k` entities of `us` whose numbers are marked
+-- in `marks`.
 abbrev pub MarkedBefore : List EntityUid → List Bool → ℕ → List EntityUid → Type 0
 MarkedBefore us marks k found = (x : EntityUid) →
     Contains found x ↔ ((i : ℕ) × (i < k) × IsNumber us i x × IsTrue (slice_index_or marks i false))

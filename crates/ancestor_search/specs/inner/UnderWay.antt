@@ -1,17 +1,19 @@
--- Defines a search by groups of numbers, in the representation of the code.
+-- Defines the invariants of the search for cyclic numbers on the code's type `Walk`.
 use Rattle.std.specs.Prelude.{ℕ}
 use Rattle.ancestor_search.specs.declared.walk.Bound.{Bound}
 use Rattle.ancestor_search.specs.declared.walk.Walk.{Walk}
-use Rattle.ancestor_search.specs.inner.Walking.{Edges, IsWalking, Awaits, effort}
+use Rattle.ancestor_search.specs.inner.Walking.{Edges, IsWalking, IsWalkingWithRemovedEdge, effort}
 
--- `IsUnderWay e w` holds for a search along some path.
+-- `IsUnderWay e w` holds if `w` is a search of the graph `e` along some path of groups.
 abbrev pub IsUnderWay : Edges → Walk → Type 0
 IsUnderWay e w = IsWalking e w.place.items w.found.items w.members.items w.pending.items w.bounds.items
 
--- `IsWaiting e w last y` holds if the last group, whose bound was taken, has an edge to `y` to be visited.
+-- `IsWaiting e w last y` holds if `w` is such a search from which the bound `last` of the last group was removed, and
+-- an edge of that group to `y` is to be visited next.
 abbrev pub IsWaiting : Edges → Walk → Bound → ℕ → Type 0
-IsWaiting e w last y = Awaits e w.place.items w.found.items w.members.items w.pending.items w.bounds.items last y
+IsWaiting e w last y =
+    IsWalkingWithRemovedEdge e w.place.items w.found.items w.members.items w.pending.items w.bounds.items last y
 
--- `effort_of w` decreases at each step.
+-- `effort_of w` is the measure of the search: it decreases at each step.
 abbrev pub effort_of : Walk → ℕ
 effort_of w = effort w.place.items w.pending.items w.bounds.items

@@ -1,15 +1,16 @@
--- Defines graphs of numbers, and groups of numbers that reach one another.
+-- Defines graphs of numbers, and the invariants of a search for their cyclic numbers: it follows a path of groups, each
+-- of numbers that reach one another.
 use Rattle.std.specs.Prelude.{◌≡◌, ℕ, ◌+◌, ◌-◌, ◌*◌, ◌^◌, ◌<◌, ◌≤◌, Bool, false, List, [], ◌∷◌, ◌++◌, length}
 use Rattle.std.specs.Prelude.{Contains, IsTrue, ◌⊎◌, ◌↔◌, slice_index_or, Vec}
 use Prim.Native.Nat.{zero, suc}
 use Rattle.std.specs.declared.alloc.Global.{Global}
 use Rattle.ancestor_search.specs.declared.walk.Bound.{Bound}
 
--- `Edges` are the numbers to which each number has edges.
+-- `Edges` is the type of graphs of numbers: each maps a number to those to which its edges lead.
 abbrev pub Edges : Type 0
 Edges = ℕ → List ℕ
 
--- `edges_of vs` are the edges that lists represent; none past the end.
+-- `edges_of vs` is the graph that the lists `vs` represent; a number past their end has no edges.
 abbrev pub edges_of : List (Vec ℕ Global) → Edges
 edges_of [] x = []
 edges_of (v ∷ vs) zero = v.items
@@ -28,11 +29,13 @@ LeadsTo e a b = (through : List ℕ) × Way e b through a
 abbrev pub MarksCycles : Edges → List Bool → Type 0
 MarksCycles e found = (x : ℕ) → IsTrue (slice_index_or found x false) ↔ LeadsTo e x x
 
--- `done_mark` is the mark of a number that is done, or past the end.
+-- `done_mark`, the greatest number of 64 bits, is the mark of a number whose search is done. Numbers past the end have
+-- it too.
 abbrev pub done_mark : ℕ
 done_mark = 18446744073709551615
 
--- `mark_of place x` is the mark of the number `x`.
+-- `mark_of place x` is the mark of the number `x` in the list `place`: 0 if `x` was not seen, its index among the
+-- members of the groups, counted from 1, or `done_mark`.
 abbrev pub mark_of : List ℕ → ℕ → ℕ
 mark_of place x = slice_index_or place x done_mark
 
@@ -40,7 +43,7 @@ mark_of place x = slice_index_or place x done_mark
 abbrev pub IsDone : List ℕ → ℕ → Type 0
 IsDone place x = mark_of place x ≡ done_mark
 
--- A `Group` has its members, and those of their edges that were not yet visited.
+-- A `Group` has its members, and the ends of those of their edges that were not yet visited.
 pub record Group : Type 0 where
   pub members : List ℕ
   pub pending : List ℕ
@@ -54,26 +57,28 @@ abbrev pub pending_of : List Group → List ℕ
 pending_of [] = []
 pending_of (g ∷ gs) = pending_of gs ++ g.pending
 
--- `bound_at members pending` has the lengths of both lists.
+-- `bound_at members pending` is the bound of a group that begins after these members and edges: the lengths of both
+-- lists.
 abbrev pub bound_at : List ℕ → List ℕ → Bound
 bound_at members pending = record { members = length members; pending = length pending }
 
--- `bound_after gs` has the lengths of the lists of the groups `gs`.
+-- `bound_after gs` is the bound of a group that begins after the groups `gs`.
 abbrev pub bound_after : List Group → Bound
 bound_after gs = bound_at (members_of gs) (pending_of gs)
 
--- `bounds_of gs` are the bounds before each group, the last group's last.
+-- `bounds_of gs` are the bounds at which the groups `gs` begin, that of the last group last.
 abbrev pub bounds_of : List Group → List Bound
 bounds_of [] = []
 bounds_of (g ∷ gs) = bounds_of gs ++ bound_after gs ∷ []
 
--- `IsMember gs x` holds if `x` is a member of one of the groups.
+-- `IsMember gs x` holds if `x` is a member of one of the groups `gs`.
 abbrev pub IsMember : List Group → ℕ → Type 0
 IsMember [] x = ⊥
 IsMember (g ∷ gs) x = Contains g.members x ⊎ IsMember gs x
 
--- `IsGroup e Beyond g before` holds if the edges of the members of `g` lead to `Beyond` (done numbers, and later
--- groups), to `g`, or were not yet visited; its members reach one another, and the groups `before` reach them.
+-- `IsGroup e Beyond g before` holds if each edge of a member of `g` leads to a number in `Beyond` (the done numbers and
+-- the members of later groups), leads to `g`, or was not yet visited; the members reach one another; the groups
+-- `before` reach them; and no member is in `Beyond`.
 pub record IsGroup (e : Edges) (Beyond : ℕ → Type 0) (g : Group) (before : List Group) : Type 0 where
   pub settled : (x y : ℕ) → Contains g.members x → Contains (e x) y →
       (Beyond y ⊎ Contains g.members y) ⊎ Contains g.pending y
@@ -82,26 +87,29 @@ pub record IsGroup (e : Edges) (Beyond : ℕ → Type 0) (g : Group) (before : L
   pub leads : (x y : ℕ) → IsMember before x → Contains g.members y → LeadsTo e y x
   pub apart : (x : ℕ) → Contains g.members x → Beyond x → ⊥
 
--- `IsPath e Beyond gs` holds if each of `gs`, the last group first, is such a group with those before it.
+-- `IsPath e Beyond gs` holds if each of `gs`, the last group first, is such a group (`IsGroup`) after the groups before
+-- it.
 abbrev pub IsPath : Edges → (ℕ → Type 0) → List Group → Type 0
 IsPath e Beyond [] = Unit {0}
 IsPath e Beyond (g ∷ gs) = IsGroup e Beyond g gs × IsPath e (λ x. Beyond x ⊎ Contains g.members x) gs
 
--- `IsAccounted place members x` holds if `x` is done, or not seen and in no group, or marked with its index among the
--- members.
+-- `IsAccounted place members x` holds if `x` is done, or not seen and not among the members, or marked with its index
+-- among the members, counted from 1.
 abbrev pub IsAccounted : List ℕ → List ℕ → ℕ → Type 0
 IsAccounted place members x =
     IsDone place x
     ⊎ (((mark_of place x ≡ 0) × (Contains members x → ⊥))
     ⊎ ((k : ℕ) × (mark_of place x ≡ k + 1) × (k < length members) × (slice_index_or members k x ≡ x)))
 
--- `IsFinished e place found` holds if done numbers lead only to done ones, and the cyclic ones of them are found.
+-- `IsFinished e place found` holds if the edges of done numbers lead to done numbers only, numbers past the end of
+-- `found` have no edges, and `found` marks exactly the done numbers that are cyclic.
 pub record IsFinished (e : Edges) (place : List ℕ) (found : List Bool) : Type 0 where
   pub closed : (x y : ℕ) → IsDone place x → Contains (e x) y → IsDone place y
   pub empty : (x : ℕ) → length found ≤ x → e x ≡ []
   pub right : (x : ℕ) → IsTrue (slice_index_or found x false) ↔ (IsDone place x × LeadsTo e x x)
 
--- `IsWalk e place found members path` holds for a search along a path of groups.
+-- `IsWalk e place found members path` holds if `place`, `found` and `members` are those of a search along the groups
+-- `path`.
 pub record IsWalk (e : Edges) (place : List ℕ) (found : List Bool) (members : List ℕ) (path : List Group) : Type 0 where
   pub groups : IsPath e (IsDone place) path
   pub stands : (x : ℕ) → IsAccounted place members x
@@ -112,7 +120,7 @@ pub record IsWalk (e : Edges) (place : List ℕ) (found : List Bool) (members : 
 abbrev pub with_edge : Group → ℕ → Group
 with_edge g y = record { members = g.members; pending = g.pending ++ y ∷ [] }
 
--- `one_unseen m` and `unseen ms` count the numbers that were not seen.
+-- `one_unseen m` is 1 if the mark `m` is that of a number not seen, else 0; `unseen ms` counts the numbers not seen.
 abbrev pub one_unseen : ℕ → ℕ
 one_unseen zero = 1
 one_unseen (suc m) = 0
@@ -121,56 +129,62 @@ abbrev pub unseen : List ℕ → ℕ
 unseen [] = 0
 unseen (m ∷ ms) = one_unseen m + unseen ms
 
--- `effort place pending bounds` decreases at each step: numbers not seen, edges not visited, and groups.
+-- `effort place pending bounds` is the measure of the search: it decreases at each step. The factor of the numbers not
+-- seen exceeds the edges and the group that one of them adds once it is seen.
 abbrev pub effort : List ℕ → List ℕ → List Bound → ℕ
 effort place pending bounds = unseen place * 2 ^ 65 + length pending + length bounds
 
--- `IsWalking ..` holds for a search along some path.
+-- `IsWalking e place found members pending bounds` holds if these lists are those of a search of the graph `e` along
+-- some path of groups (`IsWalk`).
 abbrev pub IsWalking : Edges → List ℕ → List Bool → List ℕ → List ℕ → List Bound → Type 0
 IsWalking e place found members pending bounds =
     (path : List Group) × (bounds ≡ bounds_of path) × (pending ≡ pending_of path) × IsWalk e place found members path
 
--- `IsHeld ..` holds if the last group, whose bound was taken, has an edge to `y` to be visited.
-abbrev pub IsHeld : Edges → List ℕ → ℕ → List ℕ → List ℕ → List Bound → Bound → Type 0
-IsHeld e place y members pending bounds last =
+-- `HasRemovedEdge e place y members pending bounds last` holds if the lists are those of a path of groups, except for
+-- two removed items: `last`, the bound of the last group, was removed from `bounds`, and an edge of that group to `y`
+-- from `pending`. The edge is to be visited next.
+abbrev pub HasRemovedEdge : Edges → List ℕ → ℕ → List ℕ → List ℕ → List Bound → Bound → Type 0
+HasRemovedEdge e place y members pending bounds last =
     (g : Group) × (gs : List Group) × (bounds ≡ bounds_of gs) × (last ≡ bound_after gs)
     × (members ≡ members_of (g ∷ gs)) × (pending ≡ pending_of (g ∷ gs)) × IsPath e (IsDone place) (with_edge g y ∷ gs)
 
--- `Awaits ..` holds for a search whose last group has an edge to `y` to be visited.
-pub record Awaits (e : Edges) (place : List ℕ) (found : List Bool) (members pending : List ℕ)
+-- `IsWalkingWithRemovedEdge e place found members pending bounds last y` holds if the lists are those of a search
+-- along such a path (`HasRemovedEdge`), whose next edge leads to `y`.
+pub record IsWalkingWithRemovedEdge (e : Edges) (place : List ℕ) (found : List Bool) (members pending : List ℕ)
     (bounds : List Bound) (last : Bound) (y : ℕ) : Type 0 where
-  pub held : IsHeld e place y members pending bounds last
+  pub held : HasRemovedEdge e place y members pending bounds last
   pub stands : (x : ℕ) → IsAccounted place members x
   pub finished : IsFinished e place found
 
--- `JoinsDownTo at bounds last bounds' last'` holds if groups are merged until the number `y` at index `at` is in the
--- last one.
+-- `JoinsDownTo at bounds last bounds' last'` holds if the invariant `HasRemovedEdge` is preserved when `bounds'` and
+-- `last'` replace `bounds` and `last`, where the edge to be visited leads to the member at index `at`, counted from 1.
+-- The new bounds are those of the path with its last groups merged, down to that member's group.
 abbrev pub JoinsDownTo : ℕ → List Bound → Bound → List Bound → Bound → Type 0
 JoinsDownTo at bounds last bounds' last' =
     (e : Edges) (place : List ℕ) (y : ℕ) (members pending : List ℕ) →
     at ≤ length members → slice_index_or members (at - 1) y ≡ y →
-    IsHeld e place y members pending bounds last → IsHeld e place y members pending bounds' last'
+    HasRemovedEdge e place y members pending bounds last → HasRemovedEdge e place y members pending bounds' last'
 
 -- `IsSeen place x` holds if the number `x` was seen.
 abbrev pub IsSeen : List ℕ → ℕ → Type 0
 IsSeen place x = mark_of place x ≡ 0 → ⊥
 
--- `KeepsSeen place place'` holds if each seen number stays seen.
+-- `KeepsSeen place place'` holds if each number that was seen in `place` is seen in `place'`.
 abbrev pub KeepsSeen : List ℕ → List ℕ → Type 0
 KeepsSeen place place' = (x : ℕ) → IsSeen place x → IsSeen place' x
 
--- `HasOpen ys place` holds if one of the numbers is not done.
+-- `HasOpen ys place` holds if one of the numbers `ys` is not done.
 abbrev pub HasOpen : List ℕ → List ℕ → Type 0
 HasOpen ys place = (y : ℕ) × Contains ys y × (IsDone place y → ⊥)
 
--- `FindsOpen e place members found found'` holds if those members were found from which an edge leads to a number
--- that is not done.
+-- `FindsOpen e place members found found'` holds if `found'` marks what `found` marks, and the members from which an
+-- edge leads to a number that is not done.
 pub record FindsOpen (e : Edges) (place members : List ℕ) (found found' : List Bool) : Type 0 where
   pub len : length found' ≡ length found
   pub same : (x : ℕ) → IsTrue (slice_index_or found' x false)
       ↔ (IsTrue (slice_index_or found x false) ⊎ ((x < length found) × Contains members x × HasOpen (e x) place))
 
--- `Ends members place place'` holds if the members were marked as done, and nothing else changed.
+-- `Ends members place place'` holds if `place'` is `place` with each of `members` marked as done.
 pub record Ends (members place place' : List ℕ) : Type 0 where
   pub each : (x : ℕ) →
       (Contains members x × IsDone place' x) ⊎ ((Contains members x → ⊥) × (mark_of place' x ≡ mark_of place x))

@@ -1,18 +1,19 @@
--- Defines the abstract views of the values of the code.
+-- Defines invariants and abstract views of the values of the code: looked-up entities, the memo of ancestors, and the
+-- tally.
 use Rattle.std.specs.Prelude.{◌≡◌, ◌⊎◌, ⊤, ℕ, List, [], map, Contains, true, false, Ok, MatchOption, option_map, All}
 use Rattle.std.specs.Borrow.{Bor}
 use Rattle.values.specs.declared.entity_uid.EntityUid.{EntityUid}
 use Rattle.values.specs.declared.request.Request.{Request}
 use Rattle.values.specs.Values.{boolean}
-use Rattle.evaluator.specs.ancestor_search.Hierarchy.{Parents, IsAllAbove, IsAscending, names}
+use Rattle.evaluator.specs.ancestor_search.Hierarchy.{Parents, AreAllAncestorsOf, IsAscending, names}
 use Rattle.grammar_core.specs.declared.expr.Expr.{Expr}
 use Rattle.scope_index.specs.policy_grammar.declared.policy.Scope.{Scope}
 use Rattle.scope_index.specs.policy_grammar.declared.policy.Effect.TheVariants.{Permit, Forbid}
 use Rattle.evaluator.specs.Operators.{Entities}
 use Rattle.evaluator.specs.Evaluation.{EvaluatesTo, TestFails}
 use Rattle.authoriser.specs.declared.answer.ErringPolicy.{ErringPolicy}
-use Rattle.authoriser.specs.declared.others.Other.{Other}
-use Rattle.authoriser.specs.declared.others.AncestorMemo.{AncestorMemo}
+use Rattle.authoriser.specs.declared.ancestor_memo.MemoEntry.{MemoEntry}
+use Rattle.authoriser.specs.declared.ancestor_memo.AncestorMemo.{AncestorMemo}
 use Rattle.authoriser.specs.declared.outcome.Outcome.{Outcome}
 use Rattle.authoriser.specs.declared.outcome.Outcome.TheVariants.{Satisfied, NotSatisfied, Errs}
 use Rattle.authoriser.specs.declared.outcome.PolicyError.{PolicyError}
@@ -22,89 +23,91 @@ use Rattle.authoriser.specs.declared.tally.Tally.{Tally}
 use Rattle.scope_index.specs.Scopes.{IsEntityScopeTrue, IsActionScopeTrue}
 use Rattle.authoriser.specs.Answers.{PolicyOutcome, fault_of, satisfied, erring}
 
--- `IsWithin p of` holds if the entity `p` is `of`, or `of` is among its looked-up ancestors.
+-- `IsWithin p of` holds if the uid of the looked-up entity `p` is `of`, or `of` is among its ancestors.
 abbrev pub IsWithin : KnownEntity → EntityUid → Type 0
 IsWithin p of = (p.uid.now ≡ of) ⊎ Contains (names p.ancestors.items) of
 
 -- `HasItsAncestors parents entity p` holds if `p` is `entity` with all its ancestors, ascending.
 pub record HasItsAncestors (parents : Parents) (entity : EntityUid) (p : KnownEntity) : Type 0 where
   pub same : p.uid.now ≡ entity
-  pub all : IsAllAbove parents entity (names p.ancestors.items)
+  pub all : AreAllAncestorsOf parents entity (names p.ancestors.items)
   pub ascending : IsAscending (names p.ancestors.items)
 
--- `HasRequestAncestors parents q s` holds if `s` are the three entities of `q`, each with all its ancestors.
+-- `HasRequestAncestors parents q s` holds if `s` has the three entities of the request `q`, each with all its
+-- ancestors.
 pub record HasRequestAncestors (parents : Parents) (q : Request) (s : RequestEntities) : Type 0 where
   pub principal : HasItsAncestors parents q.principal s.principal
   pub action : HasItsAncestors parents q.action s.action
   pub resource : HasItsAncestors parents q.resource s.resource
 
--- `AllHaveTheirAncestors parents s` holds if each of the three entities has all its ancestors.
+-- `AllHaveTheirAncestors parents s` holds if each of the three entities of `s` has all its ancestors.
 pub record AllHaveTheirAncestors (parents : Parents) (s : RequestEntities) : Type 0 where
   pub principal : HasItsAncestors parents s.principal.uid.now s.principal
   pub action : HasItsAncestors parents s.action.uid.now s.action
   pub resource : HasItsAncestors parents s.resource.uid.now s.resource
 
--- `HasItsAttributes W entity p` holds if `p` has the stored attributes of `entity`; an entity that is not stored has
--- no parents.
+-- `HasItsAttributes W entity p` holds if `p` has the attributes of `entity` that `W` stores, `None` if `entity` is not
+-- stored; then it has no parents either.
 pub record HasItsAttributes (W : Entities) (entity : EntityUid) (p : KnownEntity) : Type 0 where
   pub given : option_map (λ r. r.now) p.attributes ≡ W.stored entity
   pub alone : MatchOption p.attributes (W.parents entity ≡ []) (λ _. ⊤)
 
--- `HasRequestAttributes W q s` holds if each of `s` has the stored attributes of that entity of `q`.
+-- `HasRequestAttributes W q s` holds if `s` has the stored attributes of each of the three entities of the request `q`.
 pub record HasRequestAttributes (W : Entities) (q : Request) (s : RequestEntities) : Type 0 where
   pub principal : HasItsAttributes W q.principal s.principal
   pub action : HasItsAttributes W q.action s.action
   pub resource : HasItsAttributes W q.resource s.resource
 
--- `AreLookedUp W q s` holds if `s` are the request's three entities as they are in `W`.
+-- `AreLookedUp W q s` holds if `s` has the three entities of the request `q` with their ancestors and attributes in
+-- `W`.
 pub record AreLookedUp (W : Entities) (q : Request) (s : RequestEntities) : Type 0 where
   pub ancestors : HasRequestAncestors W.parents q s
   pub attributes : HasRequestAttributes W q s
 
--- `AllHaveTheirAttributes W s` holds if each of the three entities has its stored attributes.
+-- `AllHaveTheirAttributes W s` holds if each of the three entities of `s` has its stored attributes.
 pub record AllHaveTheirAttributes (W : Entities) (s : RequestEntities) : Type 0 where
   pub principal : HasItsAttributes W s.principal.uid.now s.principal
   pub action : HasItsAttributes W s.action.uid.now s.action
   pub resource : HasItsAttributes W s.resource.uid.now s.resource
 
--- `AreAscending s` holds if the ancestors of each of the three entities ascend.
+-- `AreAscending s` holds if the ancestors of each of the three entities of `s` ascend.
 pub record AreAscending (s : RequestEntities) : Type 0 where
   pub principal : IsAscending (names s.principal.ancestors.items)
   pub action : IsAscending (names s.action.ancestors.items)
   pub resource : IsAscending (names s.resource.ancestors.items)
 
--- `HasAllAbove parents o` holds if the other entity `o` has all its ancestors, ascending.
-pub record HasAllAbove (parents : Parents) (o : Other) : Type 0 where
-  pub all : IsAllAbove parents o.uid (names o.ancestors.items)
+-- `HasAllAbove parents o` holds if the memoized entity `o` has all its ancestors, ascending.
+pub record HasAllAbove (parents : Parents) (o : MemoEntry) : Type 0 where
+  pub all : AreAllAncestorsOf parents o.uid (names o.ancestors.items)
   pub ascending : IsAscending (names o.ancestors.items)
 
--- `HaveAllAbove parents others` holds if each other entity of the memo has all its ancestors, ascending.
+-- `HaveAllAbove parents others` holds if each entity of the memo `others` has all its ancestors, ascending.
 abbrev pub HaveAllAbove : Parents → AncestorMemo → Type 0
 HaveAllAbove parents others = All (HasAllAbove parents) others.kept.items
 
--- `IsKnown W q s others` holds if the three entities `s` and the memo `others` agree with `W`.
+-- `IsKnown W q s others` holds if the three entities `s` of the request `q` and the memo `others` have the data of `W`.
 pub record IsKnown (W : Entities) (q : Request) (s : RequestEntities) (others : AncestorMemo) : Type 0 where
   pub three : AreLookedUp W q s
   pub rest : HaveAllAbove W.parents others
 
--- `IsTrueOf scope s` holds if `scope` is true, by the looked-up ancestors.
+-- `IsTrueOf scope s` holds if `scope` is true of the request with the entities `s`, by their looked-up ancestors.
 abbrev pub IsTrueOf : Scope → RequestEntities → Type 0
 IsTrueOf scope s =
     IsEntityScopeTrue (IsWithin s.principal) scope.principal s.principal.uid.now
     × IsActionScopeTrue (IsWithin s.action) scope.action s.action.uid.now
     × IsEntityScopeTrue (IsWithin s.resource) scope.resource s.resource.uid.now
 
--- `ConditionEvaluatesTo W q x outcome` holds if `outcome` is the result of the condition `x`.
+-- `ConditionEvaluatesTo W q x outcome` holds if `outcome` is the result of the expression `x` as a condition.
 abbrev pub ConditionEvaluatesTo : Entities → Request → Expr → Outcome → Type 0
 ConditionEvaluatesTo W q x Satisfied = EvaluatesTo W q x (Ok (boolean true))
 ConditionEvaluatesTo W q x NotSatisfied = EvaluatesTo W q x (Ok (boolean false))
 ConditionEvaluatesTo W q x (Errs error) = TestFails W q x (fault_of error)
 
--- `ids xs` are these ids without their borrows.
+-- `ids xs` are the ids to which the references `xs` point.
 abbrev pub ids : List (Bor (List ℕ)) → List (List ℕ)
 ids xs = map (λ x. x.now) xs
 
--- `faults xs` are the erroring policies with their errors.
+-- `faults xs` are the erroring policies with their errors, where the references of `xs` point to the ids.
 abbrev pub faults : List (Bor (List ℕ) × PolicyError) → List ErringPolicy
 faults xs = map (λ x. record { policy = x.0.now; error = x.1 }) xs
 

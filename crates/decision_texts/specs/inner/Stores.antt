@@ -1,4 +1,4 @@
--- Defines the abstract view of the store of an array's entities.
+-- Defines how the store that the code fills agrees with the entities of an array.
 use Rattle.std.specs.Prelude.{◌≡◌, ℕ, Bool, not, List, [], ◌∷◌, ◌++◌, Some, Result, Ok, Err}
 use Rattle.std.specs.List.{list_any}
 use Rattle.serde_json.specs.Data.{Data}
@@ -8,7 +8,7 @@ use Rattle.json_words.specs.ReadsAs.{◌>>=◌, demand, Fails}
 use Rattle.entity_data.specs.ancestor_search.Decided.{is_same}
 use Rattle.entity_data.specs.evaluator.Operators.{Entities}
 use Rattle.entity_data.specs.declared.entity.Entity.{Entity}
-use Rattle.entity_data.specs.Entities.{with_actions, world_in}
+use Rattle.entity_data.specs.Entities.{with_actions, entity_data_in}
 use Rattle.entity_data.specs.Keeping.{Entries, kept_in}
 use Rattle.answer_lines.specs.authoriser.declared.answer.Answer.{Answer}
 use Rattle.answer_lines.specs.authoriser.Answers.{NamedPolicy}
@@ -20,51 +20,54 @@ use Rattle.decision_texts.specs.EntityArrays.{placed}
 use Rattle.decision_texts.specs.Requests.{IsRequestText}
 use Rattle.decision_texts.specs.Decisions.{stated, IsAnswerTo}
 
--- `Holds store es` holds if the store has the entities `es`, each as it is stated.
+-- `Holds store es` holds if `store` has exactly the data of the entities `es`, each under its uid.
 abbrev pub Holds : Entries → List Entity → Type 0
 Holds store es = (q : EntityUid) → kept_in store q ≡ stated es q
 
--- `world_held r store` is the entity data of a store, with the declared actions.
-abbrev pub world_held : Reading → Entries → Entities
-world_held r store = world_in (with_actions r.actions (kept_in store))
+-- `entity_data_stored r store` is the entity data that evaluation uses: the entities of `store`, and the declared
+-- actions of `r`.
+abbrev pub entity_data_stored : Reading → Entries → Entities
+entity_data_stored r store = entity_data_in (with_actions r.actions (kept_in store))
 
 -- `is_among uid es` tests whether one of the entities `es` has the uid `uid`.
 abbrev pub is_among : EntityUid → List Entity → Bool
 is_among uid es = list_any (λ e. is_same e.uid uid) es
 
--- `entity_after r es place d` is the entity at an index of an array, after the parsed ones `es`: its own error comes
--- first, then that its uid is one of theirs.
+-- `entity_after r es place d` is the entity that `d` states at the index `place` of an array, after the entities `es`,
+-- or its error: first that of the entity itself, then 30 if one of `es` has its uid.
 unfoldable pub entity_after : Reading → List Entity → ℕ → Data → Result Entity Refusal
 entity_after r es place d = do
   entity ← placed place (r.entity d)
   first ← demand (bad_shape (Some place)) (not (is_among entity.uid es))
   Ok entity
 
--- `KeepsNext r es place d result store` holds if `result` is that of adding the next entity to a store of `es`, or
--- `NoMemory`.
+-- `KeepsNext r es place d result store` holds if `result` and the new store are those of adding the entity that `d`
+-- states to a store of the entities `es`; an error is that of `entity_after`, or `NoMemory`.
 abbrev pub KeepsNext : {A : Type 0} → Reading → List Entity → ℕ → Data → Result A Refusal → Entries → Type 0
 KeepsNext r es place d (Ok x) store = (e : Entity) × (entity_after r es place d ≡ Ok e) × Holds store (es ++ e ∷ [])
 KeepsNext r es place d (Err refusal) store = Fails no_memory refusal (entity_after r es place d)
 
--- `Keeps read store` holds if the store has exactly the entities that were parsed.
+-- `Keeps read store` holds if `read` are entities, and `store` has exactly these.
 pub record Keeps (read : Result (List Entity) Refusal) (store : Entries) : Type 0 where
   pub entities : List Entity
   pub are : read ≡ Ok entities
   pub held : Holds store entities
 
--- `ReadsStore result read` holds if `result` is that of parsing entities into a store, or `NoMemory`.
+-- `ReadsStore result read` holds if `result` is a store of exactly the entities `read`, or the error `read`, or
+-- `NoMemory`.
 abbrev pub ReadsStore : Result Entries Refusal → Result (List Entity) Refusal → Type 0
 ReadsStore (Ok store) read = Keeps read store
 ReadsStore (Err refusal) read = Fails no_memory refusal read
 
--- `IsLineIn policies W asked line` holds if `line` is that of the answer over these policies and the entities of `W`.
+-- `IsLineIn policies W asked line` holds if `line` is the line of the answer to the request `asked` over `policies` and
+-- the entity data `W`.
 pub record IsLineIn (policies : List NamedPolicy) (W : Entities) (asked : Request) (line : List ℕ) : Type 0 where
   pub answer : Answer
   pub answers : IsAnswerTo policies W asked answer
   pub line_is : line ≡ answer_line answer
 
--- `IsLineTo r policies W request line` is the same, for the request that a text states.
+-- `IsLineTo r policies W request line` holds if `IsLineIn` does for the request that the text `request` states.
 pub record IsLineTo (r : Reading) (policies : List NamedPolicy) (W : Entities) (request line : List ℕ) : Type 0 where
   pub asked : Request
-  pub question : IsRequestText r request asked
+  pub request_stated : IsRequestText r request asked
   pub told : IsLineIn policies W asked line

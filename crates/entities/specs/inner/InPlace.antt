@@ -3,7 +3,7 @@ use Rattle.std.specs.Prelude.{⊤}
 use Rattle.schema_types.specs.Cedar as cedar
 use Rattle.schema_types.specs.Cedar.{Cedar}
 
--- `IsInPlace t` holds if a value of the type `t` is stored in place.
+-- `IsInPlace t` holds if a value of the type `t` is stored in place, without memory of its own.
 abbrev pub IsInPlace : Cedar → Type 0
 IsInPlace cedar.boolean = ⊤
 IsInPlace cedar.long = ⊤

@@ -1,13 +1,12 @@
 use Rattle.std.proofs.Common.{sym, subst}
 use Rattle.grammar_core.specs.declared.operator.Binary.{Binary}
-use Rattle.grammar_core.specs.declared.expr.Expr.{Expr}
-use Rattle.evaluator.specs.inner.Computing.{decided_world, Answers, meaning, and_then, as_test, apply_binary}
+use Rattle.evaluator.specs.inner.Computing.{decided_entities, Answers, meaning, and_then, as_test, apply_binary}
 use Rattle.evaluator.proofs.AfterFirst.{decided, undecided}
 use Rattle.evaluator.proofs.+evaluate.Goals as goal
 
 pub testing::binary_test-returns-in-Less : goal.testing::binary_test-returns-in-Less
 testing::binary_test-returns-in-Less g t c =
-    let E = decided_world (g.L.Lookup.stored c.args.store.now) (g.L.Ancestry.above c.args.store.now) in
+    let E = decided_entities (g.L.Lookup.stored c.args.store.now) (g.L.Ancestry.above c.args.store.now) in
     let a = meaning (g.L.EvalEnv.asked c.args.store.now) E c.args.left.now in
     let b = meaning (g.L.EvalEnv.asked c.args.store.now) E c.args.right.now in
     subst (λ (op : Binary). Answers c.is_less.result (as_test (and_then a (λ v. and_then b (apply_binary E op v))))) (sym c.in-Less.is)
@@ -15,7 +14,7 @@ testing::binary_test-returns-in-Less g t c =
 
 pub testing::binary_test-returns-in-LessOrEqual : goal.testing::binary_test-returns-in-LessOrEqual
 testing::binary_test-returns-in-LessOrEqual g t c =
-    let E = decided_world (g.L.Lookup.stored c.args.store.now) (g.L.Ancestry.above c.args.store.now) in
+    let E = decided_entities (g.L.Lookup.stored c.args.store.now) (g.L.Ancestry.above c.args.store.now) in
     let a = meaning (g.L.EvalEnv.asked c.args.store.now) E c.args.left.now in
     let b = meaning (g.L.EvalEnv.asked c.args.store.now) E c.args.right.now in
     subst (λ (op : Binary). Answers c.is_less_or_equal.result (as_test (and_then a (λ v. and_then b (apply_binary E op v))))) (sym c.in-LessOrEqual.is)
@@ -23,13 +22,8 @@ testing::binary_test-returns-in-LessOrEqual g t c =
 
 pub choosing::both_test-returns-in-Some : goal.choosing::both_test-returns-in-Some
 choosing::both_test-returns-in-Some g t c =
-    let gives = meaning (g.L.EvalEnv.asked c.args.store.now) (decided_world (g.L.Lookup.stored c.args.store.now) (g.L.Ancestry.above c.args.store.now)) in
-    let first = subst (λ (x : Expr). Answers c.test_of-first.result (as_test (gives x))) c.get.ensures c.test_of-first.ensures in
-    decided _ _ _ _ first (c.in-Some.ensures _)
+    decided _ _ _ _ c.test_of-first.ensures (c.in-Some.ensures _)
 
 pub choosing::both_test-returns-in-None : goal.choosing::both_test-returns-in-None
 choosing::both_test-returns-in-None g t c =
-    let gives = meaning (g.L.EvalEnv.asked c.args.store.now) (decided_world (g.L.Lookup.stored c.args.store.now) (g.L.Ancestry.above c.args.store.now)) in
-    let first = subst (λ (x : Expr). Answers c.test_of-first.result (as_test (gives x))) c.get.ensures c.test_of-first.ensures in
-    let second = subst (λ (x : Expr). Answers c.test_of.result (as_test (gives x))) c.get-in-None.ensures c.test_of.ensures in
-    undecided _ _ _ _ first c.in-None.ensures second
+    undecided _ _ _ _ c.test_of-first.ensures c.in-None.ensures c.test_of.ensures

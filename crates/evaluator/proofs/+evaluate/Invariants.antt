@@ -1,16 +1,16 @@
 use Rattle.std.proofs.Common.{◌≡◌, ◌+◌, ◌*◌, max, drop, ◌++◌, map, Ok, []}
 use Rattle.grammar_core.specs.declared.expr.Expr.{size-Expr}
-use Rattle.evaluator.specs.inner.Computing.{decided_world, and_then, meaning, named_meaning, each, each_field}
+use Rattle.evaluator.specs.inner.Computing.{decided_entities, and_then, meaning, named_meaning, each, each_field}
 use Rattle.evaluator.proofs.+evaluate.Given as goal
 
-abbrev pub invariant-evaluating::evaluate_each-loop-expr : goal.invariant-evaluating::evaluate_each-loop-expr
-invariant-evaluating::evaluate_each-loop-expr g l =
-    let gives = meaning (g.L.EvalEnv.asked l.store) (decided_world (g.L.Lookup.stored l.store) (g.L.Ancestry.above l.store)) in
-    each (map gives l.exprs) ≡ and_then (each (map gives (drop l.expr-index l.exprs))) (λ rest. Ok (l.values.items ++ rest))
+abbrev pub invariant-evaluating::set_of-loop-member : goal.invariant-evaluating::set_of-loop-member
+invariant-evaluating::set_of-loop-member g l =
+    let gives = meaning (g.L.EvalEnv.asked l.store) (decided_entities (g.L.Lookup.stored l.store) (g.L.Ancestry.above l.store)) in
+    each (map gives l.members) ≡ and_then (each (map gives (drop l.member-index l.members))) (λ rest. Ok (l.values.items ++ rest))
 
-abbrev pub invariant-evaluating::evaluate_fields-loop-field : goal.invariant-evaluating::evaluate_fields-loop-field
-invariant-evaluating::evaluate_fields-loop-field g l =
-    let gives = named_meaning (g.L.EvalEnv.asked l.store) (decided_world (g.L.Lookup.stored l.store) (g.L.Ancestry.above l.store)) in
+abbrev pub invariant-evaluating::record_of-loop-field : goal.invariant-evaluating::record_of-loop-field
+invariant-evaluating::record_of-loop-field g l =
+    let gives = named_meaning (g.L.EvalEnv.asked l.store) (decided_entities (g.L.Lookup.stored l.store) (g.L.Ancestry.above l.store)) in
     each_field (map gives l.fields) [] ≡ each_field (map gives (drop l.field-index l.fields)) l.record
 
 -- What goes down two or three operands is as deep as the deepest of them.
@@ -47,14 +47,8 @@ decreases-choosing::either_test g l = 4 * max (size-Expr l.left.now) (size-Expr 
 abbrev pub decreases-evaluating::one_operand : goal.decreases-evaluating::one_operand
 decreases-evaluating::one_operand g l = 4 * goal.size-evaluating::one_operand g l + 1
 
-abbrev pub decreases-evaluating::second_operand : goal.decreases-evaluating::second_operand
-decreases-evaluating::second_operand g l = 4 * goal.size-evaluating::second_operand g l + 1
-
 abbrev pub decreases-evaluating::one_called : goal.decreases-evaluating::one_called
 decreases-evaluating::one_called g l = 4 * goal.size-evaluating::one_called g l + 1
-
-abbrev pub decreases-evaluating::second_called : goal.decreases-evaluating::second_called
-decreases-evaluating::second_called g l = 4 * goal.size-evaluating::second_called g l + 1
 
 abbrev pub decreases-evaluating::field_of : goal.decreases-evaluating::field_of
 decreases-evaluating::field_of g l = 4 * goal.size-evaluating::field_of g l + 1
@@ -63,16 +57,10 @@ abbrev pub decreases-evaluating::has_of : goal.decreases-evaluating::has_of
 decreases-evaluating::has_of g l = 4 * goal.size-evaluating::has_of g l + 1
 
 abbrev pub decreases-evaluating::set_of : goal.decreases-evaluating::set_of
-decreases-evaluating::set_of g l = 4 * goal.size-evaluating::set_of g l + 2
+decreases-evaluating::set_of g l = 4 * goal.size-evaluating::set_of g l + 1
 
 abbrev pub decreases-evaluating::record_of : goal.decreases-evaluating::record_of
-decreases-evaluating::record_of g l = 4 * goal.size-evaluating::record_of g l + 2
-
-abbrev pub decreases-evaluating::evaluate_each : goal.decreases-evaluating::evaluate_each
-decreases-evaluating::evaluate_each g l = 4 * goal.size-evaluating::evaluate_each g l + 1
-
-abbrev pub decreases-evaluating::evaluate_fields : goal.decreases-evaluating::evaluate_fields
-decreases-evaluating::evaluate_fields g l = 4 * goal.size-evaluating::evaluate_fields g l + 1
+decreases-evaluating::record_of g l = 4 * goal.size-evaluating::record_of g l + 1
 
 abbrev pub decreases-choosing::choice_of : goal.decreases-choosing::choice_of
 decreases-choosing::choice_of g l = 4 * max (size-Expr l.test.now) (max (size-Expr l.consequent.now) (size-Expr l.alternative.now)) + 3

@@ -1,5 +1,5 @@
--- Defines the outcome of an expression as a function that computes it: the relation of Evaluation.antt, where a test
--- decides the ancestor relation.
+-- Defines the outcome of an expression as a function that computes it. It is the outcome by the relation of
+-- Evaluation.antt if its test of ancestors decides the ancestor relation.
 use Rattle.std.specs.Prelude.{◌≡◌, ◌≢◌, ℕ, ℤ, pos, neg_ℤ, ◌+ℤ◌, ◌-ℤ◌, ◌*ℤ◌, int_lt, int_le, List, [], ◌∷◌, Bool, true}
 use Rattle.std.specs.Prelude.{false, not, ◌&&◌, ◌||◌, if◌then◌else◌, Option, Some, None, is_some, Result, Ok, Err}
 use Rattle.std.specs.Prelude.{MatchResult}
@@ -47,42 +47,43 @@ use Rattle.evaluator.specs.Outcomes.{EvaluationResult, boolean_in, long_in, text
 use Rattle.evaluator.specs.Outcomes.{decimal_in, network_in}
 use Rattle.evaluator.specs.Evaluation.{literal_value, variable_value}
 
--- A `DecidedWorld` has the attributes of each stored entity, and a test of the ancestor relation.
-pub record DecidedWorld : Type 0 where
+-- `DecidedEntities` is entity data for this function: the attributes of each stored entity, and a test of the ancestor
+-- relation.
+pub record DecidedEntities : Type 0 where
   pub stored : EntityUid → Option (List Field)
   pub above : EntityUid → EntityUid → Bool
 
--- `decided_world stored above` is the world with these attributes and this test.
-abbrev pub decided_world : (EntityUid → Option (List Field)) → (EntityUid → EntityUid → Bool) → DecidedWorld
-decided_world stored above = record { stored = stored; above = above }
+-- `decided_entities stored above` is the entity data with these attributes and this test.
+abbrev pub decided_entities : (EntityUid → Option (List Field)) → (EntityUid → EntityUid → Bool) → DecidedEntities
+decided_entities stored above = record { stored = stored; above = above }
 
--- `and_then r f` is `f` of the value of `r`, or its error.
+-- `and_then r f` is `f` of the value in `r`, or the error in `r`.
 abbrev pub and_then : {A B : Type 0} → Result A EvalFault → (A → Result B EvalFault) → Result B EvalFault
 and_then (Ok v) f = f v
 and_then (Err e) f = Err e
 
--- `demanded o` is the content of a value, or `TypeError` if it is of another kind.
+-- `demanded o` is the content `o` of a value, or `TypeError` if the value is of another kind (`None`).
 abbrev pub demanded : {A : Type 0} → Option A → Result A EvalFault
 demanded None = Err TypeError
 demanded (Some a) = Ok a
 
--- `two_demanded a b` is the content of two values; the first is checked first.
+-- `two_demanded a b` is the content of two values, or `TypeError` if one of them is of another kind.
 abbrev pub two_demanded : {A B : Type 0} → Option A → Option B → Result (A × B) EvalFault
 two_demanded a b = and_then (demanded a) (λ x. and_then (demanded b) (λ y. Ok (x, y)))
 
--- `truth b` is the boolean `b`.
+-- `truth b` is the boolean value `b`.
 abbrev pub truth : Bool → EvaluationResult
 truth b = Ok (boolean b)
 
--- `is_bounded z` tests whether `z` fits in signed 64 bits.
+-- `is_bounded z` tests whether `z` fits in signed 64 bits: whether it is at least -2^63 and less than 2^63.
 abbrev pub is_bounded : ℤ → Bool
 is_bounded z = int_le (neg_ℤ (pos 9223372036854775808)) z && int_lt z (pos 9223372036854775808)
 
--- `bounded z` is the long `z`, or `ArithBoundsError` if it does not fit.
+-- `bounded z` is the integer `z` as a value, or `ArithBoundsError` if it does not fit in signed 64 bits.
 abbrev pub bounded : ℤ → EvaluationResult
 bounded z = if is_bounded z then Ok (long z) else Err ArithBoundsError
 
--- `number_or_fault o` is the result of checked arithmetic.
+-- `number_or_fault o` is the integer in `o` as a value, or `ArithBoundsError` if checked arithmetic gives `None`.
 abbrev pub number_or_fault : Option ℤ → EvaluationResult
 number_or_fault None = Err ArithBoundsError
 number_or_fault (Some z) = Ok (long z)
@@ -94,32 +95,33 @@ apply_unary Negate v = and_then (demanded (long_in v)) (λ z. bounded (neg_ℤ z
 apply_unary (Like pattern) v = and_then (demanded (text_in v)) (λ t. truth (is_match pattern t))
 apply_unary (Is name) v = and_then (demanded (entity_uid_in v)) (λ u. truth (bytes_eq u.type_name name))
 
--- `is_in E a b` tests whether `a` is `b` or a descendant of it.
-abbrev pub is_in : DecidedWorld → EntityUid → EntityUid → Bool
+-- `is_in E a b` tests whether `a` is `b` or a descendant of it, by the test of `E`.
+abbrev pub is_in : DecidedEntities → EntityUid → EntityUid → Bool
 is_in E a b = is_eq (uid_cmp a b) || E.above b a
 
--- `in_members E a vs` tests whether `a` is in some member of `vs`, all of which must be entities.
-abbrev pub in_members : DecidedWorld → EntityUid → List PlainValue → Result Bool EvalFault
+-- `in_members E a vs` tests whether `a` is a member of `vs` or a descendant of one; `TypeError` if a member is not an
+-- entity.
+abbrev pub in_members : DecidedEntities → EntityUid → List PlainValue → Result Bool EvalFault
 in_members E a [] = Ok false
 in_members E a (v ∷ vs) =
     and_then (demanded (entity_uid_in v)) (λ b. and_then (in_members E a vs) (λ rest. Ok (is_in E a b || rest)))
 
--- `in_value E a v` is the outcome of `in` for the entity `a` and an entity or a set of entities.
-abbrev pub in_value : DecidedWorld → EntityUid → PlainValue → EvaluationResult
+-- `in_value E a v` is the outcome of `a in v`, where `v` must be an entity or a set of entities.
+abbrev pub in_value : DecidedEntities → EntityUid → PlainValue → EvaluationResult
 in_value E a (entity b) = truth (is_in E a b)
 in_value E a (set vs) = and_then (in_members E a (list_of vs)) truth
 in_value E a v = Err TypeError
 
--- `numbers f v w` is the outcome of `f` on two longs.
+-- `numbers f v w` is the outcome of `f` on two integers; `TypeError` if `v` or `w` is not one.
 abbrev pub numbers : (ℤ → ℤ → EvaluationResult) → PlainValue → PlainValue → EvaluationResult
 numbers f v w = and_then (two_demanded (long_in v) (long_in w)) (λ p. f p.0 p.1)
 
--- `sets f v w` is the outcome of the test `f` on the members of two sets.
+-- `sets f v w` is the outcome of the test `f` on the members of two sets; `TypeError` if `v` or `w` is not a set.
 abbrev pub sets : (List PlainValue → List PlainValue → Bool) → PlainValue → PlainValue → EvaluationResult
 sets f v w = and_then (demanded (members_in v)) (λ x. and_then (demanded (members_in w)) (λ y. truth (f x y)))
 
 -- `apply_binary E op v w` is the outcome of the operator `op` on `v` and `w`.
-abbrev pub apply_binary : DecidedWorld → Binary → PlainValue → PlainValue → EvaluationResult
+abbrev pub apply_binary : DecidedEntities → Binary → PlainValue → PlainValue → EvaluationResult
 apply_binary E Equal v w = truth (is_eq (value_cmp v w))
 apply_binary E In v w = and_then (demanded (entity_uid_in v)) (λ a. in_value E a w)
 apply_binary E Less v w = numbers (λ x y. truth (int_lt x y)) v w
@@ -136,29 +138,32 @@ abbrev pub found_or : EvalFault → Option PlainValue → EvaluationResult
 found_or e None = Err e
 found_or e (Some v) = Ok v
 
--- `attribute o name` is the attribute of an entity, or an error if the entity or the attribute is missing.
+-- `attribute o name` is the attribute `name` of an entity with the attributes `o`, or an error if the entity is not
+-- stored (`None`) or has no such attribute.
 abbrev pub attribute : Option (List Field) → List ℕ → EvaluationResult
 attribute None name = Err EntityDoesNotExist
 attribute (Some fs) name = found_or AttrDoesNotExist (find_field name fs)
 
 -- `field_of E name v` is the outcome of `v.name`.
-abbrev pub field_of : DecidedWorld → List ℕ → PlainValue → EvaluationResult
+abbrev pub field_of : DecidedEntities → List ℕ → PlainValue → EvaluationResult
 field_of E name (record_of fs) = found_or AttrDoesNotExist (find_field name (pairs_of fs))
 field_of E name (entity u) = attribute (E.stored u) name
 field_of E name v = Err TypeError
 
--- `has_attribute o name` tests whether an entity has the attribute; a missing entity has none.
+-- `has_attribute o name` tests whether an entity with the attributes `o` has the attribute `name`; an entity that is
+-- not stored (`None`) has none.
 abbrev pub has_attribute : Option (List Field) → List ℕ → Bool
 has_attribute None name = false
 has_attribute (Some fs) name = is_some (find_field name fs)
 
 -- `has_field E name v` is the outcome of `v has name`.
-abbrev pub has_field : DecidedWorld → List ℕ → PlainValue → EvaluationResult
+abbrev pub has_field : DecidedEntities → List ℕ → PlainValue → EvaluationResult
 has_field E name (record_of fs) = truth (is_some (find_field name (pairs_of fs)))
 has_field E name (entity u) = truth (has_attribute (E.stored u) name)
 has_field E name v = Err TypeError
 
--- `decimal_read` and `network_read` are the results of parsing a string.
+-- `decimal_read d` is the decimal that a string denotes, and `network_read d` the IP address, or `ExtensionError` if
+-- the string denotes none; `d` decides which.
 abbrev pub decimal_read : {t : List ℕ} → Decided ((z : ℤ) × IsDecimalText t z) → EvaluationResult
 decimal_read (inl h) = Ok (decimal h.0)
 decimal_read (inr n) = Err ExtensionError
@@ -172,7 +177,7 @@ abbrev pub is_v4 : Version → Bool
 is_v4 V4 = true
 is_v4 V6 = false
 
--- `tested f v` is the result of a test of an IP address.
+-- `tested f v` is the outcome of the test `f` on an IP address; `TypeError` if `v` is not one.
 abbrev pub tested : (Network → Bool) → PlainValue → EvaluationResult
 tested f v = and_then (demanded (network_in v)) (λ n. truth (f n))
 
@@ -185,11 +190,11 @@ apply_unary_call IsIpv6 v = tested (λ n. not (is_v4 n.version)) v
 apply_unary_call IsLoopback v = tested (λ n. told (in_either_decided n loopback_v4 loopback_v6)) v
 apply_unary_call IsMulticast v = tested (λ n. told (in_either_decided n multicast_v4 multicast_v6)) v
 
--- `decimals f v w` is the outcome of the test `f` on two decimals.
+-- `decimals f v w` is the outcome of the test `f` on two decimals; `TypeError` if `v` or `w` is not one.
 abbrev pub decimals : (ℤ → ℤ → Bool) → PlainValue → PlainValue → EvaluationResult
 decimals f v w = and_then (two_demanded (decimal_in v) (decimal_in w)) (λ p. truth (f p.0 p.1))
 
--- `networks f v w` is the outcome of the test `f` on two IP addresses.
+-- `networks f v w` is the outcome of the test `f` on two IP addresses; `TypeError` if `v` or `w` is not one.
 abbrev pub networks : (Network → Network → Bool) → PlainValue → PlainValue → EvaluationResult
 networks f v w = and_then (demanded (network_in v)) (λ x. and_then (demanded (network_in w)) (λ y. truth (f x y)))
 
@@ -201,34 +206,34 @@ apply_binary_call GreaterThan v w = decimals (λ x y. int_lt y x) v w
 apply_binary_call GreaterThanOrEqual v w = decimals (λ x y. int_le y x) v w
 apply_binary_call IsInRange v w = networks (λ m n. told (within_decided m n)) v w
 
--- `each rs` are the values of `rs` in order, or the first error.
+-- `each rs` are the values of the outcomes `rs` in order, or the first error.
 abbrev pub each : List EvaluationResult → Result (List PlainValue) EvalFault
 each [] = Ok []
 each (r ∷ rs) = and_then r (λ v. and_then (each rs) (λ vs. Ok (v ∷ vs)))
 
--- `each_field fs done` are the fields `done` with each further one, or the first error.
+-- `each_field fs done` are the fields `done`, with each name of `fs` set to its value in order, or the first error.
 abbrev pub each_field : List (Named EvaluationResult) → List Field → Result (List Field) EvalFault
 each_field [] done = Ok done
 each_field (f ∷ fs) done = and_then f.value (λ v. each_field fs (put f.name v done))
 
--- `as_test r` is the boolean of the outcome `r`, or an error.
+-- `as_test r` is the boolean in the outcome `r`, the error in `r`, or `TypeError` if the value is not a boolean.
 abbrev pub as_test : EvaluationResult → Result Bool EvalFault
 as_test r = and_then r (λ v. demanded (boolean_in v))
 
--- `choice a b c` is the outcome of `if`, given those of its parts.
+-- `choice a b c` is the outcome of `if`, given the outcomes of its test and its two branches.
 abbrev pub choice : EvaluationResult → EvaluationResult → EvaluationResult → EvaluationResult
 choice a b c = and_then (as_test a) (λ t. if t then b else c)
 
--- `both a b` is the outcome of `&&`; the second operand matters only if the first is true.
+-- `both a b` is the outcome of `&&`, given those of its operands; the second matters only if the first is true.
 abbrev pub both : EvaluationResult → EvaluationResult → EvaluationResult
 both a b = and_then (as_test a) (λ t. if t then and_then (as_test b) truth else truth false)
 
--- `either a b` is the outcome of `||`; the second operand matters only if the first is false.
+-- `either a b` is the outcome of `||`, given those of its operands; the second matters only if the first is false.
 abbrev pub either : EvaluationResult → EvaluationResult → EvaluationResult
 either a b = and_then (as_test a) (λ t. if t then truth true else and_then (as_test b) truth)
 
--- `meaning_step q E x` is the outcome of a node over operands with these outcomes.
-abbrev pub meaning_step : Request → DecidedWorld → Expr-F EvaluationResult → EvaluationResult
+-- `meaning_step q E x` is the outcome of the expression `x` in which each operand is replaced by its outcome.
+abbrev pub meaning_step : Request → DecidedEntities → Expr-F EvaluationResult → EvaluationResult
 meaning_step q E (Expr-F.Literal l) = Ok (literal_value l)
 meaning_step q E (Expr-F.Variable x) = Ok (variable_value x q)
 meaning_step q E (Expr-F.If a b c) = choice a b c
@@ -243,35 +248,37 @@ meaning_step q E (Expr-F.Record fs) = and_then (each_field fs []) (λ done. Ok (
 meaning_step q E (Expr-F.UnaryCall called a) = and_then a (apply_unary_call called)
 meaning_step q E (Expr-F.BinaryCall called a b) = and_then a (λ v. and_then b (apply_binary_call called v))
 
--- `meaning q E x` is the outcome of the expression `x`.
-abbrev pub meaning : Request → DecidedWorld → Expr → EvaluationResult
+-- `meaning q E x` is the outcome of the expression `x` under the request `q`, over the entity data `E`.
+abbrev pub meaning : Request → DecidedEntities → Expr → EvaluationResult
 meaning q E = fold-Expr EvaluationResult (meaning_step q E)
 
--- `named_meaning q E f` is that of a field's value.
-abbrev pub named_meaning : Request → DecidedWorld → Named Expr → Named EvaluationResult
+-- `named_meaning q E f` is the field `f` with the outcome of its expression.
+abbrev pub named_meaning : Request → DecidedEntities → Named Expr → Named EvaluationResult
 named_meaning q E f = record { name = f.name; value = meaning q E f.value }
 
--- `Answers r m` holds if the result `r` is the outcome `m`, or `NoMemory`.
+-- `Answers r m` holds if the result `r` of the code is the outcome `m`, or `NoMemory`.
 abbrev pub Answers : {A : Type 0} → Result A EvalFault → Result A EvalFault → Type 0
 Answers r m = MatchResult r (λ v. m ≡ Ok v) (λ e. e ≢ NoMemory → m ≡ Err e)
 
--- `AnswersNext given f r` holds if `r` answers `f` of the operand's outcome, whatever outcome `given` answers.
+-- `AnswersNext given f r` holds if, for each outcome `m` that `given` answers, `r` answers `f` of the value in `m`, or
+-- the error in `m`.
 abbrev pub AnswersNext : {A B : Type 0} → Result A EvalFault → (A → Result B EvalFault) → Result B EvalFault → Type 0
 AnswersNext {A} given f r = (m : Result A EvalFault) → Answers given m → Answers r (and_then m f)
 
--- `AnswersInto given P r` holds if `r` is a success for which `P` of the operand's value holds, or answers the
--- operand's error.
+-- `AnswersInto given P r` holds if, for each outcome `m` that `given` answers, `r` is a success and `P` holds of the
+-- value in `m`, or `r` answers the error in `m`.
 abbrev pub AnswersInto : {A : Type 0} → EvaluationResult → (PlainValue → Type 0) → Result A EvalFault → Type 0
 AnswersInto given P r = (m : EvaluationResult) → Answers given m
     → MatchResult r (λ _. (v : PlainValue) × (m ≡ Ok v) × P v) (λ e. e ≢ NoMemory → m ≡ Err e)
 
--- `TellsNumber r m` holds if `r` is the integer in the outcome `m`, `None` for a value of another kind, or answers
--- its error.
-abbrev pub TellsNumber : Result (Option ℤ) EvalFault → EvaluationResult → Type 0
-TellsNumber r m = MatchResult r (λ n. (v : PlainValue) × (m ≡ Ok v) × (n ≡ long_in v)) (λ e. e ≢ NoMemory → m ≡ Err e)
+-- `AnswersNumber r m` holds if `r` is the integer in the outcome `m`, `None` if the value in `m` is of another kind,
+-- the error in `m`, or `NoMemory`.
+abbrev pub AnswersNumber : Result (Option ℤ) EvalFault → EvaluationResult → Type 0
+AnswersNumber r m = MatchResult r (λ n. (v : PlainValue) × (m ≡ Ok v) × (n ≡ long_in v)) (λ e. e ≢ NoMemory → m ≡ Err e)
 
--- `TellNumbers r a b` holds if `r` are the integers in the outcomes `a` and then `b`, or answers the first error.
-abbrev pub TellNumbers : Result Numbers EvalFault → EvaluationResult → EvaluationResult → Type 0
-TellNumbers r a b = MatchResult r
+-- `AnswersNumbers r a b` holds if `r` has the integers in the outcomes `a` and `b`, each `None` for a value of another
+-- kind, or is the first error in them, or `NoMemory`.
+abbrev pub AnswersNumbers : Result Numbers EvalFault → EvaluationResult → EvaluationResult → Type 0
+AnswersNumbers r a b = MatchResult r
     (λ ns. (v w : PlainValue) × (a ≡ Ok v) × (b ≡ Ok w) × (ns.first ≡ long_in v) × (ns.second ≡ long_in w))
     (λ e. e ≢ NoMemory → (f : PlainValue → PlainValue → EvaluationResult) → and_then a (λ v. and_then b (f v)) ≡ Err e)

@@ -1,4 +1,4 @@
--- Defines the theorem that the computed meaning of an expression is its outcome.
+-- Defines the theorem that the computed outcome of an expression (`meaning`) is its only outcome.
 use Rattle.std.specs.Prelude.{◌≡◌, Bool}
 use Rattle.values.specs.declared.entity_uid.EntityUid.{EntityUid}
 use Rattle.values.specs.declared.request.Request.{Request}
@@ -7,16 +7,16 @@ use Rattle.grammar_core.specs.declared.expr.Expr.{Expr}
 use Rattle.evaluator.specs.Outcomes.{EvaluationResult}
 use Rattle.evaluator.specs.Operators.{Entities}
 use Rattle.evaluator.specs.Evaluation.{EvaluatesTo}
-use Rattle.evaluator.specs.inner.Computing.{decided_world, meaning}
+use Rattle.evaluator.specs.inner.Computing.{decided_entities, meaning}
 
--- `GivesOnly W q x m` holds if `m` is the only outcome of `x` on the request `q` over the entities `W`.
+-- `GivesOnly W q x m` holds if `m` is the only outcome of `x` under the request `q`, over the entities of `W`.
 pub record GivesOnly (W : Entities) (q : Request) (x : Expr) (m : EvaluationResult) : Type 0 where
   pub given : EvaluatesTo W q x m
   pub only : (r : EvaluationResult) → EvaluatesTo W q x r → r ≡ m
 
--- `MeaningsAreGiven`: if a test decides the ancestor relation, the computed meaning of each expression is its only
--- outcome.
+-- `MeaningsAreGiven`: if a test decides the ancestor relation, the outcome that `meaning` computes with it is the only
+-- outcome of the expression.
 abbrev pub MeaningsAreGiven : Type 0
 MeaningsAreGiven = (W : Entities) (above : EntityUid → EntityUid → Bool) → Decides W.parents above
     → (q : Request) (x : Expr) →
-    GivesOnly W q x (meaning q (decided_world W.stored above) x)
+    GivesOnly W q x (meaning q (decided_entities W.stored above) x)

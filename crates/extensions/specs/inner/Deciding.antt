@@ -1,5 +1,5 @@
--- Defines decisions of wholes from decisions of their parts. None of it is trusted: the type of each says what it
--- decides.
+-- Defines how compound statements are decided, from decisions of their parts. None of it is trusted: the type of each
+-- procedure states what it decides.
 use Rattle.std.specs.Prelude.{◌≡◌, ◌⊎◌, ℕ, zero, suc, ◌<◌, true, List, [], ◌∷◌, ◌++◌, refl}
 use Rattle.std.proofs.Common.{inl, inr, ap, arith, sym, subst}
 use Rattle.std.proofs.lemmas.Bool.{cases_lt, cases_Bool, false≢true}
@@ -7,11 +7,14 @@ use Rattle.std.specs.Str.{bytes_eq}
 use Rattle.std.proofs.lemmas.Slice.Eq.{bytes_eq-Decides}
 use Rattle.extensions.specs.Decided.{Decided}
 
--- `decided_as there back d` decides a fact by the decision `d` of an equivalent one.
+-- `decided_as there back d` decides a statement by the decision `d` of an equivalent one; `there` and `back` prove that
+-- they are equivalent.
 pub decided_as : {P Q : Type 0} → (P → Q) → (Q → P) → Decided P → Decided Q
 decided_as there back (inl p) = inl (there p)
 decided_as there back (inr n) = inr (λ q. n (back q))
 
+-- The next five procedures decide whether two statements hold, whether one of two does, whether a number is less than
+-- another, and whether two numbers or two strings are equal.
 pub both_decided : {P Q : Type 0} → Decided P → Decided Q → Decided (P × Q)
 both_decided (inl p) (inl q) = inl (p, q)
 both_decided (inl p) (inr n) = inr (λ h. n h.1)
@@ -37,7 +40,7 @@ text_decided s t = elim (cases_Bool (bytes_eq s t)) [
   | inr e ↦ inr (λ same. false≢true (let h : bytes_eq s t ≡ true = (bytes_eq-Decides s t).1 same in cc))
 ]
 
--- `below_decided n P d` decides whether `P` holds of a number below `n`.
+-- `below_decided n P d` decides whether `P` holds of some number below `n`.
 pub below_decided : (n : ℕ) (P : ℕ → Type 0) → ((k : ℕ) → Decided (P k)) → Decided ((k : ℕ) × (k < n) × P k)
 below_decided zero P d = inr (λ h. absurd (omega (arith, h.1)))
 below_decided (suc n) P d = elim (d n) [
@@ -51,7 +54,7 @@ below_decided (suc n) P d = elim (d n) [
       (below_decided n P d)
 ]
 
--- `parted_decided P d text` decides whether `text` can be cut into two strings of which `P` holds.
+-- `parted_decided P d text` decides whether `text` can be cut into some two strings of which `P` holds.
 pub parted_decided : (P : List ℕ → List ℕ → Type 0) → ((a b : List ℕ) → Decided (P a b)) → (text : List ℕ)
     → Decided ((a b : List ℕ) × (text ≡ a ++ b) × P a b)
 parted_decided P d [] = decided_as
@@ -81,7 +84,7 @@ parted_decided P d (c ∷ cs) = elim (d [] (c ∷ cs)) [
         tail_of : c ∷ cs ≡ x ∷ (a ++ b) → cs ≡ a ++ b
         tail_of e = cc
 
--- `behind_decided c P d text` decides whether `text` is the byte `c` and a string of which `P` holds.
+-- `behind_decided c P d text` decides whether `text` is the byte `c`, followed by a string of which `P` holds.
 pub behind_decided : (c : ℕ) (P : List ℕ → Type 0) → ((xs : List ℕ) → Decided (P xs)) → (text : List ℕ)
     → Decided ((xs : List ℕ) × (text ≡ c ∷ xs) × P xs)
 behind_decided c P d [] = inr (λ h. absurd (let e = h.1 in cc))

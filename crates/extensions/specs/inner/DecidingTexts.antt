@@ -1,4 +1,5 @@
--- Defines the decision procedures of TextsDecided. None of it is trusted: the type of each says what it decides.
+-- Defines how the decision procedures of TextsDecided decide. None of it is trusted: the type of each procedure states
+-- what it decides.
 use Prim.Native.Char.{code}
 use Rattle.std.specs.Prelude.{◌≡◌, ◌⊎◌, ℕ, zero, suc, pos, ℤ, neg_ℤ, ◌+◌, ◌-◌, ◌*◌, ◌^◌, ◌<◌, ◌≤◌, List, [], ◌∷◌, ◌++◌}
 use Rattle.std.specs.Prelude.{length, replicate, codes, FitsSigned, refl}
@@ -34,7 +35,8 @@ short_decided text = decided_as (λ l. omega (arith, l)) (λ l. omega (arith, l)
 fits_decided : (z : ℤ) → Decided (FitsSigned w64 z)
 fits_decided z = decided_as (λ l. record { sfits = l }) (λ f. f.sfits) (lt_decided (mag z) (2 ^ hbits w64))
 
--- `value_of whole fraction` are the ten-thousandths of digits before and after a point.
+-- `value_of whole fraction` is the number of ten-thousandths that the digits `whole` before a point and `fraction`
+-- after it denote; `scaled` and `one_value` prove that it is the one of `IsUnsignedText`.
 value_of : List ℕ → List ℕ → ℕ
 value_of whole fraction = digits_value 10 (whole ++ fraction) * 10 ^ (4 - length fraction)
 
@@ -54,11 +56,13 @@ one_value n v (suc (suc (suc zero))) h e = omega arith
 one_value n v (suc (suc (suc (suc zero)))) h e = omega arith
 one_value n v (suc (suc (suc (suc (suc l))))) h e = absurd (omega arith)
 
--- `Digits Q whole fraction` holds for a string without a sign whose number has the property `Q`.
+-- `Digits Q whole fraction` holds if `whole` and `fraction` are the digits around the point of a decimal without a
+-- sign, and its ten-thousandths satisfy `Q`.
 Digits : (ℕ → Type 0) → List ℕ → List ℕ → Type 0
 Digits Q whole fraction = IsNumeral 10 whole × IsNumeral 10 fraction × (length fraction ≤ 4)
     × Q (value_of whole fraction)
 
+-- `unsigned_decided Q d text` decides whether `text` is a decimal without a sign whose ten-thousandths satisfy `Q`.
 unsigned_decided : (Q : ℕ → Type 0) → ((n : ℕ) → Decided (Q n)) → (text : List ℕ)
     → Decided ((n : ℕ) × IsUnsignedText text n × Q n)
 unfolding Digits value_of
@@ -112,6 +116,7 @@ unsigned_decided Q d text = decided_as there back
       ),
     )
 
+-- `Plain text` holds if `text` is a decimal without a sign, and `Minus text` if it is one with a `-`.
 Plain : List ℕ → Type 0
 Plain text = (n : ℕ) × IsUnsignedText text n × FitsSigned w64 (pos n)
 
@@ -124,7 +129,7 @@ unfolding Plain Minus
 signed_cases _ _ (plain {text} {n} t) f = inl (n, t, f)
 signed_cases _ _ (minus {text} {n} t) f = inr (text, refl, (n, t, f))
 
--- Decides whether a string is a decimal, with its ten-thousandths.
+-- `decimal_text_decided text` decides whether `text` is a decimal, and gives its ten-thousandths.
 pub decimal_text_decided : (text : List ℕ) → Decided ((z : ℤ) × IsDecimalText text z)
 unfolding Plain Minus
 decimal_text_decided text = decided_as
@@ -143,6 +148,8 @@ decimal_text_decided text = decided_as
 
 -- ---- IPv4 addresses
 
+-- `dotted a b c d` are four numbers in decimal with dots between them; `Dotted text` holds if `text` is four such
+-- numbers below 256.
 dotted : ℕ → ℕ → ℕ → ℕ → List ℕ
 dotted a b c d = decimal a ++ codes "." ++ decimal b ++ codes "." ++ decimal c ++ codes "." ++ decimal d
 
@@ -177,7 +184,7 @@ group_decided text = decided_as
     (λ h. (h.1.hexadecimal, h.1.short))
     (both_decided (numeral_decided 16 text) (short_decided text))
 
--- `Groups k text` holds if `text` has some `k` groups.
+-- `Groups k text` holds if `text` is some `k` groups, with a colon between each two.
 Groups : ℕ → List ℕ → Type 0
 Groups k text = (groups : List ℕ) × AreGroups text groups × (length groups ≡ k)
 
@@ -232,7 +239,7 @@ full_decided text = decided_as
     (λ h. (h.0, h.1.written, h.1.eight))
     (groups_decided 8 text)
 
--- `Sides head tail` holds if there are groups on both sides of `::`, with at least one missing.
+-- `Sides head tail` holds if `head` and `tail` are groups, fewer than eight together.
 Sides : List ℕ → List ℕ → Type 0
 Sides head tail = (k : ℕ) × (k < 8) × ((l : ℕ) × (l < 8) × ((k + l < 8) × (Groups k head × Groups l tail)))
 
@@ -242,6 +249,7 @@ sides_decided head tail =
     below_decided 8 _ (λ k. below_decided 8 _
     (λ l. both_decided (lt_decided (k + l) 8) (both_decided (groups_decided k head) (groups_decided l tail))))
 
+-- `Cut text` holds if `text` has a `::` with such groups on its sides.
 Cut : List ℕ → Type 0
 Cut text = (head b : List ℕ) × (text ≡ head ++ b)
     × ((c : List ℕ) × (b ≡ code ":" ∷ c) × ((tail : List ℕ) × (c ≡ code ":" ∷ tail) × Sides head tail))
@@ -328,7 +336,7 @@ prefix_decided bits text = decided_as
     (below_decided (bits + 1) (λ p. text ≡ codes "/" ++ decimal p)
     (λ p. text_decided text (codes "/" ++ decimal p))))
 
--- `OfVersion v text` holds if `text` is an address of the version `v`, with a prefix.
+-- `OfVersion v text` holds if `text` is an address of the version `v`, with an optional prefix.
 OfVersion : Version → List ℕ → Type 0
 OfVersion v text = (a b : List ℕ) × (text ≡ a ++ b)
     × (((n : ℕ) × IsAddressText v a n) × ((p : ℕ) × IsPrefixText (width v) b p))
@@ -362,7 +370,7 @@ versions : (v : Version) → (v ≡ V4) ⊎ (v ≡ V6)
 versions V4 = inl refl
 versions V6 = inr refl
 
--- Decides whether a string is an IP address, with its network.
+-- `network_text_decided text` decides whether `text` is an IP address, and gives its network.
 pub network_text_decided : (text : List ℕ) → Decided ((n : Network) × IsNetworkText text n)
 network_text_decided text = decided_as
     (λ h. elim h [ inl f ↦ of_version V4 text f | inr s ↦ of_version V6 text s ])
@@ -381,7 +389,7 @@ same_version_decided V4 V6 = inr (λ e. cc)
 same_version_decided V6 V4 = inr (λ e. cc)
 same_version_decided V6 V6 = inl refl
 
--- Decides whether the first range is within the second.
+-- `within_decided a b` decides whether the range of `a` is within that of `b`.
 pub within_decided : (a b : Network) → Decided (IsWithin a b)
 within_decided a b = decided_as
     (λ h. record { same_version = h.0; from = h.1.0; to = h.1.1 })
@@ -389,6 +397,6 @@ within_decided a b = decided_as
     (both_decided (same_version_decided a.version b.version)
     (both_decided (le_decided (least b) (least a)) (le_decided (greatest a) (greatest b))))
 
--- Decides whether the range is within one of two.
+-- `in_either_decided n a b` decides whether the range of `n` is within that of `a` or of `b`.
 pub in_either_decided : (n a b : Network) → Decided (IsWithin n a ⊎ IsWithin n b)
 in_either_decided n a b = either_decided (within_decided n a) (within_decided n b)

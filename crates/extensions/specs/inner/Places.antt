@@ -1,4 +1,4 @@
--- Defines the hexadecimal digits of a number, by their place values.
+-- Defines the hexadecimal digits of a number at each place value.
 use Rattle.std.specs.Prelude.{ℕ, ◌/◌, ◌%◌, false, nat_le, List, [], ◌∷◌, if◌then◌else◌}
 use Rattle.std.specs.Fmt.{digit_glyph}
 

@@ -8,15 +8,20 @@ use Rattle.validator.specs.Unknown.{IsUnknown, IsKnown, FirstUnknown}
 use Rattle.fault_paths.specs.NamesAt.{names_at, name_view, FirstUnknownAt}
 use Rattle.fault_paths.specs.declared.names.NameFault.{NameFault}
 
--- for at most one name: it is undeclared; or it is declared, if there is one
+-- `AreNames s ns o` holds if `o` is the only name in `ns`, which the schema `s` does not declare, with its error, or
+-- `None` and `s` declares each name in `ns`.
 abbrev pub AreNames : StatedSchema → List Name → Option NameFault → Type 0
 AreNames s ns o = MatchOption o (All (IsKnown s) ns)
     (λ f. (ns ≡ name_view f.name ∷ []) × IsUnknown s (name_view f.name) f.fault)
 
--- the form's own name
+-- `IsOwnName s x o` holds if `o` is the name that the form of `x` itself has, with its error, or `None` and `s`
+-- declares this name, or no such declaration exists.
 abbrev pub IsOwnName : StatedSchema → Expr → Option NameFault → Type 0
 IsOwnName s x o = AreNames s (names_at (out-Expr x)) o
 
+-- `IsNameFound s x old new o` holds if `o` is the first name in `x` that the schema `s` does not declare, with its
+-- error, and the path `new` is `old` followed by the path from `x` to the name; or `o` is `None`, `s` declares each
+-- name in `x`, and `new` is `old`.
 abbrev pub IsNameFound : StatedSchema → Expr → List ℕ → List ℕ → Option NameFault → Type 0
 IsNameFound s x old new o = MatchOption o (All (IsKnown s) (names_in x) × (new ≡ old))
     (λ f. (p : List ℕ) × (new ≡ old ++ p) × FirstUnknown s (names_in x) f.fault

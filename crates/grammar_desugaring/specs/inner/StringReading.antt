@@ -1,5 +1,5 @@
--- Defines how the pieces of a string are read from its bytes, one after another, and proves that they are those of
--- the grammar of strings and their escapes. None of it is trusted: the type of `string_meaning` says what it is.
+-- Defines how the pieces of a string are read from its bytes, one after another, and proves that they are those of the
+-- grammar of strings and their escapes. None of it is trusted: the type of `string_meaning` states what it is.
 use Prim.Native.Char.{code}
 use Rattle.std.specs.Prelude.{◌==◌, if◌then◌else◌, drop, Option}
 use Rattle.std.proofs.Common.{◌≡◌, ◌≢◌, ℕ, ◌+◌, ◌*◌, true, false, List, [], ◌∷◌, ◌++◌, refl, sym, ◌∙◌, ap}
@@ -15,8 +15,8 @@ use Rattle.grammar_trees.specs.grammar_tokens.Lexing.{long, IsBody, done, itself
 use Rattle.grammar_trees.specs.grammar_tokens.Strings.{bytes_of, literals_of, IsStringOf, IsPatternOf}
 use Rattle.grammar_desugaring.specs.StringMeaning.{StringMeaning}
 
--- A `Reading` is the state: at the end of a piece, after a backslash, after `\x` and its first digit, after `\u` and
--- its digits.
+-- A `Reading` is the state of the reader: between two pieces; after a backslash; after `\x`; after the first digit of
+-- `\x`, with its value; after `\u`; or after `\u{` and some digits, with their number.
 data Reading : Type 0 where
   between : Reading
   behind_backslash : Reading
@@ -25,11 +25,12 @@ data Reading : Type 0 where
   brace : Reading
   digits : ℕ → Reading
 
+-- `scalar_of o` is the character of `o`, or 0 otherwise.
 abbrev scalar_of : Option ℕ → ℕ
 scalar_of None = 0
 scalar_of (Some c) = c
 
--- `read state w` are the pieces up to the closing quote.
+-- `read state w` are the pieces of `w` up to the closing quote, from the state `state` on.
 abbrev read : Reading → List ℕ → List Piece
 read _ [] = []
 read between (b ∷ w) =
@@ -48,6 +49,7 @@ read (digits n) (c ∷ w) =
 abbrev pieces_of : List ℕ → List Piece
 pieces_of spelling = read between (drop 1 spelling)
 
+-- The lemmas from here on prove that the pieces of a string by its grammar are those that are read.
 unlisted : (b n meant : ℕ) → escaped b ≡ Some meant → escaped n ≡ None → nat_eq b n ≡ false
 unlisted b n meant e f = elim (cases_Bool (nat_eq b n)) [
   | inl y ↦ let same = ap escaped (eqb-true b n y) in absurd (cc)
@@ -102,6 +104,7 @@ pattern_is : (literals : List (List ℕ)) (spelling : List ℕ) → IsPatternOf 
 pattern_is literals spelling is =
     is.literals_are ∙ ap literals_of (sym (ap pieces_of is.spelled ∙ body_read is.pieces is.body is.is))
 
+-- `string_meaning` gives a string the value and the literal texts of the pieces that are read.
 pub string_meaning : StringMeaning
 string_meaning = record {
   value = λ spelling. bytes_of (pieces_of spelling);

@@ -1,4 +1,4 @@
--- Defines well-formed trees: made of tokens of the text, each of a kind that its position allows.
+-- Defines well-formed trees: each token is spelled in the text, and of a kind that its position allows.
 use Rattle.std.specs.Prelude.{◌≡◌, ℕ, true, List}
 use Rattle.std.specs.List.{AllByRecursion}
 use Rattle.grammar_trees.specs.grammar_tokens.declared.token.TokenKind.TheVariants as k
@@ -33,12 +33,12 @@ abbrev pub KeyIn : List ℕ → KeyTree → Type 0
 KeyIn text (Word word) = TokenIn text identifiers word
 KeyIn text (Quoted quoted) = TokenIn text (only k.Text) quoted
 
--- `PathIn text path` holds if the words of the Path are identifiers of `text`.
+-- `PathIn text path` holds if the words of the Path `path` are identifiers of `text`.
 pub record PathIn (text : List ℕ) (path : PathTree) : Type 0 where
   pub first : TokenIn text identifiers path.first
   pub more : AllByRecursion (TokenIn text identifiers) path.more
 
--- `UidIn text uid` holds if the words of the Uid are identifiers of `text`, and its id is a String of `text`.
+-- `UidIn text uid` holds if the words of the Uid `uid` are identifiers of `text`, and its id is a String of `text`.
 pub record UidIn (text : List ℕ) (uid : UidTree) : Type 0 where
   pub path : PathIn text uid.path
   pub id : TokenIn text (only k.Text) uid.id
@@ -56,7 +56,7 @@ pub record WellFormedEntry (text : List ℕ) (entry : RecordEntry ExprTree) : Ty
 pub record WellFormedTerm (text : List ℕ) (term : Term ExprTree) : Type 0 where
   pub operand : WellFormed text term.operand
 
--- `WellFormedAccess text access` holds if the key, or the method's name and arguments, are well formed.
+-- `WellFormedAccess text access` holds if the key of `access`, or its method's name and arguments, are well formed.
 abbrev pub WellFormedAccess : List ℕ → Access (List ExprTree) → Type 0
 WellFormedAccess text (access.Field key) = KeyIn text key
 WellFormedAccess text (access.Method name arguments) = TokenIn text identifiers name × AllWellFormed text arguments

@@ -1,11 +1,11 @@
--- Defines the kinds in each set of tokens that the parsers of expressions use.
+-- Defines which token kinds are in each set that the parsers of expressions use.
 use Rattle.grammar_expressions.specs.declared.token_sets.TokenSet.{TokenSet}
 use Rattle.grammar_expressions.specs.declared.token_sets.TokenSet.TheVariants as set
 use Rattle.grammar_trees.specs.grammar_tokens.Kinds.{Kinds}
 use Rattle.grammar_expressions.specs.Expressions.{booleans, keys, patterns, signs, comparisons}
-use Rattle.grammar_expressions.specs.ExpressionReading.{openers, access_firsts, firsts}
+use Rattle.grammar_expressions.specs.ExpressionParsing.{openers, access_firsts, firsts}
 
--- `included set` are the kinds of the set `set` of the code.
+-- `included set` are the token kinds in `set`.
 abbrev pub included : TokenSet → Kinds
 included set.Booleans = booleans
 included set.Keys = keys

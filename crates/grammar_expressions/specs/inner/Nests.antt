@@ -1,4 +1,4 @@
--- Defines a closure that parses expressions of at most a given number of levels of nesting.
+-- Defines the contract of a closure that parses expressions of at most a given number of levels of nesting.
 use Rattle.std.specs.Prelude.{ℕ, Result}
 use Rattle.std.specs.declared.alloc.Global.{Global}
 use denote.Ref.{MutBor}
@@ -6,9 +6,10 @@ use Rattle.grammar_trees.specs.grammar_tokens.declared.cursor.Cursor.{Cursor}
 use Rattle.grammar_trees.specs.declared.tree.ExprTree.{ExprTree}
 use Rattle.grammar_trees.specs.grammar_tokens.declared.fault.StopCause.{StopCause}
 use Rattle.grammar_trees.specs.grammar_tokens.ParsesTo.{ParsesTo}
-use Rattle.grammar_expressions.specs.ExpressionReading.{expr}
+use Rattle.grammar_expressions.specs.ExpressionParsing.{expr}
 
--- `Nests levels pre post` holds if the closure may always be called, and parses as `expr levels`.
+-- `Nests levels pre post` holds if a closure with the precondition `pre` and the postcondition `post` may always be
+-- called with `levels`, and then parses as `expr levels`.
 pub record Nests (levels : ℕ) (pre : Global → MutBor Cursor → ℕ → Type 0)
     (post : Global → MutBor Cursor → ℕ → Result ExprTree StopCause → MutBor Cursor → Type 0) : Type 0 where
   pub callable : (alloc : Global) (old : MutBor Cursor) → pre alloc old levels

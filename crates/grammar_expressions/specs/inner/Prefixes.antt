@@ -1,4 +1,4 @@
--- Defines the token of a prefix of a Member, and the tree that it makes.
+-- Defines the tokens and the trees of the prefixes `!` and `-` of a Member.
 use Rattle.grammar_trees.specs.grammar_tokens.declared.token.TokenKind.{TokenKind}
 use Rattle.grammar_trees.specs.grammar_tokens.declared.token.TokenKind.TheVariants as k
 use Rattle.grammar_expressions.specs.declared.operators.Prefix.{Prefix}
@@ -6,12 +6,12 @@ use Rattle.grammar_expressions.specs.declared.operators.Prefix.TheVariants.{Not,
 use Rattle.grammar_trees.specs.declared.tree.ExprTree.{ExprTree}
 use Rattle.grammar_trees.specs.declared.tree.ExprTree.TheVariants as tree
 
--- `kind_of p` is the kind of the token of `p`.
+-- `kind_of p` is the kind of the token of the prefix `p`.
 abbrev pub kind_of : Prefix → TokenKind
 kind_of Not = k.Not
 kind_of Minus = k.Minus
 
--- `under p` is the tree of `p` over an operand.
+-- `under p x` is the tree of the prefix `p` with the operand `x`.
 abbrev pub under : Prefix → ExprTree → ExprTree
 under Not = tree.Not
 under Minus = tree.Minus

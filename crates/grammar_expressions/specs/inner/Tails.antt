@@ -1,4 +1,4 @@
--- Defines what follows the first Sum of a relation, parsed before it is joined to the Sum.
+-- Defines how the tail of a relation, which follows its first Sum, is parsed and then joined to that Sum.
 use Rattle.std.specs.Prelude.{Bool, Option, Some, None}
 use Rattle.grammar_trees.specs.grammar_tokens.declared.token.TokenKind.TheVariants as k
 use Rattle.grammar_trees.specs.declared.tree.ExprTree.{ExprTree}
@@ -7,11 +7,11 @@ use Rattle.grammar_trees.specs.grammar_tokens.Kinds.{only}
 use Rattle.grammar_trees.specs.grammar_tokens.Reading.{Parser, take, token, pure, ◌>>=◌, ◌>>◌, either}
 use Rattle.grammar_trees.specs.grammar_tokens.Parsing.{path}
 use Rattle.grammar_expressions.specs.Expressions.{comparison_of, comparisons, patterns, is_in}
-use Rattle.grammar_expressions.specs.ExpressionReading.{symbol, key, sum, maybe_inside}
+use Rattle.grammar_expressions.specs.ExpressionParsing.{symbol, key, sum, maybe_inside}
 use Rattle.grammar_expressions.specs.declared.relations.Tail.{Tail}
 use Rattle.grammar_expressions.specs.declared.relations.Tail.TheVariants.{Compared, Has, Like, Is}
 
--- `form x tail` is the tree of `x` with its tail.
+-- `form x tail` is the tree of the relation of `x` and `tail`.
 abbrev pub form : ExprTree → Tail → ExprTree
 form x (Compared operator y) = tree.Compare x operator y
 form x (Has name) = tree.Has x name
@@ -37,6 +37,8 @@ like = do
   text ← take patterns
   pure (Some (Like text))
 
+-- In this module `may` says whether one more level of nesting may be opened, and `inner` parses an expression of that
+-- level.
 module _ (may : Bool) (inner : Parser ExprTree) where
   -- `compared` parses a comparison with a sum.
   unfoldable pub compared : Parser (Option Tail)
@@ -61,6 +63,6 @@ module _ (may : Bool) (inner : Parser ExprTree) where
   unfoldable pub tail : Parser (Option Tail)
   tail = either comparisons compared test_tail
 
-  -- `joined x` parses a tail after `x`.
+  -- `joined x` parses a tail after `x`, or nothing, and gives the relation of both.
   unfoldable pub joined : ExprTree → Parser ExprTree
   joined x = tail >>= (λ found. pure (relate x found))

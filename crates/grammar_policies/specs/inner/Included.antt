@@ -1,11 +1,11 @@
--- Defines the kinds in each set of tokens that the parsers of policies use.
+-- Defines which token kinds are in each set that the parsers of policies use.
 use Rattle.grammar_expressions.specs.grammar_tokens.Kinds.{Kinds}
 use Rattle.grammar_policies.specs.declared.policy_sets.PolicySet.{PolicySet}
 use Rattle.grammar_policies.specs.declared.policy_sets.PolicySet.TheVariants as set
 use Rattle.grammar_policies.specs.Grammar.{words, effects, condition_words}
 use Rattle.grammar_policies.specs.inner.Parsing.{policy_firsts}
 
--- `included set` are the kinds of the set `set` of the code.
+-- `included set` are the token kinds in `set`.
 abbrev pub included : PolicySet → Kinds
 included set.Words = words
 included set.Effects = effects

@@ -1,4 +1,4 @@
--- Defines how the grammar is parsed, from the left with one token of lookahead.
+-- Defines how policies are parsed, from the left with one token of lookahead. The productions are those of Grammar.
 use Rattle.std.specs.Prelude.{ℕ, true, List, [], ◌∷◌, Option, None}
 use Rattle.grammar_expressions.specs.grammar_tokens.declared.token.TokenKind.{TokenKind}
 use Rattle.grammar_expressions.specs.grammar_tokens.declared.token.TokenKind.TheVariants as k
@@ -16,7 +16,7 @@ use Rattle.grammar_expressions.specs.grammar_tokens.Kinds.{Kinds, only}
 use Rattle.grammar_expressions.specs.grammar_tokens.Reading.{Parser, take, token, pure, ◌>>=◌, ◌>>◌, either, optional}
 use Rattle.grammar_expressions.specs.grammar_tokens.Reading.{many}
 pub use Rattle.grammar_expressions.specs.grammar_tokens.Parsing.{path, uid}
-use Rattle.grammar_expressions.specs.ExpressionReading.{expr, symbol}
+use Rattle.grammar_expressions.specs.ExpressionParsing.{expr, symbol}
 use Rattle.grammar_policies.specs.Grammar.{identifiers, words, effects, is_in, condition_word_of, condition_words}
 
 -- ---- annotations
@@ -25,7 +25,7 @@ use Rattle.grammar_policies.specs.Grammar.{identifiers, words, effects, is_in, c
 unfoldable pub maybe_text : Parser (Option Token)
 maybe_text = optional (only k.Text) (token k.Text)
 
--- `annotation_value` parses parentheses, and the String in them, if there is one.
+-- `annotation_value` parses parentheses with maybe a String in them.
 unfoldable pub annotation_value : Parser (Option Token)
 annotation_value = do
   token k.LParen
@@ -74,7 +74,7 @@ entity_constraint =
     (either (only k.In) (in_uid >>= (λ entity. pure (part.In entity)))
     (either (only k.Is) type_test (pure part.Any)))
 
--- `entity_part variable` parses the variable and its constraint.
+-- `entity_part variable` parses the word `variable` and its constraint.
 unfoldable pub entity_part : TokenKind → Parser PartTree
 entity_part variable = token variable >> entity_constraint
 
@@ -133,6 +133,7 @@ abbrev pub policy_firsts : Kinds
 policy_firsts k.At = true
 policy_firsts kind = effects kind
 
+-- In this module `levels` is the number of levels of nesting that an expression may have.
 module _ (levels : ℕ) where
   -- `condition` parses "when" or "unless" and an expression in braces.
   unfoldable pub condition : Parser Condition
@@ -155,8 +156,8 @@ module _ (levels : ℕ) where
     token k.Semicolon
     pure cs
 
-  -- `policy_of notes effect found` parses the same, and gives the policy with the annotations `notes`, the effect
-  -- `effect` and the scope `found`.
+  -- `policy_of notes effect found` parses what follows the scope, and gives the policy with the annotations `notes`,
+  -- the effect `effect` and the scope `found`.
   unfoldable pub policy_of : List Annotation → Token → ScopeTree → Parser PolicyTree
   policy_of notes effect found = do
     token k.RParen

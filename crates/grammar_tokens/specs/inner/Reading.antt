@@ -1,4 +1,4 @@
--- Defines the contracts between the parts of the tokenizer.
+-- Defines the relations that the private functions of the tokenizer are specified by.
 use Prim.Native.Char.{code}
 use Rattle.std.specs.Prelude.{◌≡◌, ℕ, Bool, true, not, ◌&&◌, ◌||◌, ◌==◌, List, [], ◌∷◌, ◌++◌}
 use Rattle.std.specs.Prelude.{length, drop, Option, Some, None, encode_utf8}
@@ -17,7 +17,7 @@ use Rattle.grammar_tokens.specs.Strings.{bytes_of, is_wildcard}
 
 -- ## Tokens at the front of a text
 
--- `IsFirst found text` holds if `found` is the token at the front of `text`.
+-- `IsFirst found text` holds if `found` has the kind and the length of the longest token that `text` begins with.
 pub record IsFirst (found : ScannedToken) (text : List ℕ) : Type 0 where
   pub w : List ℕ
   pub rest : List ℕ
@@ -25,12 +25,12 @@ pub record IsFirst (found : ScannedToken) (text : List ℕ) : Type 0 where
   pub longest : IsLongest found.kind w rest
   pub len : length w ≡ found.len
 
--- `ReportsToken text o` holds if `o` is the token at the front of `text`, or `None` if no token starts there.
+-- `ReportsToken text o` holds if `o` is that token, or `None` if `text` begins with no token.
 abbrev pub ReportsToken : List ℕ → Option ScannedToken → Type 0
 ReportsToken text None = NoToken text
 ReportsToken text (Some found) = IsFirst found text
 
--- `sized n k` is a token of kind `k`, if there is one, of `n` bytes.
+-- `sized n k` is a token of `n` bytes of the kind `k`, or `None` if `k` is `None`.
 abbrev pub sized : ℕ → Option TokenKind → Option ScannedToken
 sized n None = None
 sized n (Some k) = Some (record { kind = k; len = n })
@@ -40,7 +40,7 @@ abbrev pub first_found : Option ScannedToken → Option ScannedToken → Option 
 first_found None other = other
 first_found (Some f) other = Some f
 
--- `mark_of text` is the punctuation at the front of `text`: one of two bytes, else one of one byte.
+-- `mark_of text` is the punctuation mark that `text` begins with: one of two bytes, else one of one byte.
 abbrev pub mark_of : List ℕ → Option ScannedToken
 mark_of [] = None
 mark_of (c ∷ []) = sized 1 (listed singles (c ∷ []))
@@ -48,7 +48,7 @@ mark_of (c ∷ d ∷ rest) = first_found (sized 2 (listed pairs (c ∷ d ∷ [])
 
 -- ## Whitespace and comments at the front of a text
 
--- `IsGapOf len text` holds if `text` begins with whitespace or a comment of `len` bytes.
+-- `IsGapOf len text` holds if `text` begins with a whitespace character or a comment of `len` bytes.
 pub record IsGapOf (len : ℕ) (text : List ℕ) : Type 0 where
   pub w : List ℕ
   pub rest : List ℕ
@@ -56,14 +56,14 @@ pub record IsGapOf (len : ℕ) (text : List ℕ) : Type 0 where
   pub is : IsGap w rest
   pub long : length w ≡ len
 
--- `ReportsGap text o` holds if `o` is the length of the whitespace or comment at the front of `text`, or `None` if
--- the text begins with neither.
+-- `ReportsGap text o` holds if `o` is the length of the whitespace character or comment that `text` begins with, or
+-- `None` if it begins with neither.
 abbrev pub ReportsGap : List ℕ → Option ℕ → Type 0
 ReportsGap text None = NoGap text
 ReportsGap text (Some len) = IsGapOf len text
 
--- `ReportsBlank text o` holds if `o` is the length of the whitespace character at the front of `text`, or `None` if
--- the text does not begin with one.
+-- `ReportsBlank text o` holds if `o` is the length of the whitespace character that `text` begins with, or `None` if it
+-- does not begin with one.
 abbrev pub ReportsBlank : List ℕ → Option ℕ → Type 0
 ReportsBlank text None = (c : ℕ) (more : List ℕ) → is_whitespace c ≡ true → text ≡ encode_utf8 c ++ more → ⊥
 ReportsBlank text (Some len) = (c : ℕ) × (more : List ℕ) × (is_whitespace c ≡ true) × (text ≡ encode_utf8 c ++ more)
@@ -75,7 +75,7 @@ ReportsBlank text (Some len) = (c : ℕ) × (more : List ℕ) × (is_whitespace 
 abbrev pub NoEscape : List ℕ → Type 0
 NoEscape text = (p : Piece) (w more : List ℕ) → IsEscape p w → text ≡ w ++ more → ⊥
 
--- `IsFirstEscape found text` holds if `found` is the escape at the front of `text`.
+-- `IsFirstEscape found text` holds if `found` has the meaning and the length of the escape that `text` begins with.
 pub record IsFirstEscape (found : Escape) (text : List ℕ) : Type 0 where
   pub w : List ℕ
   pub rest : List ℕ
@@ -83,28 +83,29 @@ pub record IsFirstEscape (found : Escape) (text : List ℕ) : Type 0 where
   pub is : IsEscape found.piece w
   pub long : length w ≡ found.len
 
--- `ReportsEscape text o` holds if `o` is the escape at the front of `text`, or `None` if `text` begins with no escape.
+-- `ReportsEscape text o` holds if `o` is the escape that `text` begins with, or `None` if it begins with none.
 abbrev pub ReportsEscape : List ℕ → Option Escape → Type 0
 ReportsEscape text None = NoEscape text
 ReportsEscape text (Some found) = IsFirstEscape found text
 
--- `kind_with k p` is the kind of a string with the piece `p`, given its kind without it.
+-- `kind_with k p` is the kind of a string with the piece `p`, if without that piece its kind is `k`.
 abbrev pub kind_with : TokenKind → Piece → TokenKind
 kind_with k (Byte b) = k
 kind_with k (Char c) = k
 kind_with k Star = StarText
 
--- `is_plain in_pattern c` tests whether the byte `c` between quotes denotes itself; a star does not in a pattern.
+-- `is_plain in_pattern c` tests whether the byte `c` between quotes denotes itself; in a pattern a star does not.
 unfoldable pub is_plain : Bool → ℕ → Bool
 is_plain in_pattern c = not ((c == backslash) || (in_pattern && (c == code "*")))
 
--- `character_of p` is the character of the escape `p`.
+-- `character_of p` is the character that the escape `p` denotes.
 abbrev pub character_of : Piece → ℕ
 character_of (Byte b) = code "*"
 character_of (Char c) = c
 character_of Star = code "*"
 
--- `is_literal in_pattern ps` tests that, in a pattern, no piece of `ps` is a wildcard.
+-- `is_literal in_pattern ps` tests whether no piece of `ps` is a wildcard of a pattern; without a pattern there is
+-- none.
 abbrev pub is_literal : Bool → List Piece → Bool
 is_literal in_pattern ps = not (in_pattern && list_any is_wildcard ps)
 
@@ -113,7 +114,7 @@ abbrev pub EndsLiteral : Bool → List ℕ → Type 0
 EndsLiteral in_pattern [] = Unit {0}
 EndsLiteral in_pattern (c ∷ cs) = (in_pattern ≡ true) × (c ≡ code "*")
 
--- `IsRead in_pattern value len body` holds if the first `len` bytes of `body` mean `value`, without a wildcard, and
+-- `IsRead in_pattern value len body` holds if the first `len` bytes of `body` denote `value`, without a wildcard, and
 -- the rest is a body too.
 pub record IsRead (in_pattern : Bool) (value : List ℕ) (len : ℕ) (body : List ℕ) : Type 0 where
   pub front : List ℕ
@@ -127,7 +128,8 @@ pub record IsRead (in_pattern : Bool) (value : List ℕ) (len : ℕ) (body : Lis
   pub left : List Piece
   pub behind : IsBody left (drop len body)
 
--- `IsLiteral in_pattern value len body` holds if moreover they end at the end or at a wildcard.
+-- `IsLiteral in_pattern value len body` holds if `IsRead` does, and the first `len` bytes of `body` are followed by a
+-- wildcard or by nothing.
 pub record IsLiteral (in_pattern : Bool) (value : List ℕ) (len : ℕ) (body : List ℕ) : Type 0 where
   pub read : IsRead in_pattern value len body
   pub ends : EndsLiteral in_pattern (drop len body)

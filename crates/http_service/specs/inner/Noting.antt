@@ -9,30 +9,34 @@ use Rattle.http_routes.specs.declared.route.Route.TheVariants as route
 use Rattle.http_service.specs.Asked.{asked}
 use Rattle.site_calls.specs.Answers.{Appends, Replies}
 
--- `unserved_status asking` is the status of a request for no operation.
+-- `unserved_status asking` is the status of a request for the route `asking` if that is no operation.
 abbrev pub unserved_status : Route → Option StatusCode
 unserved_status route.Unknown = Some 404
 unserved_status route.OtherMethod = Some 405
 unserved_status _ = None
 
--- `LacksMemory asking status before after` holds if `after` is `before` and the reply, from any site, to a request of
--- which nothing was done, since an allocation failed.
-abbrev pub LacksMemory : Route → StatusCode → List ℕ → List ℕ → Type 0
-LacksMemory asking status before after =
+-- `IsUndoneReply asking status before after` holds if `after` is `before` followed by a reply, with `status`, that any
+-- site may give to a request for the route `asking`, and that reports that nothing was done, since an allocation
+-- failed.
+abbrev pub IsUndoneReply : Route → StatusCode → List ℕ → List ℕ → Type 0
+IsUndoneReply asking status before after =
     (reply : List ℕ) × (after ≡ before ++ reply) × IsUndone asking status reply
     × ((old : SiteView) (body : List ℕ) → Replies old (asked asking body) status reply old)
 
--- `DealsNoted old asking body status before after line ended new` holds if a reply is appended to `before`, `line` is
--- ended, and `new` is the site after the call.
-abbrev pub DealsNoted : SiteView → Route → List ℕ → StatusCode → List ℕ → List ℕ → List ℕ → List ℕ → SiteView → Type 0
-DealsNoted old asking body status before after line ended new =
+-- `AnswersWithTail old asking body status before after line ended new` holds if `after` is `before` followed by the
+-- reply of the site `old` to this request, `ended` is `line` followed by the end of its line for the log, and `new` is
+-- the site afterwards.
+abbrev pub AnswersWithTail : SiteView → Route → List ℕ → StatusCode → List ℕ → List ℕ → List ℕ → List ℕ → SiteView
+    → Type 0
+AnswersWithTail old asking body status before after line ended new =
     (reply : List ℕ) × (after ≡ before ++ reply) × Replies old (asked asking body) status reply new
     × (ended ≡ line ++ tail_of asking status body reply)
 
--- `DealsLogged old method target body status before after line new` holds if a reply is appended to `before`, `line` is
--- a line of the log for it, and `new` is the site after the call.
-abbrev pub DealsLogged : SiteView → List ℕ → List ℕ → List ℕ → StatusCode → List ℕ → List ℕ → List ℕ → SiteView → Type 0
-DealsLogged old method target body status before after line new =
+-- `AnswersWithLine old method target body status before after line new` holds if `after` is `before` followed by the
+-- reply of the site `old` to this request, `line` is a line of the log for it, and `new` is the site afterwards.
+abbrev pub AnswersWithLine : SiteView → List ℕ → List ℕ → List ℕ → StatusCode → List ℕ → List ℕ → List ℕ → SiteView
+    → Type 0
+AnswersWithLine old method target body status before after line new =
     (reply : List ℕ) × (after ≡ before ++ reply)
     × Replies old (asked (route_stated method target) body) status reply new
     × IsLogLine method target body status reply line

@@ -9,13 +9,14 @@ use Rattle.http_streams.specs.declared.serve.Broken.TheVariants.{Log, Write}
 use Rattle.http_streams.specs.declared.serve.StreamFault.{StreamFault}
 use Rattle.http_streams.specs.declared.serve.StreamFault.TheVariants as fault
 
--- `fault_of broken` is the error with which the stream then ends.
+-- `fault_of broken` is the error with which a stream ends if the device `broken` failed.
 abbrev pub fault_of : Broken → StreamFault
 fault_of Log = fault.Log
 fault_of Write = fault.Write
 
--- `IsSentInPart broken .. line reply ..` holds if the log failed and got a proper prefix of the line, and the writer
--- nothing; or the writer failed and got a proper prefix of the reply, and the log got the whole line.
+-- `IsSentInPart broken logged holds line reply old new before after` holds if the log failed and got a proper prefix of
+-- `line`, and the writer nothing; or the writer failed and got a proper prefix of `reply`, and the log got the whole
+-- line. The log went from `old` to `new`, the writer from `before` to `after`.
 abbrev pub IsSentInPart : {L W : Type 0} → Broken → (L → Option (List ℕ)) → (W → Option (List ℕ)) → List ℕ → List ℕ
     → L → L → W → W → Type 0
 IsSentInPart Log logged holds line reply old new before after =

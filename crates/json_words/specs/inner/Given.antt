@@ -1,4 +1,4 @@
--- Defines the value at the front of a reader's tokens, and an object that has begun.
+-- Defines the JSON value that a reader's tokens begin with, and the value of an object whose opening brace was read.
 -- Source: RFC 8259, sections 2 to 7, by the grammar of `json`, and by what `serde_json` makes of its values.
 use Rattle.std.specs.Prelude.{◌≡◌, ℕ, List, [], ◌∷◌, length, Bool, true, false, Option, Some, None, option_map}
 use Rattle.json.specs.Token.{Token}
@@ -9,20 +9,23 @@ use Rattle.serde_json.specs.Read.{number_of, of_json, converted}
 use Rattle.serde_json.specs.View.{view}
 use Rattle.serde_json.specs.declared.value.Value.{Value}
 
--- `value_at deep ts` is the value at the front of the tokens `ts`, with the tokens after it.
+-- `value_at deep ts` is the value that the tokens `ts` begin with, nested at most `deep` levels, with the tokens after
+-- it.
 abbrev pub value_at : ℕ → List Token → Option (Data × List Token)
 value_at deep ts = converted of_json (json.value deep ts)
 
--- `object_at deep ts` is the object whose opening brace was read.
+-- `object_at deep ts` is the object whose opening brace was read and whose other tokens begin `ts`, with the tokens
+-- after it; its members may nest `deep` levels.
 abbrev pub object_at : ℕ → List Token → Option (Data × List Token)
 object_at deep ts = converted of_json (json.parse_map json.object (json.members (json.value deep) (length ts) ts))
 
--- `IsGiven given r left` holds if the result `r`, with the tokens `left` remaining, is what `given` says.
+-- `IsGiven given r left` holds if `r` and `given` are both `None`, or `given` has the value of `r` with the tokens
+-- `left` after it.
 abbrev pub IsGiven : Option (Data × List Token) → Option Value → List Token → Type 0
 IsGiven given None left = given ≡ None
 IsGiven given (Some v) left = given ≡ Some (view v, left)
 
--- `scalar t` is the value of one token, unless it opens an array or an object.
+-- `scalar t` is the value that the token `t` alone denotes: a string, a number, a boolean or `null`.
 abbrev pub scalar : Token → Option Data
 scalar token.begin_object = None
 scalar token.end_object = None
@@ -35,7 +38,7 @@ scalar (token.boolean b) = Some (boolean b)
 scalar token.null = Some null
 scalar token.bad = None
 
--- `is_array_start t` tests for the start of an array.
+-- `is_array_start t` tests whether `t` is the opening bracket of an array.
 abbrev pub is_array_start : Token → Bool
 is_array_start token.begin_object = false
 is_array_start token.end_object = false
@@ -48,7 +51,7 @@ is_array_start (token.boolean b) = false
 is_array_start token.null = false
 is_array_start token.bad = false
 
--- `is_object_start t` tests for the start of an object.
+-- `is_object_start t` tests whether `t` is the opening brace of an object.
 abbrev pub is_object_start : Token → Bool
 is_object_start token.begin_object = true
 is_object_start token.end_object = false

@@ -1,4 +1,4 @@
--- Defines the reading of entries: as stated, and then their texts, one after another.
+-- Defines the parsing of a message's entries one after another, each first by its ranges and then by its text.
 use Rattle.std.specs.Prelude.{◌≡◌, ◌⊎◌, ℕ, suc, List, [], ◌∷◌, Option, Ok}
 use Rattle.values.specs.declared.entity_uid.EntityUid.{EntityUid}
 use Rattle.stamped_store.specs.declared.entry.ReadText.{ReadText}
@@ -12,29 +12,29 @@ use Rattle.message_format.specs.declared.stated.ReadEntry.{ReadEntry}
 use Rattle.message_format.specs.declared.update.Update.{Update}
 use Rattle.message_format.specs.Updates.{plain_update, stamped, IsUpdateRead, IsValid, IsFaultAt}
 
--- `stated_update s` is the update that the entry `s` states.
+-- `stated_update s` is the update that the entry `s` of the code represents, before its text is parsed.
 abbrev pub stated_update : ReadEntry → PlainUpdate
 stated_update s = (s.stamped.0, issued s.stamped.1 s.body)
 
--- `IsBodyReadAs Reads body t` holds if `t` is `body` with a value of its text by `Reads`.
+-- `IsBodyReadAs Reads body t` holds if `t` is `body` together with a value of its text by `Reads`.
 pub record IsBodyReadAs {P : Type 0} (Reads : List ℕ → P → Type 0) (body : Option (List ℕ))
     (t : Option (ReadText P)) : Type 0 where
   pub shown : body_bytes t ≡ body
   pub is_read : IsBodyRead Reads t
 
 module _ {P E : Type 0} (Policies : List ℕ → List ℕ → P → Type 0) (Entities : EntityUid → List ℕ → E → Type 0) where
-  -- `IsReadAs u r` holds if `r` is `u` with a value of its text.
+  -- `IsReadAs u r` holds if `r` is the update `u` together with a value of its text.
   pub record IsReadAs (u : PlainUpdate) (r : Update P E) : Type 0 where
     pub shown : plain_update r ≡ u
     pub is_read : IsUpdateRead Policies Entities r
 
-  -- `IsTaken place u r` holds if `u` is in range, and `r` is `u` with a value of its text.
+  -- `IsTaken place u r` holds if the update `u` is in its ranges, and `r` is `u` together with a value of its text.
   pub record IsTaken (place : ℕ) (u : PlainUpdate) (r : Update P E) : Type 0 where
     pub passed : judged place (stamped u) ≡ Ok (stamped u)
     pub taken : IsReadAs u r
 
-  -- `AreTaken place us rs` holds if each of `rs` is read from that of `us`, the first of which is at the index
-  -- `place`.
+  -- `AreTaken place us rs` holds if each of the updates `us` is in its ranges, and `rs` are these updates together with
+  -- values of their texts, where `place` is the index of the first of `us`.
   abbrev pub AreTaken : ℕ → List PlainUpdate → List (Update P E) → Type 0
   AreTaken place [] [] = Unit {0}
   AreTaken place [] (r ∷ rs) = ⊥
@@ -43,8 +43,8 @@ module _ {P E : Type 0} (Policies : List ℕ → List ℕ → P → Type 0) (Ent
 
 module _ {P E : Type 0} (Policies : List ℕ → List ℕ → P → Type 0) (Entities : EntityUid → List ℕ → E → Type 0)
     (NoPolicies : List ℕ → List ℕ → BodyFault → Type 0) (NoEntities : EntityUid → List ℕ → BodyFault → Type 0) where
-  -- `Stops place us why` holds if `why` is the error of an update of `us`, and those before it are in range and may
-  -- be read, where `place` is the index of the first of `us`.
+  -- `Stops place us why` holds if `why` is the error of one of the updates `us`, and those before it pass the checks of
+  -- ranges and are valid, where `place` is the index of the first of `us`.
   abbrev pub Stops : ℕ → List PlainUpdate → MessageFault → Type 0
   Stops place [] why = ⊥
   Stops place (u ∷ us) why = IsFaultAt NoPolicies NoEntities place u why

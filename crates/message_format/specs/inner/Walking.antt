@@ -1,4 +1,4 @@
--- Defines one walk over the names of a store and the stamps of a summary, both ascending.
+-- Defines one walk over the entries of a store and the stamps of a summary, both in ascending order of names.
 use Rattle.std.specs.Prelude.{◌≡◌, ◌++◌, T, true, List}
 use Rattle.std.specs.List.{AllByRecursion}
 use Rattle.std.specs.Ordering.{is_le}
@@ -13,25 +13,27 @@ use Rattle.stamped_store.specs.Store.{Update}
 use Rattle.stamped_store.specs.Stored.{value_at}
 use Rattle.message_format.specs.Summaries.{ascend}
 use Rattle.entity_uids.specs.Tokens.{AppendsAll}
-use Rattle.message_format.specs.inner.Writing.{all_news_json}
+use Rattle.message_format.specs.inner.Writing.{all_missing_json}
 
--- `IsFrom name known left` holds if `left` ascends, and has the stamps of `known` from `name` on.
+-- `IsFrom name known left` holds if the names of `left` ascend, and `left` has the same stamps as `known` for `name`
+-- and each greater name.
 pub record IsFrom (name : Name) (known left : Summary) : Type 0 where
   pub ascending : ascend left ≡ true
   pub same : (q : Name) → is_le (name_cmp name q) ≡ true → value_at name_cmp left q ≡ value_at name_cmp known q
 
--- `IsAhead left known us` holds if `left` and the names of `us` ascend, and each name of `us` has the stamp in `left`
--- that it has in `known`.
+-- `IsAhead left known us` holds if the names of `left` ascend, those of the updates `us` ascend, and each of these has
+-- the same stamp in `left` as in `known`, or none in both.
 pub record IsAhead (left known : Summary) (us : List Update) : Type 0 where
   pub ascending : ascend left ≡ true
   pub sorted : T (is_sorted name_cmp us)
   pub same : AllByRecursion (λ u. value_at name_cmp left u.0 ≡ value_at name_cmp known u.0) us
 
--- `IsWalked name known left before after all done rest` holds if, of the entries `all`, those of `done` that `known`
--- lacks or has smaller were written after `before`, which gave `after`; and `left` suffices for `rest` and whatever
--- comes next.
+-- `IsWalked name known left before after all done rest` holds if, whatever updates `next` come after the entries `all`
+-- in ascending order: writing those entries of `done` whose names `known` lacks or has with a smaller stamp takes the
+-- writer from `before` to `after`; and `left` has the stamps of `known` for the names of `rest` and of `next`.
 abbrev pub IsWalked : {N P : Type 0} → (N → Name) → (known left : Summary) → (before after : Written)
     → (all done rest : List (N × Entry P)) → Type 0
 IsWalked name known left before after all done rest = (next : List Update)
     → IsAhead known known (abstract_entries name all ++ next)
-    → AppendsAll before after (all_news_json name known done) × IsAhead left known (abstract_entries name rest ++ next)
+    → AppendsAll before after (all_missing_json name known done)
+    × IsAhead left known (abstract_entries name rest ++ next)

@@ -1,4 +1,4 @@
--- Defines the JSON of those entries of a store that a summary lacks or has with a smaller stamp.
+-- Defines the JSON of those entries of a store whose names a summary lacks or has with a smaller stamp.
 use Rattle.std.specs.Prelude.{List, [], ◌∷◌, Bool, Option, Some, if◌then◌else◌}
 use Rattle.std.specs.List.{flat_map}
 use Rattle.serde_json.specs.Data.{Data}
@@ -12,18 +12,21 @@ use Rattle.stamped_store.specs.Abstraction.{abstract_entries}
 use Rattle.stamped_store.specs.Store.{Update}
 use Rattle.message_format.specs.Messages.{entry_json}
 
--- `news_by known u` is the JSON of the update `u`, if it is missing where the stamp `known` is known.
-abbrev pub news_by : Option Stamp → Update → List Data
-news_by known u = if is_unseen known (Some u.1) then entry_json u ∷ [] else []
+-- `missing_json_by known u` is the list of the JSON of the update `u`, if `known`, the stamp of its name in a summary,
+-- is absent or smaller; else it is empty.
+abbrev pub missing_json_by : Option Stamp → Update → List Data
+missing_json_by known u = if is_unseen known (Some u.1) then entry_json u ∷ [] else []
 
--- `is_new m u` is whether the summary `m` lacks the name of `u` or has it with a smaller stamp.
+-- `is_new m u` is whether the summary `m` lacks the name of the update `u` or has it with a smaller stamp.
 abbrev pub is_new : Summary → Update → Bool
 is_new m u = is_unseen (value_at name_cmp m u.0) (Some u.1)
 
--- `news_json m u` is the JSON of the update `u`, if it is missing from the summary `m`.
-abbrev pub news_json : Summary → Update → List Data
-news_json m u = if is_new m u then entry_json u ∷ [] else []
+-- `missing_json m u` is the list of the JSON of the update `u`, if the summary `m` lacks its name or has it with a
+-- smaller stamp; else it is empty.
+abbrev pub missing_json : Summary → Update → List Data
+missing_json m u = if is_new m u then entry_json u ∷ [] else []
 
--- `all_news_json name m es` is the list of the JSON of those entries of `es` that are missing from the summary `m`.
-abbrev pub all_news_json : {K P : Type 0} → (K → Name) → Summary → List (K × Entry P) → List Data
-all_news_json name m es = flat_map (news_json m) (abstract_entries name es)
+-- `all_missing_json name m es` is the list of the JSON of those entries of `es` whose names the summary `m` lacks or
+-- has with a smaller stamp.
+abbrev pub all_missing_json : {K P : Type 0} → (K → Name) → Summary → List (K × Entry P) → List Data
+all_missing_json name m es = flat_map (missing_json m) (abstract_entries name es)

@@ -1,4 +1,4 @@
--- Defines the contracts between the parts of the parser of trees.
+-- Defines the relations that private functions of the parser of trees are specified by.
 use Rattle.std.specs.Prelude.{ℕ, ◌≤◌, ◌<◌, List, length, slice_get}
 use Rattle.std.specs.List.{AllByRecursion}
 use Rattle.grammar_desugaring.specs.grammar_tokens.declared.token.Token.{Token}
@@ -9,19 +9,20 @@ use Rattle.policy_grammar.specs.declared.fault.ReadFault.{ReadFault}
 use Rattle.policy_grammar.specs.declared.fault.ReadFault.TheVariants as fault
 use Rattle.policy_grammar.specs.Texts.{byte_of}
 
--- `LexedIn most text tokens` holds if `text` is not too long and has these tokens.
+-- `LexedIn most text tokens` holds if `text` has at most `most` bytes, and its tokens are `tokens`.
 pub record LexedIn (most : ℕ) (text : List ℕ) (tokens : List Token) : Type 0 where
   pub short : length text ≤ most
   pub lexed : IsLexed text tokens
   pub spelled : AllByRecursion (IsSpelledIn text) tokens
 
--- `IsUnlexed most text why` holds if `why` is the error of a text that has no tokens, or is too long.
+-- `IsUnlexed most text why` holds if `why` is the error of `text`: it has over `most` bytes, or no token starts at some
+-- byte.
 abbrev pub IsUnlexed : ℕ → List ℕ → ReadFault → Type 0
 IsUnlexed most text fault.TooLong = most < length text
 IsUnlexed most text (fault.BadToken at) = (length text ≤ most) × IsBadAt text at
 IsUnlexed most text _ = ⊥
 
--- `refusal_of text tokens fault` is `fault`, at a token's index, as the error at that token's byte.
+-- `refusal_of text tokens fault` is the error `fault` with a byte offset in place of the index of a token.
 abbrev pub refusal_of : List ℕ → List Token → SyntaxFault → ReadFault
 refusal_of text tokens syntax.NoMemory = fault.NoMemory
 refusal_of text tokens (syntax.Unexpected place) = fault.Unexpected (byte_of text (slice_get tokens place))

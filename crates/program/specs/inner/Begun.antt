@@ -8,7 +8,8 @@ use Rattle.state_exchanges.specs.message_format.Updates.{plain_updates}
 use Rattle.site_loading.specs.site_steps.SiteViews.{SiteView, schema_of, store_in, IsSameSite}
 use Rattle.program_drills.specs.http_service.site_steps.sync_messages.Messages.{IsMessageOf}
 
--- `TakesState old bytes new` holds if all updates of the message are applied.
+-- `TakesState before bytes after` holds if the site `before` applied all updates of the message `bytes` and became
+-- `after`.
 abbrev pub TakesState : SiteView → List ℕ → SiteView → Type 0
 TakesState before bytes after = (us : List (SentUpdate Policy Entity)) × IsMessageOf (schema_of before) bytes us
     × (store_in after ≡ store_of (updates (store_in before) ++ plain_updates us)) × IsSameSite before after

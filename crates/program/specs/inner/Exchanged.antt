@@ -3,7 +3,7 @@ use Rattle.std.specs.Prelude.{◌≡◌, ℕ, ◌+◌, ◌++◌, List, [], ◌�
 use Rattle.std.specs.Borrow.{Bor}
 use Rattle.state_exchanges.specs.http_streams.declared.devices.Source.{Ghosts as Source}
 use Rattle.state_exchanges.specs.http_streams.declared.devices.Sink.{Ghosts as Sink}
-use Rattle.state_exchanges.specs.declared.asking.Call.TheVariants as call
+use Rattle.state_exchanges.specs.declared.asking.ExchangeCall.TheVariants as call
 use Rattle.program.specs.declared.device.Link.{Link}
 use Rattle.program.specs.declared.device.Stream.TheVariants.{Answers}
 use Rattle.program.specs.declared.exchanging.RoundCall.{RoundCall}
@@ -13,25 +13,29 @@ use Rattle.program.specs.Courses.{Course}
 use Rattle.state_exchanges.specs.Counts.{IsTakenLine}
 use Rattle.program.specs.Exchanging.{IsCalled}
 
--- `Never`: no run goes on with this course, so a relation that holds with it ends the run.
+-- `Never x` is the course that no run has. As the course with which a run goes on, it restricts a relation to runs that
+-- end.
 abbrev pub Never : {A L : Type 0} → A → Course L
 Never any events end = ⊥
 
+-- `NoCourse` is the same course without an argument.
 abbrev pub NoCourse : {L : Type 0} → Course L
 NoCourse events end = ⊥
 
 module _ {R W : Type 0} (reader : Source R) (writer : Sink W) where
-  -- a call got this reply over an open connection, which was closed
+  -- `IsRepliedOver at body link reply events` holds if `events` are that the call `at` with `body` got `reply` over the
+  -- open connection `link`, which was then closed.
   abbrev pub IsRepliedOver : RoundCall → List ℕ → Link R W → List ℕ → List (Event (Link R W)) → Type 0
   IsRepliedOver at body link reply events = (left : Link R W) × IsCalled reader writer at body link reply left
       × (events ≡ closed left ∷ [])
 
-  -- the same over a connection that was opened for it
+  -- `IsReplied at body reply events` is the same relation for a connection that was opened for the call.
   abbrev pub IsReplied : RoundCall → List ℕ → List ℕ → List (Event (Link R W)) → Type 0
   IsReplied at body reply events = (link left : Link R W) × IsCalled reader writer at body link reply left
       × (events ≡ connected at.address.now (Some link) ∷ closed left ∷ [])
 
-  -- the three calls of one direction, and the line with its count
+  -- `WasExchanged first to from events` holds if `events` are the three calls of one direction, from the number
+  -- `first`, and the line with the count.
   pub record WasExchanged (first : ℕ) (to from : Bor (List ℕ)) (events : List (Event (Link R W))) : Type 0 where
     pub summary : List ℕ
     pub delta : List ℕ

@@ -11,36 +11,42 @@ use Rattle.program.specs.Serving.{Serving, failing_line, pause_after, IsFailure,
 use Rattle.program.specs.Serving.{AreServed, AreCutShort}
 
 module _ {L : Type 0} where
-  -- a failure that directly follows this number of others: a warning for the first, and a pause
+  -- `IsFailureNoted address n events` holds if `events` follow a failure to accept that directly follows `n` others: a
+  -- warning if `n` is 0, and a pause.
   abbrev pub IsFailureNoted : List ℕ → ℕ → List (Event L) → Type 0
   IsFailureNoted address zero events = (done : Bool)
       × (events ≡ wrote Faults (ended (failing_line address)) done ∷ paused (pause_after zero) ∷ [])
   IsFailureNoted address (suc before) events = events ≡ paused (pause_after (suc before)) ∷ []
 
-  -- a connection was accepted, or accepting failed, directly after this number of failures
+  -- `IsTried address n came events` holds if `events` are an attempt to accept a connection directly after `n`
+  -- failures, with the result `came`.
   abbrev pub IsTried : List ℕ → ℕ → Result L NetworkFailed → List (Event L) → Type 0
   IsTried address before (Ok link) events = events ≡ accepted (Some link) ∷ []
   IsTried address before (Err failed) events = IsFailure address before events
 
-  -- a connection was accepted after any number of failures, or the run gave up
+  -- `IsAwaited address came events` holds if `events` are waiting for a connection, with the result `came`: one is
+  -- accepted after any number of failures, or the run gives up.
   abbrev pub IsAwaited : List ℕ → Result L NetworkFailed → List (Event L) → Type 0
   IsAwaited address (Ok link) events = (number : ℕ) × (failures : List (Event L)) × AreFailures address number failures
       × (events ≡ failures ++ accepted (Some link) ∷ [])
   IsAwaited address (Err failed) events = IsGivenUp address events
 
-  -- if the boolean is true, a warning is written, whether or not the stream fails
+  -- `IsWarned b line events` holds if `events` are the warning `line` where `b` is true, whether or not the stream
+  -- fails, else empty.
   abbrev pub IsWarned : Bool → List ℕ → List (Event L) → Type 0
   IsWarned false line events = events ≡ []
   IsWarned true line events = (done : Bool) × (events ≡ wrote Faults (ended line) done ∷ [])
 
 module _ {R W G : Type 0} (reader : Source R) (writer : Sink W) (log : Sink G) where
-  -- a connection was served, or not accepted
+  -- `IsNextOrNone address old came events new` holds if, by `came`, the next connection was served, or none was
+  -- accepted.
   abbrev pub IsNextOrNone : List ℕ → Serving G → Result (Unit {0}) NetworkFailed → List (Event (Link R W))
       → Serving G → Type 0
   IsNextOrNone address old (Ok done) events new = IsNextServed reader writer log address old events new
   IsNextOrNone address old (Err failed) events new = IsGivenUp address events × (new ≡ old)
 
-  -- this number of connections was served, or fewer were accepted
+  -- `AreServedOrFewer address most old came events new` holds if, by `came`, `most` connections were served, or fewer
+  -- were accepted.
   abbrev pub AreServedOrFewer : List ℕ → ℕ → Serving G → Result (Unit {0}) NetworkFailed → List (Event (Link R W))
       → Serving G → Type 0
   AreServedOrFewer address most old (Ok done) events new = AreServed reader writer log address most old events new

@@ -7,11 +7,11 @@ use Rattle.http_service.specs.site.declared.event.Operation.{Operation}
 use Rattle.http_service.specs.site.declared.event.Event.{Event}
 use Rattle.program_drills.specs.declared.made.Made.{Made}
 use Rattle.program_drills.specs.Lines.{lines}
-use Rattle.program_drills.specs.ScriptLines.{Asked, ScriptLine, IsOperationOf, IsEventOf}
-use Rattle.program_drills.specs.Scripts.{said_from, script_of}
+use Rattle.program_drills.specs.ScriptLines.{ScriptOperation, ScriptLine, IsOperationOf, IsEventOf}
+use Rattle.program_drills.specs.Scripts.{script_lines_from, script_of}
 
 -- `IsReadAs asked d` holds if `d` is the operation that `asked` states, or both are `None`.
-abbrev pub IsReadAs : Option Asked → Option Operation → Type 0
+abbrev pub IsReadAs : Option ScriptOperation → Option Operation → Type 0
 IsReadAs None None = Unit {0}
 IsReadAs None (Some d) = ⊥
 IsReadAs (Some asked) None = ⊥
@@ -42,7 +42,7 @@ onto said (Err place) = Err place
 -- state `events`, and make as many messages and summaries as `made` states.
 pub record IsReadUpTo (n : ℕ) (script : List ℕ) (made : Made) (rest : List ℕ) (events : List Event) : Type 0 where
   pub said : List ScriptLine
-  pub is : script_of n script ≡ onto said (said_from n made (length events) (lines rest))
+  pub is : script_of n script ≡ onto said (script_lines_from n made (length events) (lines rest))
   pub each : AllZip IsEventOf said events
   pub messages : made.messages ≤ length events
   pub summaries : made.summaries ≤ length events

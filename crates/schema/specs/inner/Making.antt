@@ -1,4 +1,6 @@
--- Defines how the code builds the parts of a schema, one after another.
+-- Defines how the code builds the parts of a schema, one after another. Each relation `Adds..` holds if the map `new`
+-- is the map `old` with the entries that its comment names; `..May` says which entries may be added, `..Must` which
+-- keys must be there afterwards (Filling).
 use Rattle.std.specs.Prelude.{◌≡◌, ⊤, ℕ, List, Contains, Option, Some, None, option_map}
 use Rattle.std.specs.BTreeMap.{BTreeMap, get}
 use Rattle.values.specs.declared.entity_uid.EntityUid.{EntityUid}
@@ -7,7 +9,7 @@ use Rattle.ancestor_search.specs.Hierarchy.{Parents}
 use Rattle.schema_types.specs.Qualified.{Qualified}
 use Rattle.schema_types.specs.Cedar.{Cedar}
 use Rattle.schema_types.specs.CedarViews.{cedar_view}
-use Rattle.schema_types.specs.WrittenOut.{Declarations}
+use Rattle.schema_types.specs.Expansions.{Declarations}
 use Rattle.schema_types.specs.Mentions.{IsClosed}
 use Rattle.schema_types.specs.Outcome.{TypeRefused}
 use Rattle.schema_types.specs.declared.fault.SchemaFault.{SchemaFault}
@@ -17,7 +19,7 @@ use Rattle.schema.specs.declared.parts.Place.{Place}
 use Rattle.schema.specs.declared.parts.EntityDecl.{EntityDecl}
 use Rattle.schema.specs.Places.{place_cmp, place_of}
 use Rattle.schema.specs.Schemas.{IsRecordOf, IsWritten}
-use Rattle.schema.specs.inner.Filling.{Adds, AddsEach, SomeMay, SomeMust, AllTold}
+use Rattle.schema.specs.inner.Filling.{Adds, AddsEach, SomeMay, SomeMust, HoldsForEach}
 
 -- ---- expanded types
 
@@ -29,11 +31,11 @@ IsClosedAt commons o = (r : Qualified) → o ≡ Some r → IsClosed commons r
 abbrev pub IsWrittenAt : Declarations → Option Qualified → Type 0
 IsWrittenAt commons o = (r : Qualified) → o ≡ Some r → IsWritten commons r
 
--- `IsRefusedAt commons o f` holds if `f` is the error of expanding `o`.
+-- `IsRefusedAt commons o f` holds if `f` is the error of expanding the type in `o`.
 abbrev pub IsRefusedAt : Declarations → Option Qualified → SchemaFault → Type 0
 IsRefusedAt commons o f = (r : Qualified) × (o ≡ Some r) × TypeRefused commons r f
 
--- `IsMade commons o t` holds if `t` is the expansion of `o`, within the limits.
+-- `IsMade commons o t` holds if `t` is the expansion of `o`, within the limits; without a type, the empty record.
 pub record IsMade (commons : Declarations) (o : Option Qualified) (t : Cedar) : Type 0 where
   pub is_record : IsRecordOf commons o t
   pub is_written : IsWrittenAt commons o
@@ -74,22 +76,22 @@ AreShapesClosed commons es = (e : ResolvedEntityType) → Contains es e → IsCl
 abbrev pub SomeShapeIsRefused : Declarations → List ResolvedEntityType → SchemaFault → Type 0
 SomeShapeIsRefused commons es f = (e : ResolvedEntityType) × Contains es e × IsRefusedAt commons e.shape f
 
--- `AreShapes commons es shapes` holds if these are exactly the shapes of these entity types.
+-- `AreShapes commons es shapes` holds if `shapes` has exactly the shapes of the entity types `es`, within the limits.
 abbrev pub AreShapes : Declarations → List ResolvedEntityType → BTreeMap (List ℕ) EntityDecl → Type 0
 AreShapes commons es shapes =
     AddsEach (ShapeMay commons) ShapeMust (λ e. IsWrittenAt commons e.shape) es (λ n. None) (get text_cmp shapes)
 
 -- ---- environments
 
--- `Places` has the context of each place.
+-- `Places` are maps from a place to the type of its context.
 abbrev pub Places : Type 0
 Places = BTreeMap Place CedarType
 
--- `PlaceMay action context principal resource p c` holds if `p` is this place and `c` this context.
+-- `PlaceMay action context principal resource p c` holds if `p` is the place of these three, and `c` is `context`.
 abbrev pub PlaceMay : EntityUid → CedarType → List ℕ → List ℕ → Place → CedarType → Type 0
 PlaceMay action context principal resource p c = (place_of action principal resource ≡ p) × (c ≡ context)
 
--- `PlaceMust action principal resource p` holds if `p` is this place.
+-- `PlaceMust action principal resource p` holds if `p` is the place of these three.
 abbrev pub PlaceMust : EntityUid → List ℕ → List ℕ → Place → Type 0
 PlaceMust action principal resource p = place_of action principal resource ≡ p
 
@@ -111,17 +113,17 @@ AddsResources action context resources principal old new =
 abbrev pub AddsPrincipals : EntityUid → CedarType → List (List ℕ) → List (List ℕ) → Places → Places → Type 0
 AddsPrincipals action context resources principals old new =
     AddsEach (λ p. SomeMay (PlaceMay action context p) resources) (λ p. SomeMust (PlaceMust action p) resources)
-    (λ p. AllTold (λ r. ⊤) resources) principals (get place_cmp old) (get place_cmp new)
+    (λ p. HoldsForEach (λ r. ⊤) resources) principals (get place_cmp old) (get place_cmp new)
 
--- `UseMust action u p` holds if `p` is a place of what the action applies to.
+-- `UseMust action u p` holds if `p` is a place of `action` with types that its `appliesTo`, `u`, lists.
 abbrev pub UseMust : EntityUid → ResolvedUse → Place → Type 0
 UseMust action u p = (action ≡ p.action) × Contains u.principals p.principal × Contains u.resources p.resource
 
--- `UseMay commons action u p c` holds if it is one, and `c` is its context.
+-- `UseMay commons action u p c` holds if `UseMust action u p` holds, and `c` is the context of `u`, expanded.
 abbrev pub UseMay : Declarations → EntityUid → ResolvedUse → Place → CedarType → Type 0
 UseMay commons action u p c = UseMust action u p × IsRecordOf commons u.context (cedar_view c)
 
--- `AddsUse commons action u old new` holds if these places were added, with a context within the limits.
+-- `AddsUse commons action u old new` holds if the places of `u` were added, with a context within the limits.
 abbrev pub AddsUse : Declarations → EntityUid → ResolvedUse → Places → Places → Type 0
 AddsUse commons action u old new =
     Adds (UseMay commons action u) (UseMust action u) (IsWrittenAt commons u.context)
@@ -131,7 +133,7 @@ AddsUse commons action u old new =
 abbrev pub ActionMust : ResolvedAction → Place → Type 0
 ActionMust a p = (u : ResolvedUse) × (a.applies_to ≡ Some u) × UseMust a.uid u p
 
--- `ActionMay commons a p c` holds if it is one, and `c` is its context.
+-- `ActionMay commons a p c` holds if `p` is a place of the action `a`, and `c` is its context, expanded.
 abbrev pub ActionMay : Declarations → ResolvedAction → Place → CedarType → Type 0
 ActionMay commons a p c = (u : ResolvedUse) × (a.applies_to ≡ Some u) × UseMay commons a.uid u p c
 
@@ -157,15 +159,15 @@ abbrev pub AddsActions : Declarations → List ResolvedAction → Places → Pla
 AddsActions commons us old new =
     AddsEach (ActionMay commons) ActionMust (IsContextWritten commons) us (get place_cmp old) (get place_cmp new)
 
--- `AreContextsClosed commons us` holds if each common type that is named in their contexts is declared.
+-- `AreContextsClosed commons us` holds if each common type that is named in a context of the actions `us` is declared.
 abbrev pub AreContextsClosed : Declarations → List ResolvedAction → Type 0
 AreContextsClosed commons us = (a : ResolvedAction) → Contains us a → IsContextClosed commons a
 
--- `SomeContextIsRefused commons us f` holds if `f` is the error of some context.
+-- `SomeContextIsRefused commons us f` holds if `f` is the error of the context of one of the actions `us`.
 abbrev pub SomeContextIsRefused : Declarations → List ResolvedAction → SchemaFault → Type 0
 SomeContextIsRefused commons us f = (a : ResolvedAction) × Contains us a × IsContextRefused commons a f
 
--- `ArePlaces commons us places` holds if these are exactly the places of these actions.
+-- `ArePlaces commons us places` holds if `places` has exactly the places of the actions `us`, with their contexts.
 abbrev pub ArePlaces : Declarations → List ResolvedAction → Places → Type 0
 ArePlaces commons us places =
     AddsEach (ActionMay commons) ActionMust (IsContextWritten commons) us (λ p. None) (get place_cmp places)
@@ -192,7 +194,7 @@ abbrev pub AddsMembers : Parents → List ResolvedAction → BTreeMap EntityUid 
 AddsMembers parents us old new =
     AddsEach (MemberMay parents) MemberMust (λ a. ⊤) us (get uid_cmp old) (get uid_cmp new)
 
--- `AreMembers parents us members` holds if these are exactly the parents of these actions.
+-- `AreMembers parents us members` holds if `members` has exactly the parents of the actions `us`.
 abbrev pub AreMembers : Parents → List ResolvedAction → BTreeMap EntityUid (List EntityUid) → Type 0
 AreMembers parents us members =
     AddsEach (MemberMay parents) MemberMust (λ a. ⊤) us (λ u. None) (get uid_cmp members)

@@ -5,7 +5,7 @@ use Rattle.std.specs.BTreeMap as tree
 use Rattle.values.specs.Names.{uid_cmp}
 use Rattle.ancestor_search.specs.Hierarchy.{Parents, IsAscending}
 use Rattle.schema_types.specs.Qualified.{Qualified}
-use Rattle.schema_types.specs.WrittenOut.{Declarations}
+use Rattle.schema_types.specs.Expansions.{Declarations}
 use Rattle.schema_types.specs.Mentions.{IsClosed}
 use Rattle.schema_types.specs.Outcome.{TypeRefused}
 use Rattle.schema_types.specs.declared.fault.SchemaFault.{SchemaFault}
@@ -17,9 +17,9 @@ use Rattle.schema.specs.declared.reading.Types.{Types}
 use Rattle.schema.specs.declared.reading.Hierarchies.{Hierarchies}
 use Rattle.schema.specs.Schemas.{action_parents, type_parents, SomeActionIsOnCycle, place_cmp}
 use Rattle.schema.specs.inner.Making.{AreShapes, ArePlaces, Places, AreMembers}
-use Rattle.schema.specs.inner.Numbering.{NumbersAll, AreAbove, AreNumbers}
+use Rattle.schema.specs.inner.Numbering.{NumbersAll, AreAncestors, AreNumbers}
 
--- `AreEdges s parents` holds if these are the edges of the actions, and no action is its own ancestor.
+-- `AreEdges s parents` holds if `parents` are the edges between the actions of `s`, and no action is its own ancestor.
 pub record AreEdges (s : ResolvedSchema) (parents : Parents) : Type 0 where
   pub are : parents ≡ action_parents s
   pub no_cycle : SomeActionIsOnCycle s → ⊥
@@ -28,7 +28,7 @@ pub record AreEdges (s : ResolvedSchema) (parents : Parents) : Type 0 where
 abbrev pub EdgesRefused : ResolvedSchema → SchemaFault → Type 0
 EdgesRefused s f = (f ≡ ActionCycle) × SomeActionIsOnCycle s
 
--- `AreTypesOf commons s t` holds if `t` has exactly the shapes and the environments of `s`.
+-- `AreTypesOf commons s t` holds if `t` has exactly the shapes and the environments of `s`, expanded by `commons`.
 pub record AreTypesOf (commons : Declarations) (s : ResolvedSchema) (t : Types) : Type 0 where
   pub shapes : AreShapes commons s.entity_types t.shapes
   pub places : Places
@@ -36,11 +36,11 @@ pub record AreTypesOf (commons : Declarations) (s : ResolvedSchema) (t : Types) 
   pub environments : t.environments ≡ map environment_of places.entries
   pub ordered : tree.IsOrdered place_cmp places
 
--- `TypesRefused commons s f` holds if some shape or context is too large.
+-- `TypesRefused commons s f` holds if some shape or context of `s` is too large, and `f` is that error.
 abbrev pub TypesRefused : Declarations → ResolvedSchema → SchemaFault → Type 0
 TypesRefused commons s f = (r : Qualified) × IsShapeOrContext s r × TypeRefused commons r f
 
--- `AreTypesClosed commons s` holds if each common type that is named in a shape or a context is declared.
+-- `AreTypesClosed commons s` holds if `commons` declare each common type that is named in a shape or a context of `s`.
 abbrev pub AreTypesClosed : Declarations → ResolvedSchema → Type 0
 AreTypesClosed commons s = (r : Qualified) → IsShapeOrContext s r → IsClosed commons r
 
@@ -50,6 +50,6 @@ pub record AreHierarchiesOf (s : ResolvedSchema) (h : Hierarchies) : Type 0 wher
   pub members : AreMembers (action_parents s) s.actions h.members
   pub actions : h.actions ≡ keys h.members
   pub ascending : IsAscending (keys h.members)
-  pub above : AreAbove (action_parents s) (get uid_cmp h.above.numbers) h.above.spans
+  pub above : AreAncestors (action_parents s) (get uid_cmp h.above.numbers) h.above.spans
   pub numbered : NumbersAll h.actions (get uid_cmp h.above.numbers)
   pub types : AreNumbers (type_parents s) s.entity_types h.types

@@ -1,4 +1,4 @@
--- Defines what is added to the names that are declared so far.
+-- Defines how the declarations of namespaces are added to the declared names.
 use Rattle.std.specs.Prelude.{◌≡◌, ◌||◌, ℕ, List, map, Bool, String}
 use Rattle.std.specs.Ordering.{is_eq}
 use Rattle.std.specs.List.{list_any}
@@ -23,11 +23,12 @@ has_name s q = contains_text s q
 abbrev pub has_uid : BTreeSet EntityUid → EntityUid → Bool
 has_uid s u = contains uid_cmp s u
 
--- `Adds has test old new` holds if `new` has what `old` has, and what passes the test.
+-- `Adds has test old new` holds if the set `new` has exactly the members of `old` and what passes the test; `has` tests
+-- for membership.
 abbrev pub Adds : {S X : Type 0} → (S → X → Bool) → (X → Bool) → S → S → Type 0
 Adds {X = X} has test old new = (q : X) → has new q ≡ (test q || has old q)
 
--- `any_common cs q` tests whether one of the common types `cs` has the name `q`.
+-- `any_common cs q` tests whether one of the common types `cs` has the full name `q`.
 abbrev pub any_common : List CommonOf → List ℕ → Bool
 any_common cs q = list_any (λ c. bytes_eq c.name q) cs
 
@@ -35,24 +36,24 @@ any_common cs q = list_any (λ c. bytes_eq c.name q) cs
 abbrev pub any_name : List (List ℕ) → List ℕ → Bool
 any_name ns q = list_any (λ e. bytes_eq e q) ns
 
--- `any_uid us u` tests whether `u` is one of `us`.
+-- `any_uid us u` tests whether `u` is one of the uids `us`.
 abbrev pub any_uid : List EntityUid → EntityUid → Bool
 any_uid us u = list_any (λ a. is_eq (uid_cmp a u)) us
 
--- `AddsNamespace n old new` holds if the declarations of a namespace were added.
+-- `AddsNamespace n old new` holds if `new` has the names of `old` and the declarations of the namespace `n`.
 pub record AddsNamespace (n : NamespaceOf) (old new : Names) : Type 0 where
   pub commons : Adds has_name (any_common (map (λ c. common_in n.name c) n.commons)) old.commons new.commons
   pub entities : Adds has_name (any_name (map (λ e. full_name n.name e.name) n.entity_types)) old.entities new.entities
   pub actions : Adds has_uid (any_uid (map (λ a. action_uid (action_type n.name) a.id) n.actions)) old.actions
       new.actions
 
--- `AddsAll ns old new` holds if the declarations of these namespaces were added.
+-- `AddsAll ns old new` holds if `new` has the names of `old` and the declarations of the namespaces `ns`.
 pub record AddsAll (ns : List NamespaceOf) (old new : Names) : Type 0 where
   pub commons : Adds has_name (any_common (commons_declared ns)) old.commons new.commons
   pub entities : Adds has_name (any_name (entity_types_declared ns)) old.entities new.entities
   pub actions : Adds has_uid (any_uid (actions_declared ns)) old.actions new.actions
 
--- `Declares ns names` holds if `names` are exactly the declarations of these namespaces.
+-- `Declares ns names` holds if `names` has exactly the declarations of the namespaces `ns`.
 pub record Declares (ns : List NamespaceOf) (names : Names) : Type 0 where
   pub scope : scope_of names ≡ scope_in ns
   pub actions : is_action_of names ≡ is_action_in ns

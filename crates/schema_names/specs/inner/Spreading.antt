@@ -1,4 +1,4 @@
--- Defines which common types are not records, as the code finds them: round by round.
+-- Defines the search for the common types that are not records, in rounds, as the code performs it.
 use Rattle.std.specs.Prelude.{◌≡◌, ◌⊎◌, ◌<◌, ◌&&◌, ◌++◌, ℕ, List, [], ◌∷◌, Contains, Bool, true, not, String}
 use Rattle.std.specs.Prelude.{Option, Some, None}
 use Rattle.std.specs.List.{list_all, slice_get}
@@ -13,25 +13,26 @@ use Rattle.schema_names.specs.inner.Adding.{has_name}
 use Rattle.schema_types.specs.declared.fault.SchemaFault.{SchemaFault}
 use Rattle.schema_types.specs.declared.fault.SchemaFault.TheVariants.{BadShape, NoMemory}
 
--- `means_by o known otherwise` is what `known` says of the name `o`, or `otherwise` if `o` is `None`.
+-- `means_by o known otherwise` is the result of the test `known` on the name in `o`, or `otherwise` if `o` is `None`.
 abbrev pub means_by : Option (List ℕ) → (List ℕ → Bool) → Bool → Bool
 means_by (Some q) known otherwise = known q
 means_by None known otherwise = otherwise
 
--- `means_now known s own r` tests whether `r` is not a record, where `known` tests the same of common types.
-abbrev pub means_now : (List ℕ → Bool) → Scope → Option (List ℕ) → Raw → Bool
-means_now known s own r = means_by (common_meant s own r) known (is_no_record s own r)
+-- `is_known_non_record known s own r` tests whether the type `r` is not a record, where `known` tests whether the
+-- common type of a name is not one.
+abbrev pub is_known_non_record : (List ℕ → Bool) → Scope → Option (List ℕ) → Raw → Bool
+is_known_non_record known s own r = means_by (common_meant s own r) known (is_no_record s own r)
 
 -- ---- rounds
 
--- `NamesNoRecord ns q` holds if a common type named `q` is not a record.
+-- `NamesNoRecord ns q` holds if some common type of the full name `q` means a type that is not a record.
 pub record NamesNoRecord (ns : List NamespaceOf) (q : List ℕ) : Type 0 where
   pub common : CommonOf
   pub declared : Contains (commons_declared ns) common
   pub is : common.name ≡ q
   pub means : MeansNoRecord ns common.own common.type
 
--- `IsSound ns known` holds if each name of the set is that of a common type that is not a record.
+-- `IsSound ns known` holds if each name of the set `known` is that of a common type that is not a record.
 abbrev pub IsSound : List NamespaceOf → BTreeSet (String Global) → Type 0
 IsSound ns known = (q : List ℕ) → has_name known q ≡ true → NamesNoRecord ns q
 
@@ -39,24 +40,28 @@ IsSound ns known = (q : List ℕ) → has_name known q ≡ true → NamesNoRecor
 abbrev pub AreAmong : List CommonOf → List CommonOf → Type 0
 AreAmong cs all = (c : CommonOf) → Contains cs c → Contains all c
 
--- `IsSettled s known cs` holds if none of these is left to be added.
+-- `IsSettled s known cs` holds if `known` has each of the common types `cs` that, by `known`, is not a record: none can
+-- be added.
 abbrev pub IsSettled : Scope → BTreeSet (String Global) → List CommonOf → Type 0
 IsSettled s known cs =
-    (c : CommonOf) → Contains cs c → means_now (λ q. has_name known q) s c.own c.type ≡ true
+    (c : CommonOf) → Contains cs c → is_known_non_record (λ q. has_name known q) s c.own c.type ≡ true
     → has_name known c.name ≡ true
 
--- `KeepsNames s cs old new` holds if the set stays right, for files that declare these.
+-- `KeepsNames s cs old new` holds if, for each file with the declared names `s` and the common types `cs`, the set
+-- `new` is right (`IsSound`) if `old` is.
 abbrev pub KeepsNames : Scope → List CommonOf → BTreeSet (String Global) → BTreeSet (String Global) → Type 0
 KeepsNames s cs old new =
     (ns : List NamespaceOf) → s ≡ scope_in ns → AreAmong cs (commons_declared ns) → IsSound ns old → IsSound ns new
 
--- `Spreads s cs old new` holds if a round leaves a right set; either it is longer, or nothing was left to do.
-pub record Spreads (s : Scope) (cs : List CommonOf) (old new : BTreeSet (String Global)) : Type 0 where
+-- `AddsNonRecords s cs old new` holds if a round over the common types `cs` keeps the set right, and adds a name
+-- unless none can be added.
+pub record AddsNonRecords (s : Scope) (cs : List CommonOf) (old new : BTreeSet (String Global)) : Type 0 where
   pub sound : (ns : List NamespaceOf) → s ≡ scope_in ns → AreAmong cs (commons_declared ns) → IsSound ns old
       → IsSound ns new
   pub grows : ((new ≡ old) × IsSettled s old cs) ⊎ (btree_set_len old < btree_set_len new)
 
--- `tried_one` and `tried_in_order` are the declaration at an index, if there is one, and those at a list of indices.
+-- `tried_one o` is the common type in `o`, as a list, and `tried_in_order cs is` are those of `cs` at the indices `is`,
+-- in order.
 abbrev pub tried_one : Option CommonOf → List CommonOf
 tried_one None = []
 tried_one (Some c) = c ∷ []
@@ -65,42 +70,43 @@ abbrev pub tried_in_order : List CommonOf → List ℕ → List CommonOf
 tried_in_order cs [] = []
 tried_in_order cs (i ∷ is) = tried_one (slice_get cs i) ++ tried_in_order cs is
 
--- `ReportsRecords ns known` holds if the set has exactly the common types that are not records, and so decides it for
--- each type.
+-- `ReportsRecords ns known` holds if `known` is true of exactly the common types that are not records, so that
+-- `is_known_non_record` decides it for each type.
 pub record ReportsRecords (ns : List NamespaceOf) (known : List ℕ → Bool) : Type 0 where
-  pub sound : (own : Option (List ℕ)) (r : Raw) → means_now known (scope_in ns) own r ≡ true
+  pub sound : (own : Option (List ℕ)) (r : Raw) → is_known_non_record known (scope_in ns) own r ≡ true
       → MeansNoRecord ns own r
   pub complete : (own : Option (List ℕ)) (r : Raw) → MeansNoRecord ns own r
-      → means_now known (scope_in ns) own r ≡ true
+      → is_known_non_record known (scope_in ns) own r ≡ true
 
 -- ---- shapes and contexts
 
--- `is_record_at known s own o` tests whether a type, if there is one, is a record.
+-- `is_record_at known s own o` tests whether the type in `o`, if there is one, is not found to be other than a record.
 abbrev pub is_record_at : (List ℕ → Bool) → Scope → Option (List ℕ) → Option Raw → Bool
 is_record_at known s own None = true
-is_record_at known s own (Some r) = not (means_now known s own r)
+is_record_at known s own (Some r) = not (is_known_non_record known s own r)
 
--- `is_record_in known s own o` tests this of the context of what an action applies to.
+-- `is_record_in known s own o` tests the same of the context in `o`, which is what an action applies to, if there is
+-- one.
 abbrev pub is_record_in : (List ℕ → Bool) → Scope → Option (List ℕ) → Option UseOf → Bool
 is_record_in known s own None = true
 is_record_in known s own (Some u) = is_record_at known s own u.context
 
--- `are_shapes known s own es` tests whether all shapes are records.
+-- `are_shapes known s own es` tests the same of each shape of the entity types `es`.
 abbrev pub are_shapes : (List ℕ → Bool) → Scope → Option (List ℕ) → List EntityTypeOf → Bool
 are_shapes known s own es = list_all (λ e. is_record_at known s own e.shape) es
 
--- `are_contexts known s own us` tests whether all contexts are records.
+-- `are_contexts known s own us` tests the same of each context of the actions `us`.
 abbrev pub are_contexts : (List ℕ → Bool) → Scope → Option (List ℕ) → List ActionOf → Bool
 are_contexts known s own us = list_all (λ a. is_record_in known s own a.applies_to) us
 
--- `are_records_of known s n` tests this of all shapes and contexts of a namespace.
+-- `are_records_of known s n` tests the same of all shapes and contexts of the namespace `n`.
 abbrev pub are_records_of : (List ℕ → Bool) → Scope → NamespaceOf → Bool
 are_records_of known s n = are_shapes known s n.name n.entity_types && are_contexts known s n.name n.actions
 
--- `are_records known s ns` tests this of all namespaces.
+-- `are_records known s ns` tests the same of all shapes and contexts of the namespaces `ns`.
 abbrev pub are_records : (List ℕ → Bool) → Scope → List NamespaceOf → Bool
 are_records known s ns = list_all (λ n. are_records_of known s n) ns
 
--- `MayRefuseRecords ns f` holds if `f` may be the error of shapes and contexts.
+-- `MayRefuseRecords ns f` holds if `f` may be the error of checking that shapes and contexts are records.
 abbrev pub MayRefuseRecords : List NamespaceOf → SchemaFault → Type 0
 MayRefuseRecords ns f = (f ≡ NoMemory) ⊎ ((f ≡ BadShape) × SomeIsNoRecord ns)

@@ -1,4 +1,5 @@
--- Defines the common types of a file as a graph: an edge from each to the one that it is a name of.
+-- Defines the graph of the common types of a file, in which an edge leads from each that is only a name of another to
+-- that one.
 -- Source: Cedar reference guide, "Schema JSON format": a common type may be a reference to another.
 use Rattle.std.specs.Prelude.{ℕ, ◌+◌, List, [], ◌∷◌, map, Option, Some, None, if◌then◌else◌}
 use Rattle.std.specs.Str.{bytes_eq}
@@ -9,33 +10,36 @@ use Rattle.schema_names.specs.Qualifying.{CommonOf, common_in}
 use Rattle.schema_names.specs.Records.{common_meant}
 use Rattle.schema_names.specs.declared.order.ListedCommon.{ListedCommon}
 
--- `listed_view l` is the common type `l` of the code.
+-- `listed_view l` is the abstract value of the common type `l` of the code.
 abbrev pub listed_view : ListedCommon → CommonOf
 listed_view l = common_in l.own.now (common_view l.common.now)
 
--- `place_from i cs q found` is the last index at which `cs`, from index `i` on, declare `q`.
+-- `place_from i cs q found` is the last index at which `cs`, whose first index is `i`, declares `q`, or `found` if `cs`
+-- does not declare it.
 abbrev pub place_from : ℕ → List CommonOf → List ℕ → Option ℕ → Option ℕ
 place_from i [] q found = found
 place_from i (c ∷ cs) q found = place_from (i + 1) cs q (if bytes_eq c.name q then Some i else found)
 
--- `place_of commons q` is the last index at which `commons` declare `q`.
+-- `place_of commons q` is the last index at which `commons` declares `q`, if it does.
 abbrev pub place_of : List CommonOf → List ℕ → Option ℕ
 place_of commons q = place_from 0 commons q None
 
--- `place_meant place o` is the index of a name, if there is one.
+-- `place_meant place o` is the index of the name in `o`, if there is a name and `place` has an index for it.
 abbrev pub place_meant : (List ℕ → Option ℕ) → Option (List ℕ) → Option ℕ
 place_meant place None = None
 place_meant place (Some q) = place q
 
--- `in_list o` is the list of the index `o`, empty if `o` is `None`.
+-- `in_list o` is the index in `o`, as a list; `[]` if `o` is `None`.
 abbrev pub in_list : Option ℕ → List ℕ
 in_list None = []
 in_list (Some a) = a ∷ []
 
--- `place_used place s c` is the index of the common type that `c` is a name of, if it is one.
+-- `place_used place s c` is the index of the common type that the definition of `c` is a name of, as a list; `[]` if it
+-- is not such a name.
 abbrev pub place_used : (List ℕ → Option ℕ) → Scope → CommonOf → List ℕ
 place_used place s c = in_list (place_meant place (common_meant s c.own c.type))
 
--- `uses s commons` has for each common type the index of the one that it is a name of.
+-- `uses s commons` is the graph that has, for the index of each common type, the index of the one that its definition
+-- is a name of.
 abbrev pub uses : Scope → List CommonOf → Graph
 uses s commons = map (λ c. place_used (place_of commons) s c) commons

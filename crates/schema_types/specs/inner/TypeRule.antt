@@ -1,4 +1,4 @@
--- Defines the rule of a type's JSON, by the values at its keys.
+-- Defines the type that JSON describes as the code computes it: from the values at its keys.
 use Rattle.std.specs.Prelude.{Bool, false, codes, Result, option_map}
 use Rattle.serde_json.specs.Data.{Data}
 use Rattle.serde_json.specs.Find.{get}
@@ -6,7 +6,7 @@ use Rattle.schema_types.specs.Raw.{Raw}
 use Rattle.schema_types.specs.TypeShape.{formed, type_of, attributes_of}
 use Rattle.schema_types.specs.declared.fault.SchemaFault.{SchemaFault}
 
--- `type_rule is_attribute d` is the type that `d` states, or an error.
+-- `type_rule is_attribute d` is the type that `d` describes, or the first error.
 abbrev pub type_rule : Bool → Data → Result Raw SchemaFault
 type_rule is_attribute d =
     formed is_attribute d (option_map (type_of false) (get (codes "element") d))

@@ -1,17 +1,18 @@
--- Defines the order in which common types are expanded.
+-- Defines the graph of the common types, in which an edge leads from each to those that it mentions.
 use Rattle.std.specs.Prelude.{ℕ, ◌+◌, List, [], ◌∷◌, ◌++◌, map, Option, Some, None, if◌then◌else◌}
 use Rattle.std.specs.Str.{bytes_eq}
 use Rattle.schema_types.specs.Qualified as qualified
 use Rattle.schema_types.specs.Qualified.{Qualified, QualifiedFields}
-use Rattle.schema_types.specs.WrittenOut.{Declarations}
+use Rattle.schema_types.specs.Expansions.{Declarations}
 use Rattle.schema_written_types.specs.Orders.{Graph}
 
--- `listed o` is the list of the index `o`, empty if `o` is `None`.
+-- `listed o` is the index in `o`, as a list; `[]` if `o` is `None`.
 abbrev pub listed : Option ℕ → List ℕ
 listed None = []
 listed (Some a) = a ∷ []
 
--- `places_named place r` are the indices of the common types that `r` names.
+-- `places_named place r` are the indices of the common types that `r` mentions, where `place` gives the index of a
+-- name.
 unfoldable mutual
   pub places_named : (List ℕ → Option ℕ) → Qualified → List ℕ
   places_named place qualified.text = []
@@ -28,15 +29,16 @@ unfoldable mutual
   fields_name place qualified.no_fields = []
   fields_name place (qualified.field k r required rs) = places_named place r ++ fields_name place rs
 
--- `place_from i ds q found` is the last index at which `ds`, from index `i` on, declare `q`.
+-- `place_from i ds q found` is the last index at which `ds`, whose first index is `i`, declares `q`, or `found` if `ds`
+-- does not declare it.
 abbrev pub place_from : ℕ → Declarations → List ℕ → Option ℕ → Option ℕ
 place_from i [] q found = found
 place_from i (d ∷ ds) q found = place_from (i + 1) ds q (if bytes_eq d.0 q then Some i else found)
 
--- `place_of commons q` is the last index at which `commons` declare `q`.
+-- `place_of commons q` is the last index at which `commons` declares `q`, if it does.
 abbrev pub place_of : Declarations → List ℕ → Option ℕ
 place_of commons q = place_from 0 commons q None
 
--- `uses commons` has for each common type the indices of the common types that it names.
+-- `uses commons` is the graph that has, for the index of each common type, the indices of those that it mentions.
 abbrev pub uses : Declarations → Graph
 uses commons = map (λ d. places_named (place_of commons) d.1) commons

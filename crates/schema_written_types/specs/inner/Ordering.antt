@@ -1,81 +1,84 @@
--- Defines a search along paths of edges, which lists each node after its successors.
+-- Defines the invariant of a depth-first search, which lists each node after its successors.
 use Rattle.std.specs.Prelude.{◌≡◌, ◌⊎◌, ◌+◌, ◌-◌, ◌<◌, ⊤, ℕ, zero, suc, List, [], ◌∷◌, length, Contains, Bool, true}
 use Rattle.std.specs.Prelude.{false, not, if◌then◌else◌, Option, Some, None, slice_index_or}
 use Rattle.schema_written_types.specs.declared.place_order.Step.{Step}
-use Rattle.schema_written_types.specs.Orders.{Graph, ends_of, Leads, one_if_same, times, AreBehind}
+use Rattle.schema_written_types.specs.Orders.{Graph, ends_of, Leads, one_if_same, times, ComeAfterSuccessors}
 
--- `is_new seen a` tests whether `a` is a node that was not seen.
+-- `is_new seen a` tests whether `a` is a node that is not marked in `seen`.
 abbrev pub is_new : List Bool → ℕ → Bool
 is_new [] a = false
 is_new (s ∷ ss) zero = not s
 is_new (s ∷ ss) (suc a) = is_new ss a
 
--- `one_if_seen seen a` is 1 if the node `a` was seen, else 0.
+-- `one_if_seen seen a` is 1 if the node `a` is marked in `seen`, else 0.
 abbrev pub one_if_seen : List Bool → ℕ → ℕ
 one_if_seen [] a = 0
 one_if_seen (s ∷ ss) zero = if s then 1 else 0
 one_if_seen (s ∷ ss) (suc a) = one_if_seen ss a
 
--- `times_on a path` is how often the node `a` occurs on the path, whose last step is first.
+-- `times_on a path` is the number of times that the node `a` occurs on the path, whose last step is first in the list.
 abbrev pub times_on : ℕ → List Step → ℕ
 times_on a [] = 0
 times_on a (s ∷ path) = one_if_same a s.place + times_on a path
 
--- `entered seen a path` is the path after the node `a` was entered, if it is new.
+-- `entered seen a path` is `path` with a step for the node `a` at its end, if `a` was not seen, else `path`.
 abbrev pub entered : List Bool → ℕ → List Step → List Step
 entered seen a path = if is_new seen a then record { place = a; followed = 0 } ∷ path else path
 
--- `IsFollowed g order next a b` holds if the followed edge from `a` to `b` leads to a listed node, leads back, or
--- leads to the next on the path.
+-- `IsFollowed g order next a b` holds if the edge from `a` to `b` leads to a listed node, to a node that leads back to
+-- `a`, or to `next`, the node after `a` on the path.
 abbrev pub IsFollowed : Graph → List ℕ → Option ℕ → ℕ → ℕ → Type 0
 IsFollowed g order next a b = (Contains order b ⊎ Leads g b a) ⊎ (next ≡ Some b)
 
--- `AreFollowed g order next s` holds if each edge that the step `s` followed is such an edge.
+-- `AreFollowed g order next s` holds if `IsFollowed` holds for each edge that the step `s` has followed, unless it
+-- leads out of the graph.
 abbrev pub AreFollowed : Graph → List ℕ → Option ℕ → Step → Type 0
 AreFollowed g order next s = (k b : ℕ) → k < s.followed → k < length (ends_of g s.place)
     → slice_index_or (ends_of g s.place) k b ≡ b → b < length g → IsFollowed g order next s.place b
 
--- `IsEdgeTo g a next` holds if an edge leads from `a` to `next`, if there is one.
+-- `IsEdgeTo g a next` holds if an edge leads from `a` to the node in `next`, or `next` is `None`.
 abbrev pub IsEdgeTo : Graph → ℕ → Option ℕ → Type 0
 IsEdgeTo g a None = ⊤
 IsEdgeTo g a (Some b) = Contains (ends_of g a) b
 
--- `IsPath g order next path` holds if an edge leads from each step to the one after it, the last to `next`.
+-- `IsPath g order next path` holds if an edge leads from the node of each step to that of the step after it, and from
+-- the last to `next`, and `AreFollowed` holds for each step.
 abbrev pub IsPath : Graph → List ℕ → Option ℕ → List Step → Type 0
 IsPath g order next [] = ⊤
 IsPath g order next (s ∷ path) =
     AreFollowed g order next s × IsEdgeTo g s.place next × IsPath g order (Some s.place) path
 
--- `IsWalk g path seen order` holds if each seen node is once on the path or once in the order, and each listed node
--- is behind its successors.
+-- `IsWalk g path seen order` holds if each seen node occurs exactly once, on the path or in the order, no other node
+-- occurs, each step satisfies `IsPath`, and each listed node comes after its successors (`ComeAfterSuccessors`).
 pub record IsWalk (g : Graph) (path : List Step) (seen : List Bool) (order : List ℕ) : Type 0 where
   pub len : length seen ≡ length g
   pub counts : (a : ℕ) → times a order + times_on a path ≡ one_if_seen seen a
   pub chain : IsPath g order None path
-  pub behind : AreBehind g [] order
+  pub behind : ComeAfterSuccessors g [] order
 
--- `KeepsSeen old new` holds if each seen node stays seen.
+-- `KeepsSeen old new` holds if each node that is marked in `old` is marked in `new`.
 abbrev pub KeepsSeen : List Bool → List Bool → Type 0
 KeepsSeen old new = (a : ℕ) → one_if_seen old a ≡ 1 → one_if_seen new a ≡ 1
 
 -- ---- remaining effort
 
--- `unseen_effort g seen` counts the nodes that were not seen, and their edges.
+-- `unseen_effort g seen` is the number of the nodes that were not seen and of their edges.
 abbrev pub unseen_effort : Graph → List Bool → ℕ
 unseen_effort [] ss = 0
 unseen_effort (v ∷ vs) [] = 0
 unseen_effort (v ∷ vs) (s ∷ ss) = (if s then 0 else suc (length v)) + unseen_effort vs ss
 
--- `path_effort g path` counts the steps of the path, and their edges that were not followed.
+-- `path_effort g path` is the number of the steps of the path and of their edges that were not followed.
 abbrev pub path_effort : Graph → List Step → ℕ
 path_effort g [] = 0
 path_effort g (s ∷ path) = suc (length (ends_of g s.place) - s.followed) + path_effort g path
 
--- `effort g path seen` is the sum of both.
+-- `effort g path seen` is the sum of both: the measure of the search.
 abbrev pub effort : Graph → List Step → List Bool → ℕ
 effort g path seen = path_effort g path + unseen_effort g seen
 
--- `WalksOn ..` holds if a step preserves the invariant of a walk, and decreases the effort.
+-- `WalksOn g path path' seen seen' order order'` holds if a step of the search preserves its invariant `IsWalk` and the
+-- seen nodes, and decreases its measure.
 pub record WalksOn (g : Graph) (path path' : List Step) (seen seen' : List Bool) (order order' : List ℕ)
     : Type 0 where
   pub walks : IsWalk g path seen order → IsWalk g path' seen' order'

@@ -1,32 +1,33 @@
--- Defines the size and the expansion of a type by what is known of its common types.
+-- Defines the size and the expansion of a type, computed from a table of its common types.
 use Rattle.std.specs.Prelude.{◌≡◌, ⊤, ◌&&◌, ◌+◌, min, max, [], ◌∷◌, Bool, true, Option, Some, None}
 use Rattle.std.specs.Prelude.{◌≤◌, option_map, is_some, option_and_then, nat_lt, if◌then◌else◌}
 use Rattle.schema_types.specs.Qualified as qualified
 use Rattle.schema_types.specs.Qualified.{Qualified, QualifiedFields}
 use Rattle.schema_types.specs.Cedar as cedar
 use Rattle.schema_types.specs.Cedar.{Cedar, CedarFields}
-use Rattle.schema_types.specs.WrittenOut.{Declarations}
-use Rattle.schema_written_types.specs.Knowledge.{Extent, KnownType, Knowledge}
+use Rattle.schema_types.specs.Expansions.{Declarations}
+use Rattle.schema_written_types.specs.TypeTables.{Extent, TableEntry, TypeTable}
 
--- `leaf_size` is the size of a type without parts.
+-- `leaf_size` is the size of a type without parts: one node.
 abbrev pub leaf_size : Extent
 leaf_size = record { parts = 1; deep = 1 }
 
--- `no_size` is the size of no types.
+-- `no_size` is the size of the fields of a record that has no fields.
 abbrev pub no_size : Extent
 no_size = record { parts = 0; deep = 0 }
 
--- `above s` is the size of a node over these.
+-- `above s` is the size of a node whose parts together have the size `s`.
 abbrev pub above : Extent → Extent
 above s = record { parts = min (s.parts + 1) 10001; deep = min (s.deep + 1) 65 }
 
--- `beside s t` is the size of two types side by side.
+-- `beside s t` is the size of parts of the sizes `s` and `t` together.
 abbrev pub beside : Extent → Extent → Extent
 beside s t = record { parts = min (s.parts + t.parts) 10001; deep = max s.deep t.deep }
 
--- `size_in known r` is the size of `r`, if each name in it is known.
+-- `size_in known r` is the size of the expansion of `r`, if the table `known` has an entry for each name that `r`
+-- mentions.
 unfoldable mutual
-  pub size_in : Knowledge → Qualified → Option Extent
+  pub size_in : TypeTable → Qualified → Option Extent
   size_in known qualified.text = Some leaf_size
   size_in known qualified.long = Some leaf_size
   size_in known qualified.boolean = Some leaf_size
@@ -37,15 +38,15 @@ unfoldable mutual
   size_in known (qualified.entity n) = Some leaf_size
   size_in known (qualified.common q) = option_map (λ k. k.size) (known q)
 
-  -- the size of these, added to a total
-  pub sizes_in : Knowledge → Extent → QualifiedFields → Option Extent
+  -- the size of the fields, added to `total`
+  pub sizes_in : TypeTable → Extent → QualifiedFields → Option Extent
   sizes_in known total qualified.no_fields = Some total
   sizes_in known total (qualified.field k r required rs) =
       option_and_then (λ s. sizes_in known (beside total s) rs) (size_in known r)
 
--- `written_in known r` is the expansion of `r`, if each name in it has one in the table.
+-- `written_in known r` is the expansion of `r`, if the table `known` has an expansion for each name that `r` mentions.
 unfoldable mutual
-  pub written_in : Knowledge → Qualified → Option Cedar
+  pub written_in : TypeTable → Qualified → Option Cedar
   written_in known qualified.text = Some cedar.text
   written_in known qualified.long = Some cedar.long
   written_in known qualified.boolean = Some cedar.boolean
@@ -56,54 +57,55 @@ unfoldable mutual
   written_in known (qualified.entity n) = Some (cedar.entity n)
   written_in known (qualified.common q) = option_and_then (λ k. k.whole) (known q)
 
-  pub fields_in : Knowledge → QualifiedFields → Option CedarFields
+  pub fields_in : TypeTable → QualifiedFields → Option CedarFields
   fields_in known qualified.no_fields = Some cedar.no_fields
   fields_in known (qualified.field k r required rs) =
       option_and_then (λ t. option_map (cedar.field k t required) (fields_in known rs)) (written_in known r)
 
 -- ---- types that are not too large
 
--- `IsWithin s` holds if the size `s` is within the limits.
+-- `IsWithin s` holds if the size `s` is within the limits, 10,000 nodes and a depth of 64.
 abbrev pub IsWithin : Extent → Type 0
 IsWithin s = (s.parts ≤ 10000) × (s.deep ≤ 64)
 
--- `fits s` tests that.
+-- `fits s` tests whether the size `s` is within the limits.
 abbrev pub fits : Extent → Bool
 fits s = nat_lt s.parts 10001 && nat_lt s.deep 65
 
--- `IsCounted known r` holds if the size of `r` is known, and not too large.
-pub record IsCounted (known : Knowledge) (r : Qualified) : Type 0 where
+-- `IsCounted known r` holds if `size_in known r` is a size, and it is within the limits.
+pub record IsCounted (known : TypeTable) (r : Qualified) : Type 0 where
   pub size : Extent
   pub is : size_in known r ≡ Some size
   pub small : fits size ≡ true
 
--- `built_of known s r` is the expansion of `r`, of size `s`, unless it is too large.
-abbrev pub built_of : Knowledge → Extent → Qualified → Option Cedar
+-- `built_of known s r` is the expansion of `r`, whose size is `s`, or `None` if it is too large.
+abbrev pub built_of : TypeTable → Extent → Qualified → Option Cedar
 built_of known s r = if fits s then written_in known r else None
 
 -- ---- tables
 
--- `AreSettled known ds` holds if no further name can be expanded.
-abbrev pub AreSettled : Knowledge → Declarations → Type 0
+-- `AreSettled known ds` holds if each of `ds` has an entry in the table `known`, or mentions a name that has none: no
+-- further entry can be added.
+abbrev pub AreSettled : TypeTable → Declarations → Type 0
 AreSettled known [] = ⊤
 AreSettled known (d ∷ ds) = (known d.0 ≡ None → size_in known d.1 ≡ None) × AreSettled known ds
 
--- `all_known known ds` tests whether each name is known.
-abbrev pub all_known : Knowledge → Declarations → Bool
+-- `all_known known ds` tests whether the table `known` has an entry for each name that `ds` declares.
+abbrev pub all_known : TypeTable → Declarations → Bool
 all_known known [] = true
 all_known known (d ∷ ds) = is_some (known d.0) && all_known known ds
 
--- `is_small_at o` tests whether a definition, if there is one, is not too large.
-abbrev pub is_small_at : Option KnownType → Bool
+-- `is_small_at o` tests whether the expansion of the entry `o`, if there is one, is not too large.
+abbrev pub is_small_at : Option TableEntry → Bool
 is_small_at None = true
 is_small_at (Some k) = fits k.size
 
--- `all_small known ds` tests this of each name.
-abbrev pub all_small : Knowledge → Declarations → Bool
+-- `all_small known ds` tests whether this is so for the entry of each name that `ds` declares.
+abbrev pub all_small : TypeTable → Declarations → Bool
 all_small known [] = true
 all_small known (d ∷ ds) = is_small_at (known d.0) && all_small known ds
 
--- `HasSize known r` holds if each common type that `r` names is known.
-pub record HasSize (known : Knowledge) (r : Qualified) : Type 0 where
+-- `HasSize known r` holds if `size_in known r` is a size.
+pub record HasSize (known : TypeTable) (r : Qualified) : Type 0 where
   pub size : Extent
   pub is : size_in known r ≡ Some size

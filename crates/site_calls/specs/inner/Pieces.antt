@@ -1,9 +1,11 @@
 -- Defines pieces of lines.
 use Rattle.std.specs.Prelude.{ℕ, List, ◌++◌, Bool, Option, Some, None, codes, decimal, if◌then◌else◌}
 
+-- `boolean_word value` is `true` or `false`, as JSON writes it.
 abbrev pub boolean_word : Bool → List ℕ
 boolean_word value = if value then codes "true" else codes "false"
 
+-- `number_or_null o` is the number `o` in decimal digits, or `null` if it is absent.
 abbrev pub number_or_null : Option ℕ → List ℕ
 number_or_null None = codes "null"
 number_or_null (Some n) = decimal n

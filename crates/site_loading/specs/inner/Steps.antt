@@ -1,4 +1,4 @@
--- Defines an intermediate fact of a load.
+-- Defines when the bytes of a file have tokens, as is known once the file was parsed.
 use Rattle.std.specs.Prelude.{List, ℕ}
 use Rattle.std.specs.Str.{IsUtf8}
 use Rattle.grammar_files.specs.grammar_tokens.declared.token.Token.{Token}

@@ -1,4 +1,4 @@
--- Defines the uids that a pass over the entries of entities finds.
+-- Defines the uids of the entries that have a text.
 use Rattle.std.specs.Prelude.{List, [], ◌∷◌, Option, Some, None}
 use Rattle.std.specs.List.{flat_map}
 use Rattle.values.specs.declared.entity_uid.EntityUid.{EntityUid}
@@ -6,7 +6,7 @@ use Rattle.entity_hierarchy.specs.entity_data.declared.entity.Entity.{Entity}
 use Rattle.stamped_store.specs.declared.entry.Entry.{Entry}
 use Rattle.stamped_store.specs.declared.entry.ReadText.{ReadText}
 
--- `uid_with uid t` is `uid` if there is a text `t`, else nothing.
+-- `uid_with uid t` is the list of `uid` if there is a text `t`, else it is empty.
 abbrev pub uid_with : EntityUid → Option (ReadText Entity) → List EntityUid
 uid_with uid None = []
 uid_with uid (Some t) = uid ∷ []

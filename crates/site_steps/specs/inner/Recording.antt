@@ -1,4 +1,4 @@
--- Defines parts of commands: stamping and storing, after the checks.
+-- Defines the parts of commands: the results of their checks, and the stamping and storing after these.
 use Rattle.std.specs.Prelude.{◌≡◌, ◌↔◌, ◌<◌, ℕ, Bool, true, false, List, Option, Some, None, Result, Ok, Err, IsTrue}
 use Rattle.plain.specs.Words.{IsPath}
 use Rattle.values.specs.declared.entity_uid.EntityUid.{EntityUid}
@@ -33,39 +33,42 @@ abbrev pub IsNext : List ℕ → Store → Option Stamp → Type 0
 IsNext n s (Some stamp) = (greatest_count s < most_count) × (stamp ≡ issue s n)
 IsNext n s None = greatest_count s ≡ most_count
 
--- `PutsUnless n s cycle uid text r t` holds if `text` is put under `uid`; but if `cycle` is true, or an error, `r` is
--- `WouldCycle`, or `NoMemory`, and `t` is `s`.
+-- `PutsUnless n s cycle uid text r t` holds if `text` is put under `uid` in case `cycle` is false; if it is true, `r`
+-- is
+-- `WouldCycle`, if it is an error, `r` is `NoMemory`, and in both cases `t` is `s`.
 abbrev pub PutsUnless : {E : Type 0} → List ℕ → Store → Result Bool E → EntityUid → List ℕ → Result Stamp SiteFault
     → Store → Type 0
 PutsUnless n s (Ok false) uid text r t = RecordsOr n s (entity_name uid) (Some text) r t
 PutsUnless n s (Ok true) uid text r t = (r ≡ Err fault.WouldCycle) × (t ≡ s)
 PutsUnless n s (Err e) uid text r t = (r ≡ Err fault.NoMemory) × (t ≡ s)
 
--- `put_result impossible r` is the result of a put whose recording had the result `r`.
+-- `put_result impossible r` is the result of a put of a policy, by whether it is impossible and the result `r` of
+-- storing it.
 abbrev pub put_result : Bool → Result Stamp SiteFault → Result Put SiteFault
 put_result impossible (Ok stamp) = Ok (record { stamp = stamp; impossible = impossible })
 put_result impossible (Err f) = Err f
 
--- `IsStated schema e` holds if some JSON states the entity `e`.
-abbrev pub IsStated : StatedSchema → Entity → Type 0
-IsStated schema e = (d : Data) × (entity_stated_in schema d ≡ Ok e)
+-- `IsDescribed schema e` holds if some JSON describes the entity `e` under `schema`.
+abbrev pub IsDescribed : StatedSchema → Entity → Type 0
+IsDescribed schema e = (d : Data) × (entity_stated_in schema d ≡ Ok e)
 
--- `IsStatedBy schema json b` holds if `json` states the entity in `b`, and `b` has its canonical text.
+-- `IsStatedBy schema json b` holds if `json` describes the entity in `b` under `schema`, and `b` has its canonical
+-- text.
 pub record IsStatedBy (schema : StatedSchema) (json : Option Data) (b : ReadText Entity) : Type 0 where
   pub states : entity_stated schema json ≡ Ok b.read
   pub path : IsPath b.read.uid.type_name
   pub canonical : b.text ≡ canonical_text b.read
   pub reads : IsEntityUnder schema b.read.uid b.text b.read
 
--- `StatesNone schema json f` holds if `f` is the site's error for `json` that does not state an entity.
-abbrev pub StatesNone : StatedSchema → Option Data → SiteFault → Type 0
-StatesNone schema json (fault.Entity f) = entity_stated schema json ≡ Err f
-StatesNone schema json _ = ⊥
+-- `IsNoEntityFault schema json f` holds if `f` is the site's error for `json`, which does not describe an entity.
+abbrev pub IsNoEntityFault : StatedSchema → Option Data → SiteFault → Type 0
+IsNoEntityFault schema json (fault.Entity f) = entity_stated schema json ≡ Err f
+IsNoEntityFault schema json _ = ⊥
 
--- `AsksNone schema json f` holds if `f` is the site's error for `json` that does not state a request.
-abbrev pub AsksNone : StatedSchema → Option Data → SiteFault → Type 0
-AsksNone schema json (fault.Request f) = IsNoRequest schema json f
-AsksNone schema json _ = ⊥
+-- `IsNoRequestFault schema json f` holds if `f` is the site's error for `json`, which does not describe a request.
+abbrev pub IsNoRequestFault : StatedSchema → Option Data → SiteFault → Type 0
+IsNoRequestFault schema json (fault.Request f) = IsNoRequest schema json f
+IsNoRequestFault schema json _ = ⊥
 
 -- `IsJudged schema id text b impossible` holds if the policy in `b`, with this text, may be put under `id`, and
 -- `impossible` is whether it is impossible.

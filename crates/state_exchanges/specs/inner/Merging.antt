@@ -8,12 +8,15 @@ use Rattle.state_exchanges.specs.Messages.{IsReadBack}
 use Rattle.state_exchanges.specs.Merges.{IsStoreOfBoth}
 use Rattle.state_exchanges.specs.declared.joining.Joined.{Joined}
 
--- `IsJoinWith store other both` holds if `other` is a joined store, and `both` is the join of `store` and that one.
+-- `IsJoinWith store other both` holds if `other` is not an error, and `both` is the join of `store` and the store of
+-- `other`.
 pub record IsJoinWith (store : Store) (other : Result Joined Refusal) (both : Store) : Type 0 where
   pub joined : Joined
   pub other_is : other ≡ Ok joined
   pub join : IsStoreJoin store (abstract_store joined.store) both
 
+-- `IsMergedUnder s f g text` holds if `text` is the state of the store of the updates of the messages `f` and `g` of
+-- the schema `s`, and is parsed again as exactly these updates.
 pub record IsMergedUnder (s : StatedSchema) (f g text : List ℕ) : Type 0 where
   pub store : Store
   pub both : IsStoreOfBoth s f g store

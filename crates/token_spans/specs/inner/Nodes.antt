@@ -1,4 +1,4 @@
--- Defines the nodes of a written form by name, for the crates above.
+-- Defines names for the core nodes of a written form, for the crates that use this one.
 -- Source: Forms.antt.
 use Rattle.std.specs.Prelude.{ℕ}
 use Rattle.token_spans.specs.declared.forms.Part.{Part}

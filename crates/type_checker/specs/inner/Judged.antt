@@ -1,5 +1,6 @@
--- Defines the contracts of typing, unless an allocation failed: types with gained capabilities, or errors. `after`
--- are the capabilities that are known afterwards: the same as before, if there is a type.
+-- Defines the contracts of the typing functions: which results are a type with the gained capabilities, or an error of
+-- typing. A result `NoMemory` meets each of them. `after` are the capabilities on the stack afterwards: if the result
+-- is a type, the same as before.
 use Rattle.std.specs.Prelude.{◌≡◌, ◌≢◌, ◌⊎◌, List, [], ◌∷◌, ◌++◌, map, Vec, Result, Ok, Err, MatchResult}
 use Rattle.grammar_core.specs.declared.operator.UnaryCall.{UnaryCall}
 use Rattle.grammar_core.specs.declared.expr.Expr.{Expr}
@@ -7,8 +8,8 @@ use Rattle.grammar_core.specs.declared.expr.Expr.TheVariants as form
 use Rattle.typing.specs.Types.{StaticType, true_type, false_type, boolean_type}
 use Rattle.typing.specs.evaluator.Operators.{TakesAddress}
 use Rattle.typing.specs.Environment.{Environment, bad_extension_literal}
-use Rattle.typing.specs.Learned as learned
-use Rattle.typing.specs.Learned.{Pairs, has_learns}
+use Rattle.typing.specs.Gained as gained
+use Rattle.typing.specs.Gained.{Pairs, has_gains}
 use Rattle.typing.specs.Literals.{ReadsLiteral, TakesText}
 use Rattle.typing.specs.Rows.{address_test_type, set_literal_type}
 use Rattle.typing.specs.Typing.{Types, TypesEach}
@@ -24,80 +25,84 @@ use Rattle.type_checker.specs.declared.typed.Then.TheVariants as then
 use Rattle.type_capabilities.specs.Pairs.{pairs}
 use Rattle.std.specs.declared.alloc.Global.{Global}
 
--- `Judged env K x r after` holds if `r` is the type of `x` or its error, where the capabilities `K` are known.
+-- `Judged env K x r after` holds if `r` is the type of `x` with the capabilities that it gains, or the error of `x`,
+-- where the capabilities `K` are known.
 abbrev pub Judged : Environment → Pairs → Expr → Result Typed ExpressionFault → Pairs → Type 0
 Judged env K x r after =
     MatchResult r (λ t. (after ≡ K) × Types env K x (static_view t.kind) (pairs t.learns.items))
     (λ f. f ≢ NoMemory → Faults env K x (fault_view f))
 
--- `JudgedBehind env K L x r after` is the same under the capabilities `K` and then `L`, where `r` has those of `L` and
--- then those that `x` gains.
-abbrev pub JudgedBehind : Environment → Pairs → Pairs → Expr → Result Typed ExpressionFault → Pairs → Type 0
-JudgedBehind env K L x r after =
+-- `JudgedUnder env K L x r after` is the same where the capabilities `K` and then `L` are known, except that `r` has
+-- the capabilities `L` and then those that `x` gains.
+abbrev pub JudgedUnder : Environment → Pairs → Pairs → Expr → Result Typed ExpressionFault → Pairs → Type 0
+JudgedUnder env K L x r after =
     MatchResult r (λ t. (after ≡ K) × ((M : Pairs) × Types env (K ++ L) x (static_view t.kind) M
     × (pairs t.learns.items ≡ L ++ M)))
     (λ f. f ≢ NoMemory → Faults env (K ++ L) x (fault_view f))
 
--- `JudgedEach env K xs r after` is the same for several, in order.
+-- `JudgedEach env K xs r after` holds if `r` has the types of the expressions `xs`, in order, or is the error of the
+-- first that has one.
 abbrev pub JudgedEach : Environment → Pairs → List Expr
     → Result (Vec built.StaticType Global) ExpressionFault → Pairs → Type 0
 JudgedEach env K xs r after =
     MatchResult r (λ ts. (after ≡ K) × TypesEach env K xs (map static_view ts.items))
     (λ f. f ≢ NoMemory → FaultsEach env K xs (fault_view f))
 
--- `IsNext env K x ts us` holds if `us` are the types `ts`, followed by that of `x`.
+-- `IsNext env K x ts us` holds if `us` are the types `ts`, followed by the type of `x`.
 abbrev pub IsNext : Environment → Pairs → Expr → List built.StaticType → List built.StaticType → Type 0
 IsNext env K x ts us =
     (t : StaticType) × (L : Pairs) × Types env K x t L × (map static_view us ≡ map static_view ts ++ t ∷ [])
 
--- `MembersHave env K xs ts` holds if a set of types `ts` has the type of a set of the members `xs`: a member that
--- repeats the previous one adds none.
+-- `MembersHave env K xs ts` holds if a set literal whose members have the types `ts` has the type or error of the set
+-- literal with the members `xs`. A member that repeats the previous one needs no type in `ts`.
 abbrev pub MembersHave : Environment → Pairs → List Expr → List StaticType → Type 0
 MembersHave env K xs ts =
     (us : List StaticType) × TypesEach env K xs us × (set_literal_type us ≡ set_literal_type ts)
 
--- `JudgedMembers env K xs r after` holds if `r` has the types of the members `xs`, up to repeats, or an error of one.
+-- `JudgedMembers env K xs r after` holds if `r` has the types of the members `xs`, up to repeats, or is the error of
+-- the first that has one.
 abbrev pub JudgedMembers : Environment → Pairs → List Expr
     → Result (Vec built.StaticType Global) ExpressionFault → Pairs → Type 0
 JudgedMembers env K xs r after =
     MatchResult r (λ ts. (after ≡ K) × MembersHave env K xs (map static_view ts.items))
     (λ f. f ≢ NoMemory → FaultsEach env K xs (fault_view f))
 
--- `ThenTyped env K a b s t` holds if the test `a` has the type `s`, and `t` is the judgement on `b` with what it
--- gains.
+-- `ThenTyped env K a b s t` holds if the test `a` has the type `s`, and `t` is the type of the branch `b`, with the
+-- capabilities that `a` and then `b` gain.
 abbrev pub ThenTyped : Environment → Pairs → Expr → Expr → StaticType → Typed → Type 0
 ThenTyped env K a b s t =
     (L : Pairs) × (M : Pairs) × Types env K a s L × Types env (K ++ L) b (static_view t.kind) M
     × (pairs t.learns.items ≡ L ++ M)
 
--- `ThenIs env K a b t` holds if `t` is the judgement on `if a` and its `then`.
+-- `ThenIs env K a b t` holds if `t` is the judgement on `if a then b`, which skips `b` if `a` has the type False.
 abbrev pub ThenIs : Environment → Pairs → Expr → Expr → Then → Type 0
 ThenIs env K a b then.Skipped = (L : Pairs) × Types env K a false_type L
 ThenIs env K a b (then.Only t) = ThenTyped env K a b true_type t
 ThenIs env K a b (then.Both t) = ThenTyped env K a b boolean_type t
 
--- `ThenJudged env K a b r after` holds if `r` is the judgement on `if a` and its `then`, or an error of it.
+-- `ThenJudged env K a b r after` holds if `r` is the judgement on `if a then b`, or the error of each expression
+-- `if a then b else c`.
 abbrev pub ThenJudged : Environment → Pairs → Expr → Expr → Result Then ExpressionFault → Pairs → Type 0
 ThenJudged env K a b r after =
     MatchResult r (λ t. (after ≡ K) × ThenIs env K a b t)
     (λ f. f ≢ NoMemory → (c : Expr) → Faults env K (form.If a b c) (fault_view f))
 
--- `IsRow row r` holds if `r` is a row's type, without gained capabilities.
+-- `IsRow row r` holds if `r` is the type of `row` without gained capabilities, or the error of `row`.
 abbrev pub IsRow : Result built.StaticType ExpressionFault → Result Typed ExpressionFault → Type 0
 IsRow row r = MatchResult r (λ t. (row ≡ Ok t.kind) × (t.learns.items ≡ [])) (λ f. row ≡ Err f)
 
--- `AddsLearned L typed r` holds if `r` is `typed`, with the capabilities `L` in front of what it gains.
+-- `AddsLearned L typed r` holds if `r` is `typed` with the capabilities `L` in front of those that it gains.
 abbrev pub AddsLearned : List Capability → Result Typed ExpressionFault → Result Typed ExpressionFault → Type 0
 AddsLearned L typed r =
     MatchResult r (λ t. (u : Typed) × (typed ≡ Ok u) × (t.kind ≡ u.kind) × (t.learns.items ≡ L ++ u.learns.items))
     (λ f. f ≢ NoMemory → typed ≡ Err f)
 
--- `IsBranch branch typed r` holds if `r` is the branch of `typed`, or its error.
+-- `IsBranch branch typed r` holds if `r` is `branch` of the type in `typed`, or the error in `typed`.
 abbrev pub IsBranch : (Typed → Then) → Result Typed ExpressionFault → Result Then ExpressionFault → Type 0
 IsBranch branch typed r = MatchResult r (λ b. (u : Typed) × (typed ≡ Ok u) × (b ≡ branch u)) (λ f. typed ≡ Err f)
 
--- `CallTyped called x s r` holds if `r` is the type of a call on `x`, of type `s`: of a literal of the extension, or
--- of a test of an IP address.
+-- `CallTyped called x s r` holds if `r` is the type or the error of the call `called` on `x`, which has the type `s`:
+-- of `ip` or `decimal`, which demand a literal, or of a test of an IP address.
 abbrev pub CallTyped : UnaryCall → Expr → StaticType → Result built.StaticType ExpressionFault → Type 0
 CallTyped called x s r =
     MatchResult r
@@ -106,9 +111,10 @@ CallTyped called x s r =
     (TakesText called × ((t : StaticType) → ¬ ReadsLiteral called x t) × (fault_view f ≡ bad_extension_literal))
     ⊎ (TakesAddress called × (address_test_type s ≡ Err (fault_view f))))
 
--- `IsHasRow p row r` holds if `r` is the type of `has`, with what it gains.
-abbrev pub IsHasRow : learned.Capability → Result built.StaticType ExpressionFault
+-- `IsHasRow p row r` holds if `r` is the type of `has` in `row`, with the capability `p` if `has` gains it, or the
+-- error in `row`.
+abbrev pub IsHasRow : gained.Capability → Result built.StaticType ExpressionFault
     → Result Typed ExpressionFault → Type 0
 IsHasRow p row r =
-    MatchResult r (λ t. (row ≡ Ok t.kind) × (pairs t.learns.items ≡ has_learns (static_view t.kind) p))
+    MatchResult r (λ t. (row ≡ Ok t.kind) × (pairs t.learns.items ≡ has_gains (static_view t.kind) p))
     (λ f. f ≢ NoMemory → row ≡ Err f)

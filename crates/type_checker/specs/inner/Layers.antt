@@ -1,4 +1,4 @@
--- Defines a declared type by its outermost layer.
+-- Defines the view of a declared type that is given by its outermost layer.
 use Rattle.typing.specs.Types as types
 use Rattle.typing.specs.Types.{boolean_type, long_type, text_type, entity_type, set_type, record_type}
 use Rattle.typing.specs.Types.{decimal_type, ipaddr_type}
@@ -7,7 +7,7 @@ use Rattle.type_checker.specs.FromSchemas.{static, static_fields}
 use Rattle.type_checker.specs.declared.same_types.Layer.{Layer}
 use Rattle.type_checker.specs.declared.same_types.Layer.TheVariants as layer
 
--- `layer_view l` is the type with the outermost layer `l`.
+-- `layer_view l` is the static type with the outermost layer `l`.
 abbrev pub layer_view : Layer → types.StaticType
 layer_view layer.Text = text_type
 layer_view layer.Long = long_type

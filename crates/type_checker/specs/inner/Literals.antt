@@ -1,4 +1,4 @@
--- Defines the literal of a borrowed one.
+-- Defines the literal that a borrowed one represents.
 use Rattle.grammar_core.specs.declared.leaf.Literal.{Literal}
 use Rattle.grammar_core.specs.declared.leaf.Literal.TheVariants as literal
 use Rattle.type_checker.specs.declared.literals.LiteralRef.{LiteralRef}

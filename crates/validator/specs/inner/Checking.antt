@@ -1,4 +1,5 @@
--- Defines the parts of a policy's expression, and the result of typing it in each environment in turn.
+-- Defines the scope's parts of a policy's expression, and the result of typing the expression in each environment in
+-- turn.
 use Rattle.std.specs.Prelude.{◌≡◌, ◌≢◌, List, [], ◌∷◌, map, All, Bool, true, Result, Ok, Err}
 use Rattle.std.specs.Bool.{Decides}
 use Rattle.grammar_core.specs.declared.leaf.Variable.TheVariants.{Principal, Resource}
@@ -29,15 +30,16 @@ scope_parts scope =
 abbrev pub typed_in : StatedSchema → List given.Environment → List Environment
 typed_in s ps = map (λ p. typing_environment_of s (environment_view p)) ps
 
--- `ReportsFalse found r` holds if `r` is whether the type in `found` is False, or the error of `found`.
+-- `ReportsFalse found r` holds if `r` is whether the type in `found` is False, or the validator's error for the error
+-- in `found`.
 abbrev pub ReportsFalse : Result StaticType FoundFault → Result Bool TypeFault → Type 0
 ReportsFalse (Ok t) (Ok b) = Decides b (static_view t ≡ false_type)
 ReportsFalse (Ok t) (Err f) = ⊥
 ReportsFalse (Err f) (Ok b) = ⊥
 ReportsFalse (Err f) (Err g) = g ≡ of_types f
 
--- `IsJudged env x r` holds if `x` has a boolean type in `env` and `r` is whether it is False; or `r` is `NoMemory`,
--- or an error for which `x` has no type there.
+-- `IsJudged env x r` holds if `x` has a boolean type in `env` and `r` is whether this is False; or `r` is `NoMemory`,
+-- or the error of typing `x` in `env`.
 abbrev pub IsJudged : Environment → Expr → Result Bool TypeFault → Type 0
 IsJudged env x (Ok b) = HasBooleanType x env × Decides b (HasType x false_type env)
 IsJudged env x (Err f) = f ≢ NoMemory → (n : ExpressionFault) × (f ≡ of_typing n) × Faults env [] x n

@@ -1,4 +1,4 @@
--- Defines the check of an expression's names as a function.
+-- Defines the check of an expression's names as a function, whose result is a success or the first error.
 use Rattle.std.specs.Prelude.{ℕ, List, [], ◌∷◌, map, Bool, false, ◌||◌, if◌then◌else◌, Option, Some, None, is_some}
 use Rattle.std.specs.Prelude.{⊤, Result, Ok, Err}
 use Rattle.std.specs.List.{list_any}
@@ -38,7 +38,7 @@ in_turn (r ∷ rs) = and_then r (in_turn rs)
 abbrev pub or_fault : TypeFault → Bool → WalkResult
 or_fault f b = if b then Ok tt else Err f
 
--- `type_at n o` is whether `o` is an action of type `n`.
+-- `type_at n o` tests whether `o` is present, and of the type `n`.
 abbrev pub type_at : List ℕ → Option EntityUid → Bool
 type_at n None = false
 type_at n (Some u) = bytes_eq u.type_name n
@@ -51,45 +51,46 @@ is_type_of_action s n = list_any (λ u. bytes_eq u.type_name n) s.actions
 abbrev pub is_declared_action : StatedSchema → EntityUid → Bool
 is_declared_action s u = list_any (λ v. is_same u v) s.actions
 
--- `tested_type_told s n` is the result of checking the type `n` of an `is` under `s`.
-abbrev pub tested_type_told : StatedSchema → List ℕ → WalkResult
-tested_type_told s n = or_fault UnknownType (is_some (s.shape n) || is_type_of_action s n)
+-- `tested_type_check s n` is the result of checking the type `n` of an `is` under `s`.
+abbrev pub tested_type_check : StatedSchema → List ℕ → WalkResult
+tested_type_check s n = or_fault UnknownType (is_some (s.shape n) || is_type_of_action s n)
 
--- `action_told s u` is the result of checking the entity `u` of an action type under `s`.
-abbrev pub action_told : StatedSchema → EntityUid → WalkResult
-action_told s u = or_fault UnknownAction (is_declared_action s u)
+-- `action_check s u` is the result of checking the entity `u` of an action type under `s`.
+abbrev pub action_check : StatedSchema → EntityUid → WalkResult
+action_check s u = or_fault UnknownAction (is_declared_action s u)
 
--- `other_told s u` is the result of checking the entity `u` of another type under `s`.
-abbrev pub other_told : StatedSchema → EntityUid → WalkResult
-other_told s u = or_fault UnknownType (is_some (s.shape u.type_name))
+-- `other_check s u` is the result of checking the entity `u`, whose type is not an action type, under `s`.
+abbrev pub other_check : StatedSchema → EntityUid → WalkResult
+other_check s u = or_fault UnknownType (is_some (s.shape u.type_name))
 
--- `entity_told s u` is the result of checking the entity literal `u` under `s`.
-abbrev pub entity_told : StatedSchema → EntityUid → WalkResult
-entity_told s u = if is_action_type u.type_name then action_told s u else other_told s u
+-- `entity_check s u` is the result of checking the entity literal `u` under `s`.
+abbrev pub entity_check : StatedSchema → EntityUid → WalkResult
+entity_check s u = if is_action_type u.type_name then action_check s u else other_check s u
 
--- `name_told s n` is the result of checking the name `n` under `s`.
-abbrev pub name_told : StatedSchema → Name → WalkResult
-name_told s (tested_type n) = tested_type_told s n
-name_told s (entity u) = entity_told s u
+-- `name_check s n` is the result of checking the name `n` under `s`.
+abbrev pub name_check : StatedSchema → Name → WalkResult
+name_check s (tested_type n) = tested_type_check s n
+name_check s (entity u) = entity_check s u
 
--- `literal_told s l` is the result of checking the names of the literal `l` under `s`.
-abbrev pub literal_told : StatedSchema → Literal → WalkResult
-literal_told s (literal.Entity u) = entity_told s u
-literal_told s l = Ok tt
+-- `literal_check s l` is the result of checking the names of the literal `l` under `s`.
+abbrev pub literal_check : StatedSchema → Literal → WalkResult
+literal_check s (literal.Entity u) = entity_check s u
+literal_check s l = Ok tt
 
--- `operator_told s op` is the result of checking the names of the unary operator `op` under `s`.
-abbrev pub operator_told : StatedSchema → Unary → WalkResult
-operator_told s (Is n) = tested_type_told s n
-operator_told s op = Ok tt
+-- `operator_check s op` is the result of checking the names of the unary operator `op` under `s`.
+abbrev pub operator_check : StatedSchema → Unary → WalkResult
+operator_check s (Is n) = tested_type_check s n
+operator_check s op = Ok tt
 
--- `walk_step s form` is the result of checking an expression `form` whose operands have the results in it.
+-- `walk_step s form` is the result of checking an expression of the form `form`, which has the result of each operand
+-- in place of the operand.
 abbrev pub walk_step : StatedSchema → Expr-F WalkResult → WalkResult
-walk_step s (Expr-F.Literal l) = literal_told s l
+walk_step s (Expr-F.Literal l) = literal_check s l
 walk_step s (Expr-F.Variable x) = Ok tt
 walk_step s (Expr-F.If a b c) = and_then a (and_then b c)
 walk_step s (Expr-F.And a b) = and_then a b
 walk_step s (Expr-F.Or a b) = and_then a b
-walk_step s (Expr-F.Unary op a) = and_then a (operator_told s op)
+walk_step s (Expr-F.Unary op a) = and_then a (operator_check s op)
 walk_step s (Expr-F.Binary op a b) = and_then a b
 walk_step s (Expr-F.Field a k) = a
 walk_step s (Expr-F.Has a k) = a
@@ -102,14 +103,14 @@ walk_step s (Expr-F.BinaryCall called a b) = and_then a b
 abbrev pub walk : StatedSchema → Expr → WalkResult
 walk s = fold-Expr WalkResult (walk_step s)
 
--- `named_walk s f` is the result of checking the value of the record field `f`, with its key.
+-- `named_walk s f` is the result of checking the value of the record field `f` under `s`, with the field's key.
 abbrev pub named_walk : StatedSchema → Named Expr → Named WalkResult
 named_walk s f = record { name = f.name; value = walk s f.value }
 
--- `names_told s ns` is the result of checking the names `ns` in turn.
-abbrev pub names_told : StatedSchema → List Name → WalkResult
-names_told s ns = in_turn (map (name_told s) ns)
+-- `names_check s ns` is the result of checking the names `ns` in turn.
+abbrev pub names_check : StatedSchema → List Name → WalkResult
+names_check s ns = in_turn (map (name_check s) ns)
 
--- `parts_told s parts condition` is the result of checking `parts` in turn, and then `condition`.
-abbrev pub parts_told : StatedSchema → List Expr → Expr → WalkResult
-parts_told s parts condition = and_then (in_turn (map (walk s) parts)) (walk s condition)
+-- `parts_check s parts condition` is the result of checking the expressions `parts` in turn, and then `condition`.
+abbrev pub parts_check : StatedSchema → List Expr → Expr → WalkResult
+parts_check s parts condition = and_then (in_turn (map (walk s) parts)) (walk s condition)

@@ -1,4 +1,4 @@
--- Defines what the search in a request finds.
+-- Defines what the search for the part of a request that is at fault finds.
 use Rattle.std.specs.Prelude.{◌≡◌, List, [], ◌∷◌, Bool, true, false, is_some, Option, Some, None, MatchOption, codes}
 use Rattle.serde_json.specs.Data.{Data}
 use Rattle.serde_json.specs.Find.{get, as_object}
@@ -21,13 +21,13 @@ use Rattle.value_paths.specs.inner.FoundPaths.{under, record_path}
 abbrev pub Names : Option Data → EntityUid → Type 0
 Names o uid = MatchOption o ⊥ (λ d. NamesEntity d uid)
 
--- `IsNamed o yes` holds if `yes` is whether `o` names an entity.
+-- `IsNamed o yes` holds if `yes` says whether the value `o` is present and names an entity.
 abbrev pub IsNamed : Option Data → Bool → Type 0
 IsNamed o true = (uid : EntityUid) × Names o uid
 IsNamed o false = ((uid : EntityUid) × Names o uid) → ⊥
 
--- `request_demands d principal action resource` are the demands on the form of a request, in order, where the three
--- booleans say which names are given.
+-- `request_demands d principal action resource` are the demands on the form of the request `d`, in order, where the
+-- three booleans say which of its entities are named.
 abbrev pub request_demands : Data → Bool → Bool → Bool → List Demand
 request_demands d principal action resource =
     (is_some (as_object d), [])
@@ -36,7 +36,8 @@ request_demands d principal action resource =
     ∷ (resource, to_key (codes "resource"))
     ∷ (is_absent_or_object (get (codes "context") d), to_key (codes "context")) ∷ []
 
--- `IsFormSearched d o` holds if `o` is the path to the part without the form, or `None`, and `d` has the form.
+-- `IsFormSearched d o` holds if `o` is the path to the first part of `d` without the form of a request, or if `o` is
+-- `None`, and `d` has the form.
 abbrev pub IsFormSearched : Data → Option (List Step) → Type 0
 IsFormSearched d o = MatchOption o ((asked : Asked) × Asks d asked) (FormFaultAt d)
 
@@ -45,8 +46,9 @@ abbrev pub named_type : StatedSchema → Option EntityUid → Option EntityUid �
 named_type s principal action resource = with_or principal (λ p. with_or action (λ a. with_or resource
     (λ r. context_type s (record { principal = p; action = a; resource = r })) None) None) None
 
--- `IsTypeForResource s d principal action t` holds if `t` is that type for the resource that `d` names, and
--- `IsTypeForAction s d principal t` if it is that for the action and the resource.
+-- `IsTypeForResource s d principal action t` holds if `t` is `named_type` for these two and the resource that `d`
+-- names, and `IsTypeForAction s d principal t` if it is that for `principal` and the action and the resource that `d`
+-- names.
 abbrev pub IsTypeForResource : StatedSchema → Data → Option EntityUid → Option EntityUid → Option Cedar → Type 0
 IsTypeForResource s d principal action t = (resource : Option EntityUid)
     × IsRead (Names (get (codes "resource") d)) resource × (t ≡ named_type s principal action resource)
@@ -55,7 +57,7 @@ abbrev pub IsTypeForAction : StatedSchema → Data → Option EntityUid → Opti
 IsTypeForAction s d principal t = (action : Option EntityUid) × IsRead (Names (get (codes "action") d)) action
     × IsTypeForResource s d principal action t
 
--- `path_under t d` is the path to the fault of the context under the type `t`, if there is one;
+-- `path_under t d` is the path to the part of the context of `d` that is at fault under the type `t`, if there is one;
 -- `context_path s asked d` is that under the type of the context of a request for `asked`.
 abbrev pub path_under : Option Cedar → Data → Option (List Step)
 path_under type d = under (Key (codes "context"))
@@ -64,10 +66,12 @@ path_under type d = under (Key (codes "context"))
 abbrev pub context_path : StatedSchema → Asked → Data → Option (List Step)
 context_path s asked d = path_under (context_type s asked) d
 
--- `IsContextSearched s d o` holds if `o` is that path, whatever three are asked for.
+-- `IsContextSearched s d o` holds if `o` is that path for the principal, action and resource that `d` names, or `d`
+-- does not have the form of a request.
 abbrev pub IsContextSearched : StatedSchema → Data → Option (List Step) → Type 0
 IsContextSearched s d o = (asked : Asked) → Asks d asked → o ≡ context_path s asked d
 
--- `IsPartSearched s d f o` holds if `o` is the path that the error `f` is about, if it is one of `d`.
+-- `IsPartSearched s d f o` holds if `o` is the path to the part that the error `f` is about, provided that `f` is the
+-- error of `d` as a request.
 abbrev pub IsPartSearched : StatedSchema → Data → EntityFault → Option (List Step) → Type 0
 IsPartSearched s d f o = RequestRefused s d f → (path : List Step) × (o ≡ Some path) × IsRequestPathOf s d f path

@@ -16,27 +16,28 @@ use Rattle.value_paths.specs.declared.steps.Step.TheVariants.{Key}
 use Rattle.value_paths.specs.EntityPaths.{to_key, to_parent, first_unmet, form_demands, items_at, uid_at, shape_at}
 use Rattle.value_paths.specs.inner.FoundPaths.{under, record_path}
 
--- `fits s uid parent` tests whether `uid` may have this parent.
+-- `fits s uid parent` tests whether the entity `uid` may have the parent `parent`.
 abbrev pub fits : StatedSchema → EntityUid → EntityUid → Bool
 fits s uid parent = not (is_same parent uid) && s.may_have_parent uid.type_name parent.type_name
 
--- `unfit_path s uid i ds` is the path to the first of the parents `ds`, counted from `i`, that `uid` may not have.
+-- `unfit_path s uid i ds` is the path to the first of the parents `ds`, counted from `i`, that `uid` may not have;
+-- `None` if it may have all parents before the first item that is not a uid.
 unfoldable pub unfit_path : StatedSchema → EntityUid → ℕ → Items → Option (List Step)
 unfit_path s uid i no_items = None
 unfit_path s uid i (item d ds) =
     with_or (uid_in d) (λ parent. if fits s uid parent then unfit_path s uid (i + 1) ds else Some (to_parent i)) None
 
--- `attributes_path s d` is the path to the fault of the attributes.
+-- `attributes_path s d` is the path to the part of the attributes of the entity `d` that is at fault, if there is one.
 unfoldable pub attributes_path : StatedSchema → Data → Option (List Step)
 attributes_path s d = under (Key (codes "attrs"))
     (with_or (shape_at s (get (codes "uid") d)) (λ shape. record_path shape (or_empty (get (codes "attrs") d))) None)
 
--- `parents_path s d` is that to the first parent that the entity may not have.
+-- `parents_path s d` is the path to the first parent that the entity `d` may not have, if there is one.
 unfoldable pub parents_path : StatedSchema → Data → Option (List Step)
 parents_path s d = with_or (uid_at (get (codes "uid") d))
     (λ uid. unfit_path s uid 0 (items_at (get (codes "parents") d))) None
 
--- `path_of s d f` is the path to the part that the error `f` is about.
+-- `path_of s d f` is the path to the part of the entity `d` that the error `f` is about.
 abbrev pub path_of : StatedSchema → Data → EntityFault → Option (List Step)
 path_of s d BadShape = first_unmet (form_demands d)
 path_of s d UnknownType = Some (to_key (codes "uid"))

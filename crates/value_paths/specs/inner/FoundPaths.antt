@@ -1,4 +1,4 @@
--- Defines the search for the part at fault, as a function on data.
+-- Defines the search for the part of a value that is at fault, as a function on JSON.
 use Rattle.std.specs.Prelude.{ℕ, ◌+◌, List, [], ◌∷◌, not, ◌||◌}
 use Rattle.std.specs.Prelude.{is_some, Option, Some, None, Result, Ok, Err, if◌then◌else◌}
 use Rattle.serde_json.specs.Data.{Data, Items, no_items, item, Members, no_members, member}
@@ -21,16 +21,20 @@ abbrev pub under : Step → Option (List Step) → Option (List Step)
 under step (Some path) = Some (step ∷ path)
 under step None = None
 
--- `whole_path r` is the path of a value that is rejected as a whole, if reading it gives an error.
+-- `whole_path r` is the empty path, which leads to the value as a whole, if parsing the value gives an error `r`;
+-- `None` if it gives a value.
 abbrev pub whole_path : {A : Type 0} → Result A ValueFault → Option (List Step)
 whole_path (Ok v) = None
 whole_path (Err f) = Some []
 
--- `absent_path fs d` is the path to the first required key that is absent.
+-- `absent_path fs d` is the path to the first required key of the fields `fs` that `d` lacks, if there is one.
 abbrev pub absent_path : CedarFields → Data → Option (List Step)
 absent_path no_fields d = None
 absent_path (field k t r fs) d = if not r || is_some (get k d) then absent_path fs d else Some (Key k ∷ [])
 
+-- `value_path t d` is the path from `d` to the part at fault under the type `t`; `item_path t i ds` is that from an
+-- array with the items `ds`, counted from `i`, of the type `t`; `member_path fs ms` is that to the first faulty member
+-- from an object with the members `ms`. `None` if no part is at fault.
 unfoldable mutual
   pub value_path : Cedar → Data → Option (List Step)
   value_path t json.null = whole_path (typed_value t json.null)
@@ -51,7 +55,7 @@ unfoldable mutual
   member_path fs (member k d ms) =
       or_else (under (Key k) (with_or (declared_at k fs) (λ t. value_path t d) (Some []))) (member_path fs ms)
 
--- `record_path t d` is the same of attributes or a context.
+-- `record_path t d` is the path from `d`, parsed as attributes or as a context by the type `t`, to the part at fault.
 unfoldable pub record_path : Cedar → Data → Option (List Step)
 record_path t d = with_or (fields_in t)
     (λ fs. with_or (as_object d) (λ ms. or_else (member_path fs ms) (absent_path fs d)) (Some []))

@@ -1,4 +1,4 @@
--- Defines the error that reading gave, and with its path, as it is returned.
+-- Defines how the code returns the error that parsing gave, and this error with its path.
 use Rattle.std.specs.Prelude.{◌≡◌, ⊤, List, Option, Some, None, Result, Ok, Err}
 use Rattle.entities.specs.declared.fault.EntityFault.{EntityFault}
 use Rattle.entities.specs.declared.fault.EntityFault.TheVariants.{NoMemory}
@@ -12,7 +12,8 @@ IsPlaced f None (Some x) = ⊥
 IsPlaced f (Some path) None = ⊥
 IsPlaced f (Some path) (Some x) = (x.fault ≡ f) × (x.path ≡ path)
 
--- `IsFaultOf read o` holds if `o` is the error of `read`, which is not `NoMemory`, or `None`, and `read` is a value.
+-- `IsFaultOf read o` holds if `o` is the error of the result `read`, which is not `NoMemory`, or if `o` is `None`, and
+-- `read` is a value.
 abbrev pub IsFaultOf : {A : Type 0} → Result A EntityFault → Option EntityFault → Type 0
 IsFaultOf {A = A} read None = (x : A) × (read ≡ Ok x)
 IsFaultOf read (Some f) = (read ≡ Err f) × (f ≡ NoMemory → ⊥)

@@ -1,7 +1,7 @@
 use Rattle.std.proofs.Common.{◌∙◌, ap, sym, subst}
 use Rattle.ancestor_search.specs.Hierarchy.{with_parents}
 use Rattle.ancestor_search.specs.Search.{parents_of}
-use Rattle.ancestor_closure.specs.Kept.{IsCacheOf}
+use Rattle.ancestor_closure.specs.CacheOf.{IsCacheOf}
 use Rattle.ancestor_closure.proofs.closed.set.Goals as goal
 
 pub returns-in_err-reserve_edges-clause-kept : goal.returns-in_err-reserve_edges-clause-kept

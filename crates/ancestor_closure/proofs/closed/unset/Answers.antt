@@ -1,5 +1,5 @@
 use Rattle.std.proofs.Common.{sym, subst}
-use Rattle.ancestor_closure.specs.Kept.{IsCacheOf}
+use Rattle.ancestor_closure.specs.CacheOf.{IsCacheOf}
 use Rattle.ancestor_closure.proofs.Pairs.{edges_gone}
 use Rattle.ancestor_closure.proofs.closed.unset.Goals as goal
 

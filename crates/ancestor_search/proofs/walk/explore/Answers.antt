@@ -10,7 +10,7 @@ loop-last-init c =
     let e = edges_of c.args.edges.now in
     let made = c.in_ok-enter.ensures in
     let rest = at-rest e w.place.items w.found.items w.members.items w.pending.items w.bounds.items c.requires.none c.requires.walks in
-    let new : mark_of w.place.items c.args.root ≡ 0 = ap (λ l. mark_of l c.args.root) (sym c.deref.ensures.value) ∙ sym c.noted.ensures ∙ c.if-noted-ne0.false in
+    let new : mark_of w.place.items c.args.root ≡ 0 = ap (λ l. mark_of l c.args.root) (sym c.deref.ensures.value) ∙ sym c.mark_or_done.ensures ∙ c.if-mark_or_done-ne0.false in
     let small : length w.members.items < 2 ^ 63 = omega (arith, w.members.ok.0, w.members.ok.1, w.members.small) in
     record {
       walks = rw (made.place, made.members, made.pending, made.bounds, made.found, c.requires.none) (enter-first e w.place.items w.found.items w.members.items c.args.root new small rest.0 rest.2 rest.3 w.pending.items rest.1);

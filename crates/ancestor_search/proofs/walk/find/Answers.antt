@@ -14,7 +14,7 @@ loop-number-preserved c =
     let e = edges_of c.args.edges.now in
     let place = c.args.place.now in
     rw (take_more ms i 0 c.loop-number-test.true) (elim c.if-leads_in.branch [
-      | then-leads_in w ↦ subst (λ l. FindsOpen e place (take i ms ++ n ∷ []) c.args.found.now.items l) (sym w.tick.ensures ∙ ap (λ v. v.items) (sym w.found-is))
+      | then-leads_in w ↦ subst (λ l. FindsOpen e place (take i ms ++ n ∷ []) c.args.found.now.items l) (sym w.mark_cyclic.ensures ∙ ap (λ v. v.items) (sym w.found-is))
           (finds-take e place (take i ms) c.args.found.now.items c.loop-number.found.items c.loop-number.invariant n (subst (λ l. HasOpen l place) c.edges_at.ensures (c.leads_in.ensures.0 w.if-leads_in.true)))
       | else-leads_in w ↦ subst (λ l. FindsOpen e place (take i ms ++ n ∷ []) c.args.found.now.items l) (ap (λ v. v.items) (sym w.found-is))
           (finds-skip e place (take i ms) c.args.found.now.items c.loop-number.found.items c.loop-number.invariant n (λ has. let t = c.leads_in.ensures.1 (subst (λ l. HasOpen l place) (sym c.edges_at.ensures) has) in cc (t, w.if-leads_in.false)))

@@ -10,5 +10,5 @@ loop-number-preserved c = λ y h.
     let n = slice_index_or c.args.numbers.now c.loop-number.number-index 0 in
     elim (Contains-push_cases (take c.loop-number.number-index c.args.numbers.now) n y (rw (take_more c.args.numbers.now c.loop-number.number-index 0 c.loop-number-test.true) at h)) [
       | inl t ↦ c.loop-number.invariant y t
-      | inr e ↦ subst (λ z. IsDone c.args.place.now z) e (sym c.noted.ensures ∙ c.if-noted.false)
+      | inr e ↦ subst (λ z. IsDone c.args.place.now z) e (sym c.mark_or_done.ensures ∙ c.if-mark_or_done.false)
     ]

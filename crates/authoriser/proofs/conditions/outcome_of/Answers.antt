@@ -3,7 +3,7 @@ use Rattle.std.proofs.lemmas.Result.{IfOk-weaker}
 use Rattle.std.specs.Prelude.{IfOk}
 use Rattle.grammar_core.specs.declared.expr.Expr.{Expr}
 use Rattle.scope_index.specs.policy_grammar.declared.policy.Scope.{Scope}
-use Rattle.evaluator.specs.Operators.{world_of}
+use Rattle.evaluator.specs.Operators.{entities_with}
 use Rattle.authoriser.specs.Answers.{PolicyEvaluatesTo}
 use Rattle.authoriser.specs.inner.Views.{ConditionEvaluatesTo, IsTrueOf}
 use Rattle.authoriser.proofs.Judging.{true_scope, other_scope}
@@ -12,7 +12,7 @@ use Rattle.authoriser.proofs.conditions.outcome_of.Goals as goal
 pub returns-then-is_scope_true : goal.returns-then-is_scope_true
 returns-then-is_scope_true g c =
     let k = c.args.known.now in
-    let W = world_of (g.L.Lookup.stored k.0) (g.L.Ancestry.parents k.0) in
+    let W = entities_with (g.L.Lookup.stored k.0) (g.L.Ancestry.parents k.0) in
     let s = c.request_entities.result.now in
     let policy = c.args.policy.now in
     IfOk-weaker c.outcome_of_condition.result (ConditionEvaluatesTo W k.1 policy.condition) (PolicyEvaluatesTo W k.1 policy)
@@ -22,7 +22,7 @@ returns-then-is_scope_true g c =
 pub returns-else-is_scope_true : goal.returns-else-is_scope_true
 returns-else-is_scope_true g c =
     let k = c.args.known.now in
-    let W = world_of (g.L.Lookup.stored k.0) (g.L.Ancestry.parents k.0) in
+    let W = entities_with (g.L.Lookup.stored k.0) (g.L.Ancestry.parents k.0) in
     let s = c.request_entities.result.now in
     other_scope c.scopes_do_not_err.ensures.idle W (g.L.Ancestry.above k.0) (g.met.L.Ancestry.above_is k.0) k.1 s c.args.policy.now c.request_entities.ensures
     (λ h. let t = c.if-is_scope_true.ensures.1 (subst (λ (x : Scope). IsTrueOf x s) (sym c.get.ensures) h) in cc t)

@@ -1,6 +1,6 @@
 use Rattle.std.proofs.Common.{drop}
 use Rattle.schema_types.specs.CedarViews.{cedar_fields_view}
-use Rattle.entities.specs.inner.Ahead.{StateAlikeFrom}
+use Rattle.entities.specs.inner.FieldSuffixes.{StateAlikeFrom}
 use Rattle.entities.proofs.value_reading.from_name.Given as goal
 
 abbrev pub invariant-loop-place : goal.invariant-loop-place

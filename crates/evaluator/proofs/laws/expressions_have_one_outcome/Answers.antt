@@ -1,16 +1,16 @@
 use Rattle.ancestor_search.specs.Decided.{reaches}
-use Rattle.evaluator.specs.inner.Computing.{decided_world, meaning}
+use Rattle.evaluator.specs.inner.Computing.{decided_entities, meaning}
 use Rattle.evaluator.proofs.Agreeing.{one_outcome}
-use Rattle.evaluator.proofs.Wanting.{nothing_wants_memory}
+use Rattle.evaluator.proofs.Wanting.{no_outcome_is_no_memory}
 use Rattle.evaluator.proofs.laws.expressions_have_one_outcome.Goals as goal
 
 pub returns-clause-decided : goal.returns-clause-decided
-returns-clause-decided c W above D q x = one_outcome W q x (meaning q (decided_world W.stored above) x) (c.meanings_are_given.ensures W above D q x)
+returns-clause-decided c W above D q x = one_outcome W q x (meaning q (decided_entities W.stored above) x) (c.meanings_are_given.ensures W above D q x)
 
 pub returns-clause-finite : goal.returns-clause-finite
 returns-clause-finite c W stored all q x =
     let above = reaches W.parents stored in
-    one_outcome W q x (meaning q (decided_world W.stored above) x) (c.meanings_are_given.ensures W above (c.paths_are_decided.ensures W.parents stored all) q x)
+    one_outcome W q x (meaning q (decided_entities W.stored above) x) (c.meanings_are_given.ensures W above (c.paths_are_decided.ensures W.parents stored all) q x)
 
 pub returns-clause-memory : goal.returns-clause-memory
-returns-clause-memory c = nothing_wants_memory
+returns-clause-memory c = no_outcome_is_no_memory

@@ -3,8 +3,8 @@ use Rattle.std.specs.Prelude.{◌⊎◌, ◌↔◌, IsTrue, Contains}
 use Rattle.std.specs.Borrow.{Bor}
 use Rattle.values.specs.declared.entity_uid.EntityUid.{EntityUid}
 use Rattle.ancestor_search.specs.Hierarchy.{names}
-use Rattle.evaluator.specs.Operators.{world_of}
-use Rattle.evaluator.specs.inner.Computing.{decided_world, is_in}
+use Rattle.evaluator.specs.Operators.{entities_with}
+use Rattle.evaluator.specs.inner.Computing.{decided_entities, is_in}
 use Rattle.evaluator.proofs.Membership.{within_is, newly_found, found_before, member_judged}
 use Rattle.evaluator.proofs.operators.in_members.Goals as goal
 use Rattle.evaluator.proofs.operators.in_members.Goals.{then-not-found, else-not-found}
@@ -13,10 +13,10 @@ pub loop-member-preserved : goal.loop-member-preserved
 loop-member-preserved g c =
     let store = c.args.store.now in
     let above = g.L.Ancestry.above store in
-    let W = world_of (g.L.Lookup.stored store) (g.L.Ancestry.parents store) in
+    let W = entities_with (g.L.Lookup.stored store) (g.L.Ancestry.parents store) in
     let a = c.args.a.now in
     let b = c.in_ok-b.b.now in
-    let E = decided_world (g.L.Lookup.stored store) above in
+    let E = decided_entities (g.L.Lookup.stored store) above in
     member_judged E a c.args.members.now c.loop-member.member-index c.member-item.result b c.loop-member.found c.if-not-found.found
     c.loop-member-test.true c.member-item.is c.in_ok-b.ensures
     (elim c.if-not-found.branch [

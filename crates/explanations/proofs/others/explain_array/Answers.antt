@@ -1,6 +1,6 @@
 use Rattle.std.proofs.Common.{option_map, string_bytes}
 use Rattle.schema_decisions.specs.schema.Views.{schema_view}
-use Rattle.explanations.specs.Others.{IsEntityPartTold}
+use Rattle.explanations.specs.Others.{IsEntityPartNamed}
 use Rattle.explanations.proofs.Joining.{nothing_given, judged_so}
 use Rattle.explanations.proofs.others.explain_array.Goals as goal
 
@@ -11,5 +11,5 @@ pub returns-in_ok-push_entity-in-Err : goal.returns-in_ok-push_entity-in-Err
 returns-in_ok-push_entity-in-Err c =
     let s = option_map (λ t. schema_view t.now) c.args.schema in
     rw c.in-Err.is (
-    judged_so c.args.source.name.now (string_bytes c.args.out.now) (string_bytes c.push_entity.new.out) (IsEntityPartTold s c.args.source.text.now) c.in-Err.refusal c.in_ok-refusal-in-Err.refusal
+    judged_so c.args.source.name.now (string_bytes c.args.out.now) (string_bytes c.push_entity.new.out) (IsEntityPartNamed s c.args.source.text.now) c.in-Err.refusal c.in_ok-refusal-in-Err.refusal
     c.in_ok-refusal-in-Err.ensures.same c.in_ok-refusal-in-Err.ensures.other c.in_ok-push_entity-in-Err.ensures)

@@ -1,6 +1,6 @@
 use Rattle.std.proofs.Common.{option_map, string_bytes}
 use Rattle.schema_decisions.specs.schema.Views.{schema_view}
-use Rattle.explanations.specs.Others.{AreEntitiesRead, AreEntitiesRefused, IsEntityPartTold}
+use Rattle.explanations.specs.Others.{AreEntitiesRead, AreEntitiesRefused, IsEntityPartNamed}
 use Rattle.explanations.proofs.Joining.{nothing_given, judged_text}
 use Rattle.explanations.proofs.others.explain_entities.Goals as goal
 
@@ -9,7 +9,7 @@ returns-in_ok-explain_array-in-Some c =
     let s = option_map (λ t. schema_view t.now) c.args.schema in
     rw c.in-Some.is (
     judged_text c.in-Some.source.name.now (string_bytes c.args.out.now) (string_bytes c.explain_array.new.out)
-    (AreEntitiesRead s c.in-Some.source.text.now) (AreEntitiesRefused s c.in-Some.source.text.now) (IsEntityPartTold s c.in-Some.source.text.now) c.judge_array-judged.result c.judge_array-judged.ensures.read
+    (AreEntitiesRead s c.in-Some.source.text.now) (AreEntitiesRefused s c.in-Some.source.text.now) (IsEntityPartNamed s c.in-Some.source.text.now) c.judge_array-judged.result c.judge_array-judged.ensures.read
     c.judge_array-judged.ensures.refused c.in_ok-explain_array-in-Some.ensures)
 
 pub returns-in-None : goal.returns-in-None

@@ -1,6 +1,6 @@
 use Rattle.std.proofs.Common.{option_map, string_bytes}
 use Rattle.schema_decisions.specs.schema.Views.{schema_view}
-use Rattle.explanations.specs.Others.{IsRequestRead, IsRequestRefused, IsRequestPartTold}
+use Rattle.explanations.specs.Others.{IsRequestRead, IsRequestRefused, IsRequestPartNamed}
 use Rattle.explanations.proofs.Joining.{nothing_given, judged_text}
 use Rattle.explanations.proofs.others.explain_request.Goals as goal
 
@@ -10,7 +10,7 @@ returns-in_ok-explain_asked-in-Some c =
     let read_under = option_map (λ t. schema_view t.now) c.args.schema in
     rw c.in-Some.is (
     judged_text c.in-Some.source.name.now (string_bytes c.args.out.now) (string_bytes c.explain_asked.new.out)
-    (IsRequestRead s c.in-Some.source.text.now) (IsRequestRefused s c.in-Some.source.text.now) (λ place. IsRequestPartTold read_under c.in-Some.source.text.now) c.judge_request-judged.result
+    (IsRequestRead s c.in-Some.source.text.now) (IsRequestRefused s c.in-Some.source.text.now) (λ place. IsRequestPartNamed read_under c.in-Some.source.text.now) c.judge_request-judged.result
     c.judge_request-judged.ensures.read c.judge_request-judged.ensures.refused c.in_ok-explain_asked-in-Some.ensures)
 
 pub returns-in-None : goal.returns-in-None

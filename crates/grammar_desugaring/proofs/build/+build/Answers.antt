@@ -14,7 +14,7 @@ use Rattle.grammar_desugaring.specs.Strings.{pattern_of}
 use Rattle.grammar_desugaring.specs.Meaning.{path_name, name_of, sign_of}
 use Rattle.grammar_desugaring.specs.Core.{core_of, negated, field, in_entry, in_term, in_access, added, accessed, joined_by}
 use Rattle.grammar_desugaring.specs.Core.{compared, called, method_called, function}
-use Rattle.grammar_desugaring.specs.Names.{method_of}
+use Rattle.grammar_core.specs.Operators.{method_of}
 use Rattle.grammar_desugaring.specs.declared.forms.Chain.{Chain}
 use Rattle.grammar_trees.specs.grammar_tokens.Lexing.{spelling_of}
 use Rattle.grammar_desugaring.specs.inner.WellFormed.{WellFormed, AllWellFormed, WellFormedEntry, WellFormedTerm}
@@ -130,7 +130,7 @@ pub build_accesses-build_access-requires : goal.build_accesses-build_access-requ
 build_accesses-build_access-requires t c = (search (rules, the_lemmas), subst (WellFormedAccess c.args.text.now) (sym c.access-item.is) (all-at (WellFormedAccess c.args.text.now) c.as_slice-accesses.result.now c.loop-access.access-index c.access-item.result (subst (AllByRecursion (WellFormedAccess c.args.text.now)) (sym c.as_slice-accesses.ensures) c.requires.1.1.1) c.loop-access-test.true))
 
 pub build_tree-returns-in-Boolean : goal.build_tree-returns-in-Boolean
-build_tree-returns-in-Boolean t c = c.boolean_literal.ensures ∙ (sym (core-Boolean c.args.text.now c.in-Boolean.value) ∙ ap (core_of c.args.text.now) (sym c.in-Boolean.is))
+build_tree-returns-in-Boolean t c = sym (core-Boolean c.args.text.now c.in-Boolean.value) ∙ ap (core_of c.args.text.now) (sym c.in-Boolean.is)
 
 pub build_tree-returns-in-Number : goal.build_tree-returns-in-Number
 build_tree-returns-in-Number t c = c.number_literal.ensures ∙ (sym (core-Number c.args.text.now c.in-Number.token) ∙ ap (core_of c.args.text.now) (sym c.in-Number.is))
@@ -149,11 +149,13 @@ build_tree-returns-in-Call t c =
     one (called (function c.args.text.now c.in-Call.path)) (map (core_of c.args.text.now) c.in-Call.arguments) (core_of c.args.text.now c.args.tree.now) c.build_all.result c.call.result (subst (λ ys. IfOk c.build_all.result (λ e. e ≡ map (core_of c.args.text.now) ys)) c.as_slice.ensures c.build_all.ensures)
     (subst (λ f. IfOk c.call.result (λ e. Gave c.build_all.result (λ es. e ≡ called f es))) c.function_at.ensures c.call.ensures) (sym (core-Call c.args.text.now c.in-Call.path c.in-Call.arguments) ∙ ap (core_of c.args.text.now) (sym c.in-Call.is))
 
-pub build_tree-returns-in-Set : goal.build_tree-returns-in-Set
-build_tree-returns-in-Set t c = one core.Set (map (core_of c.args.text.now) c.in-Set.members) (core_of c.args.text.now c.args.tree.now) c.build_all-in-Set.result c.set.result (subst (λ ys. IfOk c.build_all-in-Set.result (λ e. e ≡ map (core_of c.args.text.now) ys)) c.as_slice-in-Set.ensures c.build_all-in-Set.ensures) c.set.ensures (sym (core-Set c.args.text.now c.in-Set.members) ∙ ap (core_of c.args.text.now) (sym c.in-Set.is))
+pub build_tree-returns-in_ok-build_all-in-Set : goal.build_tree-returns-in_ok-build_all-in-Set
+build_tree-returns-in_ok-build_all-in-Set t c =
+    ap core.Set (c.in_ok-build_all-in-Set.ensures ∙ ap (map (core_of c.args.text.now)) c.as_slice-in-Set.ensures) ∙ sym (core-Set c.args.text.now c.in-Set.members) ∙ ap (core_of c.args.text.now) (sym c.in-Set.is)
 
-pub build_tree-returns-in-Record : goal.build_tree-returns-in-Record
-build_tree-returns-in-Record t c = one core.Record ((λ (es : List (RecordEntry ExprTree)). map (field c.args.text.now) (map (in_entry (core_of c.args.text.now)) es)) c.in-Record.entries) (core_of c.args.text.now c.args.tree.now) c.build_entries.result c.record.result (subst (λ ys. IfOk c.build_entries.result (λ e. e ≡ (λ (es : List (RecordEntry ExprTree)). map (field c.args.text.now) (map (in_entry (core_of c.args.text.now)) es)) ys)) c.as_slice-in-Record.ensures c.build_entries.ensures) c.record.ensures (sym (core-Record c.args.text.now c.in-Record.entries) ∙ ap (core_of c.args.text.now) (sym c.in-Record.is))
+pub build_tree-returns-in_ok-build_entries-in-Record : goal.build_tree-returns-in_ok-build_entries-in-Record
+build_tree-returns-in_ok-build_entries-in-Record t c =
+    ap core.Record (c.in_ok-build_entries-in-Record.ensures ∙ ap (λ (es : List (RecordEntry ExprTree)). map (field c.args.text.now) (map (in_entry (core_of c.args.text.now)) es)) c.as_slice-in-Record.ensures) ∙ sym (core-Record c.args.text.now c.in-Record.entries) ∙ ap (core_of c.args.text.now) (sym c.in-Record.is)
 
 pub build_tree-returns-in-Not : goal.build_tree-returns-in-Not
 build_tree-returns-in-Not t c = one (core.Unary unary.Not) (core_of c.args.text.now c.in-Not.inner) (core_of c.args.text.now c.args.tree.now) c.build_tree-in-Not.result c.apply.result (subst (λ y. IfOk c.build_tree-in-Not.result (λ e. e ≡ core_of c.args.text.now y)) c.get-in-Not.ensures c.build_tree-in-Not.ensures) c.apply.ensures (sym (core-Not c.args.text.now c.in-Not.inner) ∙ ap (core_of c.args.text.now) (sym c.in-Not.is))

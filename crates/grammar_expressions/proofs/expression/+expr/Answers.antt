@@ -1,5 +1,5 @@
 use Rattle.std.proofs.Common.{◌≡◌, ap, arith}
-use Rattle.grammar_expressions.specs.ExpressionReading.{expr}
+use Rattle.grammar_expressions.specs.ExpressionParsing.{expr}
 use Rattle.grammar_trees.proofs.of_grammar_tokens.Gathered.{deeper, instead}
 use Rattle.grammar_expressions.proofs.ExpressionExact.{expression_front}
 use Rattle.grammar_expressions.proofs.expression.+expr.Goals as goal

@@ -4,5 +4,5 @@ use Rattle.grammar_expressions.proofs.levels.chain.Goals as goal
 
 pub returns-then-not-sees_one_of : goal.returns-then-not-sees_one_of
 returns-then-not-sees_one_of g c =
-    unfollowed (g.L.Level.operands c.args.level.now) (g.S.KindSet.included c.args.set) (g.L.Level.pieces c.args.level.now) g.L.Level.joins
-    c.args.tokens.now.rest.now c.operand-read.new.tokens.rest.now c.operand-read.result c.operand-read.ensures (sym c.if-not-sees_one_of.ensures)
+    unfollowed (g.S.KindSet.included c.args.set) (g.L.Level.pieces c.args.level.now) g.L.Level.joins c.args.first
+    c.args.tokens.now.rest.now (sym c.if-not-sees_one_of.ensures)

@@ -1,6 +1,6 @@
 use Rattle.std.proofs.Common.{◌++◌, ◌∷◌, [], sym, subst, take, get_or, ◌∙◌, refl}
 use Rattle.std.proofs.lemmas.List.{take_all}
-use Rattle.grammar_trees.specs.Repeats.{NameAt, StandsAgain, ReportsLeast, abstract_names}
+use Rattle.grammar_trees.specs.Repeats.{NameAt, IsRepeatedAt, ReportsLeast, abstract_names}
 use Rattle.grammar_trees.proofs.Repeating.{Seen, seen-none, seen-new, seen-again, shown-more, was_new, was_old}
 use Rattle.grammar_trees.proofs.repeats.least_place.Goals as goal
 use Rattle.grammar_trees.proofs.repeats.least_place.Goals.{then-not-branch, else-not-branch}
@@ -26,4 +26,4 @@ loop-mark-preserved c =
     ])
 
 pub returns : goal.returns
-returns c = subst (λ ms. ReportsLeast (StandsAgain (abstract_names ms)) c.loop-mark.least) (take_all _ c.args.marks.now c.loop-mark-test.false) c.loop-mark.invariant.tells
+returns c = subst (λ ms. ReportsLeast (IsRepeatedAt (abstract_names ms)) c.loop-mark.least) (take_all _ c.args.marks.now c.loop-mark-test.false) c.loop-mark.invariant.tells

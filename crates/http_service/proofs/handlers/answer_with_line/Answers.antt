@@ -18,6 +18,6 @@ returns-in-Ok-put_head-clause-reply c =
 
 pub returns-clause-reply : goal.returns-clause-reply
 returns-clause-reply c =
-    logged_lacks c.args.site.now c.in-Ok.route c.args.method.now c.args.target.now c.args.body.now c.report_lacking-status.result _ _ _
-    c.in-Ok.ensures.route c.report_lacking-status.ensures.reply
-    (c.put_unread_line-in-Err.ensures.items ∙ ap (λ (l : List ℕ). l ++ unread_line c.report_lacking-status.result) (c.in-Err.ensures.err ∙ c.requires.empty))
+    logged_lacks c.args.site.now c.in-Ok.route c.args.method.now c.args.target.now c.args.body.now c.report_no_memory-status.result _ _ _
+    c.in-Ok.ensures.route c.report_no_memory-status.ensures.reply
+    (c.put_unread_line-in-Err.ensures.items ∙ ap (λ (l : List ℕ). l ++ unread_line c.report_no_memory-status.result) (c.in-Err.ensures.err ∙ c.requires.empty))

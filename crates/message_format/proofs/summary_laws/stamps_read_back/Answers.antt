@@ -11,6 +11,6 @@ returns-clause-judged c = judged_again
 pub returns-clause-sound : goal.returns-clause-sound
 returns-clause-sound c = judged_in_range (record {
   uids = c.names_read_back.ensures.found;
-  tested = c.site_names_are_told.ensures.tested;
-  digits = c.site_names_are_told.ensures.digits;
+  tested = c.site_names_are_recognized.ensures.tested;
+  digits = c.site_names_are_recognized.ensures.digits;
 })

@@ -22,11 +22,11 @@ loop-name-preserved g c =
     let known = c.args.known.now in
     let from = c.from_name-stamp.result.0.now in
     let before = c.args.out.now in
-    let after = c.push_news.new.out in
+    let after = c.push_missing.new.out in
     let yielded = map deref_pair c.loop-name.yielded in
     let walked = walk_goes_on g.N.Lent.named known c.loop-name.left.now from before c.loop-name.out after c.args.entries yielded c.loop-name.name-iterator c.next.new.self
     (c.in-Some.name.now, c.in-Some.entry.now) c.from_name-stamp.result.1 c.loop-name.invariant.walked c.in-Some.ensures.steps
-    c.from_name-stamp.ensures.left c.from_name-stamp.ensures.stamp c.in_ok-push_news.ensures in
+    c.from_name-stamp.ensures.left c.from_name-stamp.ensures.stamp c.in_ok-push_missing.ensures in
     record {
       rest = grind (arith, common_steps);
       ascending = c.from_name-stamp.ensures.left.ascending;

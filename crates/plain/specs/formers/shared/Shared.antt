@@ -1,4 +1,5 @@
--- Defines that a type may contain itself through `Shared`: its one value is the child, inside a pointer.
+-- Defines how a `Shared` contains its value, so that a recursive type may contain itself in a `Shared`. The toolchain
+-- demands these definitions by their names and types, and compares them with the struct.
 use mathlib.Core.Path.{refl}
 use mathlib.Core.Former.{Former, this, const, pair, via}
 use base.Stored.{gnil}
@@ -22,23 +23,25 @@ use Rattle.plain.specs.declared.shared.Shared.TheView.{view, invariant}
 use Rattle.plain.specs.contracts.shared.Shared as seen
 use Rattle.plain.specs.contracts.shared.Shared.TheInside as inner
 
--- contracts see the child itself
+-- `the_former child` says that contracts see a `Shared` as the value inside, here the child; `the_weighed weight`
+-- measures a `Shared` as the child.
 abbrev pub the_former : Former {0} → Former {0}
 the_former child = child
 
 abbrev pub the_weighed : {child : Former {0}} → Weighed child → Weighed (the_former child)
 the_weighed weight = weight
 
--- the struct: the address of the child, and the child
+-- `layout` says that the struct is an address and the child.
 abbrev layout : Former {0}
 layout = via (pair (const Ptr) this) Inside
     (λ X s. (s.owner.ptr, s.owner.value))
     (λ X p. record { owner = record { ptr = p.0; value = p.1 } }) (λ X s. refl) (λ X p. refl)
 
--- the same pointer to another value
+-- `refilled b y` is the pointer `b` with the value `y` in place of its own.
 abbrev refilled : {X Y : Type 0} → Rc X Global → Y → Rc Y Global
 refilled b y = record { ptr = b.ptr; value = y }
 
+-- `rc_row T` is the logic's description of an `Rc` of `T`; `rc_alike` proves `the_places` of it.
 abbrev rc_row : RattleType → RattleType
 rc_row T = counted.the_row T heap.the_row ghosts
 
@@ -55,6 +58,8 @@ module _ (T U : RattleType) (change : T.Denot → U.Denot) where
         (refilled b tt);
   }
 
+  -- `the_places same`: if `T` and `U` have one layout, and own and lend alike along `change`, so do `Shared` of `T` and
+  -- of `U`.
   pub the_places : Alike T U change
       → Alike (seen.the_row T) (seen.the_row U) ((the_former this).map T.Denot U.Denot change)
   the_places same = view_places layout this view (λ X Y f s. refl) (λ X s. refl) T.Denot U.Denot change
@@ -64,6 +69,7 @@ module _ (T U : RattleType) (change : T.Denot → U.Denot) where
       (struct_places (inner.the_type T) (inner.the_type U) ((λ b. refilled b (change b.value)), tt) _ (λ s. refl) refl
       (laid _ _ _ (rc_alike same), tt))
 
+  -- `the_codes_placed recodes` says the same of the codes of values, which ghost data is made of.
   pub the_codes_placed : Recodes T U change
       → Recodes (seen.the_row T) (seen.the_row U) ((the_former this).map T.Denot U.Denot change)
   the_codes_placed recodes value = recodes value

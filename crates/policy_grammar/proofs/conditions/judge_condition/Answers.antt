@@ -1,13 +1,22 @@
 use Rattle.std.proofs.Common.{ap, sym, ◌∙◌}
+use Rattle.grammar_core.specs.declared.operator.Unary.TheVariants.{Not}
+use Rattle.grammar_policies.specs.declared.tree.ConditionWord.TheVariants as word
 use Rattle.grammar_desugaring.specs.Core.{core_of}
 use Rattle.grammar_desugaring.specs.Faults.{faults_of}
-use Rattle.policy_grammar.specs.inner.Parts.{judged_by}
-use Rattle.policy_grammar.proofs.Joining.{judged-asked}
+use Rattle.grammar_desugaring.specs.Measured.{of}
+use Rattle.grammar_desugaring.specs.Sums.{above}
+use Rattle.policy_grammar.specs.Conditions.{asked_by}
 use Rattle.policy_grammar.proofs.conditions.judge_condition.Goals as goal
 
-pub returns : goal.returns
-returns c =
+pub returns-in-When : goal.returns-in-When
+returns-in-When c =
     let text = c.args.text.now in
     let tree = c.args.condition.now.expression in
-    let word = c.args.condition.now.word in
-    c.judge_asked.ensures ∙ ap (judged_by word) c.in_ok-measure.ensures ∙ sym (judged-asked c.measures_add_up.ensures.unary word (core_of text tree) (faults_of text tree))
+    c.in_ok-measure.ensures ∙ ap (λ w. of (asked_by w (core_of text tree)) (faults_of text tree)) (sym c.in-When.is)
+
+pub returns-in-Unless : goal.returns-in-Unless
+returns-in-Unless c =
+    let text = c.args.text.now in
+    let tree = c.args.condition.now.expression in
+    c.above.ensures ∙ ap above c.in_ok-measure.ensures ∙ sym (c.measures_add_up.ensures.unary Not (core_of text tree) (faults_of text tree))
+    ∙ ap (λ w. of (asked_by w (core_of text tree)) (faults_of text tree)) (sym c.in-Unless.is)

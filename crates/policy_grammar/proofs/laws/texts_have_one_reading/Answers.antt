@@ -14,8 +14,8 @@ returns-clause-uid c =
       some = c.lexing_is_unique.ensures.some;
       spelled = c.lexing_is_unique.ensures.spelled;
       values = c.strings_have_one_meaning.ensures.some_value;
-      none = c.least_fault_is_told.ensures.none;
-    }) c.reading_is_unique.ensures.uid_answer c.trees_stand_in_tokens.ensures.uid)
+      none = c.least_fault_is_reported.ensures.none;
+    }) c.reading_is_unique.ensures.uid_answer c.trees_are_made_of_tokens.ensures.uid)
 
 pub returns-clause-policy : goal.returns-clause-policy
 returns-clause-policy c =
@@ -29,8 +29,8 @@ returns-clause-policy c =
       some = c.lexing_is_unique.ensures.some;
       spelled = c.lexing_is_unique.ensures.spelled;
       values = c.strings_have_one_meaning.ensures.some_value;
-      none = c.least_fault_is_told.ensures.none;
-    }) c.reading_is_unique.ensures.policy_answer c.trees_stand_in_tokens.ensures.policy)
+      none = c.least_fault_is_reported.ensures.none;
+    }) c.reading_is_unique.ensures.policy_answer c.trees_are_made_of_tokens.ensures.policy)
 
 pub returns-clause-file : goal.returns-clause-file
 returns-clause-file c =
@@ -44,5 +44,5 @@ returns-clause-file c =
       some = c.lexing_is_unique.ensures.some;
       spelled = c.lexing_is_unique.ensures.spelled;
       values = c.strings_have_one_meaning.ensures.some_value;
-      none = c.least_fault_is_told.ensures.none;
-    }) c.reading_is_unique.ensures.list_answer c.trees_stand_in_tokens.ensures.list)
+      none = c.least_fault_is_reported.ensures.none;
+    }) c.reading_is_unique.ensures.list_answer c.trees_are_made_of_tokens.ensures.list)

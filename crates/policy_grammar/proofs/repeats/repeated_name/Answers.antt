@@ -5,15 +5,15 @@ use Rattle.policy_grammar.proofs.Doubtful.{doubtful-enough}
 use Rattle.policy_grammar.proofs.Refusing.{names-long}
 use Rattle.policy_grammar.proofs.repeats.repeated_name.Goals as goal
 
-pub meets_place-wide-requires-clause-same : goal.meets_place-wide-requires-clause-same
-meets_place-wide-requires-clause-same c = names-long c.args.text.now c.args.trees.now c.args.names.now c.requires.named
+pub some_index_name-wide-requires-clause-same : goal.some_index_name-wide-requires-clause-same
+some_index_name-wide-requires-clause-same c = names-long c.args.text.now c.args.trees.now c.args.names.now c.requires.named
 
-pub doubtful_marks-requires-clause-same : goal.doubtful_marks-requires-clause-same
-doubtful_marks-requires-clause-same c = names-long c.args.text.now c.args.trees.now c.args.names.now c.requires.named
+pub names_to_compare-requires-clause-same : goal.names_to_compare-requires-clause-same
+names_to_compare-requires-clause-same c = names-long c.args.text.now c.args.trees.now c.args.names.now c.requires.named
 
 pub returns : goal.returns
 returns c =
     subst (λ told. IfOk c.first_duplicate.result (λ fault. fault ≡ told))
     (ap (λ ms. least (repeat_faults (abstract_names ms))) c.deref.ensures.value ∙ ap (λ ms. least (repeat_faults ms)) c.in_ok-marks.ensures
-    ∙ doubtful-enough c.repeats_stand_again.ensures.told c.args.text.now c.meets_place-wide.result c.args.names.now c.args.trees.now (omega arith) c.requires.named
-    c.meets_place-wide.ensures) c.first_duplicate.ensures
+    ∙ doubtful-enough c.repeats_are_exact.ensures.told c.args.text.now c.some_index_name-wide.result c.args.names.now c.args.trees.now (omega arith) c.requires.named
+    c.some_index_name-wide.ensures) c.first_duplicate.ensures

@@ -30,16 +30,16 @@ repeated_name-requires-clause-named c =
 pub returns-in-Some-clause-refused : goal.returns-in-Some-clause-refused
 returns-in-Some-clause-refused c =
     let again = again-over _ _ _ _ _ c.deref.ensures.value c.deref-2.ensures.value c.in_ok-repeat.ensures in
-    let told = told-file c.least_fault_is_told.ensures.both c.args.text.now c.args.trees.items c.args.names.items c.in_ok-repeat.repeat c.in_ok-verdict.verdict c.earlier_of.result again
+    let told = told-file c.least_fault_is_reported.ensures.both c.args.text.now c.args.trees.items c.args.names.items c.in_ok-repeat.repeat c.in_ok-verdict.verdict c.earlier_of.result again
     (subst (λ ts. ReportsFile c.args.text.now ts c.in_ok-verdict.verdict) c.deref-3.ensures.value c.in_ok-verdict.ensures) c.earlier_of.ensures in
     λ other. inl (record { fault = c.in-Some.fault; first = sym told ∙ c.in-Some.is; told = c.from.ensures })
 
 pub returns-then-not-verdict-clause-refused : goal.returns-then-not-verdict-clause-refused
 returns-then-not-verdict-clause-refused c =
     let again = again-over _ _ _ _ _ c.deref.ensures.value c.deref-2.ensures.value c.in_ok-repeat.ensures in
-    let told = told-file c.least_fault_is_told.ensures.both c.args.text.now c.args.trees.items c.args.names.items c.in_ok-repeat.repeat c.in_ok-verdict.verdict c.earlier_of.result again
+    let told = told-file c.least_fault_is_reported.ensures.both c.args.text.now c.args.trees.items c.args.names.items c.in_ok-repeat.repeat c.in_ok-verdict.verdict c.earlier_of.result again
     (subst (λ ts. ReportsFile c.args.text.now ts c.in_ok-verdict.verdict) c.deref-3.ensures.value c.in_ok-verdict.ensures) c.earlier_of.ensures in
-    let none = c.least_fault_is_told.ensures.none (file_faults c.args.text.now c.args.trees.items c.args.names.items) (sym told ∙ c.in_default.is) in
+    let none = c.least_fault_is_reported.ensures.none (file_faults c.args.text.now c.args.trees.items c.args.names.items) (sym told ∙ c.in_default.is) in
     λ other. inr (
       none,
       (
@@ -51,9 +51,9 @@ returns-then-not-verdict-clause-refused c =
 pub returns-then-not-are_ids-clause-refused : goal.returns-then-not-are_ids-clause-refused
 returns-then-not-are_ids-clause-refused c =
     let again = again-over _ _ _ _ _ c.deref.ensures.value c.deref-2.ensures.value c.in_ok-repeat.ensures in
-    let told = told-file c.least_fault_is_told.ensures.both c.args.text.now c.args.trees.items c.args.names.items c.in_ok-repeat.repeat c.in_ok-verdict.verdict c.earlier_of.result again
+    let told = told-file c.least_fault_is_reported.ensures.both c.args.text.now c.args.trees.items c.args.names.items c.in_ok-repeat.repeat c.in_ok-verdict.verdict c.earlier_of.result again
     (subst (λ ts. ReportsFile c.args.text.now ts c.in_ok-verdict.verdict) c.deref-3.ensures.value c.in_ok-verdict.ensures) c.earlier_of.ensures in
-    let none = c.least_fault_is_told.ensures.none (file_faults c.args.text.now c.args.trees.items c.args.names.items) (sym told ∙ c.in_default.is) in
+    let none = c.least_fault_is_reported.ensures.none (file_faults c.args.text.now c.args.trees.items c.args.names.items) (sym told ∙ c.in_default.is) in
     λ other. inr (
       none,
       (
@@ -68,17 +68,17 @@ named_of-requires-clause-same c = names-long c.args.text.now c.args.trees.items 
 pub named_of-requires-clause-sound : goal.named_of-requires-clause-sound
 named_of-requires-clause-sound c =
     let again = again-over _ _ _ _ _ c.deref.ensures.value c.deref-2.ensures.value c.in_ok-repeat.ensures in
-    let told = told-file c.least_fault_is_told.ensures.both c.args.text.now c.args.trees.items c.args.names.items c.in_ok-repeat.repeat c.in_ok-verdict.verdict c.earlier_of.result again
+    let told = told-file c.least_fault_is_reported.ensures.both c.args.text.now c.args.trees.items c.args.names.items c.in_ok-repeat.repeat c.in_ok-verdict.verdict c.earlier_of.result again
     (subst (λ ts. ReportsFile c.args.text.now ts c.in_ok-verdict.verdict) c.deref-3.ensures.value c.in_ok-verdict.ensures) c.earlier_of.ensures in
-    let none = c.least_fault_is_told.ensures.none (file_faults c.args.text.now c.args.trees.items c.args.names.items) (sym told ∙ c.in_default.is) in
+    let none = c.least_fault_is_reported.ensures.none (file_faults c.args.text.now c.args.trees.items c.args.names.items) (sym told ∙ c.in_default.is) in
     sound-all c.args.text.now c.args.trees.items (none-right (repeat_faults (policy_names c.args.names.items c.args.trees.items)) (flat_map (tree_faults c.args.text.now) c.args.trees.items) none)
 
 pub returns-clause-read : goal.returns-clause-read
 returns-clause-read c =
     let again = again-over _ _ _ _ _ c.deref.ensures.value c.deref-2.ensures.value c.in_ok-repeat.ensures in
-    let told = told-file c.least_fault_is_told.ensures.both c.args.text.now c.args.trees.items c.args.names.items c.in_ok-repeat.repeat c.in_ok-verdict.verdict c.earlier_of.result again
+    let told = told-file c.least_fault_is_reported.ensures.both c.args.text.now c.args.trees.items c.args.names.items c.in_ok-repeat.repeat c.in_ok-verdict.verdict c.earlier_of.result again
     (subst (λ ts. ReportsFile c.args.text.now ts c.in_ok-verdict.verdict) c.deref-3.ensures.value c.in_ok-verdict.ensures) c.earlier_of.ensures in
-    let none = c.least_fault_is_told.ensures.none (file_faults c.args.text.now c.args.trees.items c.args.names.items) (sym told ∙ c.in_default.is) in
+    let none = c.least_fault_is_reported.ensures.none (file_faults c.args.text.now c.args.trees.items c.args.names.items) (sym told ∙ c.in_default.is) in
     let made = sym c.in_ok-named_of.ensures.names in
     record {
       named = subst (AreNamesOf c.args.text.now c.args.trees.items) made c.requires.named;

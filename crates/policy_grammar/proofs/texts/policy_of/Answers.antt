@@ -12,16 +12,16 @@ returns-in-Some-clause-refused c =
 
 pub returns-then-not-verdict-clause-refused : goal.returns-then-not-verdict-clause-refused
 returns-then-not-verdict-clause-refused c =
-    let none = c.least_fault_is_told.ensures.none (tree_faults c.args.text.now c.args.tree.now) (sym c.in_ok-verdict.ensures.fault ∙ c.in_default.is) in
+    let none = c.least_fault_is_reported.ensures.none (tree_faults c.args.text.now c.args.tree.now) (sym c.in_ok-verdict.ensures.fault ∙ c.in_default.is) in
     λ other. inr (none, (refuted (IsSmallTree c.args.text.now c.args.tree.now) c.in_ok-verdict.verdict.small c.in_ok-verdict.ensures.small c.if-not-verdict.true, refl))
 
-pub core_of-requires-clause-sound : goal.core_of-requires-clause-sound
-core_of-requires-clause-sound c =
-    sound-tree c.args.text.now c.args.tree.now (c.least_fault_is_told.ensures.none (tree_faults c.args.text.now c.args.tree.now) (sym c.in_ok-verdict.ensures.fault ∙ c.in_default.is))
+pub core_like-requires-clause-sound : goal.core_like-requires-clause-sound
+core_like-requires-clause-sound c =
+    sound-tree c.args.text.now c.args.tree.now (c.least_fault_is_reported.ensures.none (tree_faults c.args.text.now c.args.tree.now) (sym c.in_ok-verdict.ensures.fault ∙ c.in_default.is))
 
 pub returns-clause-read : goal.returns-clause-read
 returns-clause-read c = record {
-  sound = c.least_fault_is_told.ensures.none (tree_faults c.args.text.now c.args.tree.now) (sym c.in_ok-verdict.ensures.fault ∙ c.in_default.is);
-  core = c.in_ok-core_of.ensures;
-  small = small_core c.args.text.now c.args.tree.now c.in_ok-core_of.field-0 c.in_ok-core_of.ensures (c.in_ok-verdict.ensures.small.0 c.if-not-verdict.false);
+  sound = c.least_fault_is_reported.ensures.none (tree_faults c.args.text.now c.args.tree.now) (sym c.in_ok-verdict.ensures.fault ∙ c.in_default.is);
+  core = c.in_ok-core_like.ensures;
+  small = small_core c.args.text.now c.args.tree.now c.in_ok-core_like.field-0 c.in_ok-core_like.ensures (c.in_ok-verdict.ensures.small.0 c.if-not-verdict.false);
 }

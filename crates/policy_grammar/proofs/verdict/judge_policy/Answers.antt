@@ -6,7 +6,7 @@ use Rattle.policy_grammar.proofs.verdict.judge_policy.Goals as goal
 
 pub returns : goal.returns
 returns c =
-    told-one c.least_fault_is_told.ensures.both c.args.text.now c.args.tree.now c.in_ok-repeat.repeat c.in_ok-measure.measure
+    told-one c.least_fault_is_reported.ensures.both c.args.text.now c.args.tree.now c.in_ok-repeat.repeat c.in_ok-measure.measure
     (record { fault = c.earlier_of.result; small = c.is_small-small.result }) c.in_ok-repeat.ensures
     (subst (λ cs. c.in_ok-measure.measure ≡ of (conditions_of c.args.text.now cs) (condition_faults c.args.text.now cs)) c.as_slice.ensures c.in_ok-measure.ensures)
     c.is_small-small.ensures c.earlier_of.ensures

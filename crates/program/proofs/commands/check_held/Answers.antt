@@ -5,7 +5,7 @@ use Rattle.explanations.specs.Explained.{IsExplained}
 use Rattle.program_drills.specs.schema_decisions.Checks.{AreChecksRefused}
 use Rattle.program.specs.Events.{Runs}
 use Rattle.program.specs.Reports.{AreLinesReported}
-use Rattle.program.specs.Explained.{IsRefusalText, IsRefusalTold, Explains}
+use Rattle.program.specs.Explained.{IsRefusalText, IsErrorReported, Explains}
 use Rattle.program.specs.Runs.{check_files}
 use Rattle.program.proofs.EventLemmas.{runs_as}
 use Rattle.program.proofs.RefusalLemmas.{refused_with}
@@ -28,6 +28,6 @@ returns-in-Err g c =
     let files = check_files options schema policies in
     let end = exit_status c.report_rejected.result in
     let refusal = c.in-Err.refusal in
-    let told = subst (λ (f : Files). Runs g.H.Host.does c.args.host.now c.report_rejected.new.host (λ events. Explains options.explain (IsRefusalText f refusal.code) (IsRefusalTold refusal) events end))
+    let told = subst (λ (f : Files). Runs g.H.Host.does c.args.host.now c.report_rejected.new.host (λ events. Explains options.explain (IsRefusalText f refusal.code) (IsErrorReported refusal) events end))
     c.check_given-given.ensures c.report_rejected.ensures in
     runs_as g.H.Host.does _ _ _ _ (λ events told. inr (refused_with (AreChecksRefused schema policies) options.explain files refusal end c.in-Err.ensures.refused events told)) told

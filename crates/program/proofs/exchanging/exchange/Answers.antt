@@ -23,5 +23,5 @@ returns-in-Err-call_at-2 g c =
 pub returns : goal.returns
 returns g c =
     told_or_ended g.H.Reader.Source g.H.Writer.Sink c.args.first c.args.to c.args.from g.H.Host.does _ _ _ _ _ c.in-Ok.reply.items c.in-Ok-call_at.reply.items
-    c.in-Ok-call_at-2.reply.items exit_status c.tell_taken.result c.in-Ok.ensures (rw c.deref.ensures.value at c.in-Ok-call_at.ensures)
-    (rw c.deref-2.ensures.value at c.in-Ok-call_at-2.ensures) (rw c.deref-3.ensures.value at c.tell_taken.ensures)
+    c.in-Ok-call_at-2.reply.items exit_status c.write_taken.result c.in-Ok.ensures (rw c.deref.ensures.value at c.in-Ok-call_at.ensures)
+    (rw c.deref-2.ensures.value at c.in-Ok-call_at-2.ensures) (rw c.deref-3.ensures.value at c.write_taken.ensures)

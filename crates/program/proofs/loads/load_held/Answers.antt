@@ -3,7 +3,7 @@ use Rattle.std.specs.Process.{exit_status}
 use Rattle.explanations.specs.Files.{Files}
 use Rattle.program.specs.Beginning.{IsNotBegun}
 use Rattle.program.specs.Events.{Runs}
-use Rattle.program.specs.Explained.{schema_files, IsRefusalText, IsRefusalTold, Explains}
+use Rattle.program.specs.Explained.{schema_files, IsRefusalText, IsErrorReported, Explains}
 use Rattle.program.proofs.EventLemmas.{runs_as}
 use Rattle.program.proofs.RefusalLemmas.{refused_with}
 use Rattle.program.proofs.loads.load_held.Goals as goal
@@ -19,7 +19,7 @@ returns-in-Err g c =
     let state = option_map (λ s. s.now) c.args.state in
     let end = exit_status c.report_rejected.result in
     let refusal = c.in-Err.refusal in
-    let told = subst (λ (f : Files). Runs g.H.Host.does c.args.host.now c.report_rejected.new.host (λ events. Explains options.explain (IsRefusalText f refusal.code) (IsRefusalTold refusal) events end))
+    let told = subst (λ (f : Files). Runs g.H.Host.does c.args.host.now c.report_rejected.new.host (λ events. Explains options.explain (IsRefusalText f refusal.code) (IsErrorReported refusal) events end))
     c.schema_given-given.ensures c.report_rejected.ensures in
     runs_as g.H.Host.does _ _ _ _ (λ events told. inr (refused_with (IsNotBegun schema state) options.explain (schema_files options.schema.now schema) refusal end c.in-Err.ensures.refused events told))
     told

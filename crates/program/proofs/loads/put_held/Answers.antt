@@ -4,7 +4,7 @@ use Rattle.explanations.specs.Files.{Files}
 use Rattle.site_loading.specs.site_steps.SiteViews.{schema_of, store_in}
 use Rattle.site_loading.specs.Loads as loads
 use Rattle.program.specs.Events.{Runs}
-use Rattle.program.specs.Explained.{IsRefusalText, IsRefusalTold, Explains}
+use Rattle.program.specs.Explained.{IsRefusalText, IsErrorReported, Explains}
 use Rattle.program.specs.Loading.{load_files}
 use Rattle.program.proofs.EventLemmas.{runs_as}
 use Rattle.program.proofs.RefusalLemmas.{line_refused_with}
@@ -24,7 +24,7 @@ returns-in-Err g c =
     let files = load_files options c.args.schema.now policies entities in
     let end = exit_status c.report_rejected.result in
     let refusal = c.in-Err.refusal in
-    let told = subst (λ (f : Files). Runs g.H.Host.does c.args.host.now c.report_rejected.new.host (λ events. Explains options.explain (IsRefusalText f refusal.code) (IsRefusalTold refusal) events end))
+    let told = subst (λ (f : Files). Runs g.H.Host.does c.args.host.now c.report_rejected.new.host (λ events. Explains options.explain (IsRefusalText f refusal.code) (IsErrorReported refusal) events end))
     c.load_given-given.ensures c.report_rejected.ensures in
     runs_as g.H.Host.does _ _ _ _ (
     line_refused_with (loads.IsRefused (schema_of site) site.name (store_in site) policies entities)

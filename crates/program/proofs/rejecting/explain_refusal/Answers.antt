@@ -6,4 +6,4 @@ use Rattle.program.proofs.rejecting.explain_refusal.Goals as goal
 pub returns : goal.returns
 returns g c =
     made_told g.H.Host.does _ _ (IsRefusalText (files_of c.args.given.now) c.args.code) c.refusal_text.result c.refusal_text.ensures
-    c.tell_made.ensures
+    c.write_explanation.ensures

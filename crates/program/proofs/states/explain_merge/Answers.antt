@@ -6,4 +6,4 @@ use Rattle.program.proofs.states.explain_merge.Goals as goal
 pub returns : goal.returns
 returns g c =
     made_told g.H.Host.does _ _ (IsMergeText (files_of c.args.given.now) c.args.options.now c.args.schema.now c.args.first.now c.args.code)
-    c.merge_text.result c.merge_text.ensures c.tell_made.ensures
+    c.merge_text.result c.merge_text.ensures c.write_explanation.ensures

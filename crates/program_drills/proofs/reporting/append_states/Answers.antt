@@ -1,7 +1,7 @@
 use Rattle.std.proofs.Common.{◌≡◌, ◌+◌, ◌++◌, ◌∷◌, [], sym, ap, ◌∙◌, List, map, take, arith}
 use Rattle.std.proofs.lemmas.List.{take_more}
 use Rattle.http_service.specs.site_calls.site_steps.SiteViews.{SiteView}
-use Rattle.program_drills.specs.EventReports.{state_told}
+use Rattle.program_drills.specs.EventReports.{state_line}
 use Rattle.program_drills.specs.inner.Ended.{ended}
 use Rattle.program_drills.proofs.EndedLines.{states_more}
 use Rattle.program_drills.proofs.reporting.append_states.Goals as goal
@@ -16,4 +16,4 @@ loop-site-preserved c =
     ∙ ap (λ (x : SiteView). take at sites ++ x ∷ []) (sym c.site-item.is) in
     states_more (take at sites) site c.args.text.now.items c.loop-site.text.items c.append_state.new.text.items c.loop-site.invariant
     c.in_ok-append_state.ensures
-    ∙ ap (λ (ss : List SiteView). c.args.text.now.items ++ ended (map state_told ss)) (sym more)
+    ∙ ap (λ (ss : List SiteView). c.args.text.now.items ++ ended (map state_line ss)) (sym more)

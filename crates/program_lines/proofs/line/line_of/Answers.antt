@@ -26,7 +26,7 @@ returns-clause-err c =
     let words = map string_bytes c.args.words.now in
     let found = (c.in-Ok.ensures.matches (ap is_simple same)).1 ∙ ap (λ (a : App). subcommand_of a words) same in
     let free = ap (λ (a : App). fault_of a words) (sym same) ∙ c.in-Ok.ensures.kinds (ap is_simple_and_free same) in
-    lacking_fault words _ c.lack_of.result (sym found) free c.in-None.ensures c.lack_of.ensures
+    lacking_fault words _ c.why_incomplete.result (sym found) free c.in-None.ensures c.why_incomplete.ensures
 
 pub returns-in-Some-clause-ok : goal.returns-in-Some-clause-ok
 returns-in-Some-clause-ok c =

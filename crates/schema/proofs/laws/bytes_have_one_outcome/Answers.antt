@@ -22,4 +22,4 @@ returns-clause-one_schema c =
 pub returns-clause-some_outcome : goal.returns-clause-some_outcome
 returns-clause-some_outcome c =
     stated.some_outcome c.schemas_are_read_as_stated.ensures
-    (some_outcome c.some_outcome.ensures c.files_are_in_order.ensures.once c.files_name_their_own.ensures c.types_stand_for_one_or_some_for_none.ensures c.paths_are_decided.ensures)
+    (some_outcome c.some_outcome.ensures c.files_are_in_order.ensures.once c.files_name_their_own.ensures c.types_expand_or_some_common_does_not.ensures c.paths_are_decided.ensures)

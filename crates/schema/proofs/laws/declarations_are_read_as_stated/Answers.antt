@@ -5,8 +5,8 @@ pub returns : goal.returns
 returns c =
     declarations_are_read (record { idents = c.paths_are_told.ensures.idents; paths = c.paths_are_told.ensures.paths })
     (record {
-      cycles = c.cycles_stand_for_none.ensures;
-      back = c.what_stands_for_none_leads_back.ensures;
+      cycles = c.cycles_have_no_expansion.ensures;
+      back = c.what_has_no_expansion_leads_back.ensures;
       own = c.files_name_their_own.ensures;
       once = c.files_are_in_order.ensures.once;
     })

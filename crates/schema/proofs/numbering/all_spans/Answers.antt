@@ -1,16 +1,16 @@
 use Rattle.std.proofs.Common.{List, ap, length, sym, subst}
 use Rattle.std.specs.BTreeMap.{get}
-use Rattle.schema.specs.declared.spans.Span.{Span}
+use Rattle.schema.specs.declared.spans.NumberSpan.{NumberSpan}
 use Rattle.ancestor_search.specs.Hierarchy.{names}
 use Rattle.ancestor_search.specs.contracts.searched.SearchedAncestry.TheImpl as searched
 use Rattle.values.specs.Names.{uid_cmp}
-use Rattle.schema.specs.inner.Numbering.{KeepsAbove}
+use Rattle.schema.specs.inner.Numbering.{KeepsAncestors}
 use Rattle.schema.proofs.NumberLemmas.{apart, none_reached, reaches_next, one_longer, all_reached}
 use Rattle.schema.proofs.numbering.all_spans.Goals as goal
 
 pub loop-uid-init : goal.loop-uid-init
 loop-uid-init c = record {
-  len = ap (λ (ss : List (List Span)). length ss) c.new-reached.ensures;
+  len = ap (λ (ss : List (List NumberSpan)). length ss) c.new-reached.ensures;
   keeps = none_reached (searched.parents-value.it c.args.edges.now) (get uid_cmp c.args.numbers.now) c.new-reached.result c.new-reached.ensures;
 }
 
@@ -19,7 +19,7 @@ spans_above-requires-clause-apart c = apart (get uid_cmp c.args.numbers.now) (na
 
 pub spans_above-requires-clause-keeps : goal.spans_above-requires-clause-keeps
 spans_above-requires-clause-keeps c =
-    subst (λ (ss : List (List Span)). KeepsAbove (searched.parents-value.it c.args.edges.now) (get uid_cmp c.args.numbers.now) ss) (sym c.as_slice.ensures) c.loop-uid.invariant.keeps
+    subst (λ (ss : List (List NumberSpan)). KeepsAncestors (searched.parents-value.it c.args.edges.now) (get uid_cmp c.args.numbers.now) ss) (sym c.as_slice.ensures) c.loop-uid.invariant.keeps
 
 pub loop-uid-preserved : goal.loop-uid-preserved
 loop-uid-preserved c = record {

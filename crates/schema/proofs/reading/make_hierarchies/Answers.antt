@@ -9,7 +9,7 @@ use Rattle.schema_names.specs.declared.qualifying.ResolvedEntityType.{ResolvedEn
 use Rattle.schema_names.specs.declared.qualifying.ResolvedAction.{ResolvedAction}
 use Rattle.schema.specs.Schemas.{with_types}
 use Rattle.schema.specs.inner.Making.{AreMembers}
-use Rattle.schema.specs.inner.Numbering.{NumbersAll, AreAbove, AreNumbers}
+use Rattle.schema.specs.inner.Numbering.{NumbersAll, AreAncestors, AreNumbers}
 use Rattle.schema.proofs.reading.make_hierarchies.Goals as goal
 
 pub returns : goal.returns
@@ -24,7 +24,7 @@ returns c =
       members = subst (λ (ps : Parents). AreMembers ps s.actions c.in_ok-members.members) c.requires.are by_edges;
       actions = c.in_ok-uids.ensures.items;
       ascending = c.in_ok-uids.ensures.ascending;
-      above = subst (λ (ps : Parents). AreAbove ps at above.spans) c.requires.are c.in_ok-above.ensures.are;
+      above = subst (λ (ps : Parents). AreAncestors ps at above.spans) c.requires.are c.in_ok-above.ensures.are;
       numbered = subst (λ (us : List EntityUid). NumbersAll us at) c.as_slice.ensures c.in_ok-above.ensures.all;
       types = subst (λ (xs : List ResolvedEntityType). AreNumbers (with_types no_parents (map found_entity_type_view xs)) (map found_entity_type_view xs) types) c.as_slice-entity_types.ensures by_slice;
     }

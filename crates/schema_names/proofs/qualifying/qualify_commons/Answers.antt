@@ -4,7 +4,7 @@ use Rattle.json_words.specs.Each.{each}
 use Rattle.json_words.proofs.EachLemmas.{each_ends}
 use Rattle.schema_file.specs.schema_types.NamesViews.{scope_of}
 use Rattle.schema_file.specs.StatedViews.{common_view}
-use Rattle.schema_types.specs.QualifiedViews.{found_common_view}
+use Rattle.schema_types.specs.QualifiedViews.{resolved_common_view}
 use Rattle.schema_names.specs.Qualifying.{qualified_common, qualified_commons}
 use Rattle.schema_names.proofs.GatheringLemmas.{one_more, none_more}
 use Rattle.schema_names.proofs.qualifying.qualify_commons.Goals as goal
@@ -17,14 +17,14 @@ pub returns-in_err-found : goal.returns-in_err-found
 unfolding qualified_commons
 returns-in_err-found c =
     let p = err_from_is_err_and c.from_residual.result c.from_residual.ensures.1 in
-    rw (p.1, p.2) (none_more common_view found_common_view (λ i x. qualified_common (scope_of c.args.names.now) c.args.own.now x) c.args.stated.now c.loop-item.item-index c.item-item.result c.loop-item.found c.qualify_common.result c.in_err-found.field-0.0
+    rw (p.1, p.2) (none_more common_view resolved_common_view (λ i x. qualified_common (scope_of c.args.names.now) c.args.own.now x) c.args.stated.now c.loop-item.item-index c.item-item.result c.loop-item.found c.qualify_common.result c.in_err-found.field-0.0
     c.loop-item-test.true c.item-item.is c.loop-item.invariant c.qualify_common.ensures c.in_err-found.ensures.refused)
 
 pub loop-item-preserved : goal.loop-item-preserved
 loop-item-preserved c =
-    one_more common_view found_common_view (λ i x. qualified_common (scope_of c.args.names.now) c.args.own.now x) c.args.stated.now c.loop-item.item-index c.item-item.result c.loop-item.found c.qualify_common.result c.in_ok-found.found
+    one_more common_view resolved_common_view (λ i x. qualified_common (scope_of c.args.names.now) c.args.own.now x) c.args.stated.now c.loop-item.item-index c.item-item.result c.loop-item.found c.qualify_common.result c.in_ok-found.found
     c.loop-item-test.true c.item-item.is c.loop-item.invariant c.qualify_common.ensures c.in_ok-found.ensures.read
 
 pub returns : goal.returns
 unfolding qualified_commons
-returns c = each_ends common_view (λ i x. qualified_common (scope_of c.args.names.now) c.args.own.now x) c.args.stated.now c.loop-item.item-index (map found_common_view c.loop-item.found) c.loop-item-test.false c.loop-item.invariant
+returns c = each_ends common_view (λ i x. qualified_common (scope_of c.args.names.now) c.args.own.now x) c.args.stated.now c.loop-item.item-index (map resolved_common_view c.loop-item.found) c.loop-item-test.false c.loop-item.invariant

@@ -18,5 +18,5 @@ returns c =
     let none : has_name c.args.known.now (full_name c.args.own.now c.args.common.now.name) ≡ false =
     ap (λ (n : List ℕ). has_name c.args.known.now n) (sym (c.as_str.ensures.value ∙ c.in_ok-name.ensures)) ∙ sym c.contains.ensures ∙ c.if-contains.false in
     spreads_one (scope_of c.args.names.now) (common_in c.args.own.now (common_view c.args.common.now)) c.args.known.now c.insert.new.self c.in_ok-name.name c.in_ok-insert.field-0
-    c.in_ok-name.ensures none (sym c.in_ok-means_none.ensures ∙ c.if-not-branch.false)
+    c.in_ok-name.ensures none (sym c.in_ok-knows_non_record.ensures ∙ c.if-not-branch.false)
     c.in_ok-insert.ensures.updates c.in_ok-insert.ensures.len c.in_ok-insert.ensures.added

@@ -3,11 +3,11 @@ use Rattle.std.specs.BTreeSet.{BTreeSet}
 use Rattle.schema_file.specs.schema_types.NamesViews.{scope_of}
 use Rattle.schema_file.specs.StatedViews.{namespace_view}
 use Rattle.schema_names.specs.Qualifying.{commons_declared}
-use Rattle.schema_names.specs.inner.Spreading.{Spreads}
+use Rattle.schema_names.specs.inner.Spreading.{AddsNonRecords}
 use Rattle.schema_names.proofs.records.spread.Given as goal
 
 -- what trying those that are left makes, trying all makes
 abbrev pub invariant-loop-namespace : goal.invariant-loop-namespace
 invariant-loop-namespace l = (last : BTreeSet (String Global))
-    → Spreads (scope_of l.names) (commons_declared (map namespace_view (drop l.namespace-index l.stated))) l.known last
-    → Spreads (scope_of l.names) (commons_declared (map namespace_view l.stated)) l.fn.known last
+    → AddsNonRecords (scope_of l.names) (commons_declared (map namespace_view (drop l.namespace-index l.stated))) l.known last
+    → AddsNonRecords (scope_of l.names) (commons_declared (map namespace_view l.stated)) l.fn.known last

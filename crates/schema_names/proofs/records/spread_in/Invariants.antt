@@ -3,11 +3,11 @@ use Rattle.std.specs.BTreeSet.{BTreeSet}
 use Rattle.schema_file.specs.schema_types.NamesViews.{scope_of}
 use Rattle.schema_file.specs.StatedViews.{common_view}
 use Rattle.schema_names.specs.Qualifying.{common_in}
-use Rattle.schema_names.specs.inner.Spreading.{Spreads}
+use Rattle.schema_names.specs.inner.Spreading.{AddsNonRecords}
 use Rattle.schema_names.proofs.records.spread_in.Given as goal
 
 -- what trying those that are left makes, trying all makes
 abbrev pub invariant-loop-common : goal.invariant-loop-common
 invariant-loop-common l = (last : BTreeSet (String Global))
-    → Spreads (scope_of l.names) (map (λ x. common_in l.own x) (map common_view (drop l.common-index l.commons))) l.known last
-    → Spreads (scope_of l.names) (map (λ x. common_in l.own x) (map common_view l.commons)) l.fn.known last
+    → AddsNonRecords (scope_of l.names) (map (λ x. common_in l.own x) (map common_view (drop l.common-index l.commons))) l.known last
+    → AddsNonRecords (scope_of l.names) (map (λ x. common_in l.own x) (map common_view l.commons)) l.fn.known last

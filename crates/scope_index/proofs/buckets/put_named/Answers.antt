@@ -7,7 +7,7 @@ use Rattle.std.specs.Str.{bytes_eq}
 use Rattle.std.proofs.lemmas.Map.Text.{btree_map_updates_text}
 use Rattle.values.specs.Names.{text_cmp}
 use Rattle.scope_index.specs.Keys.{kept_at}
-use Rattle.scope_index.specs.Buckets.{held_in, is_text, IsSameNamed}
+use Rattle.scope_index.specs.Buckets.{policy_in_bucket, is_text, IsSameNamed}
 use Rattle.scope_index.proofs.Filing.{turned, same_written, on_err}
 use Rattle.scope_index.proofs.buckets.put_named.Goals as goal
 
@@ -20,7 +20,7 @@ returns-in_err-insert-clause-err c =
     on_err c.from_residual.result (IsSameNamed m (c.get_mut.follows.lender w))
     (same_written c.args.entity.now m (c.get_mut.follows.lender w) w
     (λ u. ((c.get_mut.follows.holds w).3 (ap is_some held)).0 u)
-    (λ q. ap (λ es. kept_at es q) c.in_err-insert.ensures.err ∙ sym (ap (λ o. held_in o q) held)))
+    (λ q. ap (λ es. kept_at es q) c.in_err-insert.ensures.err ∙ sym (ap (λ o. policy_in_bucket o q) held)))
 
 pub returns-in-Some-clause-ok : goal.returns-in-Some-clause-ok
 returns-in-Some-clause-ok c =
@@ -31,7 +31,7 @@ returns-in-Some-clause-ok c =
     turned c.args.entity.now (string_bytes c.args.id) (Some c.args.policy) m (c.get_mut.follows.lender w) w
     (λ u. ((c.get_mut.follows.holds w).3 (ap is_some held)).0 u)
     (λ q. btree_map_updates_text (string_bytes c.args.id) c.in-Some.bucket.now w (Some c.args.policy) c.in_ok-insert.ensures.updates q
-    ∙ ap (λ o. cond (bytes_eq (string_bytes c.args.id) q) (Some c.args.policy) (held_in o q)) (sym held))
+    ∙ ap (λ o. cond (bytes_eq (string_bytes c.args.id) q) (Some c.args.policy) (policy_in_bucket o q)) (sym held))
 
 pub returns-clause-ok : goal.returns-clause-ok
 returns-clause-ok c =
@@ -44,4 +44,4 @@ returns-clause-ok c =
     (c.in_ok-insert-2.ensures.updates.0 u
     ∙ ap (λ n. cond (is_text c.in_ok-bucket.entity u) (Some w) (get text_cmp n u)) c.get_mut.follows.holds-at-none))
     (λ q. ap (λ b. kept_at b.entries q) c.in_ok-bucket.ensures.kept ∙ c.in_ok-alone.ensures q
-    ∙ ap (λ o. cond (bytes_eq (string_bytes c.args.id) q) (Some c.args.policy) o) (sym (ap (λ o. held_in o q) none)))
+    ∙ ap (λ o. cond (bytes_eq (string_bytes c.args.id) q) (Some c.args.policy) o) (sym (ap (λ o. policy_in_bucket o q) none)))

@@ -5,7 +5,7 @@ use Rattle.std.specs.Option.{option_copied_mut}
 use Rattle.std.specs.BTreeMap.{get}
 use Rattle.std.specs.Str.{bytes_eq}
 use Rattle.values.specs.Names.{text_cmp}
-use Rattle.scope_index.specs.Buckets.{held_in, bucket_of, is_text}
+use Rattle.scope_index.specs.Buckets.{policy_in_bucket, bucket_of, is_text}
 use Rattle.scope_index.proofs.Filing.{turned_type, ok_turned, err_same}
 use Rattle.scope_index.proofs.buckets.put_under.Goals as goal
 
@@ -38,6 +38,6 @@ returns-clause-ok c =
     (λ t. subst (λ v. get text_cmp c.insert.new.self t ≡ cond (is_text v t) (Some w) (get text_cmp m t)) copied
     (c.in_ok-insert.ensures.updates.0 t
     ∙ ap (λ n. cond (is_text c.in_ok-named.type_name t) (Some w) (get text_cmp n t)) c.get_mut.follows.holds-at-none))
-    (λ e q. ap (λ n. held_in (get text_cmp n e) q) c.in_ok-named.ensures.kept ∙ c.in_ok-only.ensures e q
+    (λ e q. ap (λ n. policy_in_bucket (get text_cmp n e) q) c.in_ok-named.ensures.kept ∙ c.in_ok-only.ensures e q
     ∙ ap (λ o. cond (is_text c.args.uid.now.id e && bytes_eq (string_bytes c.args.id) q) (Some c.args.policy) o)
-    (sym (ap (λ o. held_in (bucket_of o e) q) none)))
+    (sym (ap (λ o. policy_in_bucket (bucket_of o e) q) none)))

@@ -4,13 +4,13 @@ use Rattle.std.specs.Borrow.{Bor}
 use Rattle.values.specs.declared.entity_uid.EntityUid.{EntityUid}
 use Rattle.ancestor_search.specs.Hierarchy.{IsIn, names}
 use Rattle.scope_index.specs.Keys.{Offer, lent}
-use Rattle.scope_index.specs.Buckets.{held_under}
+use Rattle.scope_index.specs.Buckets.{policy_of_uid}
 use Rattle.scope_index.proofs.Offering.{Offers, in_turn, said_as, it_and_above}
 use Rattle.scope_index.proofs.candidates.offer_above.Goals as goal
 
 pub returns : goal.returns
 returns g c =
-    let Has : EntityUid → Offer → Type 0 = λ e o. held_under c.args.under.now e o.0 ≡ Some o.1 in
+    let Has : EntityUid → Offer → Type 0 = λ e o. policy_of_uid c.args.under.now e o.0 ≡ Some o.1 in
     let uid = c.args.uid.now in
     let above = names c.in_ok-ancestors.ancestors.items in
     said_as _ (λ o. (e : EntityUid) × IsIn (g.A.Ancestry.parents c.args.ancestry.now) uid e × Has e o)

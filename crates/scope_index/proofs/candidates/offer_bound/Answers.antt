@@ -2,7 +2,7 @@ use Rattle.std.proofs.Common.{◌≡◌, Some}
 use Rattle.values.specs.declared.entity_uid.EntityUid.{EntityUid}
 use Rattle.ancestor_search.specs.Hierarchy.{IsIn}
 use Rattle.scope_index.specs.Keys.{Offer, lent}
-use Rattle.scope_index.specs.Buckets.{held_under}
+use Rattle.scope_index.specs.Buckets.{policy_of_uid}
 use Rattle.scope_index.proofs.Offering.{in_turn}
 use Rattle.scope_index.proofs.candidates.offer_bound.Goals as goal
 
@@ -11,7 +11,7 @@ returns g c =
     let parents = g.A.Ancestry.parents c.args.ancestry.now in
     let q = c.args.request.now in
     let b = c.args.buckets.now in
-    in_turn (λ (o : Offer). (e : EntityUid) × IsIn parents q.principal e × (held_under b.principals e o.0 ≡ Some o.1))
-    (λ (o : Offer). (e : EntityUid) × IsIn parents q.resource e × (held_under b.resources e o.0 ≡ Some o.1))
+    in_turn (λ (o : Offer). (e : EntityUid) × IsIn parents q.principal e × (policy_of_uid b.principals e o.0 ≡ Some o.1))
+    (λ (o : Offer). (e : EntityUid) × IsIn parents q.resource e × (policy_of_uid b.resources e o.0 ≡ Some o.1))
     (lent c.args.found.now.items) (lent c.offer_above.new.found.items) (lent c.offer_above-2.new.found.items)
     c.in_ok-offer_above.ensures c.in_ok-offer_above-2.ensures

@@ -6,7 +6,7 @@ use Rattle.values.specs.declared.entity_uid.EntityUid.{EntityUid}
 use Rattle.ancestor_search.specs.Hierarchy.{names}
 use Rattle.ancestor_search.specs.Deciding.{Contains-none}
 use Rattle.scope_index.specs.Keys.{lent}
-use Rattle.scope_index.specs.Buckets.{held_under}
+use Rattle.scope_index.specs.Buckets.{policy_of_uid}
 use Rattle.scope_index.proofs.Offering.{Offers, in_turn, said_as, nothing_more, one_entity_more}
 use Rattle.scope_index.proofs.candidates.offer_each.Goals as goal
 
@@ -21,13 +21,13 @@ loop-entity-preserved c =
     let so_far = take k c.args.entities.now in
     let more : take (k + 1) c.args.entities.now ≡ so_far ++ x ∷ [] =
     take_more c.args.entities.now k x c.loop-entity-test.true ∙ ap (λ y. so_far ++ y ∷ []) (sym c.entity-item.is) in
-    subst (λ (us : List (Bor EntityUid)). Offers (λ o. (e : EntityUid) × Contains (names us) e × (held_under c.args.under.now e o.0 ≡ Some o.1)) before (lent c.offer_under.new.found.items)) (sym more)
-    (said_as _ (λ o. (e : EntityUid) × Contains (names (so_far ++ x ∷ [])) e × (held_under c.args.under.now e o.0 ≡ Some o.1))
-    before (lent c.offer_under.new.found.items) (one_entity_more (λ e o. held_under c.args.under.now e o.0 ≡ Some o.1) so_far x)
-    (in_turn (λ o. (e : EntityUid) × Contains (names so_far) e × (held_under c.args.under.now e o.0 ≡ Some o.1)) (λ o. held_under c.args.under.now x.now o.0 ≡ Some o.1)
+    subst (λ (us : List (Bor EntityUid)). Offers (λ o. (e : EntityUid) × Contains (names us) e × (policy_of_uid c.args.under.now e o.0 ≡ Some o.1)) before (lent c.offer_under.new.found.items)) (sym more)
+    (said_as _ (λ o. (e : EntityUid) × Contains (names (so_far ++ x ∷ [])) e × (policy_of_uid c.args.under.now e o.0 ≡ Some o.1))
+    before (lent c.offer_under.new.found.items) (one_entity_more (λ e o. policy_of_uid c.args.under.now e o.0 ≡ Some o.1) so_far x)
+    (in_turn (λ o. (e : EntityUid) × Contains (names so_far) e × (policy_of_uid c.args.under.now e o.0 ≡ Some o.1)) (λ o. policy_of_uid c.args.under.now x.now o.0 ≡ Some o.1)
     before (lent c.loop-entity.found.items) (lent c.offer_under.new.found.items) c.loop-entity.invariant c.in_ok-offer_under.ensures))
 
 pub returns : goal.returns
 returns c =
-    subst (λ (us : List (Bor EntityUid)). Offers (λ o. (e : EntityUid) × Contains (names us) e × (held_under c.args.under.now e o.0 ≡ Some o.1)) (lent c.args.found.now.items) (lent c.loop-entity.found.items))
+    subst (λ (us : List (Bor EntityUid)). Offers (λ o. (e : EntityUid) × Contains (names us) e × (policy_of_uid c.args.under.now e o.0 ≡ Some o.1)) (lent c.args.found.now.items) (lent c.loop-entity.found.items))
     (take_all c.loop-entity.entity-index c.args.entities.now c.loop-entity-test.false) c.loop-entity.invariant

@@ -4,7 +4,7 @@ use Rattle.std.proofs.lemmas.Map.Text.{btree_map_updates_text}
 use Rattle.policy_grammar.specs.declared.policy.Policy.{Policy}
 use Rattle.policy_grammar.specs.declared.policy.Scope.{Scope}
 use Rattle.scope_index.specs.Keys.{index_key}
-use Rattle.scope_index.specs.Buckets.{TurnsAt, AreSame}
+use Rattle.scope_index.specs.Buckets.{IsSetAtKey, AreSame}
 use Rattle.scope_index.proofs.Filing.{entered, undone, still_filed, on_ok, on_err, of_ok, of_err, let_in}
 use Rattle.scope_index.proofs.entries.enter.Goals as goal
 
@@ -16,10 +16,10 @@ returns-else-is_err-clause-filed c =
     let at = let_in c.args.kept.now.entries c.insert.new.self.entries c.args.own.0 c.args.id.now c.args.own.1 p c.requires.own_id c.requires.own_share
     (btree_map_updates_text (string_bytes c.args.own.0) c.args.kept.now c.insert.new.self (Some c.args.own.1) c.in_ok-insert.ensures.updates) in
     let put = of_ok c.put-filed.result _ (sym c.if-is_err.ensures.value) c.put-filed.ensures.ok in
-    let by_scope = subst (λ (s : Scope). TurnsAt (index_key s) (string_bytes c.args.second.0) (Some c.args.second.1) b b') c.get.ensures put in
-    let turns : TurnsAt (index_key p.scope) c.args.id.now (Some p) b b' =
-    subst (λ (x : Policy). TurnsAt (index_key p.scope) c.args.id.now (Some x) b b') c.requires.second_share
-    (subst (λ i. TurnsAt (index_key p.scope) i (Some c.args.second.1) b b') c.requires.second_id by_scope) in
+    let by_scope = subst (λ (s : Scope). IsSetAtKey (index_key s) (string_bytes c.args.second.0) (Some c.args.second.1) b b') c.get.ensures put in
+    let turns : IsSetAtKey (index_key p.scope) c.args.id.now (Some p) b b' =
+    subst (λ (x : Policy). IsSetAtKey (index_key p.scope) c.args.id.now (Some x) b b') c.requires.second_share
+    (subst (λ i. IsSetAtKey (index_key p.scope) i (Some c.args.second.1) b b') c.requires.second_id by_scope) in
     entered c.args.kept.now.entries c.insert.new.self.entries b b' c.args.id.now c.requires.filed p c.requires.absent at turns
 
 pub returns-else-is_err-clause-ok : goal.returns-else-is_err-clause-ok

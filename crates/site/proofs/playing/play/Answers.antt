@@ -2,7 +2,7 @@ use Rattle.std.proofs.Common.{◌≡◌, ◌+◌, ◌++◌, ◌∷◌, [], sym, 
 use Rattle.std.proofs.lemmas.List.{take_more}
 use Rattle.site.specs.declared.event.Event.{Event}
 use Rattle.site.specs.declared.event.EventReply.{EventReply}
-use Rattle.site.specs.Played.{IsPlayed}
+use Rattle.site.specs.Played.{IsRunTo}
 use Rattle.site.proofs.Played.{played_next}
 use Rattle.site.proofs.playing.play.Goals as goal
 
@@ -19,8 +19,8 @@ loop-event-preserved c =
     ∙ ap (λ (x : Event). take before.event-index events ++ x ∷ []) (sym c.event-item.is) in
     record {
       played = λ schema names shown.
-          subst (λ (es : List Event). IsPlayed schema names es c.push.new.self.items sites messages summaries) (sym first)
-          (subst (λ (rs : List EventReply). IsPlayed schema names (take before.event-index events ++ event ∷ []) rs sites messages summaries) (sym {A = List EventReply} c.in_ok-push.ensures.items)
+          subst (λ (es : List Event). IsRunTo schema names es c.push.new.self.items sites messages summaries) (sym first)
+          (subst (λ (rs : List EventReply). IsRunTo schema names (take before.event-index events ++ event ∷ []) rs sites messages summaries) (sym {A = List EventReply} c.in_ok-push.ensures.items)
           (played_next schema names (take before.event-index events) before.replies.items before.sites.items sites before.messages.items messages before.summaries.items summaries
           event c.in_ok-play_one.field-0 (before.invariant.played schema names shown) c.in_ok-play_one.ensures));
     }

@@ -9,7 +9,7 @@ pub returns-clause-entities : goal.returns-clause-entities
 returns-clause-entities g c = λ r s es fs one. one_entities (g.R.Readings.reads_entity r) one s es fs
 
 pub returns-clause-policy : goal.returns-clause-policy
-returns-clause-policy g c = λ r s ps one. policy_said (g.R.Readings.reads_policy r) one c.contents_are_told.ensures.policies s ps
+returns-clause-policy g c = λ r s ps one. policy_said (g.R.Readings.reads_policy r) one c.contents_are_the_texts.ensures.policies s ps
 
 pub returns-clause-entity : goal.returns-clause-entity
 returns-clause-entity g c = λ r s es one. entity_said (g.R.Readings.reads_entity r) one s es

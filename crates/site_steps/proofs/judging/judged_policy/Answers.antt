@@ -1,7 +1,7 @@
 use Rattle.site_store.specs.schema.Views.{schema_view}
 use Rattle.std.proofs.lemmas.Result.{IfOk-weaker}
 use Rattle.site_steps.specs.Admitted.{bad_id}
-use Rattle.site_steps.proofs.JudgingLemmas.{judged_by}
+use Rattle.site_steps.proofs.JudgingLemmas.{judged_by, not_read}
 use Rattle.site_steps.proofs.judging.judged_policy.Goals as goal
 
 pub returns-then-not-is_id-clause-refused : goal.returns-then-not-is_id-clause-refused
@@ -14,3 +14,8 @@ returns-in-Ok-clause-judged c =
     c.is_impossible-verdict.result c.copy_text-text.result j.body j.impossible (c.is_id.ensures.0 c.if-not-is_id.false)
     c.in-Ok.ensures.read c.is_impossible-verdict.ensures.passes c.copy_text-text.ensures h.0 h.1 h.3)
     c.with_verdict.ensures.all
+
+pub returns-in-Err-clause-refused : goal.returns-in-Err-clause-refused
+returns-in-Err-clause-refused c =
+    not_read (schema_view c.args.schema.now) c.args.id.now c.args.text.now (c.is_id.ensures.0 c.if-not-is_id.false) c.from.result
+    c.in-Err.fault c.in-Err.ensures.refused c.from.ensures

@@ -38,7 +38,7 @@ returns-clause-some c = λ bytes schema stated n s i held.
       greatest = c.updates_have_one_store.ensures.greatest;
       own = c.updates_have_one_store.ensures.own;
       reached = c.stamps_are_issued.ensures.reached;
-      entities = c.contents_are_told.ensures.entities;
+      entities = c.contents_are_the_texts.ensures.entities;
     } in
     let law : LawsOfSome w = record {
       checks = c.policies_have_one_outcome.ensures.one;

@@ -1,6 +1,6 @@
 use Rattle.std.proofs.Common.{ap, sym, subst, Option}
 use Rattle.std.specs.Prelude.{IfSome}
-use Rattle.ancestor_closure.specs.declared.keeping.AncestorCache.{AncestorCache}
+use Rattle.ancestor_closure.specs.declared.ancestor_cache.AncestorCache.{AncestorCache}
 use Rattle.scope_index.specs.policy_grammar.declared.policy.Policy.{Policy}
 use Rattle.site_meaning.specs.schema.Views.{schema_view}
 use Rattle.site_meaning.specs.entity_data.declared.entity.Entity.{Entity}

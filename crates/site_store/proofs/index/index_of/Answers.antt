@@ -9,7 +9,7 @@ use Rattle.stamped_store.specs.declared.entry.Entry.{Entry}
 use Rattle.std.specs.Str.{bytes_eq}
 use Rattle.scope_index.specs.Keys.{kept_at}
 use Rattle.site_store.specs.Indexed.{policy_in, AreIndexed, PolicyEntries}
-use Rattle.site_store.specs.inner.IndexFollowing.{noted}
+use Rattle.site_store.specs.inner.IndexUpdating.{noted}
 use Rattle.site_store.proofs.Follows.{one_entry_more, pushed, still_rest}
 use Rattle.site_store.proofs.index.index_of.Goals as goal
 

@@ -6,8 +6,8 @@ returns-clause-read c = message_read (record {
   facts = record {
     uids = c.names_read_back.ensures.found;
     names = c.stamps_read_back.ensures.names;
-    tested = c.site_names_are_told.ensures.tested;
-    digits = c.site_names_are_told.ensures.digits;
+    tested = c.site_names_are_recognized.ensures.tested;
+    digits = c.site_names_are_recognized.ensures.digits;
   };
   ascends = c.json_keys_ascend.ensures;
   entities = c.entities_are_read_as_stated.ensures.read;
@@ -22,8 +22,8 @@ returns-clause-one c = message_outcome (record {
   facts = record {
     uids = c.names_read_back.ensures.found;
     names = c.stamps_read_back.ensures.names;
-    tested = c.site_names_are_told.ensures.tested;
-    digits = c.site_names_are_told.ensures.digits;
+    tested = c.site_names_are_recognized.ensures.tested;
+    digits = c.site_names_are_recognized.ensures.digits;
   };
   ascends = c.json_keys_ascend.ensures;
   entities = c.entities_are_read_as_stated.ensures.read;

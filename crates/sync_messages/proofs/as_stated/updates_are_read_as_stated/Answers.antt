@@ -5,22 +5,22 @@ pub returns-clause-read : goal.returns-clause-read
 returns-clause-read c = updates_given (record {
   uids = c.names_read_back.ensures.found;
   names = c.stamps_read_back.ensures.names;
-  tested = c.site_names_are_told.ensures.tested;
-  digits = c.site_names_are_told.ensures.digits;
+  tested = c.site_names_are_recognized.ensures.tested;
+  digits = c.site_names_are_recognized.ensures.digits;
 }) c.json_keys_ascend.ensures
 
 pub returns-clause-one : goal.returns-clause-one
 returns-clause-one c = updates_outcome (record {
   uids = c.names_read_back.ensures.found;
   names = c.stamps_read_back.ensures.names;
-  tested = c.site_names_are_told.ensures.tested;
-  digits = c.site_names_are_told.ensures.digits;
+  tested = c.site_names_are_recognized.ensures.tested;
+  digits = c.site_names_are_recognized.ensures.digits;
 }) c.json_keys_ascend.ensures
 
 pub returns-clause-written : goal.returns-clause-written
 returns-clause-written c = updates_written (record {
   uids = c.names_read_back.ensures.found;
   names = c.stamps_read_back.ensures.names;
-  tested = c.site_names_are_told.ensures.tested;
-  digits = c.site_names_are_told.ensures.digits;
+  tested = c.site_names_are_recognized.ensures.tested;
+  digits = c.site_names_are_recognized.ensures.digits;
 }) c.json_keys_ascend.ensures

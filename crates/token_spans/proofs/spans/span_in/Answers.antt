@@ -11,7 +11,7 @@ returns-in-Some c =
       derives = at_some _ _ _ _ c.in-Some.is c.in_ok-read.ensures;
       tokens = c.args.tokens.now;
       lexed = c.requires;
-      covers = c.covered.ensures ∙ ap (option_and_then covering) c.written_at.ensures;
+      covers = c.covered-span.ensures ∙ ap (option_and_then covering) c.chosen.ensures;
     })
 
 pub returns-in-None : goal.returns-in-None

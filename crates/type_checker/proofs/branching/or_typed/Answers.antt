@@ -1,5 +1,5 @@
 use Rattle.std.proofs.Common.{IfOk, subst, ◌∙◌}
-use Rattle.typing.specs.Learned.{OrLearns}
+use Rattle.typing.specs.Gained.{OrGains}
 use Rattle.typing.specs.Rows as rows
 use Rattle.typing.specs.Faults as faults
 use Rattle.type_checker.specs.Views.{boolean_view}
@@ -15,7 +15,7 @@ pub returns-in-Ok-learns : goal.returns-in-Ok-learns
 returns-in-Ok-learns c = λ env K after a b h g.
     let t = typed_so env K after b c.in-Ok.is g in
     let r = c.in-Some.truth in
-    let learns = subst (λ ps. IfOk ps (λ both. OrLearns (boolean_view r) (pairs c.args.left.items)
+    let learns = subst (λ ps. IfOk ps (λ both. OrGains (boolean_view r) (pairs c.args.left.items)
     (pairs c.in-Ok.right.learns.items) (pairs both.items))) c.in-Ok-learns.is c.or_learns-learns.ensures in
     (t.0, or_judged env K after a b r h t.1 c.in-Some.ensures (c.boolean.ensures ∙ c.or_truth.ensures) learns)
 

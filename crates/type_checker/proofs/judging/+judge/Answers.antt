@@ -12,8 +12,8 @@ use Rattle.type_checker.specs.Views.{static_view, boolean_view, typing_environme
 use Rattle.type_capabilities.specs.Pairs.{pairs}
 use Rattle.type_checker.proofs.Carrying.{typed_so, has_kind, faulty_so, plain_judged, moved, behind_moved, at_form}
 use Rattle.type_checker.proofs.Carrying.{false_so, then_so, then_faulty}
-use Rattle.typing.specs.Literals.{Settled, IsUnsettled}
-use Rattle.type_checker.specs.inner.Judged.{Judged, JudgedBehind, JudgedEach}
+use Rattle.typing.specs.Literals.{DecidedByLiterals, UndecidedByLiterals}
+use Rattle.type_checker.specs.inner.Judged.{Judged, JudgedUnder, JudgedEach}
 use Rattle.type_checker.proofs.AskedLemmas.{asked_so, behind_nothing}
 use Rattle.type_checker.proofs.Each.{behind_judged, stands_at, stops_at, goes_on}
 use Rattle.type_checker.proofs.Members.{none_yet, member_stops, member_more, member_again}
@@ -48,11 +48,11 @@ second_called-returns-in-Err level c = λ K a h m.
     faults.fault_in_operand (faults.of_binary_call c.args.called a c.args.right.now)
     (faults.fault_here (faulty_so E K c.args.known.now a c.in-Err.is h m))
 
-pub second_conjunct-returns-then-not-is_looked_at : goal.second_conjunct-returns-then-not-is_looked_at
-second_conjunct-returns-then-not-is_looked_at level c = λ K a h.
+pub second_conjunct-returns-then-not-is_right_checked : goal.second_conjunct-returns-then-not-is_right_checked
+second_conjunct-returns-then-not-is_right_checked level c = λ K a h.
     let E = typing_environment c.args.env in
     let b = c.args.right.now in
-    let n = λ (m : rows.MayBeTrue (boolean_view c.in-Some.truth)). false≢true (sym c.if-not-is_looked_at.true ∙ c.is_looked_at.ensures.1 m) in
+    let n = λ (m : rows.MayBeTrue (boolean_view c.in-Some.truth)). false≢true (sym c.if-not-is_right_checked.true ∙ c.is_right_checked.ensures.1 m) in
     let t = has_kind E K _ a c.in-Ok.is (c.in-Some.ensures ∙ false_so c.in-Some.truth n) h in
     plain_judged E K _ (form.And a b) c.plain.result (ap static_view c.plain.ensures.kind ∙ c.boolean.ensures) c.plain.ensures.learns t.0
     (typing.and_of_false a b t.1)
@@ -62,8 +62,8 @@ second_conjunct-returns-in-Some level c = λ K a h.
     let E = typing_environment c.args.env in
     let b = c.args.right.now in
     let t = has_kind E K _ a c.in-Ok.is c.in-Some.ensures h in
-    let m = c.is_looked_at.ensures.0 c.if-not-is_looked_at.false in
-    c.and_typed.ensures E K _ _ a b t.1 m (behind_moved E b _ _ _ t.0 c.type_behind-right.ensures)
+    let m = c.is_right_checked.ensures.0 c.if-not-is_right_checked.false in
+    c.and_typed.ensures E K _ _ a b t.1 m (behind_moved E b _ _ _ t.0 c.type_under_gained-right.ensures)
 
 pub second_conjunct-returns-in-Ok : goal.second_conjunct-returns-in-Ok
 second_conjunct-returns-in-Ok level c = λ K a h n.
@@ -112,14 +112,14 @@ type_then-returns-in-Some-True level c = λ K a h.
     let E = typing_environment c.args.env in
     let b = c.args.consequent.now in
     let t = has_kind E K _ a c.in-Ok.is (c.in-Some-True.ensures ∙ ap boolean_view c.in-Some-True.field-0-is) h in
-    then_only E K _ _ a b _ _ c.only.ensures t.1 (behind_moved E b _ _ _ t.0 c.type_behind.ensures)
+    then_only E K _ _ a b _ _ c.only.ensures t.1 (behind_moved E b _ _ _ t.0 c.type_under_gained.ensures)
 
 pub type_then-returns-in-Some-Either : goal.type_then-returns-in-Some-Either
 type_then-returns-in-Some-Either level c = λ K a h.
     let E = typing_environment c.args.env in
     let b = c.args.consequent.now in
     let t = has_kind E K _ a c.in-Ok.is (c.in-Some-Either.ensures ∙ ap boolean_view c.in-Some-Either.field-0-is) h in
-    then_both E K _ _ a b _ _ c.both.ensures t.1 (behind_moved E b _ _ _ t.0 c.type_behind-in-Some-Either.ensures)
+    then_both E K _ _ a b _ _ c.both.ensures t.1 (behind_moved E b _ _ _ t.0 c.type_under_gained-in-Some-Either.ensures)
 
 pub type_then-returns-in-Some-False : goal.type_then-returns-in-Some-False
 type_then-returns-in-Some-False level c = λ K a h.
@@ -165,8 +165,8 @@ type_else-returns-in-Ok-Both level c = λ K a b h.
     let i = rw c.in-Ok-Both.field-0-is at t.1 in
     c.branches.ensures E K _ a b x i (moved E x _ _ t.0 (at_form E _ _ _ (sym c.get-in-Ok-Both.ensures) c.type_of-other.ensures))
 
-pub type_behind-returns-in-Ok : goal.type_behind-returns-in-Ok
-type_behind-returns-in-Ok level c =
+pub type_under_gained-returns-in-Ok : goal.type_under_gained-returns-in-Ok
+type_under_gained-returns-in-Ok level c =
     let E = typing_environment c.args.env in
     let x = c.args.expr.now in
     let K = c.args.known.now in
@@ -174,9 +174,9 @@ type_behind-returns-in-Ok level c =
     let M = c.type_of-typed.new.known in
     let j = subst (λ N. Judged E N x c.type_of-typed.result M) c.in-Ok.ensures
     (at_form E _ _ _ (sym c.get.ensures) c.type_of-typed.ensures) in
-    subst (λ N. JudgedBehind E K (pairs ls) x c.learned_too.result N)
-    (sym (c.forget_above.ensures ∙ ap (λ n. take n M) c.len-height.ensures))
-    (behind_judged E x K ls M _ _ j c.learned_too.ensures)
+    subst (λ N. JudgedUnder E K (pairs ls) x c.gained_too.result N)
+    (sym (c.truncate_to.ensures ∙ ap (λ n. take n M) c.len-height.ensures))
+    (behind_judged E x K ls M _ _ j c.gained_too.ensures)
 
 pub type_and-returns-in-Some : goal.type_and-returns-in-Some
 type_and-returns-in-Some level c =
@@ -190,11 +190,11 @@ type_and-returns-in-Some level c =
     let n = c.in-Some.name.now in
     let q = c.in-Some.ensures in
     let test = sym c.get-in-Binary.ensures ∙ (q.0 ∙ ap (λ z. form.Unary (Is n) z) c.get-in-Binary-2.ensures) in
-    let free = subst (λ z. IsUnsettled E op z y) c.get-in-Binary-2.ensures
-    (subst (λ z. IsUnsettled E op c.get-in-Binary-2.result.now z) c.get-in-Binary-3.ensures q.2) in
+    let free = subst (λ z. UndecidedByLiterals E op z y) c.get-in-Binary-2.ensures
+    (subst (λ z. UndecidedByLiterals E op c.get-in-Binary-2.result.now z) c.get-in-Binary-3.ensures q.2) in
     let f = asked_so E K _ a x n c.type_of-test.result test q.1 (at_form E K _ _ (sym c.get.ensures) c.type_of-test.ensures) in
     let last = moved E y _ _ f.same (at_form E _ _ _ (sym c.get-in-Some.ensures) c.type_of-other.ensures) in
-    let second = c.again_typed-right.ensures K f.learned _ x y free f.has_type last in
+    let second = c.repeated_operand_typed-right.ensures K f.learned _ x y free f.has_type last in
     c.and_typed.ensures E K [] _ a b f.is_true rows.surely
     (behind_nothing E K _ b _ (at_form E K _ _ (sym c.get-2.ensures ∙ c.in-Binary.is) second))
 
@@ -223,8 +223,8 @@ type_binary-returns-in-Some level c =
     let op = c.args.operator in
     let a = c.args.left.now in
     let b = c.args.right.now in
-    let s = subst (λ x. Settled E op x b c.in-Some.truth) c.get.ensures
-    (subst (λ y. Settled E op c.get.result.now y c.in-Some.truth) c.get-2.ensures c.in-Some.ensures) in
+    let s = subst (λ x. DecidedByLiterals E op x b c.in-Some.truth) c.get.ensures
+    (subst (λ y. DecidedByLiterals E op c.get.result.now y c.in-Some.truth) c.get-2.ensures c.in-Some.ensures) in
     plain_judged E K K (form.Binary op a b) c.plain.result
     (ap static_view c.plain.ensures.kind ∙ (c.boolean.ensures ∙ c.truth_type.ensures))
     c.plain.ensures.learns refl (typing.types_settled op a b s)
@@ -236,8 +236,8 @@ type_binary-returns-in-None level c =
     let op = c.args.operator in
     let a = c.args.left.now in
     let b = c.args.right.now in
-    let s = subst (λ x. IsUnsettled E op x b) c.get.ensures
-    (subst (λ y. IsUnsettled E op c.get.result.now y) c.get-2.ensures c.in-None.ensures) in
+    let s = subst (λ x. UndecidedByLiterals E op x b) c.get.ensures
+    (subst (λ y. UndecidedByLiterals E op c.get.result.now y) c.get-2.ensures c.in-None.ensures) in
     c.second_operand.ensures K a s (at_form E K _ _ (sym c.get-in-None.ensures) c.type_of-left.ensures)
 
 pub type_of-returns-in-Literal : goal.type_of-returns-in-Literal

@@ -20,8 +20,8 @@ invariant-types_of_fields-loop-field l =
 abbrev pub decreases-type_of : goal.decreases-type_of
 decreases-type_of l = 4 * goal.size-type_of l + 0
 
-abbrev pub decreases-type_behind : goal.decreases-type_behind
-decreases-type_behind l = 4 * goal.size-type_behind l + 1
+abbrev pub decreases-type_under_gained : goal.decreases-type_under_gained
+decreases-type_under_gained l = 4 * goal.size-type_under_gained l + 1
 
 abbrev pub decreases-second_conjunct : goal.decreases-second_conjunct
 decreases-second_conjunct l = 4 * goal.size-second_conjunct l + 2

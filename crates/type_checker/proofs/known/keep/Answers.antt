@@ -1,7 +1,7 @@
 use Rattle.std.proofs.Common.{◌∷◌, [], ◌++◌, sym, subst, ◌∙◌}
 use Rattle.std.proofs.lemmas.Bool.{false≢true}
 use Rattle.std.proofs.lemmas.List.{map-append}
-use Rattle.typing.specs.Learned.{InBoth}
+use Rattle.typing.specs.Gained.{InBoth}
 use Rattle.type_capabilities.specs.Pairs.{pair_of, pairs}
 use Rattle.type_checker.proofs.Learning.{one_more_kept, one_more_dropped}
 use Rattle.type_checker.proofs.known.keep.Goals as goal

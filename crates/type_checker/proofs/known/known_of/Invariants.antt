@@ -1,5 +1,5 @@
 use Rattle.std.proofs.Common.{take}
-use Rattle.typing.specs.Learned.{InBoth}
+use Rattle.typing.specs.Gained.{InBoth}
 use Rattle.type_capabilities.specs.Pairs.{pairs}
 use Rattle.type_checker.proofs.known.known_of.Given as goal
 

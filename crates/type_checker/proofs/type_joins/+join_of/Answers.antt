@@ -1,6 +1,6 @@
 use Rattle.std.proofs.Common.{◌≡◌, ◌+◌, ◌<◌, suc, sym, subst, arith}
 use Rattle.typing.specs.Types.{common}
-use Rattle.type_checker.specs.inner.Joins.{Tells}
+use Rattle.type_checker.specs.inner.Joins.{DescribesCommon}
 use Rattle.type_checker.specs.inner.Parts.{part_view, fields_view, fields_count}
 use Rattle.type_checker.specs.declared.type_joins.Join.TheVariants as join
 use Rattle.type_checker.proofs.CommonFields.{both_at, pair_lighter, step_none, step_apart, is_there}
@@ -39,7 +39,7 @@ join_of_fields-returns-then-is_apart t c =
     c.loop-at.invariant join.Apart
     (both_at (fields_view c.args.left) (fields_view c.args.right) c.loop-at.at c.get.result c.get-in-loop-at.result _ c.get.ensures c.get-in-loop-at.ensures
     (step_none c.get.result c.get-in-loop-at.result c.in-Some.pair _ _ (sym c.in-Some.ensures)
-    (subst (λ j. Tells j (part_view c.in-Some.pair.left) (common (part_view c.in-Some.pair.left) (part_view c.in-Some.pair.right))) apart
+    (subst (λ j. DescribesCommon j (part_view c.in-Some.pair.left) (common (part_view c.in-Some.pair.left) (part_view c.in-Some.pair.right))) apart
     c.join_of-more.ensures)))
 
 pub join_of_fields-loop-at-preserved : goal.join_of_fields-loop-at-preserved

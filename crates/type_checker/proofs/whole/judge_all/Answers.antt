@@ -16,8 +16,8 @@ loop-part-init c =
     let whole = joined c.args.parts.now c.args.last.now in
     subst (λ K. Leads E None K whole whole) (sym c.new-known.ensures) (leads_itself E whole)
 
-pub returns-then-not-is_looked_at-clause-typed : goal.returns-then-not-is_looked_at-clause-typed
-returns-then-not-is_looked_at-clause-typed c =
+pub returns-then-not-is_right_checked-clause-typed : goal.returns-then-not-is_right_checked-clause-typed
+returns-then-not-is_right_checked-clause-typed c =
     let E = typing_environment c.args.env in
     let xs = c.args.parts.now in
     let x = c.part-item.result in
@@ -29,7 +29,7 @@ returns-then-not-is_looked_at-clause-typed c =
     let t = c.in-Ok.ensures in
     let h = at_part E s K xs last whole i x c.loop-part-test.true c.part-item.is c.loop-part.invariant in
     let b = c.in-Ok.truth in
-    let n = λ (m : MayBeTrue (boolean_view b)). false≢true (sym c.if-not-is_looked_at.true ∙ c.is_looked_at.ensures.1 m) in
+    let n = λ (m : MayBeTrue (boolean_view b)). false≢true (sym c.if-not-is_right_checked.true ∙ c.is_right_checked.ensures.1 m) in
     let g = subst (λ u. Types E K x u t.0) (false_so b n) t.1 in
     let w = leads_to_false E s K t.0 x (joined (drop (i + 1) xs) last) whole h g in
     (w.0, subst (λ u. Types E [] whole u w.0) (sym c.boolean.ensures) w.1)
@@ -48,7 +48,7 @@ loop-part-preserved c =
     let t = c.in-Ok.ensures in
     let b = c.in-Ok.truth in
     let h = at_part E s K xs last whole i x c.loop-part-test.true c.part-item.is c.loop-part.invariant in
-    let m = c.is_looked_at.ensures.0 c.if-not-is_looked_at.false in
+    let m = c.is_right_checked.ensures.0 c.if-not-is_right_checked.false in
     let w = leads_on E s K t.0 x rest whole (boolean_view b) h t.1 m in
     subst (λ o. Leads E o c.left_type.new.known rest whole) (sym c.and_one_more-so_far.ensures)
     (subst (λ M. Leads E (Some (and_so_far s (boolean_view b))) M rest whole) (sym t.2) w)

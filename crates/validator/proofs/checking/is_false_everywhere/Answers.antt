@@ -1,4 +1,4 @@
-use Rattle.std.proofs.Common.{Ok, Err}
+use Rattle.std.proofs.Common.{Ok, Err, ◌&&◌, refl}
 use Rattle.std.proofs.lemmas.Result.{err_from_is_err_and}
 use Rattle.type_checker.specs.schema.Views.{schema_view}
 use Rattle.type_checker.specs.policy_grammar.Whole.{expression_of}
@@ -14,8 +14,8 @@ returns-in_err-is_false c =
 pub loop-environment-preserved : goal.loop-environment-preserved
 loop-environment-preserved c = λ r h.
     c.loop-environment.invariant r (environment_next (expression_of c.args.policy.now) (schema_view c.args.schema.now) c.args.environments.now
-    c.loop-environment.environment-index c.environment-item.result c.loop-environment-test.true c.environment-item.is c.loop-environment.all_false c.in_ok-is_false.is_false c.both-all_false.result
-    c.both-all_false.ensures c.in_ok-is_false.ensures r h)
+    c.loop-environment.environment-index c.environment-item.result c.loop-environment-test.true c.environment-item.is c.loop-environment.all_false c.in_ok-is_false.is_false
+    (c.loop-environment.all_false && c.in_ok-is_false.is_false) refl c.in_ok-is_false.ensures r h)
 
 pub returns : goal.returns
 returns c = c.loop-environment.invariant (Ok c.loop-environment.all_false) (environments_end (expression_of c.args.policy.now) (schema_view c.args.schema.now) c.args.environments.now

@@ -3,7 +3,7 @@ use Rattle.std.proofs.lemmas.Result.{IfOk-weaker}
 use Rattle.ancestor_search.specs.Hierarchy.{Parents, AreOnCycles, names}
 use Rattle.ancestor_search.specs.LeastCycle.{HasNoCycle}
 use Rattle.ancestor_search.specs.Search.{parents_of}
-use Rattle.ancestor_closure.specs.Kept.{IsCacheOf}
+use Rattle.ancestor_closure.specs.CacheOf.{IsCacheOf}
 use Rattle.ancestor_closure.specs.ClosedMeaning.{closed_parents}
 use Rattle.ancestor_closure.proofs.Pairs.{closed_is}
 use Rattle.ancestor_closure.proofs.closed.ClosedAncestry.cyclic.Goals as goal

@@ -8,8 +8,8 @@ use Rattle.entity_data.proofs.world.EntitiesAncestry.cyclic.Goals as goal
 
 pub returns-clause-all : goal.returns-clause-all
 returns-clause-all g c =
-    let declared = g.A.ActionSource.declared c.self.inside.alone.actions in
-    let kept = g.S.EntitySource.kept c.self.inside.alone.source.now in
+    let declared = g.A.ActionSource.declared c.self.inside.stored_edges.actions in
+    let kept = g.S.EntitySource.kept c.self.inside.stored_edges.source.now in
     subst (λ w. IfOk c.on_cycles.result (λ found. AreOnCycles (all_edges (g.A.ActionSource.declared w.1) (g.S.EntitySource.kept w.0)) (names found.items))) c.self.view_is
     (IfOk-weaker c.on_cycles.result (λ found. AreOnCycles (entity_edges declared kept) (names found.items)) (λ found. AreOnCycles (all_edges declared kept) (names found.items))
-    (λ found. cycles_are_whole declared c.are_apart.ensures kept (names found.items)) c.on_cycles.ensures.all)
+    (λ found. cycles_are_whole declared c.are_a_hierarchy.ensures kept (names found.items)) c.on_cycles.ensures.all)

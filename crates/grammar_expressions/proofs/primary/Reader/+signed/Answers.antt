@@ -1,7 +1,7 @@
 use Rattle.std.proofs.Common.{◌≡◌, ap, rules, arith}
 use Rattle.std.proofs.lemmas.Grind.{common_steps}
 use Rattle.grammar_expressions.specs.Expressions.{is_positive}
-use Rattle.grammar_expressions.specs.ExpressionReading as spec
+use Rattle.grammar_expressions.specs.ExpressionParsing as spec
 use Rattle.grammar_expressions.specs.inner.Prefixes.{kind_of, under}
 use Rattle.grammar_trees.proofs.of_grammar_tokens.Gathered.{deeper, instead}
 use Rattle.grammar_expressions.proofs.primary.Reader.+signed.Goals as goal

@@ -1,5 +1,5 @@
 use Rattle.grammar_expressions.specs.Expressions.{is_positive}
-use Rattle.grammar_expressions.specs.ExpressionReading as spec
+use Rattle.grammar_expressions.specs.ExpressionParsing as spec
 use Rattle.grammar_trees.proofs.of_grammar_tokens.Gathered.{instead}
 use Rattle.grammar_expressions.proofs.Tails.{related_joins}
 use Rattle.grammar_expressions.proofs.primary.Reader.related.Goals as goal

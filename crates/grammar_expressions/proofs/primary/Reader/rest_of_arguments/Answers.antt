@@ -1,6 +1,6 @@
 use Rattle.std.proofs.Common.{rules}
 use Rattle.grammar_expressions.specs.Expressions.{is_positive}
-use Rattle.grammar_expressions.specs.ExpressionReading as spec
+use Rattle.grammar_expressions.specs.ExpressionParsing as spec
 use Rattle.grammar_expressions.proofs.primary.Reader.rest_of_arguments.Goals as goal
 
 pub returns : goal.returns

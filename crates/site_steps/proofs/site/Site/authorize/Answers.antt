@@ -6,6 +6,7 @@ use Rattle.site_store.specs.schema.Views.{IsStated, schema_view}
 use Rattle.site_store.specs.site_meaning.StoreMeaning.{IsAnswerOver}
 use Rattle.site_steps.specs.Admitted.{IsPolicyUnder, IsEntityUnder, IsRequestOf}
 use Rattle.site_steps.specs.SiteViews.{SiteView, schema_of, store_in}
+use Rattle.site_steps.proofs.UnderSchema.{texts_of}
 use Rattle.site_steps.proofs.site.Site.authorize.Goals as goal
 
 pub returns-clause-answers : goal.returns-clause-answers
@@ -17,7 +18,7 @@ returns-clause-answers c =
     subst (λ (v : SiteView). (q : Request) × IsRequestOf (schema_of v) json q × IsAnswerOver (IsPolicyUnder (schema_of v)) (IsEntityUnder (schema_of v)) (schema_of v) (store_in v) q a) c.self.view_is (
       q,
       subst (λ (x : SchemaEntries). IsRequestOf (schema_view x) json q) c.schema-schema.ensures c.in_ok-request.ensures.stated,
-      c.in_ok-answered.ensures c.self.invariant.held,
+      c.in_ok-answered.ensures (texts_of c.self.inside.store.schema) c.self.invariant.held,
     )
 
 pub returns-clause-right : goal.returns-clause-right
@@ -29,4 +30,4 @@ returns-clause-right c =
     let is = subst (λ (x : SchemaEntries). IsStated x) c.schema-schema.ensures c.is_stated.ensures in
     let asked = subst (λ (x : SchemaEntries). IsRequestOf (schema_view x) json q) c.schema-schema.ensures c.in_ok-request.ensures.stated in
     c.stored_answers_are_sound.ensures.answers is.0 schema is.1 _ (view c.args.json.now) q asked a
-    (c.in_ok-answered.ensures c.self.invariant.held)
+    (c.in_ok-answered.ensures (texts_of c.self.inside.store.schema) c.self.invariant.held)

@@ -3,14 +3,15 @@ use Rattle.std.proofs.lemmas.Result.{IfOk-weaker}
 use Rattle.site_store.specs.site_meaning.StoreMeaning.{MakesCycle, MakesNoCycle}
 use Rattle.site_steps.specs.Admitted.{IsEntityUnder}
 use Rattle.site_steps.specs.SiteViews.{SiteView, schema_of, store_in}
+use Rattle.site_steps.proofs.UnderSchema.{texts_of}
 use Rattle.site_steps.proofs.site.Site.makes_cycle.Goals as goal
 
 pub returns-clause-yes : goal.returns-clause-yes
 returns-clause-yes c =
     subst (λ (v : SiteView). IfOk c.would_cycle.result (λ t. t ≡ true → MakesCycle (IsEntityUnder (schema_of v)) (schema_of v) (store_in v) c.args.entity.now)) c.self.view_is
-    (IfOk-weaker c.would_cycle.result _ _ (λ t h is. h is c.self.invariant.held) c.would_cycle.ensures.yes)
+    (IfOk-weaker c.would_cycle.result _ _ (λ t h is. h is (texts_of c.self.inside.store.schema) c.self.invariant.held) c.would_cycle.ensures.yes)
 
 pub returns-clause-no : goal.returns-clause-no
 returns-clause-no c =
     subst (λ (v : SiteView). IfOk c.would_cycle.result (λ t. t ≡ false → MakesNoCycle (IsEntityUnder (schema_of v)) (schema_of v) (store_in v) c.args.entity.now)) c.self.view_is
-    (IfOk-weaker c.would_cycle.result _ _ (λ t h is. h is c.self.invariant.held) c.would_cycle.ensures.no)
+    (IfOk-weaker c.would_cycle.result _ _ (λ t h is. h is (texts_of c.self.inside.store.schema) c.self.invariant.held) c.would_cycle.ensures.no)

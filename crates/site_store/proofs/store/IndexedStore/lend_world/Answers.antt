@@ -9,8 +9,8 @@ pub invariant_of-result : goal.invariant_of-result
 invariant_of-result c = record {
   beside = as_lent c.self.inside.schema c.get-schema.result.now c.get-schema.ensures c.self.inside.store c.self.inside.index
       c.self.inside.ancestors c.self.invariant;
-  store_is = ap (λ (w : Seen). w.0.store.now) c.world_under-searched.ensures ∙ c.requires ∙ sym (ap (λ (s : StoreView). s.kept) c.self.view_is);
-  schema_is = ap (λ (w : Seen). w.1) c.world_under-searched.ensures;
+  store_is = ap (λ (w : Seen). w.0.store.now) c.entity_data_under-searched.ensures ∙ c.requires ∙ sym (ap (λ (s : StoreView). s.kept) c.self.view_is);
+  schema_is = ap (λ (w : Seen). w.1) c.entity_data_under-searched.ensures;
 }
 
 pub returns : goal.returns

@@ -2,7 +2,7 @@ use Rattle.std.proofs.Common.{subst}
 use Rattle.std.specs.Prelude.{IfOk}
 use Rattle.std.proofs.lemmas.Result.{IfOk-weaker}
 use Rattle.ancestor_closure.specs.ancestor_search.Hierarchy.{Parents, AreOnCycles, names}
-use Rattle.ancestor_closure.specs.Kept.{IsCacheOf}
+use Rattle.ancestor_closure.specs.CacheOf.{IsCacheOf}
 use Rattle.site_store.specs.StoreViews.{world_stored}
 use Rattle.site_store.proofs.WorldSeen.{ancestors_kept, edges_searched}
 use Rattle.site_store.proofs.stored_world.StoredWorldAncestry.cyclic.Goals as goal

@@ -2,7 +2,7 @@ use Rattle.std.proofs.Common.{sym, subst, MatchOption}
 use Rattle.std.specs.Prelude.{IfOk}
 use Rattle.ancestor_closure.specs.ancestor_search.Hierarchy.{Parents, names}
 use Rattle.ancestor_closure.specs.ancestor_search.LeastCycle.{HasNoCycle, IsLeastCycle}
-use Rattle.ancestor_closure.specs.Kept.{IsCacheOf}
+use Rattle.ancestor_closure.specs.CacheOf.{IsCacheOf}
 use Rattle.site_store.proofs.WorldSeen.{ancestors_kept, edges_searched}
 use Rattle.site_store.proofs.stored_world.StoredWorldAncestry.least_cycle.Goals as goal
 

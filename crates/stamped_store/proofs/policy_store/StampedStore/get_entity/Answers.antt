@@ -7,7 +7,7 @@ use Rattle.stamped_store.proofs.Stores.{get-entity}
 use Rattle.stamped_store.proofs.policy_store.StampedStore.get_entity.Goals as goal
 
 pub returns-clause-kept : goal.returns-clause-kept
-returns-clause-kept g c = c.entity_at.ensures ∙ ap (λ s. value_at uid_cmp s.entities c.args.uid.now) c.self.view_is
+returns-clause-kept g c = c.get.ensures ∙ ap (λ s. value_at uid_cmp s.entities c.args.uid.now) c.self.view_is
 
 pub returns-clause-shown : goal.returns-clause-shown
 returns-clause-shown g c =

@@ -6,7 +6,7 @@ use Rattle.stamped_store.proofs.Stores.{get-policy}
 use Rattle.stamped_store.proofs.policy_store.StampedStore.get_policy.Goals as goal
 
 pub returns-clause-kept : goal.returns-clause-kept
-returns-clause-kept g c = c.policy_at.ensures ∙ ap (λ s. value_at_text s.policies c.args.id.now) c.self.view_is
+returns-clause-kept g c = c.get_str.ensures ∙ ap (λ s. value_at_text s.policies c.args.id.now) c.self.view_is
 
 pub returns-clause-shown : goal.returns-clause-shown
 returns-clause-shown g c =

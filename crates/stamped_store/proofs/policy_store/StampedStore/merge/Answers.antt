@@ -1,7 +1,7 @@
 use Rattle.std.proofs.Common.{◌≡◌, ◌∙◌, ap, subst, refl, take, ◌+◌, []}
 use Rattle.std.specs.String.{string_cmp}
 use Rattle.stamped_store.specs.EntryOrder.{greater}
-use Rattle.stamped_store.specs.Stored.{all_taken}
+use Rattle.stamped_store.specs.Stored.{all_joined}
 use Rattle.stamped_store.specs.Store.{kept, all_kept, first_kept, abstract_store, abstract_updates, updates}
 use Rattle.stamped_store.proofs.Stores.{counted_all, counted_anew}
 use Rattle.stamped_store.proofs.JoinedStores.{joined_whole, joined_first, kept_first_policies, kept_first_entities}
@@ -54,7 +54,7 @@ invariant_of-self-2 g c =
 pub returns-clause-ok_kept : goal.returns-clause-ok_kept
 returns-clause-ok_kept g c =
     ap (λ ps. kept ps c.merge-2.new.self) c.in_default.ensures.ok_entries
-    ∙ ap (kept (all_taken string_cmp greater c.self.inside.policies c.other.inside.policies)) c.in_default-merge.ensures.ok_entries
+    ∙ ap (kept (all_joined string_cmp greater c.self.inside.policies c.other.inside.policies)) c.in_default-merge.ensures.ok_entries
     ∙ ap (λ s. all_kept s (kept c.other.inside.policies c.other.inside.entities)) c.self.view_is
     ∙ ap (all_kept c.args.self.now) c.other.view_is
 

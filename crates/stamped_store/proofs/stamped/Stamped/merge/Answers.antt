@@ -1,9 +1,9 @@
 use Rattle.std.proofs.Common.{◌≡◌, sym, ap, subst, ◌∙◌, take, length, ◌++◌, ◌∷◌, [], arith, length-append, append_assoc, append-nil}
 use Rattle.std.specs.List.Sorted.{IsStrictlySortedBy}
 use Rattle.std.specs.Map.{keys_of}
-use Rattle.stamped_store.specs.Stored.{taken, all_taken, IsJoined}
+use Rattle.stamped_store.specs.Stored.{taken, all_joined, IsJoined}
 use Rattle.stamped_store.proofs.Lifted.{is_least-joined}
-use Rattle.stamped_store.proofs.Points.{is_joined-all_taken, is_joined-prefix, all_taken-push}
+use Rattle.stamped_store.proofs.Points.{is_joined-all_joined, is_joined-prefix, all_joined-push}
 use Rattle.stamped_store.proofs.stamped.Stamped.merge.Goals as goal
 
 pub returns-in-Err-clause-short_values : goal.returns-in-Err-clause-short_values
@@ -29,7 +29,7 @@ loop-key-preserved g c =
       is_finite = tt;
       rest = append_assoc yielded (item ∷ []) c.next.new.self ∙ ap (λ es. yielded ++ es) (sym c.in-Some.ensures.steps) ∙ c.loop-key.invariant.rest;
       count = omega (arith, length-append yielded (item ∷ []), c.in-Ok.ensures.count);
-      joined = c.in-Ok.ensures.ok ∙ ap (λ s. taken cmp join s c.in-Some.key c.in-Some.value) c.loop-key.invariant.joined ∙ sym (all_taken-push cmp join c.args.self.now yielded item);
+      joined = c.in-Ok.ensures.ok ∙ ap (λ s. taken cmp join s c.in-Some.key c.in-Some.value) c.loop-key.invariant.joined ∙ sym (all_joined-push cmp join c.args.self.now yielded item);
     }
 
 pub returns-clause-ok_values : goal.returns-clause-ok_values
@@ -41,8 +41,8 @@ returns-clause-ok_values g c =
     let yielded = c.loop-key.yielded in
     let sorted : IsStrictlySortedBy cmp (keys_of other) = subst (λ es. IsStrictlySortedBy cmp (keys_of es)) c.other.view_is c.into_iter-key-iterator.ensures.into_iter_gives.5 in
     let whole : yielded ≡ other = sym (append-nil yielded) ∙ ap (λ es. yielded ++ es) (sym c.in-None.ensures.steps.0) ∙ c.loop-key.invariant.rest in
-    subst (λ s. IsJoined cmp join old other s) (sym (c.loop-key.invariant.joined ∙ ap (all_taken cmp join old) whole))
-    (is_joined-all_taken g.met.K.Ord.total join old other sorted)
+    subst (λ s. IsJoined cmp join old other s) (sym (c.loop-key.invariant.joined ∙ ap (all_joined cmp join old) whole))
+    (is_joined-all_joined g.met.K.Ord.total join old other sorted)
 
 pub returns-in-Err-clause-short : goal.returns-in-Err-clause-short
 returns-in-Err-clause-short g c =

@@ -1,0 +1,196 @@
+//! The ancestor cache of a hierarchy whose edges the caller has.
+ghost use Rattle.std.specs.Prelude.{◌≡◌, ◌↔◌, ◌⊎◌, IsTrue, IsOk, IfOk, OnOk, OnErr, MatchOption};
+ghost use Rattle.ancestor_search.specs.Hierarchy.{Parents, IsAncestor, AreAllAncestorsOf, IsAscending, AreOnCycles};
+ghost use Rattle.ancestor_search.specs.Hierarchy.{names};
+ghost use Rattle.ancestor_search.specs.Hierarchy.{no_parents, with_parents};
+ghost use Rattle.ancestor_search.specs.LeastCycle.{HasNoCycle, IsLeastCycle};
+ghost use Rattle.values.specs.declared.entity_uid.EntityUid.{EntityUid as PlainUid};
+ghost use Rattle.ancestor_closure.specs.Lists.{IsListOf, ancestors_in};
+ghost use Rattle.ancestor_closure.specs.CacheOf.{IsCacheOf, IsStaleAt};
+
+use crate::changing::follow;
+use crate::cycles::{are_none, members};
+use crate::lists::{is_in, lent};
+use crate::relatives::{Relatives, ancestors_at};
+use crate::room::CacheBudget;
+use crate::whole_graph::{relatives_among, set_of};
+use ancestor_search::{Graph, ParentsOf, least_cycle_among, on_cycles};
+use plain::{NoMemory, Shared};
+use std::alloc::Global;
+use std::collections::{BTreeMap, BTreeSet};
+use values::EntityUid;
+
+/// An ancestor cache: the ancestors of each entity of a hierarchy (its transitive closure), its children, and the
+/// cyclic entities.
+///
+/// The caller has the edges, and passes them when the cache is updated. Contracts state which hierarchies the cache is
+/// right for (`IsCacheOf`); its answers are those of each such hierarchy. A cached ancestor takes 8 bytes, or up to 16
+/// while its list has spare capacity; its uid is stored twice, however many lists contain it.
+#[derive(Drop)]
+pub struct AncestorCache {
+    alloc: Global,
+    // The entry of each entity: its ancestors and its children.
+    relatives: BTreeMap<EntityUid, Relatives>,
+    // The cyclic entities.
+    cyclic: BTreeSet<Shared<EntityUid>>,
+    // How many lists the last update rewrote.
+    touched: usize,
+}
+
+// Returns whether a parent is the entity, or a descendant of it.
+fn leads_to(relatives: &BTreeMap<EntityUid, Relatives>, uid: &EntityUid, parent: &EntityUid) -> bool
+    ensures { (before : Parents) → ((b : PlainUid) → IsListOf before b (ancestors_in relatives.now b)) →
+        (IsTrue result ↔ ((parent.now ≡ uid.now) ⊎ IsAncestor before uid.now parent.now)) }
+{
+    if parent == uid {
+        return true;
+    }
+    is_in(ancestors_at(relatives, parent), uid)
+}
+
+// Returns whether one of the parents is the entity, or a descendant of it.
+fn leads_back(
+    relatives: &BTreeMap<EntityUid, Relatives>,
+    uid: &EntityUid,
+    parents: &[EntityUid],
+) -> bool
+    ensures { (before : Parents) → ((b : PlainUid) → IsListOf before b (ancestors_in relatives.now b)) →
+        (IsTrue result ↔ IsAncestor (with_parents before uid.now parents.now) uid.now uid.now) }
+{
+    for parent in parents {
+        if leads_to(relatives, uid, parent) {
+            return true;
+        }
+    }
+    false
+}
+
+impl AncestorCache {
+    /// Creates the cache of an empty hierarchy.
+    pub fn new(alloc: Global) -> Self
+        ensures { IsCacheOf no_parents result }
+    {
+        AncestorCache {
+            alloc,
+            relatives: BTreeMap::new(alloc),
+            cyclic: BTreeSet::new(alloc),
+            touched: 0,
+        }
+    }
+
+    /// Creates the cache of a whole graph, by one search for each stored entity.
+    ///
+    /// # Errors
+    ///
+    /// - `NoMemory`: an allocation failed, or the budget is exceeded.
+    pub fn of_graph<G: Graph>(
+        alloc: Global,
+        graph: &G,
+        room: &mut CacheBudget,
+    ) -> Result<Self, NoMemory>
+        ensures { IfOk result (λ kept. IsCacheOf (G.parents graph.now) kept) }
+    {
+        let uids = graph.stored_uids(alloc)?;
+        let relatives = relatives_among(alloc, graph, &uids, room)?;
+        let found = on_cycles(alloc, graph)?;
+        let cyclic = set_of(alloc, &relatives, &found)?;
+        Ok(AncestorCache {
+            alloc,
+            relatives,
+            cyclic,
+            touched: 0,
+        })
+    }
+
+    /// Updates the cache incrementally after a change of one entity's parents, given the changed graph. Rewrites only
+    /// the lists of that entity and of its descendants.
+    ///
+    /// # Errors
+    ///
+    /// - `NoMemory`: an allocation failed, or the budget is exceeded. The cache is then still right for the graph
+    ///   before the change.
+    pub fn follow<G: ParentsOf>(
+        &mut self,
+        graph: &G,
+        uid: &EntityUid,
+        room: &mut CacheBudget,
+    ) -> Result<(), NoMemory>
+        requires { IsStaleAt uid.now (G.parents graph.now) self.old }
+        ensures ok { OnOk result (IsCacheOf (G.parents graph.now) self.new) }
+        ensures err { OnErr result ((before : Parents) → IsCacheOf before self.old → IsCacheOf before self.new) }
+    {
+        self.touched = follow(
+            self.alloc,
+            graph,
+            &mut self.relatives,
+            &mut self.cyclic,
+            uid,
+            room,
+        )?;
+        Ok(())
+    }
+
+    /// Returns whether `a` is an ancestor of `b`. Two look-ups. Does not allocate.
+    pub fn has_ancestor(&self, a: &EntityUid, b: &EntityUid) -> bool
+        ensures { (parents : Parents) → IsCacheOf parents self.now → (IsTrue result ↔ IsAncestor parents a.now b.now) }
+    {
+        is_in(ancestors_at(&self.relatives, b), a)
+    }
+
+    /// Returns the ancestors of `uid`, stored or not, in ascending order. The only error is `NoMemory`.
+    pub fn ancestors(&self, uid: &EntityUid) -> Result<Vec<&EntityUid>, NoMemory>
+        ensures all { IfOk result (λ found.
+            (parents : Parents) → IsCacheOf parents self.now → AreAllAncestorsOf parents uid.now (names found.items)) }
+        ensures ascending { IfOk result (λ found.
+            (parents : Parents) → IsCacheOf parents self.now → IsAscending (names found.items)) }
+    {
+        lent(self.alloc, ancestors_at(&self.relatives, uid))
+    }
+
+    /// Returns all cyclic entities, in ascending order, without a search. The only error is `NoMemory`. If no entity is
+    /// cyclic, it cannot fail and does not allocate.
+    pub fn cyclic(&self) -> Result<Vec<&EntityUid>, NoMemory>
+        ensures all { IfOk result (λ found.
+            (parents : Parents) → IsCacheOf parents self.now → AreOnCycles parents (names found.items)) }
+        ensures ascending { IfOk result (λ found. IsAscending (names found.items)) }
+        ensures at_once { (parents : Parents) → IsCacheOf parents self.now → HasNoCycle parents → IsOk result }
+    {
+        if are_none(&self.cyclic) {
+            return Ok(Vec::new(self.alloc));
+        }
+        members(self.alloc, &self.cyclic)
+    }
+
+    /// Returns the least cycle, as [`ancestor_search::least_cycle`] does, or `None` if there is no cycle. Without a
+    /// cycle it does not search or allocate, and cannot fail.
+    pub fn least_cycle<'a, G: Graph>(
+        &'a self,
+        graph: &'a G,
+    ) -> Result<Option<Vec<&'a EntityUid>>, NoMemory>
+        requires { IsCacheOf (G.parents graph.now) self.now }
+        ensures exact { let parents = G.parents graph.now in
+            IfOk result (λ o. MatchOption o (HasNoCycle parents) (λ found. IsLeastCycle parents (names found.items))) }
+        ensures at_once { HasNoCycle (G.parents graph.now) → IsOk result }
+    {
+        if are_none(&self.cyclic) {
+            return Ok(None);
+        }
+        let cyclic = members(self.alloc, &self.cyclic)?;
+        least_cycle_among(self.alloc, graph, &cyclic)
+    }
+
+    /// Returns whether `uid` would be its own ancestor if it had these parents. Two look-ups for each parent. Does not
+    /// allocate.
+    pub fn would_cycle(&self, uid: &EntityUid, parents: &[EntityUid]) -> bool
+        ensures { (before : Parents) → IsCacheOf before self.now →
+            (IsTrue result ↔ IsAncestor (with_parents before uid.now parents.now) uid.now uid.now) }
+    {
+        leads_back(&self.relatives, uid, parents)
+    }
+
+    /// Returns how many lists the last update rewrote: that of the entity itself, and those of its descendants; 0 if
+    /// its parents stayed the same. A failed update leaves the number unchanged.
+    pub fn touched(&self) -> usize {
+        self.touched
+    }
+}

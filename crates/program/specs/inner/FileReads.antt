@@ -1,0 +1,34 @@
+-- Defines the steps of a run that reads a file: it was read, or was not, which is reported.
+use Rattle.std.specs.Prelude.{◌≡◌, ℕ, List, ◌∷◌, Option, None, Some, Result, Ok, Err}
+use Rattle.program.specs.declared.device.FileFault.{FileFault}
+use Rattle.program.specs.declared.device.FileFault.TheVariants.{Missing}
+use Rattle.program.specs.Events.{Event, read}
+use Rattle.program.specs.Reports.{IsFileReported}
+use Rattle.program.specs.Courses.{Course}
+
+-- `found_as o` is the result of reading a file that may be missing: `None` is a missing file.
+abbrev pub found_as : Option (List ℕ) → Result (List ℕ) FileFault
+found_as None = Err Missing
+found_as (Some bytes) = Ok bytes
+
+-- `IsFound does name found old new` holds if the file `name` was read with the content `found`, or no file is named.
+abbrev pub IsFound : {L H : Type 0} → (H → Event L → H → Type 0) → Option (List ℕ) → Option (List ℕ) → H → H → Type 0
+IsFound does None None old new = new ≡ old
+IsFound does (Some name) (Some bytes) old new = does old (read name (Ok bytes)) new
+IsFound does _ _ old new = ⊥
+
+module _ {L : Type 0} where
+  -- `IsUnread name`: the file was not read, which is reported.
+  abbrev pub IsUnread : List ℕ → Course L
+  IsUnread name events end = (fault : FileFault) × (rest : List (Event L)) × (events ≡ read name (Err fault) ∷ rest)
+      × IsFileReported name fault rest end
+
+  -- `IsUnreadThere name`: the file exists and was not read, which is reported.
+  abbrev pub IsUnreadThere : List ℕ → Course L
+  IsUnreadThere name events end = (fault : FileFault) × (rest : List (Event L)) × (fault ≡ Missing → ⊥)
+      × (events ≡ read name (Err fault) ∷ rest) × IsFileReported name fault rest end
+
+  -- `IsUnreadIfNamed name`: the file is named and was not read, which is reported.
+  abbrev pub IsUnreadIfNamed : Option (List ℕ) → Course L
+  IsUnreadIfNamed None events end = ⊥
+  IsUnreadIfNamed (Some name) events end = IsUnread name events end

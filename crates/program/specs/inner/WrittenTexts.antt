@@ -1,0 +1,11 @@
+-- Defines the report of a text, or of a failed allocation for it.
+use Rattle.std.specs.Prelude.{List, Result, Ok, Err, codes, string_bytes}
+use Rattle.std.specs.declared.alloc.Global.{Global}
+use Rattle.std.specs.declared.string.String.{String}
+use Rattle.program.specs.Events.{Event}
+use Rattle.program.specs.Explained.{IsLineWritten, IsTextWritten}
+
+-- `IsMadeWritten made events` holds if `events` are that the text is written, or a line that it could not be allocated.
+abbrev pub IsMadeWritten : {L E : Type 0} → Result (String Global) E → List (Event L) → Type 0
+IsMadeWritten (Ok text) events = IsTextWritten (string_bytes text) events
+IsMadeWritten (Err error) events = IsLineWritten (codes "explanation: out of memory") events

@@ -1,0 +1,23 @@
+-- Defines the error that an error of clap is reported as, and why a command is incomplete.
+use Rattle.std.specs.Prelude.{List, Option, if◌then◌else◌}
+use Rattle.clap.specs.Words.{Row, Text, kind_of}
+use Rattle.clap.specs.declared.error.Error.{Error}
+use Rattle.program_lines.specs.declared.fault.LineFault.{LineFault}
+use Rattle.program_lines.specs.declared.fault.LineFault.TheVariants.{Help, Words, Site, Incomplete, NotText, NoMemory}
+use Rattle.program_lines.specs.Lines.{HasInvalidSite}
+use Rattle.program_lines.specs.Faults.{is_help, is_memory}
+
+-- `sorted error` is the error of the command line that reports the error `error` of clap.
+abbrev pub sorted : Error → LineFault
+sorted error = if is_help (kind_of error) then Help error
+    else if is_memory (kind_of error) then NoMemory else Words error
+
+-- `IsWhyIncomplete named f` holds if `f` is why the command `named` that clap found is incomplete: `Site` if it has an
+-- invalid site name, else `Incomplete`.
+abbrev pub IsWhyIncomplete : Option (Text × List Row) → LineFault → Type 0
+IsWhyIncomplete named (Help error) = ⊥
+IsWhyIncomplete named (Words error) = ⊥
+IsWhyIncomplete named Site = HasInvalidSite named
+IsWhyIncomplete named Incomplete = HasInvalidSite named → ⊥
+IsWhyIncomplete named NotText = ⊥
+IsWhyIncomplete named NoMemory = ⊥

@@ -1,5 +1,0 @@
-use Rattle.schema_types.proofs.CyclicEnds.{what_stands_for_none_leads_back as law}
-use Rattle.schema_types.proofs.laws.what_stands_for_none_leads_back.Goals as goal
-
-pub returns : goal.returns
-returns c = law

@@ -1,0 +1,44 @@
+//! The key of a policy in the index.
+ghost use Rattle.std.specs.Prelude.{◌≡◌, option_map};
+ghost use Rattle.scope_index.specs.Keys.{entity_named, index_key};
+ghost use Rattle.scope_index.specs.Buckets.{represented_key};
+
+use policy_grammar::{EntityScope, Scope};
+use values::EntityUid;
+
+/// The key of a policy, borrowed from its scope.
+#[derive(Clone, Copy)]
+pub(crate) enum ScopeKey<'a> {
+    /// Matches every request: the scope names no entity for the principal or for the resource.
+    Always,
+    /// Matches requests whose principal is this entity or a descendant of it.
+    Principal(&'a EntityUid),
+    /// Matches requests whose resource is this entity or a descendant of it.
+    Resource(&'a EntityUid),
+}
+
+/// Returns the entity that a part of a scope names by `==` or `in`, if it names one.
+fn entity_named(part: &EntityScope) -> Option<&EntityUid>
+    ensures { option_map (λ u. u.now) result ≡ entity_named part.now }
+{
+    match part {
+        EntityScope::Any => None,
+        EntityScope::Equal(entity) => Some(entity),
+        EntityScope::In(entity) => Some(entity),
+        EntityScope::Is(_) => None,
+        EntityScope::IsIn(_, entity) => Some(entity),
+    }
+}
+
+/// Returns the key of a policy with this scope.
+pub(crate) fn key_of(scope: &Scope) -> ScopeKey<'_>
+    ensures { represented_key result ≡ index_key scope.now }
+{
+    if let Some(entity) = entity_named(&scope.principal) {
+        return ScopeKey::Principal(entity);
+    }
+    if let Some(entity) = entity_named(&scope.resource) {
+        return ScopeKey::Resource(entity);
+    }
+    ScopeKey::Always
+}

@@ -1,0 +1,58 @@
+//! Measures of evaluation: how many policies an answer evaluated, and whether an index may reduce their number.
+
+use scope_index::{EntityScope, Policy};
+use stamped_store::Entry;
+use std::cell::Cell;
+
+/// How many policies the last answer evaluated, and whether the scope of a policy that was put ever named a principal
+/// or a resource. As long as none has, all policies are candidates, and listing them would cost more than it saves.
+///
+/// No contract and no answer depends on these measures.
+#[derive(Drop)]
+pub(crate) struct ScanCount {
+    tried: Cell<usize>,
+    is_bound: bool,
+}
+
+/// Returns whether the constraint of a scope on the principal or the resource names an entity.
+fn names_entity(part: &EntityScope) -> bool {
+    match part {
+        EntityScope::Any | EntityScope::Is(_) => false,
+        _ => true,
+    }
+}
+
+impl ScanCount {
+    /// Creates the measures of an empty store.
+    pub(crate) fn new() -> ScanCount {
+        ScanCount {
+            tried: Cell::new(0),
+            is_bound: false,
+        }
+    }
+
+    /// Records the scope of a policy that is to be stored.
+    pub(crate) fn note(&mut self, entry: &Entry<Policy>) {
+        if let Some(text) = &entry.body {
+            let scope = text.read.scope.get();
+            self.is_bound = self.is_bound
+                | names_entity(&scope.principal)
+                | names_entity(&scope.resource);
+        }
+    }
+
+    /// Returns whether an index may have fewer candidates than all policies.
+    pub(crate) fn is_bound(&self) -> bool {
+        self.is_bound
+    }
+
+    /// Records the number of policies that are evaluated.
+    pub(crate) fn begin(&self, tried: usize) {
+        self.tried.set(tried);
+    }
+
+    /// Returns how many policies the last answer evaluated.
+    pub(crate) fn tried(&self) -> usize {
+        self.tried.get()
+    }
+}

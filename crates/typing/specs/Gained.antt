@@ -1,0 +1,35 @@
+-- Defines capabilities: the fields that a true test shows to be present.
+-- Source: Cedar reference guide 4.0, "Policy validation" (`has` before `.`); cedar-spec,
+-- cedar-lean/Cedar/Validation/Types.lean (`Capabilities`).
+use Rattle.std.specs.Prelude.{ℕ, List, [], ◌∷◌, Contains}
+use Rattle.evaluator.specs.grammar_core.declared.expr.Expr.{Expr}
+use Rattle.typing.specs.Types.{StaticType, true_type, false_type, boolean_type}
+
+-- A `Capability` is an expression and the name of a field that it has.
+abbrev pub Capability : Type 0
+Capability = Expr × List ℕ
+
+-- `Pairs` are lists of capabilities.
+abbrev pub Pairs : Type 0
+Pairs = List Capability
+
+-- `InBoth left right both` holds if `both` are the capabilities of `left` that are in `right` too.
+pub data InBoth : Pairs → Pairs → Pairs → Type 0 where
+  both_none : {right : Pairs} → InBoth [] right []
+  both_kept : {p : Capability} {left right both : Pairs} → Contains right p → InBoth left right both
+      → InBoth (p ∷ left) right (p ∷ both)
+  both_dropped : {p : Capability} {left right both : Pairs} → ¬ Contains right p → InBoth left right both
+      → InBoth (p ∷ left) right both
+
+-- `OrGains t left right gained` holds if `||` gains the capabilities `gained`, where its left side is Bool and gains
+-- `left`, and its right side, of type `t`, gains `right`: none if `t` is True; `left` if `t` is False; those that both
+-- gain if `t` is Bool.
+pub data OrGains : StaticType → Pairs → Pairs → Pairs → Type 0 where
+  or_gains_none : {left right : Pairs} → OrGains true_type left right []
+  or_gains_left : {left right : Pairs} → OrGains false_type left right left
+  or_gains_both : {left right both : Pairs} → InBoth left right both → OrGains boolean_type left right both
+
+-- `has_gains t p` are the capabilities that `has`, of the type `t`, gains: its own, `p`, if `t` is Bool, else none.
+abbrev pub has_gains : StaticType → Capability → Pairs
+has_gains boolean_type p = p ∷ []
+has_gains t p = []
