@@ -20,8 +20,8 @@ use std::alloc::Global;
 use std::collections::{BTreeMap, BTreeSet};
 use values::EntityUid;
 
-/// An ancestor cache: the ancestors of each entity of a hierarchy (its transitive closure), its children, and the
-/// cyclic entities.
+/// An ancestor cache of a hierarchy: the ancestors of each entity (the transitive closure), the children of each
+/// entity, and the cyclic entities.
 ///
 /// The caller has the edges, and passes them when the cache is updated. Contracts state which hierarchies the cache is
 /// right for (`IsCacheOf`); its answers are those of each such hierarchy. A cached ancestor takes 8 bytes, or up to 16
@@ -37,7 +37,7 @@ pub struct AncestorCache {
     touched: usize,
 }
 
-// Returns whether a parent is the entity, or a descendant of it.
+// Returns whether `parent` is `uid`, or a descendant of `uid`.
 fn leads_to(relatives: &BTreeMap<EntityUid, Relatives>, uid: &EntityUid, parent: &EntityUid) -> bool
     ensures { (before : Parents) → ((b : PlainUid) → IsListOf before b (ancestors_in relatives.now b)) →
         (IsTrue result ↔ ((parent.now ≡ uid.now) ⊎ IsAncestor before uid.now parent.now)) }
@@ -48,7 +48,8 @@ fn leads_to(relatives: &BTreeMap<EntityUid, Relatives>, uid: &EntityUid, parent:
     is_in(ancestors_at(relatives, parent), uid)
 }
 
-// Returns whether one of the parents is the entity, or a descendant of it.
+// Returns whether one of `parents` is `uid` or a descendant of `uid`: with these parents `uid` would be its own
+// ancestor.
 fn leads_back(
     relatives: &BTreeMap<EntityUid, Relatives>,
     uid: &EntityUid,
@@ -148,7 +149,7 @@ impl AncestorCache {
     }
 
     /// Returns all cyclic entities, in ascending order, without a search. The only error is `NoMemory`. If no entity is
-    /// cyclic, it cannot fail and does not allocate.
+    /// cyclic, the call cannot fail and does not allocate.
     pub fn cyclic(&self) -> Result<Vec<&EntityUid>, NoMemory>
         ensures all { IfOk result (λ found.
             (parents : Parents) → IsCacheOf parents self.now → AreOnCycles parents (names found.items)) }
@@ -161,8 +162,8 @@ impl AncestorCache {
         members(self.alloc, &self.cyclic)
     }
 
-    /// Returns the least cycle, as [`ancestor_search::least_cycle`] does, or `None` if there is no cycle. Without a
-    /// cycle it does not search or allocate, and cannot fail.
+    /// Returns the least cycle, as [`ancestor_search::least_cycle`] does, or `None` if there is no cycle. If there is
+    /// none, the call does not search or allocate, and cannot fail.
     pub fn least_cycle<'a, G: Graph>(
         &'a self,
         graph: &'a G,

@@ -23,7 +23,7 @@ use values::EntityUid;
 /// An entity with the list of its ancestors.
 type Listed = (Shared<EntityUid>, Vec<Shared<EntityUid>>);
 
-// Appends `one` to `all` if it comes before `next`; returns whether it does, or equals `next`.
+// Appends `one` to `all` if `one` comes before `next`. Returns whether `one` comes before `next` or equals it.
 fn place(
     all: &mut Vec<Shared<EntityUid>>,
     one: &Shared<EntityUid>,
@@ -33,7 +33,7 @@ fn place(
         all.new.items ++ next.now ∷ left_of placed one.now ys
         ≡ all.old.items ++ insert_key uid_cmp (next.now ∷ ys) one.now) }
 {
-    match one.get().cmp(next) {
+    match (**one).cmp(next) {
         Ordering::Less => {
             all.push(one.share()?)?;
             Ok(true)
@@ -43,7 +43,7 @@ fn place(
     }
 }
 
-// Like `place`, but appends nothing if `one` is placed already, and then returns `true`.
+// Like `place`, but if `one` is placed already (`is_placed`), appends nothing and returns `true`.
 fn place_once(
     all: &mut Vec<Shared<EntityUid>>,
     one: &Shared<EntityUid>,
@@ -60,7 +60,8 @@ fn place_once(
     place(all, one, next)
 }
 
-// Appends `next` to `all`, and before it `one`, if that is its position; returns whether `one` is placed.
+// Appends `next` to `all`, after `one` if `one` is not placed yet and comes before `next`. Returns whether `one` is
+// then placed: appended, now or before, or equal to an appended entity.
 fn add_next(
     all: &mut Vec<Shared<EntityUid>>,
     one: &Shared<EntityUid>,
@@ -70,12 +71,12 @@ fn add_next(
     ensures { IfOk result (λ placed. (ys : List PlainUid) →
         all.new.items ++ left_of placed one.now ys ≡ all.old.items ++ left_of is_placed one.now (next.now ∷ ys)) }
 {
-    let placed = place_once(all, one, next.get(), is_placed)?;
+    let placed = place_once(all, one, next, is_placed)?;
     all.push(next.share()?)?;
     Ok(placed)
 }
 
-// Adds an entity at the end, unless it is placed.
+// Appends `one` to `all`, unless `one` is placed.
 fn add_last(
     all: &mut Vec<Shared<EntityUid>>,
     one: &Shared<EntityUid>,
@@ -89,7 +90,7 @@ fn add_last(
     Ok(())
 }
 
-// Returns an ascending list with one entity more, or the same list if the entity is in it.
+// Returns a copy of an ascending list, with `one` inserted at its position unless the list contains it.
 fn with_one(
     alloc: Global,
     list: &[Shared<EntityUid>],
@@ -123,7 +124,7 @@ fn only_parent<'a>(
         return None;
     }
     let parent = &after[0];
-    if parent.get().same(uid.get()) {
+    if parent.same(uid) {
         return None;
     }
     Some(parent)
@@ -140,7 +141,7 @@ fn list_by_parent(
 ) -> Result<Vec<Shared<EntityUid>>, NoMemory>
     ensures { IfOk result (λ all. all.items ≡ insert_key uid_cmp (ancestors_in relatives.now parent.now) parent.now) }
 {
-    let list = with_one(alloc, ancestors_at(relatives, parent.get()), parent)?;
+    let list = with_one(alloc, ancestors_at(relatives, parent), parent)?;
     room.write(ancestors_at(relatives, uid).len(), list.len())?;
     Ok(list)
 }
@@ -187,7 +188,7 @@ pub(crate) fn new_lists<G: ParentsOf>(
 {
     match only_parent(uid, after, entities) {
         Some(parent) => {
-            let list = list_by_parent(alloc, relatives, uid.get(), parent, room)?;
+            let list = list_by_parent(alloc, relatives, uid, parent, room)?;
             Ok(alone(alloc, uid, list)?)
         }
         None => lists_of(alloc, graph, relatives, entities, room),

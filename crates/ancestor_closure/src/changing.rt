@@ -110,7 +110,7 @@ fn add_if_parent(
         OnOk result ((is_parent × (found.new.items ≡ found.old.items ++ entity.now ∷ []))
         ⊎ ((is_parent → ⊥) × (found.new.items ≡ found.old.items))) }
 {
-    if !is_child(relatives, entity.get(), child) {
+    if !is_child(relatives, entity, child) {
         return Ok(());
     }
     found.push(entity.share()?)?;
@@ -146,7 +146,7 @@ fn parents_before(
     ensures ascending { IfOk result (λ found.
         IsAscending (ancestors_in relatives.now uid.now) → IsAscending found.items) }
 {
-    those_with_child(alloc, relatives, ancestors_at(relatives, uid.get()), uid)
+    those_with_child(alloc, relatives, ancestors_at(relatives, uid), uid)
 }
 
 // Returns the change by which an entity gets the parents that it has in the graph, within the budget.
@@ -245,8 +245,8 @@ fn finish(
     leave_all(cyclic, relatives, &entities);
 }
 
-// Makes the change, within the budget; returns how many lists were written. After an error the cache is right for each
-// graph that it was right for.
+// Makes the change by which an entity gets `parents`, within the budget; returns how many lists were written. After an
+// error the cache is right for each graph that it was right for.
 fn make<G: ParentsOf>(
     alloc: Global,
     graph: &G,

@@ -27,7 +27,7 @@ fn add_members<'a>(
     ensures small { OnOk result (btree_set_len seen.new < 2 ^ 63) }
 {
     for child in found.iter() {
-        let child = child.get();
+        let child: &EntityUid = child;
         if seen.insert(child)? {
             work.push(child)?;
         }
@@ -109,7 +109,7 @@ fn add_child(
     }
 }
 
-/// Adds a child to each of its parents. The only error is `NoMemory`; some parents may then have the child.
+/// Adds a child to each of its parents. The only error is `NoMemory`; after it some of the parents may have the child.
 pub fn add_to_all(
     relatives: &mut BTreeMap<EntityUid, Relatives>,
     parents: &[Shared<EntityUid>],
@@ -123,7 +123,7 @@ pub fn add_to_all(
         ((x : PlainUid) → Contains parents.now x → Contains (children_in relatives.new x) child.now) }
 {
     for parent in parents {
-        add_child(relatives, parent.get(), child.share()?)?;
+        add_child(relatives, parent, child.share()?)?;
     }
     Ok(())
 }
@@ -145,7 +145,7 @@ fn take_child(
     }
 }
 
-// Removes a child from a parent that is not one of `parents`, and the parent's entry if it is then empty.
+// Removes a child from a parent, and the parent's entry if it is then empty. No-op if the parent is one of `parents`.
 fn take_child_unless(
     relatives: &mut BTreeMap<EntityUid, Relatives>,
     parents: &[Shared<EntityUid>],
@@ -177,6 +177,6 @@ pub(crate) fn take_from_all(
         (children_in relatives.old) (children_in relatives.new) }
 {
     for parent in before {
-        take_child_unless(relatives, parents, parent.get(), child);
+        take_child_unless(relatives, parents, parent, child);
     }
 }

@@ -45,7 +45,7 @@ impl Model for Closed {
     ghost invariant = { λ c. IsCacheOf (parents_of c.edges) c.kept };
 }
 
-// Adds an empty entry for the parents of an entity, if there is no entry for them.
+// Adds an entry without parents for an entity, if the entity has no entry.
 fn reserve_edges(
     alloc: Global,
     edges: &mut BTreeMap<EntityUid, Vec<EntityUid>>,
@@ -67,7 +67,7 @@ fn has_no_parents(edges: &BTreeMap<EntityUid, Vec<EntityUid>>, uid: &EntityUid) 
     edges.parents_of(uid).is_empty()
 }
 
-// Removes the entry of an entity without parents.
+// Removes the entry of an entity, if the entity has no parents.
 fn release_edges(edges: &mut BTreeMap<EntityUid, Vec<EntityUid>>, uid: &EntityUid)
     ensures { parents_of edges.new ≡ parents_of edges.old }
 {

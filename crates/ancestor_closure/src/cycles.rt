@@ -21,13 +21,13 @@ fn enter(
     ensures enters { Enters (entity.now ∷ []) cyclic.old.keys cyclic.new.keys }
     ensures entered { OnOk result (Contains entity.now.1.items entity.now.0 → Contains cyclic.new.keys entity.now.0) }
 {
-    if is_in(&entity.1, entity.0.get()) {
+    if is_in(&entity.1, &entity.0) {
         cyclic.insert(entity.0.share()?)?;
     }
     Ok(())
 }
 
-/// Adds each entity whose list of ancestors contains it to `cyclic`.
+/// Adds to `cyclic` each entity whose own list of ancestors contains it.
 pub(crate) fn enter_all(
     cyclic: &mut BTreeSet<Shared<EntityUid>>,
     lists: &[(Shared<EntityUid>, Vec<Shared<EntityUid>>)],
@@ -51,13 +51,13 @@ fn leave(
     requires { IsAscending (ancestors_in relatives.now entity.now) }
     ensures { Leaves (entity.now ∷ []) (ancestors_in relatives.now) cyclic.old.keys cyclic.new.keys }
 {
-    if is_in(ancestors_at(relatives, entity.get()), entity.get()) {
+    if is_in(ancestors_at(relatives, entity), entity) {
         return;
     }
     cyclic.remove(entity);
 }
 
-/// Removes each of the entities whose list of ancestors does not contain it from `cyclic`.
+/// Removes from `cyclic` each of the entities whose own list of ancestors does not contain it.
 pub(crate) fn leave_all(
     cyclic: &mut BTreeSet<Shared<EntityUid>>,
     relatives: &BTreeMap<EntityUid, Relatives>,
@@ -89,7 +89,7 @@ pub fn members<'a>(
     let _ascending = uids.len();
     let mut all = Vec::new(alloc);
     for uid in uids.iter() {
-        all.push(uid.get())?;
+        all.push(&**uid)?;
     }
     Ok(all)
 }

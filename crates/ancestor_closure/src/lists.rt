@@ -20,7 +20,7 @@ use values::EntityUid;
 fn compare(known: &Shared<EntityUid>, uid: &EntityUid) -> Ordering
     ensures { result ≡ uid_cmp known.now uid.now }
 {
-    known.get().cmp(uid)
+    (**known).cmp(uid)
 }
 
 /// Returns whether an ascending list contains the entity. O(log n). Does not allocate.
@@ -49,7 +49,7 @@ pub(crate) fn are_among(list: &[Shared<EntityUid>], uids: &[&EntityUid]) -> bool
     ensures { IsTrue result ↔ ((x : PlainUid) → Contains list.now x → Contains (names uids.now) x) }
 {
     for uid in list {
-        if !is_among(uids, uid.get()) {
+        if !is_among(uids, uid) {
             return false;
         }
     }
@@ -65,7 +65,7 @@ pub fn lent<'a>(
 {
     let mut all = Vec::new(alloc);
     for uid in uids {
-        all.push(uid.get())?;
+        all.push(&**uid)?;
     }
     Ok(all)
 }
@@ -128,7 +128,7 @@ fn with_list<G: ParentsOf>(
     ensures { IfOk result (λ e. (e.0 ≡ uid.now) × IsListOf (G.parents graph.now) uid.now e.1.items) }
 {
     let name = uid.share()?;
-    let list = list_within(alloc, graph, relatives, uid.get(), room)?;
+    let list = list_within(alloc, graph, relatives, uid, room)?;
     Ok((name, list))
 }
 
@@ -162,6 +162,6 @@ pub(crate) fn write_all(
     ensures children { SameChildren relatives.old relatives.new }
 {
     while let Some((entity, list)) = lists.pop() {
-        write_list(relatives, entity.get(), list);
+        write_list(relatives, &entity, list);
     }
 }

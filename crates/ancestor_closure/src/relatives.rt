@@ -60,7 +60,7 @@ pub fn shared(
     ensures { IfOk result (λ s. s ≡ uid.now) }
 {
     if let Some(known) = relatives.get(uid) {
-        if known.uid.get() == uid {
+        if *known.uid == *uid {
             return known.uid.share();
         }
     }
@@ -109,7 +109,7 @@ fn has_relatives(relatives: &BTreeMap<EntityUid, Relatives>, uid: &EntityUid) ->
     }
 }
 
-/// Removes the entry of an entity that has neither ancestors nor children.
+/// Removes the entry of an entity, if it has neither ancestors nor children.
 pub(crate) fn release(relatives: &mut BTreeMap<EntityUid, Relatives>, uid: &EntityUid)
     ensures lists { SameLists relatives.old relatives.new }
     ensures children { SameChildren relatives.old relatives.new }
@@ -120,7 +120,7 @@ pub(crate) fn release(relatives: &mut BTreeMap<EntityUid, Relatives>, uid: &Enti
     relatives.remove(uid);
 }
 
-/// Removes the entry of each of these entities that has neither ancestors nor children.
+/// Removes the entries of those of these entities that have neither ancestors nor children.
 pub(crate) fn release_all(relatives: &mut BTreeMap<EntityUid, Relatives>, uids: &[&EntityUid])
     ensures lists { SameLists relatives.old relatives.new }
     ensures children { SameChildren relatives.old relatives.new }

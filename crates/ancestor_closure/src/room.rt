@@ -11,7 +11,7 @@ use plain::NoMemory;
 pub struct CacheBudget {
     // The greatest number of ancestors that all lists together may have.
     most: usize,
-    // The number that they have.
+    // The number of ancestors that all lists together have.
     kept: usize,
     // How many ancestors were written or visited since the last `begin`, plus one for each written list.
     written: usize,

@@ -12,7 +12,7 @@ use Rattle.ancestor_search.specs.Hierarchy.{Parents, IsAncestor}
 abbrev pub Decides : Parents → (EntityUid → EntityUid → Bool) → Type 0
 Decides parents above = (a b : EntityUid) → IsTrue (above a b) ↔ IsAncestor parents a b
 
--- `HaveAllParents parents stored` holds if `stored` contains every entity with a parent.
+-- `HaveAllParents parents stored` holds if `stored` contains every entity that has a parent under `parents`.
 abbrev pub HaveAllParents : Parents → List EntityUid → Type 0
 HaveAllParents parents stored = (b a : EntityUid) → Contains (parents b) a → Contains stored b
 
@@ -21,10 +21,10 @@ abbrev pub is_same : EntityUid → EntityUid → Bool
 is_same a b = is_eq (uid_cmp a b)
 
 -- `reaches parents us a b` tests whether a path leads from `b` to `a` whose edges all begin at entities of `us`. It is
--- defined by recursion on the list. With one more entity `u`, either the path takes no edge of `u`, or it has three
--- parts: it is at `u` (which is `b`, or reached by edges of `us`); it takes an edge of `u` to a parent; and the parent
--- is `a`, or reaches `a` by edges of `us`. This is Warshall's method: S. Warshall, "A theorem on Boolean matrices",
--- Journal of the ACM 9 (1962).
+-- defined by recursion on the list. If the list has one more entity `u` before `us`, either the path takes no edge of
+-- `u`, or it has three parts: from `b` to `u` by edges of `us` (no edge if `b` is `u`); an edge from `u` to a parent;
+-- and from this parent to `a` by edges of `us` (no edge if the parent is `a`). This is Warshall's method: S. Warshall,
+-- "A theorem on Boolean matrices", Journal of the ACM 9 (1962).
 unfoldable pub reaches : Parents → List EntityUid → EntityUid → EntityUid → Bool
 reaches parents [] a b = false
 reaches parents (u ∷ us) a b =

@@ -1,5 +1,5 @@
--- Defines the proof of `PathsAreDecided` (Decided): the test `reaches` decides the ancestor relation. It is in specs/
--- because implementations of the traits `Graph` and `Ancestry` cite its lemmas.
+-- Defines the proof of `PathsAreDecided` (Decided): the test `reaches` decides the ancestor relation. This file is in
+-- specs/ because implementations of the traits `Graph` and `Ancestry` cite its lemmas.
 use Rattle.std.proofs.Common.{◌≡◌, Bool, true, false, List, [], ◌∷◌, refl, ap, sym, subst, inl, inr}
 use Rattle.std.proofs.Common.{◌||◌, Option, Some, None}
 use Rattle.std.specs.Prelude.{Contains, IsTrue, ◌&&◌, ◌⊎◌, Vec, IsSome}
@@ -16,10 +16,11 @@ use Rattle.ancestor_search.specs.Hierarchy.{Parents, Path, IsAncestor}
 use Rattle.ancestor_search.specs.Search.{parents_of, items_or_none}
 use Rattle.ancestor_search.specs.Decided.{Decides, HaveAllParents, is_same, reaches, PathsAreDecided}
 
+-- Uids that compare as equal are equal.
 pub same_uid : (x y : EntityUid) → is_eq (uid_cmp x y) ≡ true → x ≡ y
 same_uid x y h = tells_apart uid_cmp-IsAntisymmetric x y h
 
--- An entity with a parent is a key of the map.
+-- An entity with a parent is a key of the map `edges`.
 pub parent_is_stored : (edges : BTreeMap EntityUid (Vec EntityUid Global)) (b a : EntityUid) →
     Contains (parents_of edges b) a → Contains (keys edges) b
 parent_is_stored edges b a h =
@@ -29,12 +30,14 @@ parent_is_stored edges b a h =
     some None h = Contains-none a h
     some (Some v) h = refl
 
+-- A uid is the same as itself, by the test `is_same`.
 pub same_self : (x : EntityUid) → IsTrue (is_same x x)
 same_self x = ap is_eq (tied_itself uid_cmp-IsTotalOrder x)
 
 same_if : (x y : EntityUid) → x ≡ y → IsTrue (is_same x y)
 same_if x y e = subst (λ z. IsTrue (is_same x z)) e (same_self x)
 
+-- If `a || b` is true, one of the two is true; conversely (`or_left`, `or_right`), if one is true, so is `a || b`.
 pub or_cases : (a b : Bool) → IsTrue (a || b) → IsTrue a ⊎ IsTrue b
 or_cases true b h = inl refl
 or_cases false b h = inr h
@@ -55,6 +58,8 @@ and_both : (a b : Bool) → IsTrue a → IsTrue b → IsTrue (a && b)
 and_both true b h k = k
 and_both false b h k = cc h
 
+-- If the test is true of a member of the list, `list_any` is true; conversely (`any_at`), if `list_any` is true, the
+-- test is true of some member.
 pub any_from : (test : EntityUid → Bool) (xs : List EntityUid) (x : EntityUid) →
     Contains xs x → IsTrue (test x) → IsTrue (list_any test xs)
 any_from test [] x h t = Contains-none x h
@@ -100,7 +105,8 @@ module _ (parents : Parents) where
         ]
   ]
 
-  -- `reaches` is true for an edge that begins at one of the entities `us`, alone or followed by what `reaches` finds
+  -- `reaches` is true for an edge that begins at one of the entities `us`, alone or followed by a path for which
+  -- `reaches` is true
   more : (us : List EntityUid) (b c : EntityUid) → Contains us b → Contains (parents b) c → (a : EntityUid) →
       (c ≡ a) ⊎ IsTrue (reaches parents us a c) → IsTrue (reaches parents us a b)
   unfolding reaches
@@ -144,11 +150,11 @@ module _ (parents : Parents) where
 pub paths_are_decided : PathsAreDecided
 paths_are_decided parents stored all = decided parents stored all
 
--- The keys of a map include all entities with parents.
+-- The keys of the map `edges` include all entities that have parents in the map.
 pub map_has_all : (edges : BTreeMap EntityUid (Vec EntityUid Global)) → HaveAllParents (parents_of edges) (keys edges)
 map_has_all edges = λ b a h. parent_is_stored edges b a h
 
--- For the parents in a map, the test over the map's keys decides the ancestor relation.
+-- For the parents in the map `edges`, the test `reaches` over the keys of the map decides the ancestor relation.
 pub edges_are_decided : (edges : BTreeMap EntityUid (Vec EntityUid Global)) →
     Decides (parents_of edges) (reaches (parents_of edges) (keys edges))
 edges_are_decided edges = decided (parents_of edges) (keys edges) (map_has_all edges)

@@ -12,7 +12,7 @@ use std::alloc::Global;
 use std::collections::BTreeMap;
 use values::EntityUid;
 
-/// The parents of each entity, which is all that a search upwards needs.
+/// The parents of each entity: all that a search for ancestors needs.
 pub trait ParentsOf {
     /// The parents of each entity; an entity that is not stored has none.
     ghost parents: { Self → Parents };
@@ -66,7 +66,7 @@ impl Graph for BTreeMap<EntityUid, Vec<EntityUid>> {
 pub struct Changed<'a, G> {
     /// The graph before the change.
     pub graph: &'a G,
-    /// The entity.
+    /// The entity whose parents change.
     pub uid: &'a EntityUid,
     /// All its parents after the change.
     pub parents: &'a [EntityUid],

@@ -1,9 +1,9 @@
 //! The least cycle: a shortest one through the least cyclic entity, and the least of these, compared item by item.
 //!
-//! A breadth-first search goes from that entity to its children, to theirs and so on, until it comes back to the
-//! entity. It gives the distance to that entity, in edges, of each entity on a shortest cycle. The walk then starts at
-//! the entity and goes each time to the least parent that is one edge nearer, back to it. Each edge is visited at most
-//! three times.
+//! A breadth-first search goes from the least cyclic entity to its children, to their children and so on, until it
+//! comes back. It gives, for each entity on a shortest cycle, the number of edges from there to the least cyclic
+//! entity. A walk then starts at the least cyclic entity, and goes each time to the least parent that is one edge
+//! nearer to that entity, until it is back. Each edge is visited at most three times.
 ghost use Rattle.std.specs.Prelude.{◌≡◌, ◌+◌, ◌<◌, ◌^◌, ◌↔◌, ◌++◌, [], ◌∷◌, IsTrue, Some, MatchOption, IfOk, OnOk};
 ghost use Rattle.std.specs.Prelude.{Contains, cond};
 ghost use Rattle.std.specs.BTreeMap.{btree_map_len};
@@ -74,7 +74,7 @@ fn add_child<'a>(
     Ok(())
 }
 
-// Returns the children of each entity by the edges that begin at these entities.
+// Returns, for each entity, its children among `uids`.
 fn children_among<'a, G: ParentsOf>(
     alloc: Global,
     graph: &'a G,
@@ -98,7 +98,7 @@ fn children_in<'a, G: Graph>(alloc: Global, graph: &'a G) -> Result<Children<'a>
     Ok(children)
 }
 
-// Gives each of these entities that has no distance yet the distance `far`, and appends it to the level.
+// Sets the distance of each of these entities that has none yet to `far`, and appends each such entity to the level.
 fn reach<'a>(
     uids: &[&'a EntityUid],
     far: usize,
@@ -117,7 +117,7 @@ fn reach<'a>(
     Ok(())
 }
 
-// Gives each child of an entity that has no distance yet the distance `far`, and appends it to the level.
+// Sets the distance of each child of an entity that has none yet to `far`, and appends each such child to the level.
 fn reach_children<'a>(
     children: &Children<'a>,
     uid: &'a EntityUid,
@@ -135,7 +135,8 @@ fn reach_children<'a>(
     }
 }
 
-// Gives each child of an entity of the level that has no distance yet the distance `far`, and returns these children.
+// Sets the distance of each child of the level's entities to `far`, if it has none yet. Returns the children whose
+// distance was set.
 fn next_level<'a>(
     alloc: Global,
     children: &Children<'a>,
@@ -152,12 +153,13 @@ fn next_level<'a>(
     for uid in level {
         reach_children(children, uid, far, reached, &mut next)?;
     }
+    // `len` ensures the bound of `small`
     let _small = reached.len();
     Ok(next)
 }
 
-// Returns the distances of entities to `end`, as far as the search goes until it comes back to `end`; `None` if it does
-// not.
+// Returns the distances of entities to `end`, as far as the search goes until it comes back to `end`; `None` if it
+// never comes back.
 fn distances<'a, G: Graph>(
     alloc: Global,
     graph: &'a G,
@@ -218,8 +220,8 @@ fn least_at<'a>(
     least
 }
 
-// Returns the least, compared item by item, of the shortest walks from a cyclic entity back to it. `long` is their
-// length.
+// Returns the least, compared item by item, of the shortest walks from `start`, a cyclic entity, back to it. `long` is
+// their length, and `distances` has the distances of entities to `start`.
 fn walk<'a, G: ParentsOf>(
     alloc: Global,
     graph: &'a G,
@@ -274,7 +276,7 @@ pub fn least_cycle_among<'a, G: Graph>(
 ///
 /// It begins with the least cyclic entity, is a shortest cycle through that entity, and the least of these, compared
 /// item by item. An edge leads from each entity to the next, and from the last to the first. Entities are ordered by
-/// type, and then by id. Without a cycle it costs as much as [`on_cycles`]. The only error is `NoMemory`.
+/// type, and then by id. If there is no cycle, a call costs as much as [`on_cycles`]. The only error is `NoMemory`.
 pub fn least_cycle<'a, G: Graph>(
     alloc: Global,
     graph: &'a G,

@@ -29,7 +29,7 @@ fn numbers_of<'a>(
     Ok(numbers)
 }
 
-// Returns for each entity of the list the numbers of its parents.
+// Returns for each entity of the list the numbers of those of its parents that are in the list.
 fn numbered<'a, G: ParentsOf>(
     alloc: Global,
     graph: &'a G,

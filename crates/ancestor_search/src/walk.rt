@@ -31,7 +31,7 @@ struct Walk {
     found: Vec<bool>,
     // The members of the groups of the path.
     members: Vec<usize>,
-    // The ends of the edges of the groups that are not yet visited.
+    // The ends of those edges of the groups' members that are not yet visited.
     pending: Vec<usize>,
     // The bounds at which the groups begin.
     bounds: Vec<Bound>,
@@ -77,7 +77,8 @@ fn mark_cyclic(found: &mut Vec<bool>, number: usize)
     }
 }
 
-// Removes an edge of the last group, whose edges begin at `start`, and returns its end; `None` if the group has none.
+// Removes an edge of the last group, and returns the number to which it leads; `None` if the group has no edge left.
+// The group's edges begin at the index `start` of `pending`.
 fn next_edge(pending: &mut Vec<usize>, start: usize) -> Option<usize>
     ensures { MatchOption result
         ((pending.new.items ≡ pending.old.items) × (length pending.old.items ≤ start))
@@ -111,6 +112,7 @@ fn enter(edges: &[Vec<usize>], walk: &mut Walk, number: usize) -> Result<(), NoM
 }
 
 // Merges the last group with those before it, down to the group with the member at index `place`, counted from 1.
+// Returns the bound of the merged group, which is not in `bounds`.
 fn joined(bounds: &mut Vec<Bound>, last: Bound, place: usize) -> Bound
     requires { 0 < place }
     ensures joins { JoinsDownTo place bounds.old.items last bounds.new.items result }
@@ -127,7 +129,8 @@ fn joined(bounds: &mut Vec<Bound>, last: Bound, place: usize) -> Bound
     last
 }
 
-// Visits an edge of the last group to `number`; `last` is the bound of that group, which was removed.
+// Visits an edge of the last group to `number`. `last` is the bound of that group; the caller has removed it, and this
+// function restores it or the bound of the merged group.
 fn look_at(
     edges: &[Vec<usize>],
     walk: &mut Walk,
@@ -166,8 +169,8 @@ fn leads_in(numbers: &[usize], place: &[usize]) -> bool
     false
 }
 
-// Marks each member from which an edge leads to a number that is not done. The edges of a completed group lead to done
-// numbers and to its own members.
+// Marks as cyclic each member from which an edge leads to a number that is not done. The edges of a completed group
+// lead only to done numbers and to its own members, which reach one another: so exactly these members are cyclic.
 fn find(edges: &[Vec<usize>], members: &[usize], place: &[usize], found: &mut Vec<bool>)
     ensures { FindsOpen (edges_of edges.now) place.now members.now found.old.items found.new.items }
 {

@@ -14,7 +14,7 @@ no_memory = record { code = 1; place = None; within = None }
 abbrev pub bad_shape : Option ℕ → Refusal
 bad_shape place = record { code = 30; place = place; within = None }
 
--- `error_placed_at place r` is the error `r` at the place `place`; out of memory (code 1) stays without a place.
+-- `error_placed_at place r` is the error `r` at the place `place`; an error with code 1 (out of memory) is unchanged.
 abbrev pub error_placed_at : ℕ → Refusal → Refusal
 error_placed_at place r = if r.code == 1 then r else record { code = r.code; place = Some place; within = r.within }
 
@@ -23,7 +23,8 @@ abbrev pub number_or_null : Option ℕ → Data
 number_or_null None = null
 number_or_null (Some n) = number (unsigned n)
 
--- `refusal_json r` is the JSON of the error `r`.
+-- `refusal_json r` is the JSON of the error `r`: its code, its place, and the code of its inner error (`within`). Each
+-- of the last two is null if the error has none.
 abbrev pub refusal_json : Refusal → Data
 refusal_json r = object (member (codes "error") (object
     (member (codes "code") (number (unsigned r.code))

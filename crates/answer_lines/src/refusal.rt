@@ -6,7 +6,7 @@ ghost use Rattle.answer_lines.specs.Refusals.{no_memory, bad_shape, error_placed
 ghost use Rattle.answer_lines.specs.Refusals.{error_line};
 
 use json_words::write_json;
-use plain::{NoMemory, beside};
+use plain::{NoMemory, pair_with};
 use serde_json::{Map, Value, put};
 use std::alloc::{AllocFailed, Global};
 use thiserror::Error;
@@ -71,7 +71,7 @@ impl Refusal {
         }
     }
 
-    /// Returns this error at a place; out of memory (1) stays without a place.
+    /// Returns this error at a place; an error with code 1 (out of memory) is unchanged.
     pub fn error_placed_at(self, place: usize) -> Refusal
         ensures { result ≡ error_placed_at place self }
     {
@@ -108,7 +108,7 @@ fn with_value(
 {
     let mut members = members;
     let done = put(&mut members, alloc, key, value);
-    let (members, _done) = beside(members, done)?;
+    let (members, _done) = pair_with(members, done)?;
     Ok(members)
 }
 

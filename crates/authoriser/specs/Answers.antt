@@ -65,14 +65,15 @@ ArePolicyOutcomes W q [] (j ∷ js) = ⊥
 ArePolicyOutcomes W q (p ∷ ps) [] = ⊥
 ArePolicyOutcomes W q (p ∷ ps) (j ∷ js) = IsPolicyOutcome W q p j × ArePolicyOutcomes W q ps js
 
--- `id_if wanted effect outcome id` is `id`, as a list, if the policy is satisfied and its effect is the wanted one,
--- else `[]`.
+-- `id_if wanted effect outcome id` is the list of `id` alone if `outcome` is `Satisfied` and `effect` is `wanted`, else
+-- `[]`.
 abbrev id_if : Effect → Effect → Outcome → List ℕ → List (List ℕ)
 id_if Permit Permit Satisfied id = id ∷ []
 id_if Forbid Forbid Satisfied id = id ∷ []
 id_if wanted effect outcome id = []
 
--- `error_of outcome id` is the error in `outcome` with the id of its policy, as a list, or `[]` otherwise.
+-- `error_of outcome id` is the list of one item, the error in `outcome` with the id `id` of its policy, or `[]` if
+-- `outcome` has no error.
 abbrev error_of : Outcome → List ℕ → List ErringPolicy
 error_of (Errs error) id = record { policy = id; error = error } ∷ []
 error_of Satisfied id = []
@@ -95,7 +96,7 @@ abbrev pub erring : List PolicyOutcome → List ErringPolicy
 erring js = flat_map if_erring js
 
 -- `decided permits forbids errors` is the answer with these satisfied permits, satisfied forbids and errors: an allow
--- if there is a permit and no forbid, else a denial. The `reason` of an allow (Cedar's determining policies) is the
+-- if there is a permit and no forbid, else a denial. The `reason` (Cedar's determining policies) of an allow is the
 -- permits, that of a denial the forbids.
 abbrev pub decided : List (List ℕ) → List (List ℕ) → List ErringPolicy → Answer
 decided permits (f ∷ forbids) errors = record { decision = Deny; reason = f ∷ forbids; errors = errors; cycle = [] }

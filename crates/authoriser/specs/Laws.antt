@@ -1,5 +1,5 @@
 -- Defines the theorems about answers that a reader of policies may rely on, for all entity data, requests and policies.
--- All but `DefaultDeny`, `ListsAscend` and the one of finite hierarchies assume that a test decides the ancestor
+-- All but `DefaultDeny`, `ListsAscend` and `OneAnswerInFiniteHierarchies` assume that a test decides the ancestor
 -- relation.
 -- Source: Cedar reference guide 4.0, "Authorization".
 -- Rules of this product: ids ascend by their bytes.
@@ -23,12 +23,13 @@ use Rattle.authoriser.specs.Answers.{NamedPolicy, PolicyEvaluatesTo, IsAnswer}
 
 -- ---- one answer
 
--- `HasOneAnswerAtMost W` holds if any two answers to a request over the entities of `W` are equal.
+-- `HasOneAnswerAtMost W` holds if any two answers to a request, over the same policies and the entities of `W`, are
+-- equal.
 abbrev pub HasOneAnswerAtMost : Entities → Type 0
 HasOneAnswerAtMost W = (q : Request) (ps : List NamedPolicy) (a b : Answer) → IsAnswer W q ps a → IsAnswer W q ps b
     → a ≡ b
 
--- `HasOneAnswer W` holds if each request has exactly one answer over the entities of `W`.
+-- `HasOneAnswer W` holds if each request has exactly one answer over each list of policies and the entities of `W`.
 abbrev pub HasOneAnswer : Entities → Type 0
 HasOneAnswer W = (q : Request) (ps : List NamedPolicy)
     → (a : Answer) × IsAnswer W q ps a × ((b : Answer) → IsAnswer W q ps b → b ≡ a)
@@ -134,7 +135,8 @@ pub record AreAlike (a b : Answer) : Type 0 where
   pub errors : HaveSameMembers a.errors b.errors
   pub cycle : a.cycle ≡ b.cycle
 
--- `OrderDoesNotMatter`: lists with the same policies, in any order and with any repetitions, have alike answers.
+-- `OrderDoesNotMatter`: the answers over two lists of the same policies, in any order and with any repetitions, are
+-- alike (`AreAlike`).
 abbrev pub OrderDoesNotMatter : Type 0
 OrderDoesNotMatter = (W : Entities) (above : EntityUid → EntityUid → Bool) → Decides W.parents above →
     (q : Request) (ps others : List NamedPolicy) (a b : Answer) → HaveSameMembers ps others → IsAnswer W q ps a

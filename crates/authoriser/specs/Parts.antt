@@ -39,7 +39,8 @@ pub record ConditionDecides (W : Entities) (q : Request) (policy : Policy) : Typ
       → EvaluatesTo W q (expression_of policy) (Ok (boolean t))
   pub errs : (e : EvalFault) → TestFails W q policy.condition e → EvaluatesTo W q (expression_of policy) (Err e)
 
--- `ScopesDoNotErr`: each part of a scope, as an expression, evaluates to whether it is true of the request.
+-- `ScopesDoNotErr`: each part of a scope, as an expression, evaluates to true if the part is true of the request, and
+-- to false if the part is not true of it.
 abbrev pub ScopesDoNotErr : Type 0
 ScopesDoNotErr = (W : Entities) (q : Request) (scope : Scope) → PartsDecide W q scope
 
@@ -48,8 +49,8 @@ abbrev pub TrueScopesLeaveToConditions : Type 0
 TrueScopesLeaveToConditions = (W : Entities) (q : Request) (policy : Policy) → IsScopeTrue W.parents policy.scope q
     → ConditionDecides W q policy
 
--- `OtherScopesGiveFalse`: a policy whose scope is not true evaluates to false, whatever its condition is, if a test
--- decides the ancestor relation.
+-- `OtherScopesGiveFalse`: if a test decides the ancestor relation, a policy whose scope is not true evaluates to false,
+-- whatever its condition is.
 abbrev pub OtherScopesGiveFalse : Type 0
 OtherScopesGiveFalse = (W : Entities) (above : EntityUid → EntityUid → Bool) → Decides W.parents above
     → (q : Request) (policy : Policy) →

@@ -1,4 +1,4 @@
-//! A memo of the ancestors of entities other than a request's three.
+//! A memo of the ancestors of entities other than the three of a request.
 ghost use Rattle.std.specs.Prelude.{◌≡◌, [], ⊤, Contains, IfOk, MatchOption};
 ghost use Rattle.authoriser.specs.inner.Views.{HasAllAbove, HaveAllAbove};
 
@@ -20,7 +20,7 @@ pub(crate) struct MemoEntry<'a> {
 #[derive(Drop)]
 pub(crate) struct AncestorMemo<'a> {
     pub(crate) kept: Vec<MemoEntry<'a>>,
-    /// The most entities that are memoized.
+    /// The greatest number of entities that are memoized.
     most: usize,
     /// The entity that is memoized next. It is written while a condition is evaluated, and no answer depends on it.
     next: Cell<Option<EntityUid>>,

@@ -32,7 +32,7 @@ pub struct Answer {
     /// The least cycle, if some entity is cyclic; otherwise empty.
     ///
     /// An edge leads from each entity to the next, and from the last to the first. The cycle begins with the least
-    /// cyclic entity, by type and then id; it is a shortest cycle of that entity, and the least of these, compared item
-    /// by item. If it is not empty, no policy was evaluated.
+    /// cyclic entity, by type and then id; it is a shortest cycle through that entity, and the least of these, compared
+    /// item by item. If there is a cycle, no policy was evaluated.
     pub cycle: Items<EntityUid>,
 }

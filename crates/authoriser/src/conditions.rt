@@ -15,7 +15,7 @@ use plain::NoMemory;
 use scope_index::Policy;
 use std::alloc::Global;
 
-/// Returns the policy error that reports an evaluation error; the error `NoMemory` if the evaluation ran out of memory.
+/// Returns the policy error that reports an evaluation error. Fails with `NoMemory` if the evaluation failed with it.
 fn error_by(fault: EvalFault) -> Result<PolicyError, NoMemory>
     ensures { MatchResult result (λ error. fault ≡ fault_of error) (λ _. fault ≡ evaluating.NoMemory) }
 {
@@ -56,8 +56,8 @@ pub(crate) fn outcome_of<L: Lookup>(
         (PolicyEvaluatesTo (entities_with (L.stored known.now.0) (L.parents known.now.0)) known.now.1 policy.now) }
 {
     scopes_do_not_err();
-    if is_scope_true(policy.scope.get(), known.request_entities()) {
-        outcome_of_condition(alloc, policy.condition.get(), known)
+    if is_scope_true(&policy.scope, known.request_entities()) {
+        outcome_of_condition(alloc, &policy.condition, known)
     } else {
         Ok(Outcome::NotSatisfied)
     }

@@ -17,7 +17,8 @@ use scope_index::Policy;
 use std::alloc::Global;
 use values::{EntityUid, Request};
 
-/// The most entities other than the request's whose ancestors [`decide`] memoizes. No answer depends on it.
+/// The greatest number of entities, other than those of the request, whose ancestors [`decide`] memoizes. No answer
+/// depends on this number.
 const OTHERS_MAX: usize = 64;
 
 /// Copies the uids.
@@ -99,11 +100,13 @@ pub fn decide_known<L: Lookup>(
 /// Returns the answer to a request over these policies and these stored entities.
 ///
 /// If the caller's ids ascend strictly, the lists of the answer ascend by id (the theorem `ascending` of
-/// `answers_are_lawful`). One pass over the policies: the ancestors and the attributes of the request's three
-/// entities are looked up at most once each, and a condition is evaluated only if its policy's scope is true. The
-/// ancestors of other entities, as in `User::"u" in Group::"g"`, are memoized once a condition has used them: one
-/// more with each policy, and 64 at most. If some entity is cyclic, no policy is evaluated: the request is denied,
-/// and the answer names the least cycle.
+/// `answers_are_lawful`). If some entity is cyclic, no policy is evaluated: the request is denied, and the answer
+/// names the least cycle.
+///
+/// Visits each policy once. The ancestors and the attributes of the request's three entities are looked up at most
+/// once each, and a condition is evaluated only if its policy's scope is true. The ancestors of another entity, as in
+/// `User::"u" in Group::"g"`, may be memoized once a condition has used them: at most one more entity with each
+/// policy, and at most 64 entities.
 ///
 /// The only error is `NoMemory`. Source: Cedar reference guide, "Authorization".
 pub fn decide<L: Lookup>(

@@ -15,7 +15,7 @@ fn answers_are_one()
     expressions_have_one_outcome();
 }
 
-// Proves that removing one idle policy changes no answer; the theorem on several follows from it. No-op.
+// Proves that removing one idle policy changes no answer; the theorem on several policies follows from it. No-op.
 fn idle_policies_change_nothing()
     ensures { IdleChangesNothing }
 {
@@ -61,10 +61,11 @@ pub fn answers_are_lawful()
 
 /// Proves the role of a scope in the expression of its policy. No-op.
 ///
-/// - `parts`: each part of a scope evaluates to whether it is true, so it never errors.
-/// - `leaves`: if all three are true, the policy has the outcome of its condition, errors included.
-/// - `idle`: if one is not, the policy evaluates to false, whatever its condition is, if a test decides the ancestor
-///   relation.
+/// - `parts`: each part of a scope evaluates to true if it is true of the request, and to false if it is not, so it
+///   never errors.
+/// - `leaves`: if all three parts are true, the policy has the outcome of its condition, errors included.
+/// - `idle`: if some part is not true, and a test decides the ancestor relation, the policy evaluates to false,
+///   whatever its condition is.
 pub fn scopes_do_not_err()
     ensures parts { ScopesDoNotErr }
     ensures leaves { TrueScopesLeaveToConditions }

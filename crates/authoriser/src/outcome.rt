@@ -1,4 +1,4 @@
-//! The outcome of a policy on a request, and the error of an erroring one.
+//! The outcome of a policy on a request, and the error of an erroring policy.
 
 use thiserror::Error;
 
@@ -25,10 +25,10 @@ pub enum PolicyError {
 /// The outcome of a policy on a request.
 #[derive(Clone, Copy)]
 pub enum Outcome {
-    /// Its scope and its conditions are true.
+    /// The policy's scope and its conditions are true.
     Satisfied,
-    /// Its scope is not true, or its conditions are false.
+    /// The policy's scope is not true, or its conditions are false.
     NotSatisfied,
-    /// Its scope is true and its conditions error.
+    /// The policy's scope is true, and its conditions error.
     Errs(PolicyError),
 }

@@ -44,8 +44,8 @@ impl<'a, L: Lookup> Model for PreparedRequest<'a, L> {
 impl<'a, L: Lookup> PreparedRequest<'a, L> {
     /// Looks up the ancestors and the attributes of the request's three entities, at most once each.
     ///
-    /// The ancestors of at most `most_others` other entities are memoized, once a condition has used them: this helps
-    /// if the store has to search for them. The only error is `NoMemory`.
+    /// The ancestors of at most `most_others` other entities are memoized, each after a condition has used them. This
+    /// helps if the store has to search for them. The only error is `NoMemory`.
     pub fn of(
         alloc: Global,
         store: &'a L,
@@ -71,8 +71,8 @@ impl<'a, L: Lookup> PreparedRequest<'a, L> {
         &self.entities
     }
 
-    /// Memoizes the ancestors of the last entity that was queried and is neither one of the three nor memoized, unless
-    /// the memo is full. If an allocation fails, nothing is memoized.
+    /// Memoizes the ancestors of one more entity, unless the memo is full: the last queried one that is neither one of
+    /// the three nor memoized. If an allocation fails, nothing is memoized.
     pub(crate) fn keep_next(&mut self)
         ensures { self.new ≡ self.old }
     {
@@ -80,7 +80,7 @@ impl<'a, L: Lookup> PreparedRequest<'a, L> {
     }
 }
 
-/// Copies the references.
+/// Returns a copy of a list of references.
 fn copied<'a>(alloc: Global, uids: &[&'a EntityUid]) -> Result<Vec<&'a EntityUid>, NoMemory>
     ensures { IfOk result (λ copies. copies.items ≡ uids.now) }
 {

@@ -13,7 +13,7 @@ use values::EntityUid;
 // early; a binary search compares the types first. No result depends on this number.
 const FEW: usize = 16;
 
-/// Returns whether an entity is one of these.
+/// Returns whether `of` is one of `entities`.
 fn is_one_of(entities: &[&EntityUid], of: &EntityUid) -> bool
     ensures { IsTrue result ↔ Contains (names entities.now) of.now }
 {

@@ -1,6 +1,5 @@
-//! The program of a first answer: decides one request without a schema, over the three files that its arguments name:
-//! the policies, the entities, the request. It needs fewer crates than `cedar_site`, and prints what that prints for
-//! `decide` without `--schema`.
+//! The program `bare_decide`: decides one request without a schema. Its arguments name three files: the policies, the
+//! entities, the request. It prints what `cedar_site decide` prints without `--schema`, and needs fewer crates.
 //!
 //! The line of the answer goes to standard output, with status 0; the line of an error goes to standard error, with
 //! status 1. The status is 2 for other arguments, and 3 if a file or the arguments can't be read, or a stream fails.
@@ -14,7 +13,7 @@ use std::{env, fs, io};
 /// The status if a file or the arguments could not be read, or a stream failed.
 const FAILED: u8 = 3;
 
-/// The error line of an out-of-memory error. Does not allocate.
+/// The error line of code 1 (out of memory), a constant so that it is written without an allocation.
 const NO_MEMORY_LINE: &[u8; 47] = b"{\"error\":{\"code\":1,\"place\":null,\"within\":null}}";
 
 /// Writes a label, a line and a line feed.
@@ -32,12 +31,12 @@ fn report_line<W: Write + Drop>(mut out: W, label: &str, line: &[u8], status: u8
     }
 }
 
-/// Reports that a file can't be read.
+/// Reports on standard error that the file `name` can't be read, and returns the status 3.
 fn report_unreadable(rt: &HostRuntime, name: &str) -> ExitCode {
     report_line(rt.stderr(), "fault: ", name.as_bytes(), FAILED)
 }
 
-/// Reports an error as a line on standard error.
+/// Reports an error as a line on standard error, and returns the status 1.
 fn report_rejection(rt: &HostRuntime, refusal: Refusal) -> ExitCode {
     match error_line(rt.alloc(), refusal) {
         Ok(line) => report_line(rt.stderr(), "", &line, 1),
@@ -53,7 +52,7 @@ fn decide(rt: &HostRuntime, policies: &[u8], entities: &[u8], request: &[u8]) ->
     }
 }
 
-/// Reads the request, and then decides.
+/// Reads the request from the file `request`, and then decides it.
 fn decide_from_request(
     rt: &HostRuntime,
     policies: &[u8],
@@ -66,7 +65,7 @@ fn decide_from_request(
     }
 }
 
-/// Reads the entities, and then goes on with the request.
+/// Reads the entities from the file `entities`, and then goes on with the request.
 fn decide_from_entities(
     rt: &HostRuntime,
     policies: &[u8],
@@ -79,7 +78,7 @@ fn decide_from_entities(
     }
 }
 
-/// Reads the policies, and then goes on with the other files.
+/// Reads the policies from the file `policies`, and then goes on with the other files.
 fn decide_from_files(rt: &HostRuntime, policies: &str, entities: &str, request: &str) -> ExitCode {
     match fs::read(rt, policies) {
         Ok(text) => decide_from_entities(rt, &text, entities, request),
@@ -87,7 +86,8 @@ fn decide_from_files(rt: &HostRuntime, policies: &str, entities: &str, request: 
     }
 }
 
-/// Decides the request in the files that the arguments name, the first of which is the program's name.
+/// Decides the request over the three files that `words` names after the program's name. For another number of words it
+/// prints the usage, with status 2.
 fn run(rt: &HostRuntime, words: &[String]) -> ExitCode {
     match words {
         [_, policies, entities, request] => decide_from_files(rt, policies, entities, request),

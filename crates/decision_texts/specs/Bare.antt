@@ -1,9 +1,9 @@
--- Defines entities as JSON without a schema.
+-- Defines which entity a JSON value describes without a schema.
 -- Source: Cedar reference guide 4.0, "Entities and context: JSON format": uid, attrs, parents, tags; a uid is
--- {"type", "id"}, or that under `__entity`.
--- Rules of this product: without a schema an entity has no attributes and no tags; absent `attrs`, `parents` and `tags`
--- are empty, and null does not count as absent; other keys of an entity are ignored, but other keys of a uid are
--- rejected.
+-- {"type", "id"}, or this object under the key `__entity`.
+-- Rules of this product: without a schema an entity is bare: it has no attributes and no tags; absent `attrs`,
+-- `parents` and `tags` are empty, and null does not count as absent; other keys of an entity are ignored, but other
+-- keys of a uid are rejected.
 use Rattle.std.specs.Prelude.{◌&&◌, Bool, true, List, [], codes, Option, Some, None, Result, Ok}
 use Rattle.serde_json.specs.Data.{Data, Items}
 use Rattle.serde_json.specs.Find.{get, as_array}
@@ -16,7 +16,7 @@ use Rattle.answer_lines.specs.entity_uids.Uids.{uid_in}
 use Rattle.decision_texts.specs.declared.bare.ShapeFault.{ShapeFault}
 use Rattle.decision_texts.specs.declared.bare.ShapeFault.TheVariants.{BadShape}
 
--- `stated_uid d` is the uid that `d` states, or `BadShape` if it states none.
+-- `stated_uid d` is the uid that `d` describes, or `BadShape` if it describes none.
 abbrev pub stated_uid : Data → Result EntityUid ShapeFault
 stated_uid d = or_fault BadShape (uid_in d)
 
@@ -25,22 +25,23 @@ abbrev pub is_absent_or_empty : Option Data → Bool
 is_absent_or_empty None = true
 is_absent_or_empty (Some d) = has_only [] d
 
--- `uids_of ds` are the uids that the items `ds` of an array state, or `BadShape` if one of them states none.
+-- `uids_of ds` are the uids that the items `ds` of an array describe, or `BadShape` if one of them describes none.
 unfoldable pub uids_of : Items → Result (List EntityUid) ShapeFault
 uids_of ds = each (λ i d. stated_uid d) 0 (list_of ds)
 
--- `stated_parents o` are the parents that the value `o` of the key `parents` states; `[]` if the key is absent.
+-- `stated_parents o` are the parents that the value `o` of the key `parents` describes; `[]` if the key is absent, and
+-- `BadShape` if `o` is not an array of uids.
 abbrev pub stated_parents : Option Data → Result (List EntityUid) ShapeFault
 stated_parents None = Ok []
 stated_parents (Some d) = do
   ds ← or_fault BadShape (as_array d)
   uids_of ds
 
--- `is_bare d` tests whether the entity that `d` states has no attributes and no tags.
+-- `is_bare d` tests whether the entity that `d` describes has no attributes and no tags.
 abbrev pub is_bare : Data → Bool
 is_bare d = is_absent_or_empty (get (codes "attrs") d) && is_absent_or_empty (get (codes "tags") d)
 
--- `entity_of d` is the entity that `d` states, or `BadShape` if it states none.
+-- `entity_of d` is the entity that `d` describes, or `BadShape` if it describes none.
 unfoldable pub entity_of : Data → Result Entity ShapeFault
 entity_of d = do
   name ← or_fault BadShape (get (codes "uid") d)

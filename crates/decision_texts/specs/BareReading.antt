@@ -1,6 +1,6 @@
 -- Defines how texts are parsed without a schema.
 -- Rules of this product: all policies are admitted, no action is declared, and a value without the form of an entity or
--- a request is always rejected with the same error, 30.
+-- a request is always rejected with the same error, 30 (bad shape).
 use Rattle.std.specs.Prelude.{◌≡◌, None}
 use Rattle.serde_json.specs.Data.{Data}
 use Rattle.values.specs.declared.request.Request.{Request}
@@ -18,12 +18,12 @@ abbrev pub refusal_of : ShapeFault → Refusal
 refusal_of NoMemory = no_memory
 refusal_of BadShape = bad_shape None
 
--- `StatesNone d refusal` holds if `d` states no request, and `refusal` is the error for this: 30, without a place.
+-- `StatesNone d refusal` holds if `d` describes no request, and `refusal` is the error for this: 30, without a place.
 pub record StatesNone (d : Data) (refusal : Refusal) : Type 0 where
   pub none : (q : Request) → StatesRequest d q → ⊥
   pub is : refusal ≡ bad_shape None
 
--- `bare_reading` is the setting without a schema: it says what texts are parsed as.
+-- `bare_reading` is the setting without a schema.
 abbrev pub bare_reading : Reading
 bare_reading = record {
   admits = λ policies. Unit {0};

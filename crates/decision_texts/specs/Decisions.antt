@@ -1,4 +1,5 @@
--- Defines the outcome of three texts in a setting: the line of an answer, or the first error.
+-- Defines the outcome of three texts (policies, entities, a request) in a setting: the line of an answer, or the first
+-- error.
 -- Source: Cedar reference guide 4.0, "Authorization".
 -- Rules of this product: the policies are all parsed before one is checked; they are checked before the entities, and
 -- the entities before the request; a file that is too long is rejected before it is checked to be UTF-8, and bytes
@@ -78,7 +79,7 @@ named_policies (name ∷ names) [] = []
 named_policies (name ∷ names) (policy ∷ policies) =
     record { id = name; policy = policy } ∷ named_policies names policies
 
--- `IsInOrder policies ordered` holds if `ordered` are the same policies, ascending by name.
+-- `IsInOrder policies ordered` holds if `ordered` has the same policies as `policies`, ascending by name.
 pub record IsInOrder (policies ordered : List NamedPolicy) : Type 0 where
   pub same : IsPermutation policies ordered
   pub ascending : IsSortedByKey (λ p. p.id) (slice_cmp nat_cmp) ordered
@@ -103,8 +104,8 @@ pub record IsAnswerTo (policies : List NamedPolicy) (W : Entities) (asked : Requ
 
 -- ---- entities and a request, over admitted policies
 
--- `IsRequestAnswered r policies entities request line` holds if the texts `entities` and `request` are parsed, and
--- `line` is the line of the request's answer over `policies`.
+-- `IsRequestAnswered r policies entities request line` holds if the setting `r` parses the texts `entities` and
+-- `request`, and `line` is the line of the request's answer over `policies`.
 pub record IsRequestAnswered (r : Reading) (policies : List NamedPolicy) (entities request line : List ℕ)
     : Type 0 where
   pub stored : List Entity
@@ -115,8 +116,8 @@ pub record IsRequestAnswered (r : Reading) (policies : List NamedPolicy) (entiti
   pub answers : IsAnswerTo policies (entity_data_with r.actions stored) asked answer
   pub line_is : line ≡ answer_line answer
 
--- `AreInputsRejected r entities request refusal` holds if `refusal` is the error of the text `entities`, or, if that is
--- parsed, of the text `request`.
+-- `AreInputsRejected r entities request refusal` holds if `refusal` is the error of the text `entities` in the setting
+-- `r`; or, if `entities` is parsed without an error, the error of the text `request`.
 pub data AreInputsRejected (r : Reading) (entities request : List ℕ) (refusal : Refusal) : Type 0 where
   by_entities : entities_of r entities ≡ Err refusal → AreInputsRejected r entities request refusal
   by_request : (stored : List Entity) → entities_of r entities ≡ Ok stored → IsRequestRefused r request refusal
@@ -124,16 +125,16 @@ pub data AreInputsRejected (r : Reading) (entities request : List ℕ) (refusal 
 
 -- ---- the three texts
 
--- `IsDecided r policies entities request line` holds if the three texts are parsed, and `line` is the line of the
--- request's answer.
+-- `IsDecided r policies entities request line` holds if the setting `r` parses the three texts and admits the policies,
+-- and `line` is the line of the request's answer.
 pub record IsDecided (r : Reading) (policies entities request line : List ℕ) : Type 0 where
   pub names : List (List ℕ)
   pub cores : List Policy
   pub admitted : AreAdmitted r policies names cores
   pub answered : IsRequestAnswered r (named_policies names cores) entities request line
 
--- `IsDecisionRefused r policies entities request refusal` holds if `refusal` is the error of the first text that is
--- rejected, in this order.
+-- `IsDecisionRefused r policies entities request refusal` holds if `refusal` is the error of the first text that the
+-- setting `r` rejects, in the order `policies`, `entities`, `request`.
 pub data IsDecisionRefused (r : Reading) (policies entities request : List ℕ) (refusal : Refusal) : Type 0 where
   by_policies : AreNotAdmitted r policies refusal → IsDecisionRefused r policies entities request refusal
   by_inputs : (names : List (List ℕ)) (cores : List Policy) → AreAdmitted r policies names cores

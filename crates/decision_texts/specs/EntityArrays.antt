@@ -1,4 +1,4 @@
--- Defines the entities that a JSON array states.
+-- Defines the entities that a JSON array describes.
 -- Source: Cedar reference guide 4.0, "Entities and context: JSON format".
 -- Rules of this product: entities are parsed in order, and the error of an entity itself comes before the error that
 -- its uid occurs twice; the uids of an array are distinct; the error of a text that is not an array has no place.
@@ -26,8 +26,8 @@ abbrev pub placed : ℕ → Result Entity Refusal → Result Entity Refusal
 placed place (Ok e) = Ok e
 placed place (Err refusal) = Err (error_placed_at place refusal)
 
--- `entity_at r ds place d` is the entity that `d` states, the item of the array `ds` at the index `place`, or its
--- error; 30 if an earlier item states an entity with the same uid.
+-- `entity_at r ds place d` is the entity that `d`, the item of the array `ds` at the index `place`, describes in the
+-- setting `r`; or the error of `d`; or 30 (bad shape) if an earlier item describes an entity with the same uid.
 unfoldable pub entity_at : Reading → List Data → ℕ → Data → Result Entity Refusal
 entity_at r ds place d = do
   entity ← placed place (r.entity d)
@@ -35,11 +35,11 @@ entity_at r ds place d = do
       (not (list_any (λ earlier. names entity.uid (r.entity earlier)) (take place ds)))
   Ok entity
 
--- `entities_in r ds` are the entities that the items `ds` of an array state, or the first error with its index.
+-- `entities_in r ds` are the entities that the items `ds` of an array describe, or the first error with its index.
 unfoldable pub entities_in : Reading → Items → Result (List Entity) Refusal
 entities_in r ds = each (entity_at r (list_of ds)) 0 (list_of ds)
 
--- `entities_of r text` are the entities that the JSON array `text` states, or the first error.
+-- `entities_of r text` are the entities that the JSON array `text` describes, or the first error.
 unfoldable pub entities_of : Reading → List ℕ → Result (List Entity) Refusal
 entities_of r text = do
   d ← or_fault (bad_shape None) (json_of text)

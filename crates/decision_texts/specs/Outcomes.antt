@@ -29,8 +29,8 @@ LineOrRefusal r = (policies entities request : List ℕ)
     → ((line : List ℕ) × IsDecided r policies entities request line)
     ⊎ ((refusal : Refusal) × IsDecisionRefused r policies entities request refusal)
 
--- `ListsOfLinesAscend`: in the answer of a line, the ids of the determining policies ascend, and so do those of the
--- erroring policies.
+-- `ListsOfLinesAscend`: in the answer that a line reports, the ids of the determining policies ascend, and so do those
+-- of the erroring policies.
 abbrev pub ListsOfLinesAscend : Reading → Type 0
 ListsOfLinesAscend r = (policies entities request line : List ℕ) (x : IsDecided r policies entities request line)
     → let answer = x.answered.answer in

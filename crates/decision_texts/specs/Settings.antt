@@ -14,16 +14,16 @@ pub record Reading : Type 1 where
   pub admits : List Policy → Type 0
   -- the policies of a file are not admitted, and this is the first error
   pub rejects : List Policy → Refusal → Type 0
-  -- the entity that a value states, or its error, which has no place
+  -- the entity that a value describes, or its error, which has no place
   pub entity : Data → Result Entity Refusal
-  -- a value states this request
+  -- a value describes this request
   pub states : Data → Request → Type 0
-  -- a value states no request, and this is the first error, which has no place
+  -- a value describes no request, and this is the first error, which has no place
   pub faults : Data → Refusal → Type 0
   -- the declared actions
   pub actions : Actions
 
--- `reported_by refusals r` is the entity `r`, or its error as `refusals` reports it.
+-- `reported_by refusals r` is the entity in `r`, or the reported error that `refusals` gives for the error in `r`.
 abbrev pub reported_by : {F : Type 0} → (F → Refusal) → Result Entity F → Result Entity Refusal
 reported_by refusals (Ok e) = Ok e
 reported_by refusals (Err fault) = Err (refusals fault)

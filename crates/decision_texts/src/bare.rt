@@ -8,7 +8,7 @@ ghost use Rattle.decision_texts.specs.Bare.{entity_of};
 
 use entity_data::Entity;
 use json_words::only_keys;
-use plain::{Items, NoMemory, beside};
+use plain::{Items, NoMemory, pair_with};
 use serde_json::Value;
 use std::alloc::Global;
 use thiserror::Error;
@@ -35,7 +35,7 @@ impl From<NoMemory> for ShapeFault {
     }
 }
 
-/// Returns the uid that a value states, directly or under `__entity`.
+/// Returns the uid that a value describes, directly or under `__entity`.
 fn read_uid(alloc: Global, value: &Value) -> Result<EntityUid, ShapeFault>
     ensures { ReadsAs ShapeFault.NoMemory (λ u. u) result (stated_uid (view value.now)) }
 {
@@ -45,7 +45,7 @@ fn read_uid(alloc: Global, value: &Value) -> Result<EntityUid, ShapeFault>
     }
 }
 
-/// Returns the uids of the parents of an entity.
+/// Returns the uids that the items of an entity's array `parents` describe.
 fn parent_uids(alloc: Global, values: &[Value]) -> Result<Items<EntityUid>, ShapeFault>
     ensures { ReadsAs ShapeFault.NoMemory (λ us. us) result (uids_of (items_view values.now)) }
 {
@@ -55,7 +55,7 @@ fn parent_uids(alloc: Global, values: &[Value]) -> Result<Items<EntityUid>, Shap
     }
 }
 
-/// Returns the parents of an entity, given the value of its key `parents`; none if it is absent.
+/// Returns the parents of an entity, given the value of its key `parents`; an empty list if the key is absent.
 fn read_parents(alloc: Global, parents: Option<&Value>) -> Result<Items<EntityUid>, ShapeFault>
     ensures { ReadsAs ShapeFault.NoMemory (λ us. us) result
         (stated_parents (option_map (λ v. view v.now) parents.entry)) }
@@ -86,7 +86,7 @@ fn is_bare(value: &Value) -> bool
     is_absent_or_empty(value.get("attrs")) && is_absent_or_empty(value.get("tags"))
 }
 
-/// Returns the entity that a value states, without attributes.
+/// Returns the entity that a value describes, without attributes.
 #[tactic(auto, unfolding(crate::specs::Bare::entity_of))]
 pub(crate) fn read_entity(alloc: Global, value: &Value) -> Result<Entity, ShapeFault>
     ensures { ReadsAs ShapeFault.NoMemory (λ e. e) result (entity_of (view value.now)) }
@@ -98,7 +98,7 @@ pub(crate) fn read_entity(alloc: Global, value: &Value) -> Result<Entity, ShapeF
     if !is_bare(value) {
         return Err(ShapeFault::BadShape);
     }
-    let (uid, parents) = beside(uid, read_parents(alloc, value.get("parents")))?;
+    let (uid, parents) = pair_with(uid, read_parents(alloc, value.get("parents")))?;
     Ok(Entity {
         uid,
         attrs: Record::new(alloc),

@@ -64,7 +64,7 @@ fn answer_over<S: Setting>(
     decide(alloc, policies, request, &world)
 }
 
-/// Returns the answer over the policies of a file, evaluated in the order of their names.
+/// Returns the answer to a request over the policies of a file, which are evaluated in the order of their names.
 fn answer_to<S: Setting>(
     alloc: Global,
     setting: &S,
@@ -140,8 +140,8 @@ fn answer_texts<S: Setting>(
 ///
 /// - 10 to 19, at a byte offset: the error of the file of policies (docs/codes.md, "Policies").
 /// - The setting's error, if it does not admit these policies.
-/// - The error of the first rejected entity, at its index in the array, from 0: that of the entity itself, or 30 if an
-///   earlier entity has its uid. 30 without a place if the text is not a JSON array.
+/// - The error of the first rejected entity, at its index in the array, from 0: that of the entity itself, or 30
+///   (bad shape) if an earlier entity has its uid. Also 30, without a place, if the text is not a JSON array.
 /// - The error of the request, without a place.
 /// - `NoMemory` (1): an allocation failed; possible at any point.
 pub fn decide_in<S: Setting>(

@@ -2,7 +2,7 @@
 ghost use Rattle.std.specs.Prelude.{◌≡◌, ◌<◌, ◌^◌, List, length, None, Ok, Err, IfErr, OnOk};
 ghost use Rattle.serde_json.specs.View.{view};
 ghost use Rattle.json_words.specs.ReadsAs.{ReadsAs};
-ghost use Rattle.json_words.specs.Arrays.{to_come, each_of, told};
+ghost use Rattle.json_words.specs.Arrays.{unread_members, each_of, reported_error};
 ghost use Rattle.entity_data.specs.declared.entity.Entity.{Entity as Stated};
 ghost use Rattle.plain.specs.Refused.{OrNoMemory};
 ghost use Rattle.answer_lines.specs.Refusals.{no_memory, bad_shape};
@@ -12,7 +12,7 @@ ghost use Rattle.decision_texts.specs.inner.Stores.{Holds, KeepsNext, ReadsStore
 use crate::setting::Setting;
 use answer_lines::Refusal;
 use entity_data::{Entity, EntityStore};
-use json_words::{Member, Members, Scratch, members_of};
+use json_words::{ArrayMembers, Member, Scratch, members_of};
 use serde_json::Value;
 use std::alloc::Global;
 
@@ -32,7 +32,8 @@ fn read_entity_at<S: Setting>(
     }
 }
 
-/// Adds the entity that a value states at an index of the array to the store. Drops the value before it does.
+/// Adds to the store the entity that `value`, the item of the array at the index `place`, describes. Drops the value
+/// before the store grows.
 fn keep_entity<S: Setting>(
     alloc: Global,
     setting: &S,
@@ -52,9 +53,10 @@ fn keep_entity<S: Setting>(
     Ok(())
 }
 
-/// Returns the error of a member, or, if the rest of the text shows that it is not JSON, the error of such a text.
-fn if_json(alloc: Global, members: &mut Members<'_>, refusal: Refusal) -> Refusal
-    ensures { (result ≡ no_memory → ⊥) → result ≡ told (bad_shape None) refusal (to_come members.old) }
+/// Returns `refusal`, the error of a member of the array; if the rest of the text shows that the text is not JSON, the
+/// error of a text that is not JSON.
+fn if_json(alloc: Global, members: &mut ArrayMembers<'_>, refusal: Refusal) -> Refusal
+    ensures { (result ≡ no_memory → ⊥) → result ≡ reported_error (bad_shape None) refusal (unread_members members.old) }
 {
     match members.rest_is_json(alloc) {
         Ok(true) => refusal,
@@ -67,11 +69,11 @@ fn if_json(alloc: Global, members: &mut Members<'_>, refusal: Refusal) -> Refusa
 fn read_array<S: Setting>(
     alloc: Global,
     setting: &S,
-    members: &mut Members<'_>,
+    members: &mut ArrayMembers<'_>,
 ) -> Result<EntityStore, Refusal>
     requires { length members.old.reader < 2 ^ 63 }
     ensures { ReadsStore result
-        (each_of (bad_shape None) (entity_at (S.reading setting.now)) (to_come members.old)) }
+        (each_of (bad_shape None) (entity_at (S.reading setting.now)) (unread_members members.old)) }
 {
     let mut store = EntityStore::new(alloc);
     let mut place = 0;
@@ -89,7 +91,7 @@ fn read_array<S: Setting>(
     }
 }
 
-/// Returns the entities of a text.
+/// Returns the entities of the JSON array in a text.
 pub(crate) fn read_entities<S: Setting>(
     alloc: Global,
     setting: &S,
@@ -104,8 +106,13 @@ pub(crate) fn read_entities<S: Setting>(
     }
 }
 
-/// Checks that a text is a JSON array of entities with distinct uids. Errors are those of
-/// [`decide_in`](crate::decide_in) for entities.
+/// Checks that a text is a JSON array of entities with distinct uids.
+///
+/// # Errors
+///
+/// - The error of the first rejected entity, at its index in the array, from 0: that of the entity itself, or 30
+///   (bad shape) if an earlier entity has its uid. Also 30, without a place, if the text is not a JSON array.
+/// - `NoMemory` (1): an allocation failed; possible at any point.
 pub fn check_entities<S: Setting>(alloc: Global, setting: &S, text: &[u8]) -> Result<(), Refusal>
     ensures read { OnOk result ((es : List Stated) × (entities_of (S.reading setting.now) text.now ≡ Ok es)) }
     ensures refused { IfErr result

@@ -8,7 +8,8 @@ use answer_lines::{
 
 /// Proves that, without a schema, three texts have exactly one outcome, a line or an error. No-op.
 ///
-/// In the answer of a line, the ids of the determining policies ascend, and so do those of the erroring policies.
+/// In the answer that a line reports, the ids of the determining policies ascend, and so do those of the erroring
+/// policies.
 pub fn texts_have_one_outcome()
     ensures one_line { OneLine bare_reading }
     ensures not_both { NotBoth bare_reading }

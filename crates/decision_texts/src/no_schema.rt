@@ -28,7 +28,7 @@ fn refusal_of(fault: ShapeFault) -> Refusal
     }
 }
 
-/// Returns the entity that a value states, or the error.
+/// Returns the entity that a value describes, or the error.
 fn entity_in(alloc: Global, value: &Value) -> Result<Entity, Refusal>
     ensures { ReadsAs no_memory (λ e. e) result (reported_by refusal_of (entity_of (view value.now))) }
 {
@@ -38,7 +38,7 @@ fn entity_in(alloc: Global, value: &Value) -> Result<Entity, Refusal>
     }
 }
 
-/// Returns the request that a value states, or the error.
+/// Returns the request that a value describes, or the error.
 fn request_in(alloc: Global, value: &Value) -> Result<Request, Refusal>
     ensures read { IfOk result (StatesRequest (view value.now)) }
     ensures refused { IfErr result (OrNoMemory no_memory (StatesNone (view value.now))) }

@@ -10,7 +10,8 @@ use crate::setting::Setting;
 use answer_lines::{MOST_FILE_BYTES, Policy, ReadFault, Refusal, parse_policies};
 use std::alloc::Global;
 
-/// Returns the reported error for an error of the policies' text (10 to 19, or 1), at the same byte offset.
+/// Returns the reported error for an error of the policies' text (10 to 19, or 1 for `NoMemory`), at the same byte
+/// offset.
 fn refusal_by(fault: ReadFault) -> Refusal
     ensures { result ≡ refusal_by fault }
 {

@@ -8,12 +8,12 @@ ghost use Rattle.decision_texts.specs.declared.bare.ShapeFault.TheVariants as Sh
 
 use crate::bare::{ShapeFault, is_absent_or_empty};
 use answer_lines::read_name;
-use plain::beside;
+use plain::pair_with;
 use serde_json::Value;
 use std::alloc::Global;
 use values::{EntityUid, Record, Request};
 
-/// Returns the uid that the value at a key states.
+/// Returns the uid that the value at a key describes.
 ///
 /// # Errors
 ///
@@ -33,7 +33,7 @@ fn read_name_at(alloc: Global, value: &Value, key: &str) -> Result<EntityUid, Sh
     }
 }
 
-/// Returns the request that a JSON value states.
+/// Returns the request that a JSON value describes.
 ///
 /// # Errors
 ///
@@ -47,9 +47,9 @@ pub(crate) fn read_request(alloc: Global, value: &Value) -> Result<Request, Shap
         (λ e. e ≡ ShapeFault.BadShape → (q : PlainRequest) → StatesRequest (view value.now) q → ⊥) }
 {
     let principal = read_name_at(alloc, value, "principal")?;
-    let (principal, action) = beside(principal, read_name_at(alloc, value, "action"))?;
+    let (principal, action) = pair_with(principal, read_name_at(alloc, value, "action"))?;
     let resource = read_name_at(alloc, value, "resource");
-    let ((principal, action), resource) = beside((principal, action), resource)?;
+    let ((principal, action), resource) = pair_with((principal, action), resource)?;
     if !is_absent_or_empty(value.get("context")) {
         drop((principal, action, resource));
         return Err(ShapeFault::BadShape);

@@ -10,7 +10,7 @@ use json_words::read_json;
 use std::alloc::Global;
 use values::Request;
 
-/// Returns the request that bytes state, or the error, which has no place.
+/// Returns the request that bytes describe, or the error, which has no place.
 pub(crate) fn request_in<S: Setting>(
     alloc: Global,
     setting: &S,

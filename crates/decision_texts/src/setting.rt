@@ -14,7 +14,7 @@ use values::Request;
 
 /// The setting under which texts are parsed.
 ///
-/// It says which policies are admitted, which entity and which request a JSON value states, their errors, and which
+/// It says which policies are admitted, which entity and which request a JSON value describes, their errors, and which
 /// actions are declared. The order in which texts are checked is the same in each setting ([`crate::decide_in`]).
 pub trait Setting {
     /// The declared actions.
@@ -33,11 +33,11 @@ pub trait Setting {
         ensures refused { IfErr result
             (OrNoMemory no_memory ((reading self.now).rejects (map (λ p. p.1) policies.now))) };
 
-    /// Returns the entity that a value states, or its error, which has no place.
+    /// Returns the entity that a value describes, or its error, which has no place.
     fn read_entity(&self, alloc: Global, value: &Value) -> Result<Entity, Refusal>
         ensures { ReadsAs no_memory (λ e. e) result ((reading self.now).entity (view value.now)) };
 
-    /// Returns the request that a value states, or its error, which has no place.
+    /// Returns the request that a value describes, or its error, which has no place.
     fn read_request(&self, alloc: Global, value: &Value) -> Result<Request, Refusal>
         ensures read { IfOk result ((reading self.now).states (view value.now)) }
         ensures refused { IfErr result (OrNoMemory no_memory ((reading self.now).faults (view value.now))) };

@@ -12,12 +12,12 @@ use Rattle.entities.specs.declared.value_fault.ValueFault.{ValueFault}
 use Rattle.entities.specs.Typing.{record_in}
 use Rattle.entity_data.specs.ancestor_search.Decided.{is_same}
 use Rattle.schema_types.specs.Cedar.{Cedar}
-use Rattle.schema.specs.declared.parts.Place.{Place}
+use Rattle.schema.specs.declared.parts.EnvironmentKey.{EnvironmentKey}
 use Rattle.schema.specs.Schemas.{EnvironmentOf, StatedSchema}
 use Rattle.entities.specs.declared.fault.EntityFault.{EntityFault}
 use Rattle.entities.specs.declared.fault.EntityFault.TheVariants.{BadShape, NotApplicable}
 use Rattle.entities.specs.declared.requests.Asked.{Asked}
-use Rattle.entities.specs.Faults.{told}
+use Rattle.entities.specs.Faults.{with_entity_fault}
 use Rattle.entities.specs.Stated.{or_empty}
 use Rattle.entities.specs.Contexts.{context_where, is_of_action, is_place, context_in}
 use Rattle.entities.specs.Requests.{context_asked}
@@ -35,7 +35,7 @@ use Rattle.entities.proofs.OneOutcome.{gives, one_outcome}
 
 -- ---- the first environment with a place
 
-module _ (passes : Place → Bool) (IsPlace : Place → Type 0) (exact : (p : Place) → (passes p ≡ true) ↔ IsPlace p) where
+module _ (passes : EnvironmentKey → Bool) (IsPlace : EnvironmentKey → Type 0) (exact : (p : EnvironmentKey) → (passes p ≡ true) ↔ IsPlace p) where
   context_by : (e : EnvironmentOf) (es : List EnvironmentOf) (t : Cedar) → (context_where passes es ≡ Some t → HasContext IsPlace es t) → (b : Bool) → passes e.place ≡ b
       → cond b (Some e.context) (context_where passes es) ≡ Some t → HasContext IsPlace (e ∷ es) t
   context_by e es t rest true is h = subst (HasContext IsPlace (e ∷ es)) (some_is e.context t h) (says.first_place e es ((exact e.place).0 is))
@@ -59,10 +59,10 @@ module _ (passes : Place → Bool) (IsPlace : Place → Type 0) (exact : (p : Pl
 
   -- what the functions compute of an object
   abbrev pub context_read : StatedSchema → Members → Result (List Field) EntityFault
-  context_read s ms = or_fault NotApplicable (context_where passes s.environments) >>= λ t. told (record_in t (json.object ms))
+  context_read s ms = or_fault NotApplicable (context_where passes s.environments) >>= λ t. with_entity_fault (record_in t (json.object ms))
 
   read_step : (s : StatedSchema) (ms : Members) (t : Cedar) (r : Result (List Field) ValueFault) → context_where passes s.environments ≡ Some t → record_in t (json.object ms) ≡ r
-      → context_read s ms ≡ told r
+      → context_read s ms ≡ with_entity_fault r
   read_step s ms t r at read = rw (at, read) refl
 
   none_step : (s : StatedSchema) (ms : Members) → context_where passes s.environments ≡ None → context_read s ms ≡ failed NotApplicable
@@ -96,10 +96,10 @@ module _ (passes : Place → Bool) (IsPlace : Place → Type 0) (exact : (p : Pl
 
 -- ---- places
 
-pub of_action : (action : EntityUid) (p : Place) → (is_of_action action p ≡ true) ↔ IsOfAction action p
+pub of_action : (action : EntityUid) (p : EnvironmentKey) → (is_of_action action p ≡ true) ↔ IsOfAction action p
 of_action action p = (same_is p.action action, is_the_same p.action action)
 
-place_is : (asked : Asked) (p : Place) → is_place asked.action asked.principal.type_name asked.resource.type_name p ≡ true → AppliesTo asked p
+place_is : (asked : Asked) (p : EnvironmentKey) → is_place asked.action asked.principal.type_name asked.resource.type_name p ≡ true → AppliesTo asked p
 place_is asked p h =
     let a = both_true (is_same p.action asked.action) (bytes_eq p.principal asked.principal.type_name && bytes_eq p.resource asked.resource.type_name) h in
     let b = both_true (bytes_eq p.principal asked.principal.type_name) (bytes_eq p.resource asked.resource.type_name) a.1 in
@@ -109,13 +109,13 @@ place_is asked p h =
       same_resource = bytes_same p.resource asked.resource.type_name b.1;
     }
 
-is_the_place : (asked : Asked) (p : Place) → AppliesTo asked p → is_place asked.action asked.principal.type_name asked.resource.type_name p ≡ true
+is_the_place : (asked : Asked) (p : EnvironmentKey) → AppliesTo asked p → is_place asked.action asked.principal.type_name asked.resource.type_name p ≡ true
 is_the_place asked p h =
     joined (is_same p.action asked.action) (bytes_eq p.principal asked.principal.type_name && bytes_eq p.resource asked.resource.type_name) (is_the_same p.action asked.action h.same_action)
     (joined (bytes_eq p.principal asked.principal.type_name) (bytes_eq p.resource asked.resource.type_name)
     (same_bytes p.principal asked.principal.type_name h.same_principal) (same_bytes p.resource asked.resource.type_name h.same_resource))
 
-pub applies_to : (asked : Asked) (p : Place) → (is_place asked.action asked.principal.type_name asked.resource.type_name p ≡ true) ↔ AppliesTo asked p
+pub applies_to : (asked : Asked) (p : EnvironmentKey) → (is_place asked.action asked.principal.type_name asked.resource.type_name p ≡ true) ↔ AppliesTo asked p
 applies_to asked p = (place_is asked p, is_the_place asked p)
 
 -- ---- contexts
@@ -173,13 +173,13 @@ module _ (names : Names) (s : StatedSchema) (action : EntityUid) (d : Data) wher
 
 empty_step : (s : StatedSchema) (asked : Asked) (d : Data) (x : Data) → or_empty (get (codes "context") d) ≡ x
     → context_asked s asked d
-    ≡ (or_fault NotApplicable (context_where (is_place asked.action asked.principal.type_name asked.resource.type_name) s.environments) >>= λ t. told (record_in t x))
+    ≡ (or_fault NotApplicable (context_where (is_place asked.action asked.principal.type_name asked.resource.type_name) s.environments) >>= λ t. with_entity_fault (record_in t x))
 unfolding context_asked
 empty_step s asked d x at =
-    ap (λ (y : Data). or_fault NotApplicable (context_where (is_place asked.action asked.principal.type_name asked.resource.type_name) s.environments) >>= λ t. told (record_in t y)) at
+    ap (λ (y : Data). or_fault NotApplicable (context_where (is_place asked.action asked.principal.type_name asked.resource.type_name) s.environments) >>= λ t. with_entity_fault (record_in t y)) at
 
 module _ (names : Names) (s : StatedSchema) (asked : Asked) (d : Data) (ms : Members) (at : ObjectAt (codes "context") d ms) where
-  abbrev passes : Place → Bool
+  abbrev passes : EnvironmentKey → Bool
   passes = is_place asked.action asked.principal.type_name asked.resource.type_name
 
   asked_read : context_asked s asked d ≡ context_read passes (AppliesTo asked) (applies_to asked) s ms

@@ -23,7 +23,7 @@ use Rattle.entities.specs.declared.fault.EntityFault.{EntityFault}
 use Rattle.entities.specs.declared.fault.EntityFault.TheVariants.{BadShape, UnknownType, ActionEntity, Undeclared}
 use Rattle.entities.specs.declared.fault.EntityFault.TheVariants.{Missing, WrongType, BadParent, SelfParent, TagsLeftOut}
 use Rattle.entities.specs.declared.stated.StatedEntity.{StatedEntity}
-use Rattle.entities.specs.Faults.{of_value, told}
+use Rattle.entities.specs.Faults.{of_value, with_entity_fault}
 use Rattle.entities.specs.Stated.{is_absent_or_empty, or_empty, stated_in}
 use Rattle.entities.specs.Entities.{is_action_type, shape_of, attributes_in, parent_fits, parents_fit, parents_in, entity_stated_in}
 use Rattle.entities.specs.Laws.{ActionTypeTestIsExact}
@@ -141,7 +141,7 @@ unfolding attributes_in shape_of
 tags_step s name d t action shape tags = rw (action, shape, tags) refl
 
 record_step : (s : StatedSchema) (name : List ℕ) (d : Data) (t : Cedar) (x : Data) (r : Result (List Field) ValueFault) → is_action_type name ≡ false → s.shape name ≡ Some t
-    → is_absent_or_empty (get (codes "tags") d) ≡ true → or_empty (get (codes "attrs") d) ≡ x → record_in t x ≡ r → attributes_in s name d ≡ told r
+    → is_absent_or_empty (get (codes "tags") d) ≡ true → or_empty (get (codes "attrs") d) ≡ x → record_in t x ≡ r → attributes_in s name d ≡ with_entity_fault r
 unfolding attributes_in shape_of
 record_step s name d t x r action shape tags at read = rw (action, shape, tags, at, read) refl
 
@@ -174,7 +174,7 @@ module _ (laws : Laws) (s : StatedSchema) (d : Data) where
   -- ---- what is stated is given
 
   attributes_of : (uid : EntityUid) (ps : List EntityUid) (ms : Members) (t : Cedar) (r : Result (List Field) ValueFault) → HasForm d uid ps ms no_members → HasShape s uid.type_name t
-      → record_in t (object ms) ≡ r → attributes_in s uid.type_name d ≡ told r
+      → record_in t (object ms) ≡ r → attributes_in s uid.type_name d ≡ with_entity_fault r
   attributes_of uid ps ms t r form shape read =
       record_step s uid.type_name d t (object ms) r (no_action uid.type_name shape.no_action) shape.declared (emptiness (codes "tags") d no_members form.has_tags)
       (members_there (codes "attrs") d ms form.has_attributes) read

@@ -28,7 +28,7 @@ use Rattle.entities.specs.declared.fault.EntityFault.{EntityFault}
 use Rattle.entities.specs.declared.fault.EntityFault.TheVariants.{BadShape, ActionEntity, UnknownType, TagsLeftOut}
 use Rattle.entities.specs.declared.stated.StatedEntity.{StatedEntity}
 use Rattle.entity_data.specs.declared.entity.Entity.{Entity}
-use Rattle.entities.specs.Faults.{told}
+use Rattle.entities.specs.Faults.{with_entity_fault}
 use Rattle.entities.specs.Stated.{stated_uid, uids_of, stated_parents, has_objects, is_absent_or_empty, or_empty}
 use Rattle.entities.specs.Stated.{stated_in}
 use Rattle.entities.specs.Entities.{is_action_type, shape_of, attributes_in, parent_fits, parents_fit, parents_in}
@@ -140,7 +140,7 @@ form_step e name parents = rw (name, parents) refl
 
 -- ---- attributes
 
-told_ok : {A : Type 0} (r : Result A ValueFault) (x : A) → told r ≡ done x → r ≡ Ok x
+told_ok : {A : Type 0} (r : Result A ValueFault) (x : A) → with_entity_fault r ≡ done x → r ≡ Ok x
 told_ok (Ok y) x e = let same : y ≡ x = cc in ap (λ z. Ok z) same
 told_ok (Err f) x e = absurd cc
 
@@ -153,8 +153,8 @@ record Attributed (s : StatedSchema) (name : List ℕ) (d : Data) (fields : List
 attributed : (s : StatedSchema) (name : List ℕ) (d : Data) (fields : List Field) → attributes_in s name d ≡ Ok fields → Attributed s name d fields
 unfolding attributes_in
 attributed s name d fields e =
-    let a = bind_ok (shape_of s name) (λ shape. demand TagsLeftOut (is_absent_or_empty (get (codes "tags") d)) >>= λ u. told (record_in shape (or_empty (get (codes "attrs") d)))) fields e in
-    let b = bind_ok (demand TagsLeftOut (is_absent_or_empty (get (codes "tags") d))) (λ u. told (record_in a.0 (or_empty (get (codes "attrs") d)))) fields a.2 in
+    let a = bind_ok (shape_of s name) (λ shape. demand TagsLeftOut (is_absent_or_empty (get (codes "tags") d)) >>= λ u. with_entity_fault (record_in shape (or_empty (get (codes "attrs") d)))) fields e in
+    let b = bind_ok (demand TagsLeftOut (is_absent_or_empty (get (codes "tags") d))) (λ u. with_entity_fault (record_in a.0 (or_empty (get (codes "attrs") d)))) fields a.2 in
     record { shape = a.0; is_shape = a.1; read = told_ok (record_in a.0 (or_empty (get (codes "attrs") d))) fields b.2 }
 
 attributes_step : (s : StatedSchema) (name : List ℕ) (e : Entity) (shape : Cedar) → shape_of s name ≡ Ok shape

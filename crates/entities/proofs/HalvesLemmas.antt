@@ -14,7 +14,7 @@ use Rattle.values.proofs.Halves.{lt_only, not_above, top_only, rises, less_then}
 use Rattle.values.specs.declared.entity_uid.EntityUid.{EntityUid}
 use Rattle.values.specs.Names.{uid_cmp, text_cmp, uid_cmp-IsTotalOrder, text_cmp-IsTotalOrder, uid_cmp-IsAntisymmetric}
 use Rattle.schema_types.specs.Cedar.{Cedar}
-use Rattle.schema.specs.declared.parts.Place.{Place}
+use Rattle.schema.specs.declared.parts.EnvironmentKey.{EnvironmentKey}
 use Rattle.schema.specs.Schemas.{EnvironmentOf, place_cmp}
 use Rattle.entities.specs.declared.requests.Asked.{Asked}
 use Rattle.entities.specs.Contexts.{context_where, is_of_action, is_place}
@@ -27,7 +27,7 @@ places_total =
     then_total (on_total (λ p. p.action) uid_cmp-IsTotalOrder)
     (then_total (on_total (λ p. p.principal) text_cmp-IsTotalOrder) (on_total (λ p. p.resource) text_cmp-IsTotalOrder))
 
-places_rise : (x : Place) → IsMonotone (λ p. place_cmp p x)
+places_rise : (x : EnvironmentKey) → IsMonotone (λ p. place_cmp p x)
 places_rise x p q lt = rises places_total p q x lt (place_cmp q x) refl
 
 actions_rise : (action : EntityUid) → IsMonotone (λ p. uid_cmp p.action action)
@@ -39,7 +39,7 @@ actions_rise action p q lt = elim (less_then (uid_cmp p.action q.action) _ lt) [
 -- ---- lists in order
 
 module _ {X : Type 0} (view : X → EnvironmentOf) where
-  later : (p : Place) (es : List X) (k : ℕ) (d : X) → AllByRecursion (λ q. place_cmp p q ≡ Less) (map (λ e. e.place) (map view es)) → k < length es
+  later : (p : EnvironmentKey) (es : List X) (k : ℕ) (d : X) → AllByRecursion (λ q. place_cmp p q ≡ Less) (map (λ e. e.place) (map view es)) → k < length es
       → place_cmp p (view (get_or es k d)).place ≡ Less
   later p [] k d h lt = let no : ⊥ = omega (arith, lt) in absurd no
   later p (x ∷ xs) zero d h lt = h.0
@@ -48,10 +48,10 @@ module _ {X : Type 0} (view : X → EnvironmentOf) where
   abbrev pub AreSorted : List X → Type 0
   AreSorted es = IsStrictlySortedBy place_cmp (map (λ e. e.place) (map view es))
 
-  abbrev pub Ascends : (Place → Ordering) → List X → Type 0
+  abbrev pub Ascends : (EnvironmentKey → Ordering) → List X → Type 0
   Ascends ord es = (i j : ℕ) (d : X) → i ≤ j → j < length es → ordering_index (ord (view (get_or es i d)).place) ≤ ordering_index (ord (view (get_or es j d)).place)
 
-  ascends : (ord : Place → Ordering) → IsMonotone ord → (es : List X) → AreSorted es → Ascends ord es
+  ascends : (ord : EnvironmentKey → Ordering) → IsMonotone ord → (es : List X) → AreSorted es → Ascends ord es
   unfolding IsStrictlySortedBy
   ascends ord rise [] s i j d le lt = let no : ⊥ = omega (arith, lt) in absurd no
   ascends ord rise (x ∷ xs) s zero zero d le lt = omega arith
@@ -59,17 +59,17 @@ module _ {X : Type 0} (view : X → EnvironmentOf) where
   ascends ord rise (x ∷ xs) s (suc i) zero d le lt = let no : ⊥ = omega (arith, le) in absurd no
   ascends ord rise (x ∷ xs) s (suc i) (suc j) d le lt = ascends ord rise xs s.1 i j d (omega (arith, le)) (omega (arith, lt))
 
-  pub parted : (ord : Place → Ordering) → IsMonotone ord → (es : List X) → AreSorted es → IsPartitionedBy (λ e. is_lt (ord (view e).place)) es
+  pub parted : (ord : EnvironmentKey → Ordering) → IsMonotone ord → (es : List X) → AreSorted es → IsPartitionedBy (λ e. is_lt (ord (view e).place)) es
   parted ord rise es s i j d le lt h =
       not_above (ord (view (get_or es i d)).place)
       (subst (λ (o : Ordering). ordering_index (ord (view (get_or es i d)).place) ≤ ordering_index o) (lt_only (ord (view (get_or es j d)).place) h) (ascends ord rise es s i j d le lt))
 
-module _ {X : Type 0} (view : X → EnvironmentOf) (ord : Place → Ordering) (passes : Place → Bool) (sought : AreFoundBy ord passes) where
+module _ {X : Type 0} (view : X → EnvironmentOf) (ord : EnvironmentKey → Ordering) (passes : EnvironmentKey → Bool) (sought : AreFoundBy ord passes) where
   off : (e : X) (es : List X) → passes (view e).place ≡ false
       → context_where passes (map view (e ∷ es)) ≡ context_where passes (map view es)
   off e es h = ap (λ (b : Bool). if b then Some (view e).context else context_where passes (map view es)) h
 
-  fails : (p : Place) (o : Ordering) → ord p ≡ o → is_eq o ≡ false → passes p ≡ false
+  fails : (p : EnvironmentKey) (o : Ordering) → ord p ≡ o → is_eq o ≡ false → passes p ≡ false
   fails p o e h = sought.same p ∙ ap is_eq e ∙ h
 
   none_above : (es : List X) → ((k : ℕ) (d : X) → k < length es → ord (view (get_or es k d)).place ≡ Greater) → context_where passes (map view es) ≡ None
@@ -108,7 +108,7 @@ module _ {X : Type 0} (view : X → EnvironmentOf) (ord : Place → Ordering) (p
       → IsPartitionPoint (λ e. is_lt (ord (view e).place) ≡ true) (λ e. is_lt (ord (view e).place) ≡ false) es i
       → context_if (λ p. is_eq (ord p)) (option_map view (slice_get es i)) ≡ context_where passes (map view es)
   by_halves es i s bound at =
-      sym (ap (λ (test : Place → Bool). context_if test (option_map view (slice_get es i))) (λ j p. sought.same p j))
+      sym (ap (λ (test : EnvironmentKey → Bool). context_if test (option_map view (slice_get es i))) (λ j p. sought.same p j))
       ∙ sym (first_passes es i (ascends view ord sought.rises es s) (λ k d lt in_es. at.0 k d (omega arith) lt) (λ k d le in_es. at.1 k d le in_es))
 
 -- ---- the two tests
@@ -121,7 +121,7 @@ ties Greater p = refl
 pub action_sought : (action : EntityUid) → AreFoundBy (order_of_action action) (is_of_action action)
 action_sought action = record { same = λ p. refl; rises = actions_rise action }
 
-same_place : (asked : Asked) (p : Place) → is_place asked.action asked.principal.type_name asked.resource.type_name p ≡ is_eq (place_cmp p (place_asked asked))
+same_place : (asked : Asked) (p : EnvironmentKey) → is_place asked.action asked.principal.type_name asked.resource.type_name p ≡ is_eq (place_cmp p (place_asked asked))
 same_place asked p =
     let a = uid_cmp p.action asked.action in
     let principals = text_cmp p.principal asked.principal.type_name in

@@ -5,7 +5,7 @@ use Rattle.std.specs.Prelude.{⊤}
 use Rattle.std.specs.Str.{bytes_eq}
 use Rattle.std.proofs.lemmas.Slice.Eq.{bytes_eq-Decides}
 use Rattle.json_words.specs.ReadsAs.{or_fault, demand}
-use Rattle.values.specs.extensions.Decided.{Decided, found}
+use Rattle.values.specs.extensions.Decided.{Decided, witness}
 
 abbrev pub done : {A F : Type 0} → A → Result A F
 done x = Ok x
@@ -51,10 +51,10 @@ bytes_same s t e = (bytes_eq-Decides s t).0 e
 
 -- ---- what was found
 
-pub found_of : {A : Type 0} {P : A → Type 0} (d : Decided ((a : A) × P a)) (a : A) → found d ≡ Some a → P a
+pub found_of : {A : Type 0} {P : A → Type 0} (d : Decided ((a : A) × P a)) (a : A) → witness d ≡ Some a → P a
 found_of {P = P} (inl h) a e = let same : h.0 ≡ a = cc in subst P same h.1
 found_of (inr n) a e = absurd cc
 
-pub found_is : {A : Type 0} {P : A → Type 0} (d : Decided ((a : A) × P a)) (a : A) → ((x y : A) → P x → P y → x ≡ y) → P a → found d ≡ Some a
+pub found_is : {A : Type 0} {P : A → Type 0} (d : Decided ((a : A) × P a)) (a : A) → ((x y : A) → P x → P y → x ≡ y) → P a → witness d ≡ Some a
 found_is {A = A} (inl h) a one p = ap (λ (b : A). Some b) (one h.0 a h.1 p)
 found_is (inr n) a one p = absurd (n (a, p))

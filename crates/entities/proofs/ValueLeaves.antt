@@ -25,7 +25,7 @@ use Rattle.values.specs.declared.entity_uid.EntityUid.{EntityUid}
 use Rattle.values.specs.Values.{PlainValue, boolean, long, text, entity, decimal, ipaddr}
 use Rattle.entities.specs.declared.value_fault.ValueFault.{ValueFault}
 use Rattle.entities.specs.declared.value_fault.ValueFault.TheVariants.{WrongType}
-use Rattle.values.specs.extensions.Decided.{Decided, found}
+use Rattle.values.specs.extensions.Decided.{Decided, witness}
 use Rattle.values.specs.extensions.TextsDecided.{decimal_text_decided, network_text_decided, decimal_of, network_of}
 use Rattle.schema_types.specs.Cedar as cedar
 use Rattle.schema_types.specs.Cedar.{Cedar}
@@ -59,15 +59,15 @@ same_bytes s = (bytes_eq-Decides s s).1 refl
 
 -- ---- texts of extensions
 
-pub found_of : {A : Type 0} {P : A → Type 0} (d : Decided ((a : A) × P a)) (a : A) → found d ≡ Some a → P a
+pub found_of : {A : Type 0} {P : A → Type 0} (d : Decided ((a : A) × P a)) (a : A) → witness d ≡ Some a → P a
 found_of {P = P} (inl h) a e = let same : h.0 ≡ a = cc in subst P same h.1
 found_of (inr n) a e = absurd cc
 
-pub found_is : {A : Type 0} {P : A → Type 0} (d : Decided ((a : A) × P a)) (a : A) → ((x y : A) → P x → P y → x ≡ y) → P a → found d ≡ Some a
+pub found_is : {A : Type 0} {P : A → Type 0} (d : Decided ((a : A) × P a)) (a : A) → ((x y : A) → P x → P y → x ≡ y) → P a → witness d ≡ Some a
 found_is {A = A} (inl h) a one p = ap (λ (b : A). Some b) (one h.0 a h.1 p)
 found_is (inr n) a one p = absurd (n (a, p))
 
-pub found_none : {A : Type 0} {P : A → Type 0} (d : Decided ((a : A) × P a)) → ((a : A) → ¬ (P a)) → None ≡ found d
+pub found_none : {A : Type 0} {P : A → Type 0} (d : Decided ((a : A) × P a)) → ((a : A) → ¬ (P a)) → None ≡ witness d
 found_none (inl h) n = absurd (n h.0 h.1)
 found_none (inr m) n = refl
 

@@ -14,7 +14,7 @@ use Rattle.entities.specs.Texts.{HasUtf8}
 abbrev pub JsonTextsAreUtf8 : Type 0
 JsonTextsAreUtf8 = (bytes : List ℕ) (d : Data) → json_of bytes ≡ Some d → HasUtf8 d
 
--- `IsReadFrom s bytes e` holds if `bytes` are JSON that states the entity `e` under the schema `s`.
+-- `IsReadFrom s bytes e` holds if `bytes` are JSON that describes the entity `e` under the schema `s`.
 pub record IsReadFrom (s : StatedSchema) (bytes : List ℕ) (e : Entity) : Type 0 where
   pub json : Data
   pub stands : json_of bytes ≡ Some json

@@ -20,8 +20,8 @@ abbrev pub call_json : List ℕ → List ℕ → Data
 call_json name argument = only (codes "__extn")
     (json.object (member (codes "arg") (json.string argument) (member (codes "fn") (json.string name) no_members)))
 
--- `value_json v` is the canonical JSON of the value `v`; `values_json` and `fields_json` are that of the members of a
--- set and of the fields of a record.
+-- `value_json v` is the canonical JSON of the value `v`; `values_json vs` are the items of the array for a set with the
+-- members `vs`, and `fields_json fs` are the members of the object for a record with the fields `fs`.
 abbrev mutual
   pub value_json : PlainValue → Data
   value_json (boolean b) = json.boolean b

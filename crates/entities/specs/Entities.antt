@@ -1,7 +1,7 @@
--- Defines the entity that JSON states under a schema, or the first error.
+-- Defines the entity that JSON describes under a schema, or the first error.
 -- Source: Cedar reference guide 4.0, "Entities and context: JSON format" and "Schema JSON format": an entity's
--- attributes are those of its type's shape, its parents of types that `memberOfTypes` leads to.
--- Rules of this product: the order of the errors; no action is stated as an entity; no entity has tags; no entity is
+-- attributes are those of its type's shape, and its parents are of types that `memberOfTypes` leads to.
+-- Rules of this product: the order of the errors; no action is described as an entity; no entity has tags; no entity is
 -- its own parent.
 use Rattle.std.specs.Prelude.{◌||◌, ◌==◌, ℕ, List, [], ◌∷◌, Bool, not, codes, ⊤, Result, Ok}
 use Rattle.std.specs.List.{ends_with}
@@ -19,7 +19,7 @@ use Rattle.entities.specs.declared.fault.EntityFault.{EntityFault}
 use Rattle.entities.specs.declared.fault.EntityFault.TheVariants.{UnknownType, ActionEntity, BadParent, SelfParent}
 use Rattle.entities.specs.declared.fault.EntityFault.TheVariants.{TagsLeftOut}
 use Rattle.entity_data.specs.declared.entity.Entity.{Entity}
-use Rattle.entities.specs.Faults.{told}
+use Rattle.entities.specs.Faults.{with_entity_fault}
 use Rattle.entities.specs.Stated.{is_absent_or_empty, or_empty, stated_in}
 use Rattle.entity_data.specs.UidSets.{uid_set}
 
@@ -33,12 +33,12 @@ shape_of s name = do
   other ← demand ActionEntity (not (is_action_type name))
   or_fault UnknownType (s.shape name)
 
--- `attributes_in s name d` are the attributes that `d` states for an entity of the type `name`, or the first error.
+-- `attributes_in s name d` are the attributes that `d` describes for an entity of the type `name`, or the first error.
 unfoldable pub attributes_in : StatedSchema → List ℕ → Data → Result (List Field) EntityFault
 attributes_in s name d = do
   shape ← shape_of s name
   untagged ← demand TagsLeftOut (is_absent_or_empty (get (codes "tags") d))
-  told (record_in shape (or_empty (get (codes "attrs") d)))
+  with_entity_fault (record_in shape (or_empty (get (codes "attrs") d)))
 
 -- `parent_fits s uid parent` checks that the entity `uid` may have the parent `parent`.
 unfoldable pub parent_fits : StatedSchema → EntityUid → EntityUid → Result ⊤ EntityFault
@@ -60,7 +60,7 @@ parents_in s uid ps = do
   fit ← parents_fit s uid ps
   Ok (uid_set ps)
 
--- `entity_stated_in s d` is the entity that `d` states, or its first error: of its form, then of its type, its tags,
+-- `entity_stated_in s d` is the entity that `d` describes, or its first error: of its form, then of its type, its tags,
 -- its attributes and its parents.
 unfoldable pub entity_stated_in : StatedSchema → Data → Result Entity EntityFault
 entity_stated_in s d = do

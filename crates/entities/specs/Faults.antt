@@ -1,4 +1,5 @@
--- Defines the codes of the errors of entities, contexts and requests, and which of these reports an error of a value.
+-- Defines the codes of the errors of entities, contexts and requests, and as which of these errors an error of a value
+-- is reported.
 -- Rules of this product: the codes.
 use Rattle.std.specs.Prelude.{ℕ, Result, Ok, Err}
 use Rattle.entities.specs.declared.value_fault.ValueFault.{ValueFault}
@@ -29,7 +30,7 @@ of_value value.WrongType = WrongType
 of_value value.Undeclared = Undeclared
 of_value value.Missing = Missing
 
--- `told r` is the result `r` of parsing a value, with its error as `of_value` reports it.
-abbrev pub told : {A : Type 0} → Result A ValueFault → Result A EntityFault
-told (Ok x) = Ok x
-told (Err f) = Err (of_value f)
+-- `with_entity_fault r` is the result `r` of parsing a value, with its error as `of_value` reports it.
+abbrev pub with_entity_fault : {A : Type 0} → Result A ValueFault → Result A EntityFault
+with_entity_fault (Ok x) = Ok x
+with_entity_fault (Err f) = Err (of_value f)

@@ -50,12 +50,12 @@ SetsHoldTheirMembers = (us : List EntityUid) → IsAscending (uid_set us)
 
 -- ---- requests
 
--- `OneRequest`: a JSON value states at most one request.
+-- `OneRequest`: a JSON value describes at most one request.
 abbrev pub OneRequest : Type 0
 OneRequest = (s : StatedSchema) (d : Data) (q other : Request) → StatesRequest s d q → StatesRequest s d other
     → q ≡ other
 
--- `NotBoth`: a JSON value that states a request is not rejected.
+-- `NotBoth`: a JSON value that describes a request is not rejected.
 abbrev pub NotBoth : Type 0
 NotBoth = (s : StatedSchema) (d : Data) (q : Request) (f : EntityFault) → StatesRequest s d q → RequestRefused s d f
     → ⊥
@@ -64,7 +64,7 @@ NotBoth = (s : StatedSchema) (d : Data) (q : Request) (f : EntityFault) → Stat
 abbrev pub OneRefusal : Type 0
 OneRefusal = (s : StatedSchema) (d : Data) (f g : EntityFault) → RequestRefused s d f → RequestRefused s d g → f ≡ g
 
--- `RequestOrRefusal`: each JSON value states a request, or is rejected.
+-- `RequestOrRefusal`: each JSON value describes a request, or is rejected.
 abbrev pub RequestOrRefusal : Type 0
 RequestOrRefusal = (s : StatedSchema) (d : Data) → ((q : Request) × StatesRequest s d q)
     ⊎ ((f : EntityFault) × RequestRefused s d f)

@@ -1,4 +1,4 @@
--- Defines the request that JSON states under a schema, and the first error if it states none.
+-- Defines the request that JSON describes under a schema, and the first error if it describes none.
 -- Source: Cedar reference guide 4.0, "Authorization request" and "Schema JSON format", `appliesTo`: principal,
 -- action, resource, context.
 -- Rules of this product: principal, action and resource are each a uid in the form that entities use, or a string as in
@@ -17,7 +17,7 @@ use Rattle.entities.specs.Typing.{record_in}
 use Rattle.entities.specs.declared.fault.EntityFault.{EntityFault}
 use Rattle.entities.specs.declared.fault.EntityFault.TheVariants.{BadShape, NotApplicable}
 use Rattle.entities.specs.declared.requests.Asked.{Asked}
-use Rattle.entities.specs.Faults.{told}
+use Rattle.entities.specs.Faults.{with_entity_fault}
 use Rattle.entities.specs.Stated.{is_absent_or_object, or_empty}
 use Rattle.entities.specs.Contexts.{context_where, is_place}
 
@@ -33,24 +33,24 @@ pub record Asks (d : Data) (asked : Asked) : Type 0 where
   pub resource : NamesAt (codes "resource") d asked.resource
   pub context : is_absent_or_object (get (codes "context") d) ≡ true
 
--- `context_asked s asked d` is the context that `d` states, of the type that the environment of the request `asked`
+-- `context_asked s asked d` is the context that `d` describes, of the type that the environment of the request `asked`
 -- declares, or the first error.
 unfoldable pub context_asked : StatedSchema → Asked → Data → Result (List Field) EntityFault
 context_asked s asked d = do
   type ← or_fault NotApplicable
       (context_where (is_place asked.action asked.principal.type_name asked.resource.type_name) s.environments)
-  told (record_in type (or_empty (get (codes "context") d)))
+  with_entity_fault (record_in type (or_empty (get (codes "context") d)))
 
 -- `asked_by q` are the principal, action and resource of the request `q`.
 abbrev pub asked_by : Request → Asked
 asked_by q = record { principal = q.principal; action = q.action; resource = q.resource }
 
--- `StatesRequest s d q` holds if `d` states the request `q` under the schema `s`.
+-- `StatesRequest s d q` holds if `d` describes the request `q` under the schema `s`.
 pub record StatesRequest (s : StatedSchema) (d : Data) (q : Request) : Type 0 where
   pub asks : Asks d (asked_by q)
   pub context : context_asked s (asked_by q) d ≡ Ok q.context
 
--- `RequestRefused s d f` holds if `d` states no request under the schema `s`, and `f` is the first error.
+-- `RequestRefused s d f` holds if `d` describes no request under the schema `s`, and `f` is the first error.
 pub data RequestRefused (s : StatedSchema) (d : Data) : EntityFault → Type 0 where
   shape : ((asked : Asked) → Asks d asked → ⊥) → RequestRefused s d BadShape
   context : (asked : Asked) (f : EntityFault) → Asks d asked → context_asked s asked d ≡ Err f

@@ -1,6 +1,6 @@
 -- Defines the form of an entity's JSON, whatever its type.
 -- Source: Cedar reference guide 4.0, "Entities and context: JSON format": uid, attrs, parents, tags; a uid is
--- {"type", "id"}, or that under `__entity`.
+-- {"type", "id"}, or this object under the key `__entity`.
 -- Rules of this product: absent `attrs`, `parents` and `tags` are empty, and null does not count as absent; other keys
 -- of an entity are ignored.
 use Rattle.std.specs.Prelude.{Bool, true, List, [], ◌&&◌, codes, is_some, Option, Some, None, Result, Ok}
@@ -30,15 +30,16 @@ abbrev pub or_empty : Option Data → Data
 or_empty None = object no_members
 or_empty (Some d) = d
 
--- `stated_uid d` is the uid that `d` states, or `BadShape` if it states none.
+-- `stated_uid d` is the uid that `d` describes, or `BadShape` if it describes none.
 abbrev pub stated_uid : Data → Result EntityUid EntityFault
 stated_uid d = or_fault BadShape (uid_in d)
 
--- `uids_of ds` are the uids that the items `ds` of an array state, or `BadShape` if one of them states none.
+-- `uids_of ds` are the uids that the items `ds` of an array describe, or `BadShape` if one of them describes none.
 unfoldable pub uids_of : Items → Result (List EntityUid) EntityFault
 uids_of ds = each (λ i d. stated_uid d) 0 (list_of ds)
 
--- `stated_parents o` are the parents that the value `o` of the key `parents` states; `[]` if the key is absent.
+-- `stated_parents o` are the parents that the value `o` of the key `parents` describes; `[]` if the key is absent, and
+-- `BadShape` if `o` is not an array of uids.
 abbrev pub stated_parents : Option Data → Result (List EntityUid) EntityFault
 stated_parents None = Ok []
 stated_parents (Some d) = do
@@ -49,7 +50,7 @@ stated_parents (Some d) = do
 abbrev pub has_objects : Data → Bool
 has_objects d = is_absent_or_object (get (codes "attrs") d) && is_absent_or_object (get (codes "tags") d)
 
--- `stated_in d` are the uid and the parents that the JSON `d` of an entity states, the parents in the order of their
+-- `stated_in d` are the uid and the parents that the JSON `d` of an entity describes, the parents in the order of their
 -- array; `BadShape` if `d` does not have the form of an entity.
 unfoldable pub stated_in : Data → Result StatedEntity EntityFault
 stated_in d = do

@@ -1,4 +1,4 @@
--- Defines which JSON states which entity, and the error of all other JSON.
+-- Defines which JSON describes which entity, and the error of all other JSON.
 -- Source: Cedar reference guide 4.0, "Entities and context: JSON format".
 -- Rules of this product: absent `attrs`, `parents` and `tags` are empty, and null does not count as absent; other keys
 -- are ignored; no entity is an action, has tags, or is its own parent; the order of the errors.
@@ -32,14 +32,14 @@ pub data ObjectAt (key : List ℕ) (d : Data) : Members → Type 0 where
   object_stands : (ms : Members) → get key d ≡ Some (object ms) → ObjectAt key d ms
   no_object : get key d ≡ None → ObjectAt key d no_members
 
--- `ParentsAt d uids` holds if `d` has an array of the names of `uids` at `parents`, or has nothing there and `uids` is
--- empty.
+-- `ParentsAt d uids` holds if `d` has an array of the names of `uids` at the key `parents`, or has nothing there and
+-- `uids` is empty.
 pub data ParentsAt (d : Data) : List EntityUid → Type 0 where
   parents_stand : (ds : Items) (uids : List EntityUid) → get (codes "parents") d ≡ Some (array ds)
       → AllZip IsUid (list_of ds) uids → ParentsAt d uids
   no_parents : get (codes "parents") d ≡ None → ParentsAt d []
 
--- `UidAt d uid` holds if `d` has the name of `uid` at `uid`.
+-- `UidAt d uid` holds if the value of `d` at the key `uid` is the name of `uid`.
 abbrev pub UidAt : Data → EntityUid → Type 0
 UidAt d uid = (found : Data) × (get (codes "uid") d ≡ Some found) × IsUid found uid
 
@@ -65,9 +65,10 @@ pub record MayHaveParent (s : StatedSchema) (uid parent : EntityUid) : Type 0 wh
   pub other : parent ≡ uid → ⊥
   pub type_fits : IsTrue (s.may_have_parent uid.type_name parent.type_name)
 
--- `StatesEntity s d e` holds if `d` states the entity `e` under the schema `s`: `d` has the form of an entity, without
--- tags; the type of `e` is declared; the attributes of `e` are the record that `d` states by the shape of that type;
--- and the parents of `e` are those that `d` lists, each of which `e` may have, in ascending order, without duplicates.
+-- `StatesEntity s d e` holds if `d` describes the entity `e` under the schema `s`: `d` has the form of an entity,
+-- without tags; the type of `e` is declared; the attributes of `e` are the record that `d` describes by the shape of
+-- that type; and the parents of `e` are those that `d` lists, each of which `e` may have, in ascending order, without
+-- duplicates.
 pub record StatesEntity (s : StatedSchema) (d : Data) (e : Entity) : Type 0 where
   pub listed : List EntityUid
   pub attributes : Members
@@ -79,7 +80,7 @@ pub record StatesEntity (s : StatedSchema) (d : Data) (e : Entity) : Type 0 wher
   pub ascend : IsAscending e.parents
   pub same : (parent : EntityUid) → Contains e.parents parent ↔ Contains listed parent
 
--- ---- JSON that states no entity
+-- ---- JSON that describes no entity
 
 -- `RefusesParents s uid parents fault` holds if `fault` is the error of the first of `parents` that `uid` may not
 -- have.
@@ -99,9 +100,9 @@ pub data IsReportedAs : ValueFault → EntityFault → Type 0 where
   as_wrong_type : IsReportedAs value.WrongType WrongType
   as_missing : IsReportedAs value.Missing Missing
 
--- `RefusesEntity s d fault` holds if `d` states no entity under the schema `s`, and `fault` is the first error, in this
--- order: of the form, of the type (an action type before an undeclared one), of the tags, of the attributes, and of the
--- parents.
+-- `RefusesEntity s d fault` holds if `d` describes no entity under the schema `s`, and `fault` is the first error, in
+-- this order: of the form, of the type (an action type before an undeclared one), of the tags, of the attributes, and
+-- of the parents.
 pub data RefusesEntity (s : StatedSchema) (d : Data) : EntityFault → Type 0 where
   bad_shape : ((uid : EntityUid) (listed : List EntityUid) (attributes tags : Members)
       → HasForm d uid listed attributes tags → ⊥) → RefusesEntity s d BadShape

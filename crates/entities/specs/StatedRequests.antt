@@ -1,4 +1,4 @@
--- Defines which JSON states which context and which request, and the error of all other JSON.
+-- Defines which JSON describes which context and which request, and the error of all other JSON.
 -- Source: Cedar reference guide 4.0, "Authorization request".
 -- Rules of this product: principal, action and resource are each a uid in the form that entities use, or a string as in
 -- a policy; an absent context is empty, and null does not count as absent; other keys are ignored; the order of the
@@ -11,7 +11,7 @@ use Rattle.values.specs.declared.entity_uid.EntityUid.{EntityUid}
 use Rattle.values.specs.declared.request.Request.{Request}
 use Rattle.entities.specs.declared.value_fault.ValueFault.{ValueFault}
 use Rattle.schema_types.specs.Cedar.{Cedar}
-use Rattle.schema.specs.declared.parts.Place.{Place}
+use Rattle.schema.specs.declared.parts.EnvironmentKey.{EnvironmentKey}
 use Rattle.schema.specs.Schemas.{EnvironmentOf, StatedSchema}
 use Rattle.entities.specs.declared.fault.EntityFault.{EntityFault}
 use Rattle.entities.specs.declared.fault.EntityFault.TheVariants.{BadShape, NotApplicable}
@@ -22,46 +22,49 @@ use Rattle.entities.specs.StatedEntities.{ObjectAt, IsReportedAs}
 
 -- ---- the context of an action
 
--- `IsOfAction action place` holds if `place` has the action `action`.
-abbrev pub IsOfAction : EntityUid → Place → Type 0
+-- `IsOfAction action place` holds if `place` has the action `action`. (A `EnvironmentKey` is the action, the principal
+-- type and the resource type of an environment.)
+abbrev pub IsOfAction : EntityUid → EnvironmentKey → Type 0
 IsOfAction action place = place.action ≡ action
 
--- `AppliesTo asked place` holds if `place` has the action of `asked`, and the types of its principal and resource.
-pub record AppliesTo (asked : Asked) (place : Place) : Type 0 where
+-- `AppliesTo asked place` holds if `place` has the action of `asked`, and the types of the principal and the resource
+-- of `asked`.
+pub record AppliesTo (asked : Asked) (place : EnvironmentKey) : Type 0 where
   pub same_action : place.action ≡ asked.action
   pub same_principal : place.principal ≡ asked.principal.type_name
   pub same_resource : place.resource ≡ asked.resource.type_name
 
 -- `HasContext IsPlace environments t` holds if `t` is the type of the context in the first of `environments` for whose
 -- place `IsPlace` holds. (All environments of an action have the same type of context.)
-pub data HasContext (IsPlace : Place → Type 0) : List EnvironmentOf → Cedar → Type 0 where
+pub data HasContext (IsPlace : EnvironmentKey → Type 0) : List EnvironmentOf → Cedar → Type 0 where
   first_place : (e : EnvironmentOf) (more : List EnvironmentOf) → IsPlace e.place
       → HasContext IsPlace (e ∷ more) e.context
   later_place : (e : EnvironmentOf) (more : List EnvironmentOf) (t : Cedar) → (IsPlace e.place → ⊥)
       → HasContext IsPlace more t → HasContext IsPlace (e ∷ more) t
 
--- `ReadsContext IsPlace s ms fields` holds if the object with the members `ms` states the context `fields` of an
+-- `ReadsContext IsPlace s ms fields` holds if the object with the members `ms` describes the context `fields` of an
 -- environment of the schema `s` for whose place `IsPlace` holds.
-pub record ReadsContext (IsPlace : Place → Type 0) (s : StatedSchema) (ms : Members) (fields : List Field)
+pub record ReadsContext (IsPlace : EnvironmentKey → Type 0) (s : StatedSchema) (ms : Members) (fields : List Field)
     : Type 0 where
   pub shape : Cedar
   pub applies : HasContext IsPlace s.environments shape
   pub reads : Reads shape (object ms) (record_of (fields_of fields))
 
--- `FailsContext IsPlace s ms fault` holds if the object with the members `ms` states no such context, and `fault` is
--- the first error: no environment has such a place, or the object is not a record of the context's type.
-pub data FailsContext (IsPlace : Place → Type 0) (s : StatedSchema) (ms : Members) : EntityFault → Type 0 where
+-- `FailsContext IsPlace s ms fault` holds if the object with the members `ms` describes no such context, and `fault` is
+-- the first error: `IsPlace` holds for no environment's place, or the object is not a record of the context's type.
+pub data FailsContext (IsPlace : EnvironmentKey → Type 0) (s : StatedSchema) (ms : Members) : EntityFault → Type 0 where
   not_applicable : ((t : Cedar) → HasContext IsPlace s.environments t → ⊥) → FailsContext IsPlace s ms NotApplicable
   bad_fields : (t : Cedar) (f : ValueFault) (fault : EntityFault) → HasContext IsPlace s.environments t
       → RefusesRecord t ms f → IsReportedAs f fault → FailsContext IsPlace s ms fault
 
--- `StatesContext s action d fields` holds if `d` is an object that states the context `fields` of `action` under `s`.
+-- `StatesContext s action d fields` holds if `d` is an object that describes the context `fields` of `action` under
+-- `s`.
 pub record StatesContext (s : StatedSchema) (action : EntityUid) (d : Data) (fields : List Field) : Type 0 where
   pub members : Members
   pub is_object : d ≡ object members
   pub reads : ReadsContext (IsOfAction action) s members fields
 
--- `RefusesContext s action d fault` holds if `d` states no context of `action` under `s`, and `fault` is the first
+-- `RefusesContext s action d fault` holds if `d` describes no context of `action` under `s`, and `fault` is the first
 -- error.
 pub data RefusesContext (s : StatedSchema) (action : EntityUid) (d : Data) : EntityFault → Type 0 where
   other_json : ((ms : Members) → d ≡ object ms → ⊥) → RefusesContext s action d BadShape
@@ -78,15 +81,15 @@ pub record Asks (d : Data) (asked : Asked) (ms : Members) : Type 0 where
   pub resource : NamesAt (codes "resource") d asked.resource
   pub has_context : ObjectAt (codes "context") d ms
 
--- `DescribesRequest s d q` holds if `d` states the request `q` under the schema `s`: the action applies to the types
--- of principal and resource, and the context is the record that `d` states by the context's type.
+-- `DescribesRequest s d q` holds if `d` describes the request `q` under the schema `s`: the action applies to the types
+-- of principal and resource, and the context is the record that `d` describes by the context's type.
 pub record DescribesRequest (s : StatedSchema) (d : Data) (q : Request) : Type 0 where
   pub members : Members
   pub asks : Asks d (asked_by q) members
   pub reads : ReadsContext (AppliesTo (asked_by q)) s members q.context
 
--- `RefusesRequest s d fault` holds if `d` states no request under `s`, and `fault` is the first error, in this order:
--- of the form, that the action does not apply, and of the context.
+-- `RefusesRequest s d fault` holds if `d` describes no request under `s`, and `fault` is the first error: that of the
+-- form, else that the action does not apply, else that of the context.
 pub data RefusesRequest (s : StatedSchema) (d : Data) : EntityFault → Type 0 where
   no_request : ((asked : Asked) (ms : Members) → Asks d asked ms → ⊥) → RefusesRequest s d BadShape
   bad_request : (asked : Asked) (ms : Members) (fault : EntityFault) → Asks d asked ms

@@ -1,7 +1,7 @@
--- Defines which JSON states which value of a type, and the error of JSON that states no record.
+-- Defines which JSON describes which value of a type, and the error of JSON that describes no record.
 -- Source: Cedar reference guide 4.0, "Entities and context: JSON format".
 -- Rules of this product: an extension value is `{"__extn":{"fn":F,"arg":A}}`, `{"fn":F,"arg":A}` or the string A
--- alone; an object that represents an entity or an extension value has no other keys; null states no value.
+-- alone; an object that represents an entity or an extension value has no other keys; null describes no value.
 use Rattle.std.specs.Prelude.{◌≡◌, ℕ, ℤ, List, [], ◌∷◌, Bool, true, Some, None, FitsSigned, codes}
 use Rattle.std.specs.Int.{w64}
 use Rattle.serde_json.specs.Data.{Num, Data, Items, no_items, item, Members, no_members, member}
@@ -25,7 +25,8 @@ use Rattle.schema_types.specs.Cedar.{Cedar, CedarFields}
 
 -- ---- declarations of a record type
 
--- `Declares fields key t` holds if the first of `fields` with the key `key` has the type `t`. (A schema's keys differ.)
+-- `Declares fields key t` holds if the first of `fields` with the key `key` has the type `t`. (In a schema the keys of
+-- a record type are distinct.)
 pub data Declares : CedarFields → List ℕ → Cedar → Type 0 where
   first_declared : (key : List ℕ) (t : Cedar) (required : Bool) (more : CedarFields)
       → Declares (type.field key t required more) key t
@@ -56,8 +57,8 @@ pub record IsCall (name : List ℕ) (d : Data) (argument : List ℕ) : Type 0 wh
   pub called : text_at (codes "fn") d ≡ Some name
   pub given : text_at (codes "arg") d ≡ Some argument
 
--- `IsArgument name d argument` holds if `d` is the string `argument`, a call of `name` with it, or an object whose only
--- key `__extn` has such a call.
+-- `IsArgument name d argument` holds if `d` is the string `argument`, a call of `name` with the argument `argument`, or
+-- an object whose only key `__extn` has such a call.
 pub data IsArgument (name : List ℕ) : Data → List ℕ → Type 0 where
   bare_text : (argument : List ℕ) → IsArgument name (json.string argument) argument
   call : (d : Data) (argument : List ℕ) → get (codes "__extn") d ≡ None → IsCall name d argument
@@ -68,7 +69,7 @@ pub data IsArgument (name : List ℕ) : Data → List ℕ → Type 0 where
 -- ---- values
 
 mutual
-  -- `Reads t d v` holds if the JSON `d` states the value `v` of the type `t`, by one case for each type.
+  -- `Reads t d v` holds if the JSON `d` describes the value `v` of the type `t`, by one case for each type.
   pub data Reads : Cedar → Data → PlainValue → Type 0 where
     boolean : (b : Bool) → Reads type.boolean (json.boolean b) (value.boolean b)
     long : (n : Num) (z : ℤ) → as_integer n ≡ Some z → FitsSigned w64 z
@@ -85,7 +86,7 @@ mutual
     ipaddr : (d : Data) (argument : List ℕ) (n : Network) → IsArgument (codes "ip") d argument
         → IsNetworkText argument n → Reads type.ipaddr d (value.ipaddr n)
 
-  -- `ReadItems t ds vs` holds if the items `ds` of an array state the values `vs` of the type `t`, index by index.
+  -- `ReadItems t ds vs` holds if the items `ds` of an array describe the values `vs` of the type `t`, index by index.
   pub data ReadItems : Cedar → Items → List PlainValue → Type 0 where
     empty_array : (t : Cedar) → ReadItems t no_items []
     next_item : (t : Cedar) (d : Data) (ds : Items) (v : PlainValue) (vs : List PlainValue) → Reads t d v
@@ -102,7 +103,7 @@ mutual
 -- ---- objects that are not a record of a type
 
 -- `FaultyMember fields ms fault` holds if `fault` is the error of the first faulty member of `ms`, by key: its key is
--- not declared in `fields`, or its JSON states no value of the type declared for it.
+-- not declared in `fields`, or its JSON describes no value of the type declared for it.
 pub data FaultyMember (fields : CedarFields) : Members → ValueFault → Type 0 where
   undeclared : (key : List ℕ) (d : Data) (ms : Members) → ((t : Cedar) → Declares fields key t → ⊥)
       → FaultyMember fields (member key d ms) Undeclared
@@ -116,7 +117,7 @@ pub data FaultyMember (fields : CedarFields) : Members → ValueFault → Type 0
 abbrev pub LacksRequired : CedarFields → Members → Type 0
 LacksRequired fields ms = (key : List ℕ) × Requires fields key × (HasKey ms key → ⊥)
 
--- `RefusesRecord t ms fault` holds if the object with the members `ms` states no record of the type `t`, with the
+-- `RefusesRecord t ms fault` holds if the object with the members `ms` describes no record of the type `t`, with the
 -- error `fault`: an error of a member comes before a missing key. A type that is not a record type has no records.
 pub data RefusesRecord : Cedar → Members → ValueFault → Type 0 where
   no_record : (t : Cedar) (ms : Members) → ((fields : CedarFields) → t ≡ type.record_of fields → ⊥)

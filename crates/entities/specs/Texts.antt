@@ -4,7 +4,8 @@ use Rattle.std.specs.Str.{IsUtf8}
 use Rattle.serde_json.specs.Data.{Data, null, boolean, number, string, array, object}
 use Rattle.serde_json.specs.Data.{Items, no_items, item, Members, no_members, member}
 
--- `HasUtf8 d` holds if each string in `d` is UTF-8, and each key of an object in `d` is.
+-- `HasUtf8 d` holds if each string in `d` is UTF-8, and each key of an object in `d` is. `HaveUtf8 ds` and
+-- `MembersHaveUtf8 ms` hold if this is so for the items `ds` of an array, or the members `ms` of an object.
 abbrev mutual
   pub HasUtf8 : Data → Type 0
   HasUtf8 null = ⊤

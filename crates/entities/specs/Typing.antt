@@ -1,7 +1,7 @@
 -- Defines how JSON is parsed as a value of a declared type.
 -- Source: Cedar reference guide 4.0, "Entities and context: JSON format".
 -- Rules of this product: an extension is `{"__extn":{"fn","arg"}}`, `{"fn","arg"}` or the argument alone; an entity
--- is `{"type","id"}` or that under `__entity`; neither has other keys.
+-- is `{"type","id"}` or this object under the key `__entity`; neither has other keys.
 use Rattle.std.specs.Prelude.{ℕ, ℤ, pos, negsuc, ◌^◌, nat_lt, List, [], ◌∷◌, Bool, true, not, ◌&&◌, ◌||◌}
 use Rattle.std.specs.Prelude.{Option, Some, None, is_some, Result, Ok, Err, codes}
 use Rattle.std.specs.Str.{bytes_eq}
@@ -22,14 +22,15 @@ use Rattle.schema_types.specs.Cedar as cedar
 use Rattle.schema_types.specs.Cedar.{Cedar, CedarFields, no_fields, field}
 use Rattle.entities.specs.Parts.{element_of, fields_in, declared_at}
 
--- `under_key k d o` is the value `o` that `d` has at `k`, which must be its only key; `d` itself if `o` is `None`.
+-- `under_key k d o` is the value `o` that `d` has at `k`, if `k` is the only key of `d`, else `WrongType`; it is `d`
+-- itself if `o` is `None`.
 abbrev pub under_key : List ℕ → Data → Option Data → Result Data ValueFault
 under_key k d None = Ok d
 under_key k d (Some inner) = do
   alone ← demand WrongType (has_only (k ∷ []) d)
   Ok inner
 
--- `plain_call name d` is the argument of {"fn": `name`, "arg": any string}, without other keys.
+-- `plain_call name d` is the string A if `d` is {"fn":`name`,"arg":A} without other keys, else `WrongType`.
 unfoldable pub plain_call : List ℕ → Data → Result (List ℕ) ValueFault
 plain_call name d = do
   shape ← demand WrongType (has_only (codes "fn" ∷ codes "arg" ∷ []) d)
@@ -38,7 +39,8 @@ plain_call name d = do
   same ← demand WrongType (bytes_eq given name)
   Ok argument
 
--- `call_in name d` is the argument of such a call, which is `d` itself or the value of its only key `__extn`.
+-- `call_in name d` is the argument of the call of `name` that `d` is, or that is the value of the only key `__extn` of
+-- `d`.
 unfoldable pub call_in : List ℕ → Data → Result (List ℕ) ValueFault
 call_in name d = do
   inner ← under_key (codes "__extn") d (get (codes "__extn") d)
@@ -49,13 +51,13 @@ abbrev pub argument_or_call : List ℕ → Data → Option (List ℕ) → Result
 argument_or_call name d (Some s) = Ok s
 argument_or_call name d None = call_in name d
 
--- `argument_in name d` is the argument of the extension function `name` that `d` states: the string `d`, or that of a
--- call.
+-- `argument_in name d` is the argument of the extension function `name` that `d` describes: the string `d`, or the
+-- argument of a call of `name`.
 unfoldable pub argument_in : List ℕ → Data → Result (List ℕ) ValueFault
 argument_in name d = argument_or_call name d (as_str d)
 
 -- `boolean_in d`, `long_in d`, `text_in d`, `entity_in name d`, `decimal_in d` and `ipaddr_in d` are the values of
--- these types that `d` states, or `WrongType`. The entity must have the type `name`.
+-- these types that `d` describes, or `WrongType`. The entity must have the type `name`.
 unfoldable pub boolean_in : Data → Result PlainValue ValueFault
 boolean_in d = do
   b ← or_fault WrongType (as_bool d)
@@ -66,7 +68,8 @@ abbrev pub is_long : ℤ → Bool
 is_long (pos n) = nat_lt n (2 ^ 63)
 is_long (negsuc n) = nat_lt n (2 ^ 63)
 
--- `long_of z` is the Long `z`, or `WrongType` outside 64 bits. (For parsed bytes, `as_i64` gives no integer outside.)
+-- `long_of z` is the Long `z`, or `WrongType` if `z` is not a signed 64-bit integer. (For parsed bytes, `as_i64` gives
+-- only such integers.)
 abbrev pub long_of : ℤ → Result PlainValue ValueFault
 long_of z = do
   small ← demand WrongType (is_long z)
@@ -101,7 +104,8 @@ ipaddr_in d = do
   n ← or_fault WrongType (network_of s)
   Ok (ipaddr n)
 
--- `leaf t d` is the value of the type `t` that `d` states, if `t` is neither a set nor a record type; else `WrongType`.
+-- `leaf t d` is the value of the type `t` that `d` describes, if `t` is neither a set nor a record type; else
+-- `WrongType`.
 abbrev pub leaf : Cedar → Data → Result PlainValue ValueFault
 leaf cedar.boolean d = boolean_in d
 leaf cedar.long d = long_in d
@@ -127,9 +131,9 @@ abbrev pub inside : {A : Type 0} → Result A ValueFault → Result A ValueFault
 inside (Ok x) = Ok x
 inside (Err f) = Err WrongType
 
--- `typed_value t d` is the value of the type `t` that `d` states, or `WrongType`; `typed_items t ds` are those of the
--- items `ds` of an array. `typed_members fs ms` are the fields that the members `ms` of an object state by the fields
--- `fs` of a record type, or the first error.
+-- `typed_value t d` is the value of the type `t` that `d` describes, or `WrongType`; `typed_items t ds` are those of
+-- the items `ds` of an array. `typed_members fs ms` are the fields that the members `ms` of an object describe by the
+-- fields `fs` of a record type, or the first error.
 unfoldable mutual
   pub typed_value : Cedar → Data → Result PlainValue ValueFault
   typed_value t json.null = leaf t json.null
@@ -160,8 +164,9 @@ unfoldable mutual
     vs ← typed_members fs ms
     Ok ((k, v) ∷ vs)
 
--- `record_in t d` are the fields of the record of the type `t` that `d` states, or the first error: first, each present
--- field, ascending by key, must be declared and have its declared type; then each required field must be present.
+-- `record_in t d` are the fields of the record of the type `t` that `d` describes, or the first error: `WrongType` if
+-- `t` is not a record type or `d` not an object; then that of the first member, ascending by key, that is not declared
+-- or not of its declared type; then `Missing` if a required field is absent.
 unfoldable pub record_in : Cedar → Data → Result (List (List ℕ × PlainValue)) ValueFault
 record_in t d = do
   fs ← or_fault WrongType (fields_in t)

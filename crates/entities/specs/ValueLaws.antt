@@ -16,7 +16,8 @@ abbrev pub CanonicalValueIsRead : Type 0
 CanonicalValueIsRead = (t : Cedar) (d : Data) (v : PlainValue) → typed_value t d ≡ Ok v
     → typed_value t (value_json v) ≡ Ok v
 
--- `JsonIsReadAgain`: whatever bytes were parsed as `v`, bytes that are the canonical JSON of `v` are parsed as `v`.
+-- `JsonIsReadAgain`: whatever bytes were parsed as `v`, a text of the canonical JSON of `v` is parsed as `v`, by the
+-- same type.
 abbrev pub JsonIsReadAgain : Type 0
 JsonIsReadAgain = (t : Cedar) (bytes text : List ℕ) (v : PlainValue) → text_typed t bytes ≡ Ok v
     → json_of text ≡ Some (value_json v) → text_typed t text ≡ Ok v
@@ -27,9 +28,9 @@ abbrev pub CanonicalValueNests : Type 0
 CanonicalValueNests = (t : Cedar) (d : Data) (v : PlainValue) → typed_value t d ≡ Ok v
     → depth (value_json v) ≤ suc (deep t)
 
--- `WrittenIsReadAgain`: whatever bytes were parsed as `v` by a type that is not too large for a schema, a text is
--- parsed as `v` if it is the canonical JSON of `v`; this premise is needed only if that JSON nests within the parser's
--- limit.
+-- `WrittenIsReadAgain`: let `v` be parsed from some bytes by a type `t` that is not too large for a schema, and let
+-- `text` be the canonical JSON of `v`, if that JSON nests within the parser's limit; then `text` is parsed as `v` by
+-- `t`.
 abbrev pub WrittenIsReadAgain : Type 0
 WrittenIsReadAgain = (t : Cedar) (bytes text : List ℕ) (v : PlainValue) → (IsTooLarge t → ⊥)
     → text_typed t bytes ≡ Ok v → (depth (value_json v) ≤ max_depth → json_of text ≡ Some (value_json v))

@@ -1,4 +1,4 @@
--- Defines the value that a text states.
+-- Defines the value that a text describes.
 use Rattle.std.specs.Prelude.{ℕ, List, Result}
 use Rattle.json_words.specs.ReadsAs.{◌>>=◌, or_fault}
 use Rattle.json_words.specs.Json.{json_of}
@@ -8,7 +8,7 @@ use Rattle.entities.specs.declared.value_fault.ValueFault.{ValueFault}
 use Rattle.entities.specs.declared.value_fault.ValueFault.TheVariants.{WrongType}
 use Rattle.entities.specs.Typing.{typed_value}
 
--- `text_typed t bytes` is the value of the type `t` that the JSON text `bytes` states, or `WrongType`.
+-- `text_typed t bytes` is the value of the type `t` that the JSON text `bytes` describes, or `WrongType`.
 unfoldable pub text_typed : Cedar → List ℕ → Result PlainValue ValueFault
 text_typed t bytes = do
   d ← or_fault WrongType (json_of bytes)

@@ -9,10 +9,10 @@ use crate::laws::{action_type_test_is_exact, requests_have_one_outcome};
 use entity_data::ascending_lists_are_one;
 use entity_uids::names_read_back;
 
-/// Proves that parsing by a type gives the value that JSON states, or the error if it states none. No-op.
+/// Proves that parsing by a type gives the value that JSON describes, or the error if it describes none. No-op.
 ///
-/// JSON states at most one value of a type; if it states none, the error is `WrongType`. Parsing a record gives the
-/// fields that an object states, or the first error.
+/// JSON describes at most one value of a type; if it describes none, the error is `WrongType`. Parsing a record gives
+/// the fields that an object describes, or the first error.
 pub fn values_are_read_as_stated()
     ensures values { ValuesAreRead }
     ensures one { OneValue }
@@ -23,9 +23,9 @@ pub fn values_are_read_as_stated()
     names_read_back();
 }
 
-/// Proves that parsing an entity under a schema gives the entity that JSON states, or the first error. No-op.
+/// Proves that parsing an entity under a schema gives the entity that JSON describes, or the first error. No-op.
 ///
-/// JSON states exactly one entity or is rejected with exactly one error, never both.
+/// JSON describes exactly one entity or is rejected with exactly one error, never both.
 pub fn entities_are_read_as_stated()
     ensures read { EntitiesAreRead }
     ensures one { EntitiesHaveOneOutcome }
@@ -35,10 +35,10 @@ pub fn entities_are_read_as_stated()
     ascending_lists_are_one();
 }
 
-/// Proves that parsing the context of an action under a schema gives the context that JSON states, or the first
+/// Proves that parsing the context of an action under a schema gives the context that JSON describes, or the first
 /// error. No-op.
 ///
-/// JSON states exactly one context or is rejected with exactly one error, never both.
+/// JSON describes exactly one context or is rejected with exactly one error, never both.
 pub fn contexts_are_read_as_stated()
     ensures read { ContextsAreRead }
     ensures one { ContextsHaveOneOutcome }
@@ -46,9 +46,9 @@ pub fn contexts_are_read_as_stated()
     names_read_back();
 }
 
-/// Proves that parsing a request under a schema gives the request that JSON states, or the first error. No-op.
+/// Proves that parsing a request under a schema gives the request that JSON describes, or the first error. No-op.
 ///
-/// JSON states exactly one request or is rejected with exactly one error, never both.
+/// JSON describes exactly one request or is rejected with exactly one error, never both.
 pub fn requests_are_read_as_stated()
     ensures read { RequestsAreRead }
     ensures one { RequestsHaveOneOutcome }

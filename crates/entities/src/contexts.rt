@@ -1,4 +1,4 @@
-//! Parsing of contexts. The environments of the action declare their type.
+//! Parsing of contexts. The environments of an action declare the type of its contexts.
 ghost use Rattle.std.specs.Prelude.{◌≢◌, MatchResult};
 ghost use Rattle.serde_json.specs.View.{view};
 ghost use Rattle.json_words.specs.ReadsAs.{ReadsAs};
@@ -12,7 +12,7 @@ use crate::as_stated::contexts_are_read_as_stated;
 use crate::environments::{Sought, context_of};
 use crate::fault::EntityFault;
 use crate::reading::read_fields;
-use schema::{Place, Schema};
+use schema::{EnvironmentKey, Schema};
 use serde_json::Value;
 use std::alloc::Global;
 use std::cmp::Ordering;
@@ -22,12 +22,12 @@ use values::{EntityUid, Record};
 impl Sought for EntityUid {
     ghost order = { order_of_action };
 
-    fn compare(&self, place: &Place) -> Ordering {
+    fn compare(&self, place: &EnvironmentKey) -> Ordering {
         place.action.cmp(self)
     }
 }
 
-/// Returns the context of an action that a value states.
+/// Returns the context of an action that a value describes.
 #[tactic(auto, unfolding(crate::specs::Contexts::context_in))]
 fn context_in(
     alloc: Global,

@@ -2,13 +2,13 @@
 ghost use Rattle.std.specs.Prelude.{◌≡◌, Bool, option_map, slice_get};
 ghost use Rattle.std.specs.Ordering.{is_eq, is_lt};
 ghost use Rattle.std.specs.declared.cmp.Ordering.{Ordering as PlainOrdering};
-ghost use Rattle.schema.specs.declared.parts.Place.{Place as PlainPlace};
+ghost use Rattle.schema.specs.declared.parts.EnvironmentKey.{EnvironmentKey as PlainPlace};
 ghost use Rattle.schema_types.specs.CedarViews.{cedar_view};
 ghost use Rattle.schema.specs.Views.{schema_view, environment_view};
 ghost use Rattle.entities.specs.Contexts.{context_where};
 ghost use Rattle.entities.specs.inner.EnvironmentSearch.{context_if, AreFoundBy};
 
-use schema::{Environment, Place, Schema, stated_schemas_are_well_formed};
+use schema::{Environment, EnvironmentKey, Schema, stated_schemas_are_well_formed};
 use schema_types::CedarType;
 use std::cmp::Ordering;
 
@@ -18,7 +18,7 @@ pub(crate) trait Sought {
     ghost order: { Self → PlainPlace → PlainOrdering };
 
     /// Compares an environment's action and types with those sought.
-    fn compare(&self, place: &Place) -> Ordering
+    fn compare(&self, place: &EnvironmentKey) -> Ordering
         ensures { result ≡ order self.now place.now };
 }
 
@@ -40,13 +40,14 @@ fn context_at<'s, S: Sought>(
 {
     let environment = environments.get(at)?;
     if sought.compare(&environment.place).is_eq() {
-        Some(environment.context.get())
+        Some(&environment.context)
     } else {
         None
     }
 }
 
-/// Returns the type of the context of the first environment that is sought, if there is one. O(log n).
+/// Returns the type of the context of the first environment that is sought, if there is one. O(log n), where n is the
+/// number of environments.
 pub(crate) fn context_of<'s, S: Sought>(schema: &'s Schema, sought: &S) -> Option<&'s CedarType>
     ensures { (passes : PlainPlace → Bool) → AreFoundBy (S.order sought.now) passes
         → option_map (λ t. cedar_view t.now) result ≡ context_where passes (schema_view schema.now).environments }

@@ -22,13 +22,13 @@ pub enum EntityFault {
     /// The last word of the entity's type is `Action`: actions are declared by the schema.
     #[error("entity 32: action; only the schema declares actions")]
     ActionEntity,
-    /// An attribute is not declared.
+    /// An attribute, or a member of the context, is not declared.
     #[error("entity 33: undeclared attribute")]
     Undeclared,
-    /// A required attribute is missing.
+    /// A required attribute, or a required member of the context, is missing.
     #[error("entity 34: missing required attribute")]
     Missing,
-    /// The value of an attribute is not of its declared type.
+    /// The value of an attribute, or of a member of the context, is not of its declared type.
     #[error("entity 35: attribute value of the wrong type")]
     WrongType,
     /// An entity of this type may not have a parent of that type.

@@ -26,7 +26,7 @@ pub fn action_type_test_is_exact()
     ensures { ActionTypeTestIsExact }
 {}
 
-/// Proves that a value states exactly one request or is rejected with exactly one error, and never both. No-op.
+/// Proves that a value describes exactly one request or is rejected with exactly one error, and never both. No-op.
 pub fn requests_have_one_outcome()
     ensures one_request { OneRequest }
     ensures not_both { NotBoth }

@@ -10,8 +10,8 @@ use plain::Items;
 use schema::Schema;
 use values::EntityUid;
 
-/// Checks that an entity may have this parent: another entity, to whose type `memberOfTypes` leads from its own in one
-/// or more steps.
+/// Checks that an entity may have this parent: another entity, whose type one or more steps by `memberOfTypes` reach
+/// from the type of `uid`.
 #[tactic(auto, unfolding(crate::specs::Entities::parent_fits))]
 fn demand_parent(schema: &Schema, uid: &EntityUid, parent: &EntityUid) -> Result<(), EntityFault>
     ensures { ReadsAs EntityFault.NoMemory (λ u. u) result (parent_fits (schema_view schema.now) uid.now parent.now) }

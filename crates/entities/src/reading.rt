@@ -6,7 +6,7 @@ ghost use Rattle.schema_types.specs.CedarViews.{cedar_view};
 ghost use Rattle.schema.specs.Views.{schema_view};
 ghost use Rattle.entities.specs.Typing.{record_in};
 ghost use Rattle.entities.specs.declared.fault.EntityFault.TheVariants as EntityFault;
-ghost use Rattle.entities.specs.Faults.{told};
+ghost use Rattle.entities.specs.Faults.{with_entity_fault};
 ghost use Rattle.entities.specs.Stated.{or_empty};
 ghost use Rattle.entities.specs.StatedEntities.{StatesEntity, RefusesEntity};
 ghost use Rattle.entities.specs.Entities.{is_action_type, shape_of, attributes_in, entity_stated_in};
@@ -45,14 +45,14 @@ fn shape_of<'s>(schema: &'s Schema, name: &TypeName) -> Result<&'s CedarType, En
     }
 }
 
-/// Returns the record of this type that a value states; for an absent value, that of an empty object.
+/// Returns the record of this type that a value describes; for an absent value, that of an empty object.
 pub(crate) fn read_fields(
     alloc: Global,
     found: Option<&Value>,
     ty: &CedarType,
 ) -> Result<Record, EntityFault>
     ensures { ReadsAs EntityFault.NoMemory (λ r. r) result
-        (told (record_in (cedar_view ty.now) (or_empty (option_map (λ v. view v.now) found.entry)))) }
+        (with_entity_fault (record_in (cedar_view ty.now) (or_empty (option_map (λ v. view v.now) found.entry)))) }
 {
     match found {
         Some(value) => Ok(read_record(alloc, value, ty)?),
@@ -63,7 +63,7 @@ pub(crate) fn read_fields(
     }
 }
 
-/// Returns the attributes that a value states for an entity of this type.
+/// Returns the attributes that a value describes for an entity of this type.
 #[tactic(auto, unfolding(crate::specs::Entities::attributes_in))]
 fn read_attributes(
     alloc: Global,
@@ -81,7 +81,7 @@ fn read_attributes(
     read_fields(alloc, value.get("attrs"), shape)
 }
 
-/// Returns the entity that a value states. Checks its form, then its type, its tags, its attributes and its parents.
+/// Returns the entity that a value describes. Checks its form, then its type, its tags, its attributes and its parents.
 #[tactic(auto, unfolding(crate::specs::Entities::entity_stated_in))]
 fn entity_in(alloc: Global, schema: &Schema, value: &Value) -> Result<Entity, EntityFault>
     ensures { ReadsAs EntityFault.NoMemory (λ e. e) result

@@ -1,4 +1,5 @@
-//! Parsing of requests. The environment of the action and of the two types declares the type of the context.
+//! Parsing of requests. The environment with the request's action and the types of its principal and resource declares
+//! the type of the context.
 ghost use Rattle.std.specs.Prelude.{◌≡◌, ◌≢◌, IfOk, IfErr, MatchResult};
 ghost use Rattle.serde_json.specs.View.{view};
 ghost use Rattle.json_words.specs.ReadsAs.{ReadsAs};
@@ -16,7 +17,7 @@ use crate::fault::EntityFault;
 use crate::reading::read_fields;
 use crate::stated::is_absent_or_object;
 use entity_uids::read_name;
-use schema::{Place, Schema};
+use schema::{EnvironmentKey, Schema};
 use serde_json::Value;
 use std::alloc::Global;
 use std::cmp::Ordering;
@@ -69,7 +70,7 @@ fn read_asked(alloc: Global, value: &Value) -> Result<Asked, EntityFault>
 impl Sought for Asked {
     ghost order = { order_of_asked };
 
-    fn compare(&self, place: &Place) -> Ordering {
+    fn compare(&self, place: &EnvironmentKey) -> Ordering {
         let principals = place.principal.cmp(&self.principal.type_name);
         let resources = place.resource.cmp(&self.resource.type_name);
         place
@@ -79,7 +80,7 @@ impl Sought for Asked {
     }
 }
 
-/// Returns the context that a value states for a request.
+/// Returns the context that a value describes for a request.
 #[tactic(auto, unfolding(crate::specs::Requests::context_asked))]
 fn read_context_of(
     alloc: Global,
@@ -96,7 +97,7 @@ fn read_context_of(
     }
 }
 
-/// Returns the request that a value states.
+/// Returns the request that a value describes.
 fn request_in(alloc: Global, schema: &Schema, value: &Value) -> Result<Request, EntityFault>
     ensures read { IfOk result (StatesRequest (schema_view schema.now) (view value.now)) }
     ensures refused { IfErr result

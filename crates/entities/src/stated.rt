@@ -13,15 +13,15 @@ use serde_json::Value;
 use std::alloc::Global;
 use values::EntityUid;
 
-/// The uid of an entity and its parents, as its JSON states them.
+/// The uid of an entity and its parents, as its JSON describes them.
 #[derive(Drop)]
 pub struct StatedEntity {
     pub uid: EntityUid,
-    /// In the order of their array, with repeats.
+    /// The parents, in the order of the JSON array, with repeats.
     pub parents: Items<EntityUid>,
 }
 
-/// Returns the uid that a value states, directly or under `__entity`.
+/// Returns the uid that a value describes, directly or under `__entity`.
 fn read_uid(alloc: Global, value: &Value) -> Result<EntityUid, EntityFault>
     ensures { ReadsAs EntityFault.NoMemory (λ u. u) result (stated_uid (view value.now)) }
 {
@@ -31,7 +31,7 @@ fn read_uid(alloc: Global, value: &Value) -> Result<EntityUid, EntityFault>
     }
 }
 
-/// Returns the uids of the parents of an entity.
+/// Returns the uids that the items of an entity's array `parents` describe.
 fn parent_uids(alloc: Global, values: &[Value]) -> Result<Items<EntityUid>, EntityFault>
     ensures { ReadsAs EntityFault.NoMemory (λ us. us) result (uids_of (items_view values.now)) }
 {
@@ -41,7 +41,7 @@ fn parent_uids(alloc: Global, values: &[Value]) -> Result<Items<EntityUid>, Enti
     }
 }
 
-/// Returns the parents of an entity, given the value of its key `parents`; none if it is absent.
+/// Returns the parents of an entity, given the value of its key `parents`; an empty list if the key is absent.
 fn read_parents(alloc: Global, parents: Option<&Value>) -> Result<Items<EntityUid>, EntityFault>
     ensures { ReadsAs EntityFault.NoMemory (λ us. us) result
         (stated_parents (option_map (λ v. view v.now) parents.entry)) }
@@ -82,7 +82,7 @@ fn has_objects(value: &Value) -> bool
     is_absent_or_object(value.get("attrs")) && is_absent_or_object(value.get("tags"))
 }
 
-/// Returns the uid and the parents that an entity's JSON states, if it has the form of an entity.
+/// Returns the uid and the parents that an entity's JSON describes, if it has the form of an entity.
 #[tactic(auto, unfolding(crate::specs::Stated::stated_in))]
 pub(crate) fn read_stated(alloc: Global, value: &Value) -> Result<StatedEntity, EntityFault>
     ensures { ReadsAs EntityFault.NoMemory (λ e. e) result (stated_in (view value.now)) }

@@ -38,7 +38,7 @@ fn element(ty: &CedarType) -> Option<&CedarType>
     ensures { option_map (λ t. cedar_view t.now) result ≡ element_of (cedar_view ty.now) }
 {
     match ty {
-        CedarType::Set(element) => Some(element.get()),
+        CedarType::Set(element) => Some(element),
         _ => None,
     }
 }
@@ -48,13 +48,13 @@ fn fields(ty: &CedarType) -> Option<&Fields>
     ensures { option_map (λ fs. cedar_fields_view fs.now) result ≡ fields_in (cedar_view ty.now) }
 {
     match ty {
-        CedarType::Record(fields) => Some(fields.get()),
+        CedarType::Record(fields) => Some(fields),
         _ => None,
     }
 }
 
-/// Returns the fields from the first on whose name is not less than this one. The fields before it have other names,
-/// so a caller that looks up names in ascending order need not visit them again.
+/// Returns the rest of `fields` from the first field whose name is not less than `name`. A caller that looks up names
+/// in ascending order need not visit the skipped fields again.
 fn from_name<'t>(fields: &'t [Field], name: &str) -> &'t [Field]
     ensures { StateAlikeFrom name.now (cedar_fields_view fields.now) (cedar_fields_view result.now) }
 {
@@ -103,7 +103,7 @@ fn read_text_at<'v>(value: &'v Json, key: &str) -> Result<&'v str, ValueFault>
     }
 }
 
-/// Returns the argument of a call of this name.
+/// Returns the string A if the value is `{"fn":name,"arg":A}` without other keys, else `WrongType`.
 #[tactic(auto, unfolding(crate::specs::Typing::plain_call))]
 fn read_plain_call<'v>(value: &'v Json, name: &str) -> Result<&'v str, ValueFault>
     ensures { AlwaysReadsAs (λ s. s.now) result (plain_call name.now (view value.now)) }
@@ -263,7 +263,7 @@ fn read_leaf(alloc: Global, value: &Json, ty: &CedarType) -> Result<Value, Value
 
 // ---- all values
 
-/// Returns the error of a value for an error inside it.
+/// Returns the error of a value, given the error of a part of it: `WrongType` for any error but `NoMemory`.
 fn inside(fault: ValueFault) -> ValueFault
     ensures { result ≡ inside_fault fault }
 {
@@ -275,8 +275,8 @@ fn inside(fault: ValueFault) -> ValueFault
 
 /// Parses a JSON value as a value of this type.
 ///
-/// Returns `WrongType` if it is not such a value: for another kind of JSON, a number that is not a Long, a string that
-/// is not a decimal or an IP address, an entity of another type, a field that the type does not have, or a missing
+/// Returns `WrongType` if the JSON is no such value: for another kind of JSON, a number that is not a Long, a string
+/// that is not a decimal or an IP address, an entity of another type, a field that the type does not have, or a missing
 /// required field. Does not allocate for a boolean, an integer, a decimal or an IP address.
 #[cycle(typed_value)]
 #[tactic(auto, unfolding(crate::specs::Typing::typed_value))]

@@ -1,13 +1,14 @@
 -- Defines when declared actions are a hierarchy of their own: their parents are actions, and no action is cyclic.
 -- Source: Cedar reference guide 4.0, "Schema JSON format", `actions` and `memberOf`: the groups that an action is a
--- member of are actions, and no action is its own ancestor: bytes that declare such an action state no schema.
+-- member of are actions, and no action is its own ancestor; bytes whose actions break these rules are not a schema.
 use Rattle.std.specs.Prelude.{List, [], Contains, Option, Some, None, IsSome}
 use Rattle.values.specs.declared.entity_uid.EntityUid.{EntityUid}
 use Rattle.evaluator.specs.ancestor_search.Hierarchy.{Parents}
 use Rattle.evaluator.specs.ancestor_search.LeastCycle.{HasNoCycle}
 use Rattle.entity_data.specs.Entities.{Actions}
 
--- `stated_parents o` are the parents `o` of an action; `[]` for an entity that is not an action.
+-- `stated_parents o` are the parents of a uid, where `o` has its parents as a declared action; `[]` if `o` is `None`:
+-- the uid is not that of an action.
 abbrev pub stated_parents : Option (List EntityUid) → List EntityUid
 stated_parents None = []
 stated_parents (Some parents) = parents

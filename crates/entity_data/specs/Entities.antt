@@ -10,21 +10,22 @@ use Rattle.evaluator.specs.Operators.{Entities, entities_with}
 use Rattle.entity_data.specs.UidSets.{uid_set}
 use Rattle.entity_data.specs.declared.data.EntityData.{EntityData}
 
--- An `EntityMap` is the data of each uid.
+-- An `EntityMap` gives the data of each stored uid, and `None` for any other uid.
 abbrev pub EntityMap : Type 0
 EntityMap = EntityUid → Option EntityData
 
--- `attributes_of o` are the attributes of the entity data `o`; `None` if there is no entity.
+-- `attributes_of o` are the attributes of the entity data `o`; `None` if `o` is.
 abbrev pub attributes_of : Option EntityData → Option (List Field)
 attributes_of None = None
 attributes_of (Some e) = Some e.attrs
 
--- `kept_parents o` are the parents of the entity data `o`; `[]` if there is no entity.
+-- `kept_parents o` are the parents of the entity data `o`; `[]` if `o` is `None`.
 abbrev pub kept_parents : Option EntityData → List EntityUid
 kept_parents None = []
 kept_parents (Some e) = e.parents
 
--- `entity_data_in entities` are the attributes and the parents of each entity, as evaluation sees them.
+-- `entity_data_in entities` is the entity data that evaluation uses: the attributes and the parents of each uid of the
+-- map `entities`.
 abbrev pub entity_data_in : EntityMap → Entities
 entity_data_in entities = entities_with (λ u. attributes_of (entities u)) (λ u. kept_parents (entities u))
 
@@ -38,16 +39,16 @@ AreListed entities us = (u : EntityUid) → Contains us u ↔ IsSome (entities u
 abbrev pub Actions : Type 0
 Actions = EntityUid → Option (List EntityUid)
 
--- `no_actions` has no actions.
+-- `no_actions` declares no action.
 abbrev pub no_actions : Actions
 no_actions u = None
 
--- `AreActions actions us` holds if `us` are exactly the uids of the actions.
+-- `AreActions actions us` holds if `us` are exactly the uids of the declared actions `actions`.
 abbrev pub AreActions : Actions → List EntityUid → Type 0
 AreActions actions us = (u : EntityUid) → Contains us u ↔ IsSome (actions u)
 
--- `action_or parents other` is the data of an action with these parents, which has no attributes; if `parents` is
--- `None`, it is the data `other` of the stored entity.
+-- `action_or parents other` is the data of an action with the parents `parents` and without attributes; if `parents` is
+-- `None`, so that the uid is not an action, it is the data `other` of the stored entity.
 abbrev pub action_or : Option (List EntityUid) → Option EntityData → Option EntityData
 action_or (Some parents) other = Some (record { attrs = []; parents = parents })
 action_or None other = other
@@ -57,6 +58,7 @@ action_or None other = other
 abbrev pub with_actions : Actions → EntityMap → EntityMap
 with_actions actions entities u = action_or (actions u) (entities u)
 
--- `uids_with actions us` are the uids of actions and of entities, ascending and without duplicates.
+-- `uids_with actions us` are the uids `actions` of actions and the uids `us` of entities in one list, ascending and
+-- without duplicates.
 abbrev pub uids_with : List EntityUid → List EntityUid → List EntityUid
 uids_with actions us = uid_set (actions ++ us)

@@ -26,7 +26,8 @@ uids_in es = map (λ e. e.0) es
 abbrev pub data_of : Entity → EntityData
 data_of e = record { attrs = e.attrs; parents = e.parents }
 
--- `Puts old new e` holds if the entity `e` was added under its uid, and each other uid keeps its data.
+-- `Puts old new e` holds if `new` has the data of the entity `e` under its uid, and the data of `old` under each other
+-- uid.
 abbrev pub Puts : EntityMap → EntityMap → Entity → Type 0
 Puts old new e = (q : EntityUid) → new q ≡ (if is_same e.uid q then Some (data_of e) else old q)
 

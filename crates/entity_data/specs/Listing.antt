@@ -1,4 +1,5 @@
--- Defines the proof that each entity with parents is listed, so that a test decides the ancestor relation.
+-- Defines the proof that each stored entity and each action with parents is among the listed uids, so that a test over
+-- these uids decides the ancestor relation.
 use Rattle.std.proofs.Common.{◌≡◌, ◌↔◌, List, [], ◌∷◌, ◌++◌, Option, Some, None, Less, Equal, Greater, Bool, true}
 use Rattle.std.proofs.Common.{false, cond, map, refl, sym, subst, inl, inr}
 use Rattle.std.specs.Prelude.{Contains, IsSome, ◌⊎◌}
@@ -86,6 +87,7 @@ set_has (u ∷ us) x h = elim (Contains-cases u us x h) [
 ]
 
 -- ---- members of two lists
+-- `in_first`, `in_second` and `in_either`: `xs ++ ys` has exactly the members of `xs` and of `ys`.
 
 module _ {X : Type 0} where
   pub in_first : (xs ys : List X) (u : X) → Contains xs u → Contains (xs ++ ys) u
@@ -128,7 +130,7 @@ module _ (actions : Actions) (declared : List EntityUid) (are : AreActions actio
   pub all_listed : HaveAllParents (λ u. kept_parents (with_actions actions entities u)) (uids_with declared us)
   all_listed b a h = listed_with b (action_or_kept (actions b) (entities b) a h)
 
-  -- `all_decided`: the test `reaches` over these uids decides the ancestor relation.
+  -- `all_decided`: the test `reaches` over `uids_with declared us` decides the ancestor relation.
   pub all_decided : Decides (λ u. kept_parents (with_actions actions entities u))
       (reaches (λ u. kept_parents (with_actions actions entities u)) (uids_with declared us))
   all_decided = decided (λ u. kept_parents (with_actions actions entities u)) (uids_with declared us) all_listed

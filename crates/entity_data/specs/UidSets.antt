@@ -4,7 +4,7 @@ use Rattle.std.specs.Ordering.{match_ordering}
 use Rattle.values.specs.declared.entity_uid.EntityUid.{EntityUid}
 use Rattle.values.specs.Names.{uid_cmp}
 
--- `put_uid u us` is the set `us` with the uid `u`.
+-- `put_uid u us` is the set `us` with the uid `u` added.
 abbrev pub put_uid : EntityUid → List EntityUid → List EntityUid
 put_uid u [] = u ∷ []
 put_uid u (v ∷ vs) = match_ordering (uid_cmp u v) (u ∷ v ∷ vs) (v ∷ vs) (v ∷ put_uid u vs)

@@ -30,7 +30,7 @@ pub trait ActionSource {
     fn are_a_hierarchy(&self)
         ensures { IsActionHierarchy (declared self.now) };
 
-    /// The listed uids are those of the actions.
+    /// The proof that `uids` are exactly the uids of the actions.
     ghost listed: { (s : Self) → AreActions (declared s) (uids s) };
 }
 

@@ -24,11 +24,11 @@ pub trait EntitySource {
     fn parents_at(&self, uid: &EntityUid) -> &[EntityUid]
         ensures { result.now ≡ kept_parents (kept self.now uid.now) };
 
-    /// Returns the uids of the stored entities, in ascending order.
+    /// Returns the uids of the stored entities, in ascending order. The only error is `NoMemory`.
     fn kept_uids(&self, alloc: Global) -> Result<Vec<&EntityUid>, NoMemory>
         ensures all { IfOk result (λ found. names found.items ≡ uids self.now) }
         ensures ascending { IfOk result (λ found. IsAscending (names found.items)) };
 
-    /// The listed uids are those that have data.
+    /// The proof that `uids` are exactly the uids that have data.
     ghost listed: { (s : Self) → AreListed (kept s) (uids s) };
 }

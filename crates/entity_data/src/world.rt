@@ -39,7 +39,7 @@ impl<'a, S: EntitySource, A: ActionSource + Drop> Model for Entities<'a, S, A> {
 }
 
 impl<'a, S: EntitySource, A: ActionSource + Drop> Entities<'a, S, A> {
-    /// Creates the entity data of a source and these actions. Does not allocate.
+    /// Creates the entity data of the entities in `source` and of the actions `actions`. Does not allocate.
     pub fn new(alloc: Global, source: &'a S, actions: A) -> Self
         ensures { result ≡ (source.now, actions) }
     {

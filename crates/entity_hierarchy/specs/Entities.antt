@@ -7,7 +7,7 @@ use Rattle.entities.specs.schema.Views.{parents_at}
 use Rattle.entities.specs.entity_data.Entities.{EntityMap, Actions, AreActions, with_actions}
 use Rattle.entities.specs.entity_data.Listing.{keys_are_found}
 
--- `actions_under schema` are the actions of `schema`, with the parents that their `memberOf` states. Edges to all
+-- `actions_under schema` are the actions of `schema`, with the parents that their `memberOf` lists. Edges to all
 -- ancestors of each action would give the same ancestor relation and the same answers, by a theorem of this crate
 -- (Laws).
 abbrev pub actions_under : SchemaEntries → Actions
@@ -21,6 +21,6 @@ entities_under schema entities = with_actions (actions_under schema) entities
 abbrev pub action_uids : SchemaEntries → List EntityUid
 action_uids schema = map (λ e. e.0) schema.member_of
 
--- `actions_are_listed`: these uids are exactly those of the actions.
+-- `actions_are_listed`: `action_uids schema` are exactly the uids of the actions of `schema`.
 pub actions_are_listed : (schema : SchemaEntries) → AreActions (actions_under schema) (action_uids schema)
 actions_are_listed schema = keys_are_found schema.member_of

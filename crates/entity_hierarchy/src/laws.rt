@@ -12,12 +12,12 @@ pub fn reach_decides()
     ensures { ReachDecides }
 {}
 
-/// Proves that an action has the parents that its `memberOf` states, and that all its ancestors could be its parents
+/// Proves that an action has the parents that its `memberOf` lists, and that all its ancestors could be its parents
 /// instead. No-op.
 ///
 /// The ancestor relation and the cyclic entities would be the same, each expression would have the same outcome, and
 /// each request the same answer. No cycle contains an action, whatever entities are stored. An entity that is put,
-/// under any uid and with any parents, is cyclic with the one choice of edges if and only if it is with the other.
+/// under any uid and with any parents, is cyclic with the one choice of parents if and only if it is with the other.
 pub fn actions_may_be_closed()
     ensures kept { MemberOfIsKept }
     ensures alike { MemberOfLeadsAlike }
@@ -28,8 +28,8 @@ pub fn actions_may_be_closed()
     stated_schemas_are_well_formed();
 }
 
-/// Proves that an entity that is parsed under a schema is not one of its actions, since only action types end in
-/// `Action`. No-op.
+/// Proves that an entity that is parsed under a schema is not one of the schema's actions, since only action types end
+/// in `Action`. No-op.
 pub fn entities_are_no_actions()
     ensures { NoEntityIsAnAction }
 {

@@ -1,6 +1,7 @@
 //! Entity data under a schema: the stored entities and the schema's actions.
 //!
-//! A store of entities implements one small trait (`entity_data`); here a schema provides its actions.
+//! A store of entities implements the trait `EntitySource` of `entity_data`; here [`SchemaActions`] implements
+//! `ActionSource` for the actions of a schema.
 #![tactic(auto)]
 
 mod actions;

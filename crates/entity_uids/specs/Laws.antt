@@ -22,6 +22,6 @@ pub record ReadsBack (uid : EntityUid) : Type 0 where
   pub plain : IsUid (uid_json uid) uid
   pub under_entity : IsUid (entity_json uid) uid
 
--- `WrittenIsRead`: both forms of JSON that are written for a uid name it, if its type is a Path.
+-- `WrittenIsRead`: if the type of a uid is a Path, both forms of JSON that are written for the uid name it.
 abbrev pub WrittenIsRead : Type 0
 WrittenIsRead = (uid : EntityUid) → IsPath uid.type_name → ReadsBack uid

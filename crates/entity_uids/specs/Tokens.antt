@@ -18,7 +18,7 @@ abbrev pub tokens_of_all : List Data → List Token
 tokens_of_all [] = []
 tokens_of_all (d ∷ ds) = tokens_of d ++ tokens_of_all ds
 
--- `Adds old new ts` holds if the output `new` is `old` with the tokens `ts` appended; the text before them is
+-- `Adds old new ts` holds if the output `new` is `old` with the tokens `ts` appended, and the text before all tokens is
 -- unchanged.
 pub record Adds (old new : Written) (ts : List Token) : Type 0 where
   pub before : new.before ≡ old.before

@@ -20,8 +20,8 @@ pub record IsPlainUid (d : Data) (uid : EntityUid) : Type 0 where
   pub path : IsPath uid.type_name
   pub id : text_at (codes "id") d ≡ Some uid.id
 
--- `IsUnderEntity d inner uid` holds if the object `d` has no other key than `__entity`, and `IsPlainUid inner uid`;
--- `inner` is its value at that key.
+-- `IsUnderEntity d inner uid` holds if the object `d` has no other key than `__entity`, and `IsPlainUid inner uid`
+-- holds; `inner` is the value of `d` at that key.
 pub record IsUnderEntity (d inner : Data) (uid : EntityUid) : Type 0 where
   pub alone : has_only (codes "__entity" ∷ []) d ≡ true
   pub is : IsPlainUid inner uid
@@ -53,7 +53,8 @@ plain_uid_in d =
     if has_only (codes "type" ∷ codes "id" ∷ []) d then uid_made_of (text_at (codes "type") d) (text_at (codes "id") d)
     else None
 
--- `uid_under d inner` is the uid that `d` names, where `inner` is its value at the key `__entity`, if `d` has this key.
+-- `uid_under d inner` is the uid that `d` names, if it names one, where `inner` is the value of `d` at the key
+-- `__entity`, or `None` if `d` does not have this key.
 abbrev pub uid_under : Data → Option Data → Option EntityUid
 uid_under d None = plain_uid_in d
 uid_under d (Some inner) = if has_only (codes "__entity" ∷ []) d then plain_uid_in inner else None

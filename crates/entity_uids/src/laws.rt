@@ -2,7 +2,7 @@
 ghost use Rattle.entity_uids.specs.Laws.{OneUid, OneName, UidsAreFound, WrittenIsRead};
 
 use policy_grammar::texts_have_one_reading;
-use values::paths_are_told;
+use values::path_tests_are_exact;
 
 /// Proves that a JSON value names at most one entity, that `uid_in` finds it, and that the JSON written for an entity
 /// names it. No-op.
@@ -12,6 +12,6 @@ pub fn names_read_back()
     ensures found { UidsAreFound }
     ensures back { WrittenIsRead }
 {
-    paths_are_told();
+    path_tests_are_exact();
     texts_have_one_reading();
 }

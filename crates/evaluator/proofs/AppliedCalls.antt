@@ -10,7 +10,7 @@ use Rattle.grammar_core.specs.declared.operator.UnaryCall.TheVariants as one
 use Rattle.grammar_core.specs.declared.operator.BinaryCall.{BinaryCall}
 use Rattle.grammar_core.specs.declared.operator.BinaryCall.TheVariants as two
 use Rattle.evaluator.specs.declared.fault.EvalFault.TheVariants.{TypeError, ExtensionError}
-use Rattle.values.specs.extensions.Decided.{Decided, told}
+use Rattle.values.specs.extensions.Decided.{Decided, is_proved}
 use Rattle.values.specs.extensions.TextsDecided.{decimal_text_decided, network_text_decided, in_either_decided}
 use Rattle.values.specs.extensions.TextsDecided.{within_decided}
 use Rattle.evaluator.specs.Outcomes.{EvaluationResult, IsTruthOf, text_in, decimal_in, network_in}
@@ -63,26 +63,26 @@ unary_call_exists one.Ip v = text_cases (λ v. UnaryCallGives one.Ip v (apply_un
     (λ v e. other (λ t. network_read (network_text_decided t)) (UnaryCallGives one.Ip v) (text_in v) e (rule.address_of_other e)) v
 unary_call_exists one.IsIpv4 v = tested_exists one.IsIpv4 (λ n. is_v4 n.version) tt (λ n. rule.of_address tt (tells_test (is_v4 n.version) (v4_iff n.version))) v
 unary_call_exists one.IsIpv6 v = tested_exists one.IsIpv6 (λ n. not (is_v4 n.version)) tt (λ n. rule.of_address tt (tells_test (not (is_v4 n.version)) (v6_iff n.version))) v
-unary_call_exists one.IsLoopback v = tested_exists one.IsLoopback (λ n. told (in_either_decided n loopback_v4 loopback_v6)) tt
-    (λ n. rule.of_address tt (tells_test (told (in_either_decided n loopback_v4 loopback_v6)) (told_iff (in_either_decided n loopback_v4 loopback_v6)))) v
-unary_call_exists one.IsMulticast v = tested_exists one.IsMulticast (λ n. told (in_either_decided n multicast_v4 multicast_v6)) tt
-    (λ n. rule.of_address tt (tells_test (told (in_either_decided n multicast_v4 multicast_v6)) (told_iff (in_either_decided n multicast_v4 multicast_v6)))) v
+unary_call_exists one.IsLoopback v = tested_exists one.IsLoopback (λ n. is_proved (in_either_decided n loopback_v4 loopback_v6)) tt
+    (λ n. rule.of_address tt (tells_test (is_proved (in_either_decided n loopback_v4 loopback_v6)) (told_iff (in_either_decided n loopback_v4 loopback_v6)))) v
+unary_call_exists one.IsMulticast v = tested_exists one.IsMulticast (λ n. is_proved (in_either_decided n multicast_v4 multicast_v6)) tt
+    (λ n. rule.of_address tt (tells_test (is_proved (in_either_decided n multicast_v4 multicast_v6)) (told_iff (in_either_decided n multicast_v4 multicast_v6)))) v
 
 no_address_is : (called : UnaryCall) (v : PlainValue) → TakesAddress called → network_in v ≡ None → apply_unary_call called v ≡ Err TypeError
 no_address_is one.Ip v h e = absurd h
 no_address_is one.Decimal v h e = absurd h
 no_address_is one.IsIpv4 v h e = other_is (λ n. truth (is_v4 n.version)) (network_in v) e
 no_address_is one.IsIpv6 v h e = other_is (λ n. truth (not (is_v4 n.version))) (network_in v) e
-no_address_is one.IsLoopback v h e = other_is (λ n. truth (told (in_either_decided n loopback_v4 loopback_v6))) (network_in v) e
-no_address_is one.IsMulticast v h e = other_is (λ n. truth (told (in_either_decided n multicast_v4 multicast_v6))) (network_in v) e
+no_address_is one.IsLoopback v h e = other_is (λ n. truth (is_proved (in_either_decided n loopback_v4 loopback_v6))) (network_in v) e
+no_address_is one.IsMulticast v h e = other_is (λ n. truth (is_proved (in_either_decided n multicast_v4 multicast_v6))) (network_in v) e
 
 of_address_is : (called : UnaryCall) → TakesAddress called → (n : Network) (r : EvaluationResult) → IsTruthOf (IsTested called n) r → apply_unary_call called (ipaddr n) ≡ r
 of_address_is one.Ip h n r t = absurd h
 of_address_is one.Decimal h n r t = absurd h
 of_address_is one.IsIpv4 h n r t = test_is (is_v4 n.version) (v4_iff n.version) r t
 of_address_is one.IsIpv6 h n r t = test_is (not (is_v4 n.version)) (v6_iff n.version) r t
-of_address_is one.IsLoopback h n r t = test_is (told (in_either_decided n loopback_v4 loopback_v6)) (told_iff (in_either_decided n loopback_v4 loopback_v6)) r t
-of_address_is one.IsMulticast h n r t = test_is (told (in_either_decided n multicast_v4 multicast_v6)) (told_iff (in_either_decided n multicast_v4 multicast_v6)) r t
+of_address_is one.IsLoopback h n r t = test_is (is_proved (in_either_decided n loopback_v4 loopback_v6)) (told_iff (in_either_decided n loopback_v4 loopback_v6)) r t
+of_address_is one.IsMulticast h n r t = test_is (is_proved (in_either_decided n multicast_v4 multicast_v6)) (told_iff (in_either_decided n multicast_v4 multicast_v6)) r t
 
 pub unary_call_is : LawsBelow → (called : UnaryCall) (v : PlainValue) (r : EvaluationResult) → UnaryCallGives called v r → apply_unary_call called v ≡ r
 unary_call_is L _ _ _ (rule.reads_decimal {t} {z} h) = decimal_is L.decimals t (decimal_text_decided t) z h
@@ -103,12 +103,12 @@ decimals_exist called f takes h v w = decimal_cases (λ v. BinaryCallGives calle
     (λ w e. two_others (λ p. truth (f p.0 p.1)) (BinaryCallGives called (decimal x) w) (Some x) (decimal_in w) (inr e) (rule.no_decimals takes (inr e))) w)
     (λ v e. two_others (λ p. truth (f p.0 p.1)) (BinaryCallGives called v w) (decimal_in v) (decimal_in w) (inl e) (rule.no_decimals takes (inl e))) v
 
-networks_exist : (v w : PlainValue) → BinaryCallGives two.IsInRange v w (networks (λ m n. told (within_decided m n)) v w)
-networks_exist v w = network_cases (λ v. BinaryCallGives two.IsInRange v w (networks (λ m n. told (within_decided m n)) v w))
-    (λ x. network_cases (λ w. BinaryCallGives two.IsInRange (ipaddr x) w (networks (λ m n. told (within_decided m n)) (ipaddr x) w))
-    (λ y. rule.in_range (tells_test (told (within_decided x y)) (told_iff (within_decided x y))))
-    (λ w e. other (λ y. truth (told (within_decided x y))) (BinaryCallGives two.IsInRange (ipaddr x) w) (network_in w) e (rule.no_addresses (inr e))) w)
-    (λ v e. other (λ x. and_then (demanded (network_in w)) (λ y. truth (told (within_decided x y)))) (BinaryCallGives two.IsInRange v w) (network_in v) e (rule.no_addresses (inl e))) v
+networks_exist : (v w : PlainValue) → BinaryCallGives two.IsInRange v w (networks (λ m n. is_proved (within_decided m n)) v w)
+networks_exist v w = network_cases (λ v. BinaryCallGives two.IsInRange v w (networks (λ m n. is_proved (within_decided m n)) v w))
+    (λ x. network_cases (λ w. BinaryCallGives two.IsInRange (ipaddr x) w (networks (λ m n. is_proved (within_decided m n)) (ipaddr x) w))
+    (λ y. rule.in_range (tells_test (is_proved (within_decided x y)) (told_iff (within_decided x y))))
+    (λ w e. other (λ y. truth (is_proved (within_decided x y))) (BinaryCallGives two.IsInRange (ipaddr x) w) (network_in w) e (rule.no_addresses (inr e))) w)
+    (λ v e. other (λ x. and_then (demanded (network_in w)) (λ y. truth (is_proved (within_decided x y)))) (BinaryCallGives two.IsInRange v w) (network_in v) e (rule.no_addresses (inl e))) v
 
 pub binary_call_exists : (called : BinaryCall) (v w : PlainValue) → BinaryCallGives called v w (apply_binary_call called v w)
 binary_call_exists two.LessThan v w = decimals_exist two.LessThan (λ x y. int_lt x y) tt (λ x y. rule.of_decimals tt (tells_test (int_lt x y) (int_lt_iff x y))) v w
@@ -133,6 +133,6 @@ of_decimals_is two.IsInRange h x y r t = absurd h
 
 pub binary_call_is : (called : BinaryCall) (v w : PlainValue) (r : EvaluationResult) → BinaryCallGives called v w r → apply_binary_call called v w ≡ r
 binary_call_is _ _ _ _ (rule.of_decimals {called} {x} {y} {r} takes h) = of_decimals_is called takes x y r h
-binary_call_is _ _ _ _ (rule.in_range {m} {n} {r} h) = test_is (told (within_decided m n)) (told_iff (within_decided m n)) r h
+binary_call_is _ _ _ _ (rule.in_range {m} {n} {r} h) = test_is (is_proved (within_decided m n)) (told_iff (within_decided m n)) r h
 binary_call_is _ _ _ _ (rule.no_decimals {called} {v} {w} takes h) = no_decimals_are called v w takes h
-binary_call_is _ _ _ _ (rule.no_addresses {v} {w} h) = others_are (λ x y. truth (told (within_decided x y))) (network_in v) (network_in w) h
+binary_call_is _ _ _ _ (rule.no_addresses {v} {w} h) = others_are (λ x y. truth (is_proved (within_decided x y))) (network_in v) (network_in w) h

@@ -7,7 +7,7 @@ use Rattle.std.proofs.lemmas.Int.{ints}
 use Rattle.std.specs.Int.{w64}
 use Rattle.std.specs.List.{list_any, list_all}
 use Rattle.std.specs.Ordering.{is_eq}
-use Rattle.values.specs.extensions.Decided.{Decided, told}
+use Rattle.values.specs.extensions.Decided.{Decided, is_proved}
 use Rattle.values.specs.extensions.declared.ip_net.Version.{Version}
 use Rattle.values.specs.extensions.declared.ip_net.Version.TheVariants.{V4, V6}
 use Rattle.values.specs.declared.entity_uid.EntityUid.{EntityUid}
@@ -23,7 +23,7 @@ use Rattle.ancestor_search.specs.Hierarchy.{IsIn}
 use Rattle.evaluator.specs.Operators.{Entities}
 use Rattle.evaluator.specs.inner.Computing.{decided_entities, truth, is_bounded, bounded, is_in, is_v4}
 
-pub told_iff : {P : Type 0} (d : Decided P) → IsTrue (told d) ↔ P
+pub told_iff : {P : Type 0} (d : Decided P) → IsTrue (is_proved d) ↔ P
 told_iff (inl p) = ((λ t. p), (λ p. refl))
 told_iff (inr n) = ((λ t. absurd (false≢true t)), (λ p. absurd (n p)))
 

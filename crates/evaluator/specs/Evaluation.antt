@@ -40,8 +40,9 @@ variable_value Action q = entity q.action
 variable_value Resource q = entity q.resource
 variable_value Context q = record_of (fields_of q.context)
 
--- `HasOperands x xs` holds if `x` needs the values of all of its operands `xs`, evaluated in this order. Not so `if`,
--- `&&` and `||`, which evaluate only what they need, and literals and variables, which have no operands.
+-- `HasOperands x xs` holds if `x` needs the values of all of its operands `xs`, evaluated in this order. It does not
+-- hold for `if`, `&&` and `||`, which evaluate only what they need, or for literals and variables, which have no
+-- operands.
 pub data HasOperands : Expr → List Expr → Type 0 where
   of_unary : (op : Unary) (a : Expr) → HasOperands (form.Unary op a) (a ∷ [])
   of_binary : (op : Binary) (a b : Expr) → HasOperands (form.Binary op a b) (a ∷ b ∷ [])
@@ -59,7 +60,8 @@ put_each (x ∷ xs) (v ∷ vs) done = put_each xs vs (put x.name v done)
 put_each xs vs done = done
 
 mutual
-  -- `EvaluatesTo W q x r` holds if `r` is the outcome of `x` under the request `q`, over the entities of `W`.
+  -- `EvaluatesTo W q x r` holds if `r` is the outcome of the expression `x` under the request `q`, over the entity data
+  -- `W`.
   pub data EvaluatesTo (W : Entities) (q : Request) : Expr → EvaluationResult → Type 0 where
     gives_literal : (l : Literal) → EvaluatesTo W q (form.Literal l) (Ok (literal_value l))
     gives_variable : (x : Variable) → EvaluatesTo W q (form.Variable x) (Ok (variable_value x q))
@@ -109,7 +111,8 @@ mutual
     no_boolean : {a : Expr} {v : PlainValue} → EvaluatesTo W q a (Ok v) → boolean_in v ≡ None
         → TestFails W q a TypeError
 
-  -- `EachEvaluatesTo W q xs r` holds if `r` are the values of `xs` in order, or the first error of one of them.
+  -- `EachEvaluatesTo W q xs r` holds if `r` are the values of `xs` in order, or the error of the first of them that
+  -- has an error.
   pub data EachEvaluatesTo (W : Entities) (q : Request)
       : List Expr → Result (List PlainValue) EvalFault → Type 0 where
     each_none : EachEvaluatesTo W q [] (Ok [])

@@ -78,8 +78,8 @@ TakesSets ContainsAny = ⊤
 TakesSets op = ⊥
 
 -- `BinaryGives W op v w r` holds if `r` is the result of the operator `op` on `v` and `w`, over the entities of `W`.
--- For two entities, `a in b` tests whether `a` is `b` or a descendant of it. For a set, all of whose members must be
--- entities, it tests whether `a` is some member or a descendant of it.
+-- For two entities, `a in b` tests whether `a` is `b` or a descendant of `b`. If `b` is a set, all of whose members
+-- must be entities, `a in b` tests whether `a` is a member or a descendant of a member.
 pub data BinaryGives (W : Entities) : Binary → PlainValue → PlainValue → EvaluationResult → Type 0 where
   equal : {v w : PlainValue} {r : EvaluationResult} → IsTruthOf (v ≡ w) r → BinaryGives W Equal v w r
   of_numbers : {op : Binary} {x y : ℤ} {r : EvaluationResult} → NumbersGive op x y r

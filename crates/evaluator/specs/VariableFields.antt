@@ -8,7 +8,7 @@ use Rattle.grammar_core.specs.declared.leaf.Variable.{Variable}
 use Rattle.grammar_core.specs.declared.leaf.Variable.TheVariants.{Principal, Action, Resource, Context}
 
 -- `fields_under stored q x` are the fields of the variable `x` under the request `q`: those of the context, or the
--- attributes of the variable's entity, which is `None` if that entity is not stored.
+-- attributes that `stored` has for the variable's entity; `None` if that entity is not stored.
 abbrev pub fields_under : (EntityUid → Option (List Field)) → Request → Variable → Option (List Field)
 fields_under stored q Principal = stored q.principal
 fields_under stored q Action = stored q.action

@@ -1,7 +1,7 @@
 //! Functions and methods of extensions, on values.
 ghost use Rattle.std.specs.Prelude.{◌≡◌, not, int_lt, int_le};
 ghost use Rattle.values.specs.extensions.Network.{loopback_v4, loopback_v6, multicast_v4, multicast_v6};
-ghost use Rattle.values.specs.extensions.Decided.{told};
+ghost use Rattle.values.specs.extensions.Decided.{is_proved};
 ghost use Rattle.values.specs.extensions.TextsDecided.{decimal_text_decided, network_text_decided, in_either_decided};
 ghost use Rattle.values.specs.extensions.TextsDecided.{within_decided};
 ghost use Rattle.evaluator.specs.inner.Computing.{decimal_read, network_read, is_v4, apply_unary_call};
@@ -13,7 +13,7 @@ use crate::operands::{decimals_of, network_of, text_of};
 use grammar_core::{BinaryCall, UnaryCall};
 use values::{Decimal, IpNet, Value, one_decimal_a_text, one_network_a_text};
 
-/// Returns the decimal that a string denotes. Its error is `ExtensionError`.
+/// Returns the decimal that a string denotes, or `ExtensionError` if the string denotes none.
 fn read_decimal(text: &str) -> Result<Value, EvalFault>
     ensures { result ≡ decimal_read (decimal_text_decided text.now) }
 {
@@ -24,7 +24,7 @@ fn read_decimal(text: &str) -> Result<Value, EvalFault>
     }
 }
 
-/// Returns the IP address that a string denotes. Its error is `ExtensionError`.
+/// Returns the IP address that a string denotes, or `ExtensionError` if the string denotes none.
 fn read_network(text: &str) -> Result<Value, EvalFault>
     ensures { result ≡ network_read (network_text_decided text.now) }
 {
@@ -51,21 +51,21 @@ fn is_ipv6(network: IpNet) -> bool
 
 /// Returns whether the whole range of the address is in a loopback range.
 fn is_loopback(network: IpNet) -> bool
-    ensures { result ≡ told (in_either_decided network loopback_v4 loopback_v6) }
+    ensures { result ≡ is_proved (in_either_decided network loopback_v4 loopback_v6) }
 {
     network.is_loopback()
 }
 
 /// Returns whether the whole range of the address is in a multicast range.
 fn is_multicast(network: IpNet) -> bool
-    ensures { result ≡ told (in_either_decided network multicast_v4 multicast_v6) }
+    ensures { result ≡ is_proved (in_either_decided network multicast_v4 multicast_v6) }
 {
     network.is_multicast()
 }
 
 /// Returns whether the range of `a` lies in that of `b`.
 fn is_within(a: IpNet, b: IpNet) -> bool
-    ensures { result ≡ told (within_decided a b) }
+    ensures { result ≡ is_proved (within_decided a b) }
 {
     a.is_in_range(&b)
 }

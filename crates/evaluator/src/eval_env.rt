@@ -19,7 +19,7 @@ pub trait EvalEnv: Lookup {
     fn request(&self) -> &Request
         ensures { result.now ≡ asked self.now };
 
-    /// Returns the fields of a variable: those of the context, or the attributes of the variable's entity, which is
+    /// Returns the fields of a variable: those of the context, or the attributes of the variable's entity. Returns
     /// `None` if and only if that entity is not stored. Does not allocate.
     fn fields_of(&self, variable: Variable) -> Option<&Record>
         ensures { option_map (λ r. r.now) result ≡ fields_under (Self.stored self.now) (asked self.now) variable };

@@ -44,7 +44,7 @@ pub fn evaluate<'a, L: Lookup>(
     owned(alloc, outcome_of(alloc, expr, &asking))
 }
 
-/// Returns whether an expression evaluates to true, as a condition, under a request, over the stored entities. Its
+/// Returns whether an expression evaluates to true, as a condition, under a request, over the stored entities. The
 /// errors are those of [`evaluate_condition`].
 pub fn evaluate_test<L: Lookup>(
     alloc: Global,
@@ -121,28 +121,20 @@ pub(crate) fn outcome_of<'a, L: EvalEnv>(
         Expr::Literal(literal) => literal_of(literal),
         Expr::Variable(variable) => variable_of(*variable, store),
         Expr::If(test, consequent, alternative) => {
-            choice_of(
-                alloc,
-                test.get(),
-                consequent.get(),
-                alternative.get(),
-                store,
-            )
+            choice_of(alloc, test, consequent, alternative, store)
         }
-        Expr::And(left, right) => both_of(alloc, left.get(), right.get(), store),
-        Expr::Or(left, right) => either_of(alloc, left.get(), right.get(), store),
-        Expr::Unary(operator, operand) => one_operand(alloc, operator, operand.get(), store),
+        Expr::And(left, right) => both_of(alloc, left, right, store),
+        Expr::Or(left, right) => either_of(alloc, left, right, store),
+        Expr::Unary(operator, operand) => one_operand(alloc, operator, operand, store),
         Expr::Binary(operator, left, right) => {
-            two_operands(alloc, *operator, left.get(), right.get(), store)
+            two_operands(alloc, *operator, left, right, store)
         }
-        Expr::Field(owner, name) => field_of(alloc, owner.get(), name.as_str(), store),
-        Expr::Has(owner, name) => has_of(alloc, owner.get(), name.as_str(), store),
+        Expr::Field(owner, name) => field_of(alloc, owner, name.as_str(), store),
+        Expr::Has(owner, name) => has_of(alloc, owner, name.as_str(), store),
         Expr::Set(members) => set_of(alloc, members.as_slice(), store),
         Expr::Record(fields) => record_of(alloc, fields, store),
-        Expr::UnaryCall(called, operand) => one_called(alloc, *called, operand.get(), store),
-        Expr::BinaryCall(called, left, right) => {
-            two_called(alloc, *called, left.get(), right.get(), store)
-        }
+        Expr::UnaryCall(called, operand) => one_called(alloc, *called, operand, store),
+        Expr::BinaryCall(called, left, right) => { two_called(alloc, *called, left, right, store) }
     }
 }
 

@@ -39,7 +39,7 @@ fn attribute<'a, L: Lookup>(
     Ok(BorrowedOrOwned::borrowed(value))
 }
 
-/// Returns the value of a field or an attribute of a variable. It builds no value for the variable, since most
+/// Returns the value of a field or an attribute of a variable. Builds no value for the variable, to save time: most
 /// conditions have such an access.
 #[tactic(auto, using(crate::proofs::Variables::field_under))]
 pub(crate) fn variable_field<'a, L: EvalEnv>(

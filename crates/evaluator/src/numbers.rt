@@ -1,4 +1,5 @@
-//! Integer operands, read outside the recursion. A value of another kind is read as `None`.
+//! Integer operands. They are read outside the recursion of the evaluator, so that its stack frame has no space for
+//! them. A value of another kind is read as `None`.
 ghost use Rattle.std.specs.Prelude.{◌≡◌};
 ghost use Rattle.grammar_core.specs.declared.operator.Binary.TheVariants.{Less, LessOrEqual};
 ghost use Rattle.evaluator.specs.Outcomes.{EvaluationResult, long_in};
@@ -38,7 +39,7 @@ pub(crate) fn literal_number(literal: &Literal) -> Option<i64>
     }
 }
 
-/// Returns the integer in a result, `None` if its value is of another kind, or its error.
+/// Returns the integer in a result, `None` if the value is of another kind, or the result's error.
 pub(crate) fn number_in(
     given: &Result<BorrowedOrOwned<'_>, EvalFault>,
 ) -> Result<Option<i64>, EvalFault>
@@ -63,8 +64,8 @@ fn both(numbers: Numbers) -> Result<(i64, i64), EvalFault>
     }
 }
 
-/// Returns whether the first of two integers is less than the second. Its errors are that of `found`, and `TypeError`
-/// if a value is not an integer.
+/// Returns whether the first of two integers is less than the second. The error is that of `found`, or `TypeError` if
+/// a value is not an integer.
 pub(crate) fn is_less(found: Result<Numbers, EvalFault>) -> Result<bool, EvalFault>
     ensures { (E : DecidedEntities) (a b : EvaluationResult) → AnswersNumbers found a b
         → Answers result (as_test (and_then a (λ v. and_then b (apply_binary E Less v)))) }
@@ -78,7 +79,7 @@ pub(crate) fn is_less(found: Result<Numbers, EvalFault>) -> Result<bool, EvalFau
     }
 }
 
-/// Returns whether the first of two integers is at most the second. Its errors are those of [`is_less`].
+/// Returns whether the first of two integers is at most the second. The errors are those of [`is_less`].
 pub(crate) fn is_less_or_equal(found: Result<Numbers, EvalFault>) -> Result<bool, EvalFault>
     ensures { (E : DecidedEntities) (a b : EvaluationResult) → AnswersNumbers found a b
         → Answers result (as_test (and_then a (λ v. and_then b (apply_binary E LessOrEqual v)))) }

@@ -41,7 +41,7 @@ fn number(found: Option<i64>) -> Result<Value, EvalFault>
     }
 }
 
-/// Returns whether `a` is `b` or a descendant of it.
+/// Returns whether `a` is `b` or a descendant of `b`.
 fn is_in<L: Lookup>(store: &L, a: &EntityUid, b: &EntityUid) -> Result<bool, NoMemory>
     ensures { IfOk result (λ r. r ≡ is_in (decided_entities (L.stored store.now) (L.above store.now)) a.now b.now) }
 {
@@ -51,7 +51,7 @@ fn is_in<L: Lookup>(store: &L, a: &EntityUid, b: &EntityUid) -> Result<bool, NoM
     store.is_ancestor(b, a)
 }
 
-/// Returns a member of a set as an entity; `TypeError` if it is of another kind.
+/// Returns a member of a set as an entity; `TypeError` if the member is of another kind.
 fn member_entity(member: &Value) -> Result<&EntityUid, EvalFault>
     ensures { MatchResult result (λ u. demanded (entity_uid_in member.now) ≡ Ok u.now)
         (λ e. demanded (entity_uid_in member.now) ≡ Err e) }
@@ -70,8 +70,8 @@ fn is_within(a: &EntityUid, ancestors: &[&EntityUid], b: &EntityUid) -> bool
     a.cmp(b).is_eq() || is_among(ancestors, b)
 }
 
-/// Returns whether `a` is a member or a descendant of one; `TypeError` if some member is not an entity. The ancestors
-/// of `a` are looked up once.
+/// Returns whether `a` is one of `members` or a descendant of one; `TypeError` if some member is not an entity. Looks
+/// up the ancestors of `a` once.
 fn in_members<L: Lookup>(store: &L, a: &EntityUid, members: &[Value]) -> Result<bool, EvalFault>
     ensures { Answers result (in_members (decided_entities (L.stored store.now) (L.above store.now)) a.now
         members.now) }

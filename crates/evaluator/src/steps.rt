@@ -16,7 +16,7 @@ use crate::lookup::Lookup;
 use crate::operands::boolean_of;
 use crate::operators::{binary, unary};
 use grammar_core::{Binary, BinaryCall, Unary, UnaryCall};
-use plain::{Text, beside};
+use plain::{Text, pair_with};
 use std::alloc::Global;
 use values::{Record, Value};
 
@@ -46,7 +46,7 @@ pub(crate) fn has_as_bool<L: Lookup>(
     }
 }
 
-/// Returns a `bool` as a value, or the error that is there instead.
+/// Returns the `bool` in a result as a value, or the result's error.
 pub(crate) fn truth_of<'a>(found: Result<bool, EvalFault>) -> Result<BorrowedOrOwned<'a>, EvalFault>
     ensures { result ≡ and_then found truth }
 {
@@ -189,7 +189,7 @@ pub(crate) fn add_field(
     ensures { AnswersInto given.entry (λ v. fields.new ≡ put name.now v fields.old) result }
 {
     let value = value_of(alloc, given)?;
-    let (value, name) = beside(value, name.copy())?;
+    let (value, name) = pair_with(value, name.copy())?;
     fields.insert(name, value)?;
     Ok(())
 }

@@ -25,22 +25,14 @@ pub(crate) fn test_of<'a, L: EvalEnv>(
         (meaning (L.asked store.now) (decided_entities (L.stored store.now) (L.above store.now)) test.now)) }
 {
     match test {
-        Expr::Has(owner, name) => has_test(alloc, owner.get(), name.as_str(), store),
+        Expr::Has(owner, name) => has_test(alloc, owner, name.as_str(), store),
         Expr::If(test, consequent, alternative) => {
-            choice_test(
-                alloc,
-                test.get(),
-                consequent.get(),
-                alternative.get(),
-                store,
-            )
+            choice_test(alloc, test, consequent, alternative, store)
         }
-        Expr::And(left, right) => both_test(alloc, left.get(), right.get(), store),
-        Expr::Or(left, right) => either_test(alloc, left.get(), right.get(), store),
-        Expr::Unary(Unary::Not, operand) => Ok(!test_of(alloc, operand.get(), store)?),
-        Expr::Binary(operator, left, right) => {
-            binary_test(alloc, *operator, left.get(), right.get(), store)
-        }
+        Expr::And(left, right) => both_test(alloc, left, right, store),
+        Expr::Or(left, right) => either_test(alloc, left, right, store),
+        Expr::Unary(Unary::Not, operand) => Ok(!test_of(alloc, operand, store)?),
+        Expr::Binary(operator, left, right) => { binary_test(alloc, *operator, left, right, store) }
         other => {
             let given = outcome_of(alloc, other, store);
             tested(&given)
@@ -111,7 +103,7 @@ fn two_numbers<'a, L: EvalEnv>(
     Ok(Numbers { first, second })
 }
 
-/// Returns the integer in the value of an expression, or `None` if it is of another kind.
+/// Returns the integer in the value of an expression, or `None` if the value is of another kind.
 #[cycle(evaluate)]
 #[inline(never)]
 fn number_of<'a, L: EvalEnv>(
@@ -124,7 +116,7 @@ fn number_of<'a, L: EvalEnv>(
 {
     match expr {
         Expr::Literal(literal) => Ok(literal_number(literal)),
-        Expr::Field(owner, name) => field_number(alloc, owner.get(), name.as_str(), store),
+        Expr::Field(owner, name) => field_number(alloc, owner, name.as_str(), store),
         other => {
             let given = outcome_of(alloc, other, store);
             number_in(&given)
@@ -132,7 +124,8 @@ fn number_of<'a, L: EvalEnv>(
     }
 }
 
-/// Returns the integer in a field or an attribute of an expression's value, or `None` if it is of another kind.
+/// Returns the integer in a field or an attribute of an expression's value, or `None` if the field or attribute has a
+/// value of another kind.
 #[cycle(evaluate)]
 #[inline(never)]
 fn field_number<'a, L: EvalEnv>(

@@ -4,7 +4,8 @@ ghost use Rattle.evaluator_steps.specs.Attributes.{AttributeGives};
 
 use values::{Record, Value};
 
-/// Returns the value of an attribute, given the attributes of its entity, or `None` if the entity is not stored.
+/// Returns the value of an attribute, given `stored`: the attributes of its entity, or `None` if the entity is not
+/// stored.
 ///
 /// Does not allocate. Source: Cedar reference guide, "Operators and functions".
 ///

@@ -6,23 +6,23 @@ use Rattle.std.proofs.lemmas.List.{reverse-append, take_all}
 use Rattle.std.proofs.lemmas.Str.{length-le-encodes, encodes-chars}
 use Rattle.std.proofs.lemmas.List.Sums.{suffix_len-le-length}
 use Rattle.std.proofs.lemmas.Bool.Decides.{nat_tests}
-use Rattle.explanation_texts.specs.LineAndColumn.{is_line_feed, column_behind}
+use Rattle.explanation_texts.specs.LineAndColumn.{is_line_feed, column_after}
 
 abbrev ends_no_line : ℕ → Bool
 ends_no_line c = not (is_line_feed c)
 
 -- behind a line feed the first column comes
-pub column-line_feed : (before : List ℕ) (c : ℕ) → c ≡ 10 → column_behind (before ++ c ∷ []) ≡ 1
+pub column-line_feed : (before : List ℕ) (c : ℕ) → c ≡ 10 → column_after (before ++ c ∷ []) ≡ 1
 column-line_feed before c is = rw is rw (reverse-append before (10 ∷ [])) refl
 
 -- behind any other character the next one
-pub column-character : (before : List ℕ) (c : ℕ) → (c ≡ 10 → ⊥) → column_behind (before ++ c ∷ []) ≡ column_behind before + 1
+pub column-character : (before : List ℕ) (c : ℕ) → (c ≡ 10 → ⊥) → column_after (before ++ c ∷ []) ≡ column_after before + 1
 column-character before c other =
     let no_end : is_line_feed c ≡ false = grind (arith, nat_tests) in
     rw (reverse-append before (c ∷ []))
     rw no_end (omega arith)
 
-pub column_le : (before : List ℕ) → column_behind before ≤ 1 + length before
+pub column_le : (before : List ℕ) → column_after before ≤ 1 + length before
 column_le before = omega (arith, suffix_len-le-length ends_no_line before)
 
 -- a text has at most as many characters as bytes

@@ -3,8 +3,8 @@ use Rattle.std.proofs.Common.{◌≡◌, ◌∙◌, ◌==◌, ◌||◌, ℕ, nat
 use Rattle.std.specs.Prelude.{◌&&◌, IfSome}
 use Rattle.std.specs.List.{find, list_any, list_all}
 use Rattle.explanation_texts.specs.declared.table.CodeWords.{CodeWords}
-use Rattle.explanation_texts.specs.Codes.{codes_of_kind}
-use Rattle.explanation_texts.specs.CodeText.{Texts, texts_of, rows_of_kind, words_on}
+use Rattle.explanation_texts.specs.Codes.{codes_of_group}
+use Rattle.explanation_texts.specs.CodeText.{Texts, texts_of, rows_of_group, words_on}
 use Rattle.explanation_texts.specs.Printable.{is_clean}
 use Rattle.explanation_texts.specs.Explained.{AreWordsOf}
 
@@ -48,8 +48,8 @@ codes_if true x y k l p q = p
 codes_if false x y k l p q = q
 
 -- the codes of the rows
-pub rows_codes : (c : ℕ) → codes_in (rows_of_kind c) ≡ codes_of_kind c
-unfolding rows_of_kind
+pub rows_codes : (c : ℕ) → codes_in (rows_of_group c) ≡ codes_of_group c
+unfolding rows_of_group
 rows_codes c =
     codes_if (nat_lt c 10) _ _ _ _ refl (codes_if (nat_lt c 20) _ _ _ _ refl (codes_if (nat_lt c 30) _ _ _ _ refl (codes_if (nat_lt c 40) _ _ _ _ refl (
     codes_if (nat_lt c 50) _ _ _ _ refl (codes_if (nat_lt c 60) _ _ _ _ refl (codes_if (nat_lt c 100) _ _ _ _ refl refl))))))
@@ -59,8 +59,8 @@ clean_if true x y p q = p
 clean_if false x y p q = q
 
 -- all texts are printable
-pub rows_clean : (c : ℕ) → list_all is_clean (rows_of_kind c) ≡ true
-unfolding rows_of_kind
+pub rows_clean : (c : ℕ) → list_all is_clean (rows_of_group c) ≡ true
+unfolding rows_of_group
 rows_clean c =
     clean_if (nat_lt c 10) _ _ refl (clean_if (nat_lt c 20) _ _ refl (clean_if (nat_lt c 30) _ _ refl (clean_if (nat_lt c 40) _ _ refl (
     clean_if (nat_lt c 50) _ _ refl (clean_if (nat_lt c 60) _ _ refl (clean_if (nat_lt c 100) _ _ refl refl))))))

@@ -33,10 +33,10 @@ read_by text row = record {
 abbrev pub texts_of : CodeWords (Bor (List ℕ)) → Texts
 texts_of words = read_by (λ text. text.now) words
 
--- `rows_of_kind c` are the rows of the group that would contain the code `c`. They are the constants of src/table.rt
--- itself: no definition repeats them.
-unfoldable pub rows_of_kind : ℕ → List Texts
-rows_of_kind c =
+-- `rows_of_group c` are the rows of the group that would contain the code `c`. The rows are the constants of
+-- src/table.rt: no definition repeats their texts.
+unfoldable pub rows_of_group : ℕ → List Texts
+rows_of_group c =
     if nat_lt c 10 then map (λ row. read_by (λ text. text.now) row) ANY_CALL
     else if nat_lt c 20 then map (λ row. read_by (λ text. text.now) row) POLICIES
     else if nat_lt c 30 then map (λ row. read_by (λ text. text.now) row) SCHEMAS
@@ -48,7 +48,7 @@ rows_of_kind c =
 
 -- `words_on code` are the texts of the row of `code`, if it has one.
 abbrev pub words_on : ℕ → Option Texts
-words_on code = find (λ row. row.code == code) (rows_of_kind code)
+words_on code = find (λ row. row.code == code) (rows_of_group code)
 
 -- `code_text texts` is the explanation of a code with these texts, without a line feed at the end.
 abbrev pub code_text : Texts → List ℕ

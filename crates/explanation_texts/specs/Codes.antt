@@ -3,11 +3,11 @@
 use Rattle.std.specs.Prelude.{ℕ, Bool, ◌==◌, nat_lt, if◌then◌else◌, List, [], ◌∷◌}
 use Rattle.std.specs.List.{list_any}
 
--- `codes_of_kind c` are the codes of the group that would contain `c`: errors of any call, policies that do not parse,
--- schemas, entities and requests, policies that do not pass validation, messages, commands at a site, and HTTP statuses
--- in place of a code.
-abbrev pub codes_of_kind : ℕ → List ℕ
-codes_of_kind c =
+-- `codes_of_group c` are the codes of the group that would contain `c`. The groups are errors of any call; policies
+-- that do not parse; schemas; entities and requests; policies that do not pass validation; messages; commands at a
+-- site; and HTTP statuses in place of a code.
+abbrev pub codes_of_group : ℕ → List ℕ
+codes_of_group c =
     if nat_lt c 10 then 1 ∷ 2 ∷ []
     else if nat_lt c 20 then 10 ∷ 11 ∷ 12 ∷ 13 ∷ 14 ∷ 15 ∷ 16 ∷ 17 ∷ 18 ∷ 19 ∷ []
     else if nat_lt c 30 then 20 ∷ 21 ∷ 22 ∷ 23 ∷ 24 ∷ 25 ∷ []
@@ -19,4 +19,4 @@ codes_of_kind c =
 
 -- `is_code code` tests whether some error has this code.
 abbrev pub is_code : ℕ → Bool
-is_code code = list_any (λ c. c == code) (codes_of_kind code)
+is_code code = list_any (λ c. c == code) (codes_of_group code)

@@ -24,8 +24,8 @@ blank_char c = if c == 9 then 9 else 32
 abbrev pub repeated : ℕ → ℕ → List ℕ
 repeated c n = encode_utf8_all (replicate n c)
 
--- `shown text skipped n` are the bytes that show `n` characters of `text`, after the first `skipped`; `blanks text
--- skipped n` are the bytes of blanks as wide as these characters.
+-- `shown text skipped n` are the bytes that show `n` characters of `text`, after the first `skipped`;
+-- `blanks text skipped n` are the bytes of blanks as wide as these characters.
 abbrev pub shown : List ℕ → ℕ → ℕ → List ℕ
 shown text skipped n = encode_utf8_all (map shown_char (take n (drop skipped (chars text))))
 
@@ -33,10 +33,10 @@ abbrev pub blanks : List ℕ → ℕ → ℕ → List ℕ
 blanks text skipped n = encode_utf8_all (map blank_char (take n (drop skipped (chars text))))
 
 -- Of a line of `n` characters at most 160 are shown. `place_in n column` is the number of characters before `column`,
--- at most `n`. `cut_before n place` is the number of characters that are cut before the shown part, which begins 80
--- characters before the place (with the line, if there are fewer), or earlier if the line ends within 80 characters
--- after the place. `end_of n cut` is the index at which that part ends. `carets_at end place span` is the number of
--- carets for `span` marked characters: none past `end`, but at least one.
+-- at most `n`. `cut_before n place` is the number of characters that are cut before the shown part. That part begins 80
+-- characters before the place, or with the line if there are fewer; it begins earlier if the line ends within 80
+-- characters after the place. `end_of n cut` is the index at which that part ends. `carets_at end place span` is the
+-- number of carets for `span` marked characters: none past `end`, but at least one.
 abbrev pub place_in : ℕ → ℕ → ℕ
 place_in n column = min (column - 1) n
 
@@ -49,7 +49,7 @@ end_of n cut = min n (cut + 160)
 abbrev pub carets_at : ℕ → ℕ → ℕ → ℕ
 carets_at end place span = max 1 (min span (end - place))
 
--- `mark_if is_cut mark` are the bytes of `mark` if something is cut.
+-- `mark_if is_cut mark` are the bytes `mark` if `is_cut` is true (something is cut), else no bytes.
 abbrev pub mark_if : Bool → List ℕ → List ℕ
 mark_if is_cut mark = if is_cut then mark else []
 
@@ -58,14 +58,14 @@ abbrev pub heading : List ℕ → ℕ → ℕ → List ℕ
 heading file line column = codes " --> " ++ encode_utf8_all (map shown_char (chars file)) ++ codes ":" ++ decimal line
     ++ codes ":" ++ decimal column ++ 10 ∷ []
 
--- `line_row number line cut end` is the row `NUMBER | LINE`, with the characters of `line` from the index `cut` to
--- `end`.
+-- `line_row number line cut end` is the row `NUMBER | LINE`, with the characters of `line` from the index `cut` up to
+-- `end`, and `..` at each end where characters are cut.
 abbrev pub line_row : ℕ → List ℕ → ℕ → ℕ → List ℕ
 line_row number line cut end = decimal number ++ codes " | " ++ mark_if (nat_lt 0 cut) (codes "..")
     ++ shown line cut (end - cut) ++ mark_if (nat_lt end (length (chars line))) (codes "..") ++ 10 ∷ []
 
--- `caret_row digits line cut place carets` is the row of `digits` spaces (32), ` | `, blanks up to the place, and
--- `carets` carets (94).
+-- `caret_row digits line cut place carets` is the row of `digits` spaces (32), ` | `, two spaces under a `..`, blanks
+-- as wide as the characters from `cut` up to `place`, and `carets` carets (94).
 abbrev pub caret_row : ℕ → List ℕ → ℕ → ℕ → ℕ → List ℕ
 caret_row digits line cut place carets = repeated 32 digits ++ codes " | "
     ++ mark_if (nat_lt 0 cut) (codes "  ") ++ blanks line cut (place - cut) ++ repeated 94 carets ++ 10 ∷ []

@@ -1,15 +1,15 @@
 -- Defines the explanation of an error, for the author of the rejected text.
 -- Rules of this product: a line with the code and what is wrong; the excerpt that shows the place, or the name of the
--- file with the index in its array; what else is known; and a hint. Control characters except tabs, and those that
--- change the direction of writing, are shown as U+FFFD. A long cause, detail or line of the text is cut, with `..` at
--- the cut; the name of the file is not.
+-- file with the index of the item in the file's array; what else is known; and a hint. Control characters except tabs,
+-- and those that change the direction of writing, are shown as U+FFFD. A long cause, detail or line of the text is cut,
+-- with `..` at the cut; the name of the file is not.
 use Rattle.std.specs.Prelude.{◌≡◌, ℕ, ◌-◌, ◌+◌, ◌==◌, if◌then◌else◌, true, List, [], ◌∷◌, ◌++◌}
 use Rattle.std.specs.Prelude.{Option, None, Some}
 use Rattle.std.specs.Prelude.{codes, decimal, count_by, take, chars, slice_index_or, length, nat_lt}
 use Rattle.std.specs.Str.Lines.{lines}
 use Rattle.explanation_texts.specs.Printable.{are_printable}
 use Rattle.explanation_texts.specs.CodeText.{Texts, words_on}
-use Rattle.explanation_texts.specs.LineAndColumn.{is_line_feed, column_behind, IsStartAt}
+use Rattle.explanation_texts.specs.LineAndColumn.{is_line_feed, column_after, IsStartAt}
 use Rattle.explanation_texts.specs.Excerpt.{excerpt, shown, mark_if}
 use Rattle.explanation_texts.specs.declared.places.TextPosition.{TextPosition}
 use Rattle.explanation_texts.specs.declared.finding.SourceFinding.{SourceFinding}
@@ -28,7 +28,8 @@ abbrev pub cause_part : List ℕ → List ℕ
 cause_part [] = []
 cause_part (c ∷ cs) = codes " `" ++ cut_text (c ∷ cs) 60 ++ codes "`"
 
--- `says_line code says cause` is the line `error CODE: SAYS`, with the part of `cause` at its end.
+-- `says_line code says cause` is the line `error CODE: SAYS`, with `cause`, in backticks, at its end if it is not
+-- empty.
 abbrev pub says_line : ℕ → List ℕ → List ℕ → List ℕ
 says_line code says cause = codes "error " ++ decimal code ++ codes ": " ++ says ++ cause_part cause ++ 10 ∷ []
 
@@ -54,11 +55,11 @@ AreClean says advice = (are_printable says ≡ true) × (are_printable advice �
 -- ---- an error in a part of a text
 
 -- `IsPlaceOf text at place` holds if `place` has the line and the column of the byte `at` of `text`, and the offset at
--- which its character begins.
+-- which the character that contains this byte begins.
 pub record IsPlaceOf (text : List ℕ) (at : ℕ) (place : TextPosition) : Type 0 where
   pub start : IsStartAt text at place.start
   pub line : place.line ≡ 1 + count_by is_line_feed (take place.start text)
-  pub column : place.column ≡ column_behind (chars (take place.start text))
+  pub column : place.column ≡ column_after (chars (take place.start text))
 
 -- `span_between place end` is the number of characters from `place` up to `end`; 2^64 - 1, the greatest number, if
 -- `end` is on another line, so that the rest of the line is marked.
@@ -100,7 +101,8 @@ abbrev pub index_part : Option ℕ → List ℕ
 index_part None = []
 index_part (Some index) = codes ", entity " ++ decimal index ++ codes " (from 0)"
 
--- `file_line file index` is the line ` --> FILE, entity INDEX (from 0)`.
+-- `file_line file index` is the line ` --> FILE, entity INDEX (from 0)`, without the part after FILE if there is no
+-- index.
 abbrev pub file_line : List ℕ → Option ℕ → List ℕ
 file_line file index = codes " --> " ++ readable file (length file) ++ index_part index ++ 10 ∷ []
 

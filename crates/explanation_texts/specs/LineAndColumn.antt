@@ -1,6 +1,7 @@
 -- Defines line and column of a byte of a text, both counted from 1.
 -- Rules of this product: a line ends after a line feed, so the line of a place is 1 + the number of line feeds before
--- it; its column is 1 + the number of characters (not bytes) since the last of these, or since the text's beginning.
+-- it; its column is 1 + the number of characters (not bytes) since the last of these line feeds, or since the text's
+-- beginning.
 use Rattle.std.specs.Prelude.{ℕ, ◌+◌, ◌<◌, ◌≤◌, ◌==◌, Bool, not, List, IsCharBoundary}
 use Rattle.std.specs.List.{suffix_len}
 
@@ -8,10 +9,10 @@ use Rattle.std.specs.List.{suffix_len}
 abbrev pub is_line_feed : ℕ → Bool
 is_line_feed c = c == 10
 
--- `column_behind before` is the column after the characters `before`: 1 + the number of characters after their last
+-- `column_after before` is the column after the characters `before`: 1 + the number of characters after their last
 -- line feed.
-abbrev pub column_behind : List ℕ → ℕ
-column_behind before = 1 + suffix_len (λ c. not (is_line_feed c)) before
+abbrev pub column_after : List ℕ → ℕ
+column_after before = 1 + suffix_len (λ c. not (is_line_feed c)) before
 
 -- `IsStartAt text at start` holds if `start` is the last offset, not greater than `at`, at which a character begins
 -- or the text ends.

@@ -12,7 +12,7 @@ use std::alloc::Global;
 use std::iter::repeat_n;
 
 // At most WIDTH characters of a line are shown, beginning LEAD characters before the place; earlier if the line ends
-// within WIDTH - LEAD characters after it.
+// within WIDTH - LEAD characters after the place.
 const WIDTH: usize = 160;
 
 const LEAD: usize = 80;
@@ -29,6 +29,7 @@ struct Cut {
     end: usize,
 }
 
+// Returns the blank that is as wide as `c`: a tab for a tab, else a space.
 fn blank_for(c: char) -> char
     ensures { result ≡ blank_char c }
 {
@@ -42,6 +43,7 @@ pub(crate) fn count_chars(text: &str) -> usize
     text.chars().count()
 }
 
+// Returns the part of `line` that an excerpt shows for a place at this column, counted from 1.
 fn cut_at(line: &str, column: usize) -> Cut
     ensures len { result.len ≡ length (chars line.now) }
     ensures place { result.place ≡ place_in (length (chars line.now)) column }
@@ -60,12 +62,14 @@ fn cut_at(line: &str, column: usize) -> Cut
     }
 }
 
+// Appends blanks as wide as `count` characters of `text`, after the first `skipped`.
 fn push_blanks(out: &mut String, text: &str, skipped: usize, count: usize) -> Result<(), NoMemory>
     ensures { OnOk result (string_bytes out.new ≡ string_bytes out.old ++ blanks text.now skipped count) }
 {
-    out.extend(text.chars().skip(skipped).take(count).map(|c| blank_for(c)))
+    out.extend(text.chars().skip(skipped).take(count).map(blank_for))
 }
 
+// Appends `count` characters `c`.
 fn push_repeated(out: &mut String, c: char, count: usize) -> Result<(), NoMemory>
     ensures { OnOk result (string_bytes out.new ≡ string_bytes out.old ++ repeated c count) }
 {
@@ -82,6 +86,7 @@ pub(crate) fn push_mark(out: &mut String, is_cut: bool, mark: &str) -> Result<()
     Ok(())
 }
 
+// Appends the row ` --> FILE:LINE:COLUMN`.
 fn push_heading(out: &mut String, file: &str, place: TextPosition) -> Result<(), NoMemory>
     ensures { OnOk result (string_bytes out.new ≡ string_bytes out.old ++ heading file.now place.line place.column) }
 {
@@ -94,6 +99,7 @@ fn push_heading(out: &mut String, file: &str, place: TextPosition) -> Result<(),
     out.push_str("\n")
 }
 
+// Appends the row `NUMBER | LINE` with the shown part of `line`, and `..` where it is cut.
 fn push_line_row(out: &mut String, number: usize, line: &str, cut: &Cut) -> Result<(), NoMemory>
     requires { cut.now.len ≡ length (chars line.now) }
     ensures { OnOk result (string_bytes out.new
@@ -107,6 +113,7 @@ fn push_line_row(out: &mut String, number: usize, line: &str, cut: &Cut) -> Resu
     out.push_str("\n")
 }
 
+// Appends the row of carets, with `digits` spaces under the line's number.
 fn push_caret_row(
     out: &mut String,
     digits: usize,

@@ -1,15 +1,15 @@
-//! Findings: errors with what is known of them, which explanations are made of.
+//! Findings: errors with what is known of them. An explanation is made of a finding.
 
 /// An error in a part of a text, such as in a policy of its file.
 #[derive(Clone, Copy)]
 pub struct SourceFinding<'t> {
-    /// The code.
+    /// The error code (docs/codes.md).
     pub code: u16,
-    /// The byte of the text at which the part begins.
+    /// The offset of the byte at which the part begins, counted from 0.
     pub start: usize,
-    /// The byte after the part.
+    /// The offset of the byte after the part.
     pub end: usize,
-    /// The cause, such as the token at that place; empty if the explanation names none.
+    /// The cause, such as the token at `start`; empty if the explanation names none.
     pub cause: &'t str,
     /// What else is known, such as the environment that has the error; empty if nothing is.
     pub detail: &'t str,
@@ -20,10 +20,10 @@ pub struct SourceFinding<'t> {
 /// An error that is explained without a line of its text, such as an entity's in its file.
 #[derive(Clone, Copy)]
 pub struct WholeFinding<'t> {
-    /// The code.
+    /// The error code (docs/codes.md).
     pub code: u16,
-    /// The index in the array, counted from 0, if the text is one.
+    /// The index of the item at fault, counted from 0, if the text is an array and one item is at fault.
     pub index: Option<usize>,
-    /// The place in that item, or in the text, and what is there; empty if it is not known.
+    /// The place of the error in that item or in the text, and what is there; empty if the place is not known.
     pub detail: &'t str,
 }

@@ -1,7 +1,7 @@
 //! Lines and columns.
 ghost use Rattle.std.specs.Prelude.{◌≡◌, ◌+◌, ◌-◌, ◌==◌, if◌then◌else◌, take, chars, count_by, slice_index_or, []};
 ghost use Rattle.std.specs.Str.Lines.{lines};
-ghost use Rattle.explanation_texts.specs.LineAndColumn.{is_line_feed, column_behind, IsStartAt};
+ghost use Rattle.explanation_texts.specs.LineAndColumn.{is_line_feed, column_after, IsStartAt};
 
 /// A place in a text, by line and column.
 #[derive(Clone, Copy)]
@@ -10,7 +10,8 @@ pub struct TextPosition {
     pub line: usize,
     /// The column, counted from 1 in characters.
     pub column: usize,
-    /// The byte at which the character at the place begins, counted from 0; the text's length at its end.
+    /// The offset of the byte at which the character at the place begins, counted from 0; the text's length at the
+    /// text's end.
     pub start: usize,
 }
 
@@ -30,9 +31,15 @@ impl TextPosition {
     }
 }
 
+fn is_line_feed(byte: &u8) -> bool
+    ensures { result ≡ is_line_feed byte.now }
+{
+    *byte == b'\n'
+}
+
 // Returns the column of the place that follows `before`, the text from its beginning.
 fn column_of(before: &str) -> usize
-    ensures { result ≡ column_behind (chars before.now) }
+    ensures { result ≡ column_after (chars before.now) }
 {
     let mut column = 1;
     for c in before.chars() {
@@ -54,12 +61,12 @@ fn column_of(before: &str) -> usize
 pub fn place_of(text: &str, at: usize) -> TextPosition
     ensures start { IsStartAt text.now at result.start }
     ensures line { result.line ≡ 1 + count_by is_line_feed (take result.start text.now) }
-    ensures column { result.column ≡ column_behind (chars (take result.start text.now)) }
+    ensures column { result.column ≡ column_after (chars (take result.start text.now)) }
 {
     let start = text.floor_char_boundary(at);
     let (before, _) = text.split_at(start);
     TextPosition {
-        line: 1 + before.bytes().filter(|byte| *byte == b'\n').count(),
+        line: 1 + before.bytes().filter(is_line_feed).count(),
         column: column_of(before),
         start,
     }

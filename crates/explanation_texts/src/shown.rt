@@ -4,6 +4,7 @@ ghost use Rattle.explanation_texts.specs.Excerpt.{is_hidden, shown_char, shown};
 
 use plain::NoMemory;
 
+// Returns whether a character is a control character other than a tab, or changes the direction of writing.
 fn is_hidden_char(c: char) -> bool
     ensures { result ≡ is_hidden c }
 {
@@ -11,6 +12,7 @@ fn is_hidden_char(c: char) -> bool
         || matches!(c, '\u{202a}'..='\u{202e}' | '\u{2066}'..='\u{2069}')
 }
 
+// Returns the character that is shown for `c`: U+FFFD if `c` is hidden.
 fn shown_for(c: char) -> char
     ensures { result ≡ shown_char c }
 {
@@ -27,7 +29,7 @@ pub(crate) fn push_shown(
 ) -> Result<(), NoMemory>
     ensures { OnOk result (string_bytes out.new ≡ string_bytes out.old ++ shown text.now skipped count) }
 {
-    out.extend(text.chars().skip(skipped).take(count).map(|c| shown_for(c)))
+    out.extend(text.chars().skip(skipped).take(count).map(shown_for))
 }
 
 /// Appends a number in decimal.

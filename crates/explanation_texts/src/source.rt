@@ -37,6 +37,7 @@ fn push_cut(out: &mut String, text: &str, most: usize) -> Result<(), NoMemory>
     push_mark(out, most < count_chars(text), "..")
 }
 
+// Appends a space and `cause` in backticks, cut after 60 characters; nothing if `cause` is empty.
 fn push_cause(out: &mut String, cause: &str) -> Result<(), NoMemory>
     ensures { OnOk result (string_bytes out.new ≡ string_bytes out.old ++ cause_part cause.now) }
 {
@@ -110,12 +111,11 @@ fn push_at(
     push_excerpt(alloc, out, file, text, shown.place, shown.span)?;
     push_detail(out, finding.detail)?;
     push_detail(out, finding.note)?;
-    push_hint(out, shown.advice)?;
-    Ok(())
+    push_hint(out, shown.advice)
 }
 
-/// Appends the explanation of an error in `text`, the text of the file `file`: what is wrong, the excerpt at its place,
-/// the detail and the note if there are any, and a hint.
+/// Appends the explanation of an error in `text`, the text of the file `file`: what is wrong, the excerpt at the place
+/// of the error, the detail and the note if there are any, and a hint.
 ///
 /// O(length of `text`, of `file` and of the texts of `finding`).
 ///
@@ -142,6 +142,5 @@ pub fn push_source(
         says,
         advice,
     };
-    push_at(alloc, out, file, text, finding, &shown)?;
-    Ok(())
+    push_at(alloc, out, file, text, finding, &shown)
 }

@@ -2,18 +2,18 @@
 ghost use Rattle.std.specs.Prelude.{◌≡◌, ◌==◌, true, IfSome, is_some, option_map, map};
 ghost use Rattle.std.specs.List.{find};
 ghost use Rattle.explanation_texts.specs.Codes.{is_code};
-ghost use Rattle.explanation_texts.specs.CodeText.{texts_of, rows_of_kind, words_on};
+ghost use Rattle.explanation_texts.specs.CodeText.{texts_of, rows_of_group, words_on};
 ghost use Rattle.explanation_texts.specs.Printable.{is_clean};
 
 /// The texts on an error code, each a `T`. The type is generic so that contracts can name the rows of the table.
 pub struct CodeWords<T> {
-    /// The code.
+    /// The error code (docs/codes.md).
     pub code: u16,
-    /// Its name, of one to three words.
+    /// The name of the code, of one to three words.
     pub name: T,
-    /// What is rejected with it.
+    /// What is rejected with this code.
     pub meaning: T,
-    /// An example of what is rejected with it.
+    /// An example of what is rejected with this code.
     pub example: T,
     /// What the first line of an explanation says is wrong. The cause follows it, if there is one.
     pub says: T,
@@ -479,7 +479,7 @@ static HTTP: [CodeWords<&str>; 6] = [
 
 /// Returns the rows of the group that would contain this code.
 fn rows_of(code: u16) -> &'static [CodeWords<&'static str>]
-    ensures { map texts_of result.now ≡ rows_of_kind code }
+    ensures { map texts_of result.now ≡ rows_of_group code }
 {
     if code < 10 {
         return &ANY_CALL;
@@ -505,6 +505,7 @@ fn rows_of(code: u16) -> &'static [CodeWords<&'static str>]
     &HTTP
 }
 
+/// Returns the first of `rows` that has this code, or `None`.
 fn found_in(
     rows: &'static [CodeWords<&'static str>],
     code: u16,

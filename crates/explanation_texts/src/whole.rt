@@ -1,4 +1,4 @@
-//! Explanations of an error in a whole text, or in an item of an array.
+//! Explanations of an error that show no line of its text: of a text as a whole, or of an item of an array.
 ghost use Rattle.std.specs.Prelude.{◌≡◌, ◌++◌, OnOk, string_bytes, ℕ, List};
 ghost use Rattle.explanation_texts.specs.Explained.{index_part, file_line, whole_text, IsWholeText};
 
@@ -7,6 +7,7 @@ use crate::shown::{push_number, push_shown};
 use crate::source::{push_detail, push_hint, push_says, says_and_advice};
 use plain::NoMemory;
 
+// Appends `, entity INDEX (from 0)`, or nothing without an index.
 fn push_index(out: &mut String, index: Option<usize>) -> Result<(), NoMemory>
     ensures { OnOk result (string_bytes out.new ≡ string_bytes out.old ++ index_part index) }
 {
@@ -20,6 +21,7 @@ fn push_index(out: &mut String, index: Option<usize>) -> Result<(), NoMemory>
     }
 }
 
+// Appends the line ` --> FILE, entity INDEX (from 0)`, without the part after FILE if there is no index.
 fn push_file(out: &mut String, file: &str, index: Option<usize>) -> Result<(), NoMemory>
     ensures { OnOk result (string_bytes out.new ≡ string_bytes out.old ++ file_line file.now index) }
 {
@@ -29,7 +31,7 @@ fn push_file(out: &mut String, file: &str, index: Option<usize>) -> Result<(), N
     out.push_str("\n")
 }
 
-// Appends the explanation of `finding` with the words of its code.
+// Appends the explanation of `finding`, given what is wrong (`says`) and what to do (`advice`) for its code.
 fn push_parts(
     out: &mut String,
     file: &str,
@@ -46,8 +48,8 @@ fn push_parts(
     push_hint(out, advice)
 }
 
-/// Appends the explanation of an error in the file `file`: what is wrong, the file with the index in its array, the
-/// detail, and a hint.
+/// Appends the explanation of an error in the file `file`: what is wrong, the file with the index of the item at fault,
+/// the detail, and a hint.
 ///
 /// # Errors
 ///
@@ -57,6 +59,5 @@ pub fn push_whole(out: &mut String, file: &str, finding: &WholeFinding<'_>) -> R
         × (string_bytes out.new ≡ string_bytes out.old ++ bytes)) }
 {
     let (says, advice) = says_and_advice(finding.code);
-    push_parts(out, file, finding, says, advice)?;
-    Ok(())
+    push_parts(out, file, finding, says, advice)
 }

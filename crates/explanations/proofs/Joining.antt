@@ -26,7 +26,7 @@ use Rattle.explanations.specs.Parts.{IsPartOf, IsNothing, IsSourceAt, IsWholeAt,
 use Rattle.explanations.specs.Pieces.{ArePiecesOf}
 use Rattle.explanations.specs.Policies.{is_searched, large_note, IsFoundAs, IsFaultText, IsCheckExplained, passes_so, rejected_so, too_large, ArePoliciesExplained}
 use Rattle.explanations.specs.Unread.{byte_in, is_that, IsPieceExplained, is_read, is_unread, ArePiecesExplained, AppendsExplained}
-use Rattle.explanations.specs.Others.{IsJudgedText, IsJudged, AreEntitiesExplained, IsRequestExplained}
+use Rattle.explanations.specs.Others.{IsCheckedText, IsCheckOutcome, AreEntitiesExplained, IsRequestExplained}
 use Rattle.explanations.specs.Explained as whole
 use Rattle.explanations.specs.Explained.{IsTextOf, AreTokensOf, IsUnreadExplained, IsFileExplained, AreOthersExplained, IsExplainedUnder, IsExplainedAs, IsExplained}
 use Rattle.explanations.proofs.Appending.{in_turn, nothing_more}
@@ -61,11 +61,11 @@ module _ (s : StatedSchema) (file text : List ℕ) (place : Piece) (policy : Pol
   pub policy_passes : Passes s policy → AppendsSome (IsCheckExplained s file text place policy) old old
   policy_passes h = ([], passes_so h, nothing_more old)
 
-  pub policy_rejected : (new : List ℕ) (f : PolicyFault) → is_searched place ≡ true → IsPolicyFault s policy f
+  pub policy_rejected : (new : List ℕ) (f : PolicyFault) → is_searched place policy ≡ true → IsPolicyFault s policy f
       → AppendsSome (IsFaultText file text place f) old new → AppendsSome (IsCheckExplained s file text place policy) old new
   policy_rejected new f e h a = (a.0, rejected_so f a.0 e h a.1, a.2)
 
-  pub policy_large : (new : List ℕ) (f : TypeFault) → is_searched place ≡ false → IsCheckRefused s policy f
+  pub policy_large : (new : List ℕ) (f : TypeFault) → is_searched place policy ≡ false → IsCheckRefused s policy f
       → AppendsSome (IsSourceAt file text large_note (code_of f) place.start) old new → AppendsSome (IsCheckExplained s file text place policy) old new
   policy_large new f e h a = (a.0, too_large f a.0 e h a.1, a.2)
 
@@ -138,28 +138,28 @@ module _ (o : Option StatedSchema) (file held text : List ℕ) (tokens : List To
 
 -- ---- what was checked
 
-with_words : (name : List ℕ) (code : ℕ) (index : Option ℕ) (words : List ℕ) (Told : List ℕ → Type 0) (bytes : List ℕ) → Told words
-    → IsWholeAt name code index (λ w. w ≡ words) bytes → IsWholeAt name code index Told bytes
-with_words name code index words Told bytes t h = record {
+with_words : (name : List ℕ) (code : ℕ) (index : Option ℕ) (words : List ℕ) (IsDetail : List ℕ → Type 0) (bytes : List ℕ) → IsDetail words
+    → IsWholeAt name code index (λ w. w ≡ words) bytes → IsWholeAt name code index IsDetail bytes
+with_words name code index words IsDetail bytes t h = record {
   finding = h.finding;
   code_is = h.code_is;
   index_is = h.index_is;
-  told = subst Told (sym h.told) t;
+  detail_holds = subst IsDetail (sym h.detail_holds) t;
   is_text = h.is_text;
 }
 
-pub whole_told : (name old new : List ℕ) (code : ℕ) (index : Option ℕ) (words : List ℕ) (Told : List ℕ → Type 0) → Told words
-    → AppendsSome (IsWholeAt name code index (λ w. w ≡ words)) old new → AppendsSome (IsWholeAt name code index Told) old new
-whole_told name old new code index words Told t a = (a.0, with_words name code index words Told a.0 t a.1, a.2)
+pub whole_told : (name old new : List ℕ) (code : ℕ) (index : Option ℕ) (words : List ℕ) (IsDetail : List ℕ → Type 0) → IsDetail words
+    → AppendsSome (IsWholeAt name code index (λ w. w ≡ words)) old new → AppendsSome (IsWholeAt name code index IsDetail) old new
+whole_told name old new code index words IsDetail t a = (a.0, with_words name code index words IsDetail a.0 t a.1, a.2)
 
-pub judged_so : (name old new : List ℕ) (Told : Option ℕ → List ℕ → Type 0) (r q : Refusal) → q ≡ r → (r ≡ no_memory → ⊥)
-    → AppendsSome (IsWholeAt name q.code q.place (Told q.place)) old new → AppendsSome (IsJudgedText name Told (Err r)) old new
-judged_so name old new Told r q e h a =
-    (a.0, (h, subst (λ (t : Refusal). IsWholeAt name t.code t.place (Told t.place) a.0) e a.1), a.2)
+pub judged_so : (name old new : List ℕ) (IsDetail : Option ℕ → List ℕ → Type 0) (r q : Refusal) → q ≡ r → (r ≡ no_memory → ⊥)
+    → AppendsSome (IsWholeAt name q.code q.place (IsDetail q.place)) old new → AppendsSome (IsCheckedText name IsDetail (Err r)) old new
+judged_so name old new IsDetail r q e h a =
+    (a.0, (h, subst (λ (t : Refusal). IsWholeAt name t.code t.place (IsDetail t.place) a.0) e a.1), a.2)
 
-pub judged_text : (name old new : List ℕ) (Read : Type 0) (Refused : Refusal → Type 0) (Told : Option ℕ → List ℕ → Type 0) (r : Result ⊤ Refusal) → OnOk r Read
-    → IfErr r (OrNoMemory no_memory Refused) → AppendsSome (IsJudgedText name Told r) old new → AppendsSome (IsJudged name Read Refused Told) old new
-judged_text name old new Read Refused Told r read refused a = (a.0, judged name a.0 Read Refused Told r read refused a.1, a.2)
+pub judged_text : (name old new : List ℕ) (Read : Type 0) (Refused : Refusal → Type 0) (IsDetail : Option ℕ → List ℕ → Type 0) (r : Result ⊤ Refusal) → OnOk r Read
+    → IfErr r (OrNoMemory no_memory Refused) → AppendsSome (IsCheckedText name IsDetail r) old new → AppendsSome (IsCheckOutcome name Read Refused IsDetail) old new
+judged_text name old new Read Refused IsDetail r read refused a = (a.0, judged name a.0 Read Refused IsDetail r read refused a.1, a.2)
 
 -- ---- all texts
 

@@ -13,7 +13,7 @@ use Rattle.explanations.specs.Policies as of_policies
 use Rattle.explanations.specs.Policies.{IsFaultText, IsCheckExplained, passes_so, rejected_so, too_large, IsPolicyExplained, ArePoliciesExplained}
 use Rattle.explanations.specs.Unread as of_pieces
 use Rattle.explanations.specs.Unread.{IsPieceExplained, is_read, is_unread, ArePiecesExplained}
-use Rattle.explanations.specs.Others.{IsJudged, AreEntitiesRead, AreEntitiesRefused, IsRequestRead, IsRequestRefused, AreEntitiesExplained, IsRequestExplained}
+use Rattle.explanations.specs.Others.{IsCheckOutcome, AreEntitiesRead, AreEntitiesRefused, IsRequestRead, IsRequestRefused, AreEntitiesExplained, IsRequestExplained}
 use Rattle.explanations.specs.Others.{IsEntityPartNamed, IsRequestPartNamed}
 use Rattle.explanations.specs.Explained as whole
 use Rattle.explanations.specs.Explained.{IsUnreadExplained, IsOutcomeExplained, AreOthersExplained, IsExplainedUnder, IsExplainedAs, IsExplained}
@@ -24,8 +24,8 @@ empty bytes e = subst IsReadable (sym e) nothing
 at_source : (file text note : List ℕ) (code start : ℕ) (bytes : List ℕ) → IsSourceAt file text note code start bytes → IsReadable bytes
 at_source file text note code start bytes h = source_is_readable file text h.finding bytes h.is_text
 
-at_whole : (file : List ℕ) (code : ℕ) (index : Option ℕ) (Told : List ℕ → Type 0) (bytes : List ℕ) → IsWholeAt file code index Told bytes → IsReadable bytes
-at_whole file code index Told bytes h = whole_is_readable file h.finding bytes h.is_text
+at_whole : (file : List ℕ) (code : ℕ) (index : Option ℕ) (IsDetail : List ℕ → Type 0) (bytes : List ℕ) → IsWholeAt file code index IsDetail bytes → IsReadable bytes
+at_whole file code index IsDetail bytes h = whole_is_readable file h.finding bytes h.is_text
 
 fault : (file text : List ℕ) (place : Piece) (f : PolicyFault) (bytes : List ℕ) → IsFaultText file text place f bytes → IsReadable bytes
 fault file text place f bytes h = source_is_readable file text h.finding bytes h.is_text
@@ -69,10 +69,10 @@ outcome_reads : (o : Option StatedSchema) (file held text : List ℕ) (pieces : 
 outcome_reads o file held text pieces _ (whole.read names cores bytes a h) = policies_read o file text pieces cores bytes h
 outcome_reads o file held text pieces _ (whole.unread r bytes a h) = unread_reads o file text pieces r bytes h
 
-judged_reads : (name : List ℕ) (Read : Type 0) (Refused : Refusal → Type 0) (Told : Option ℕ → List ℕ → Type 0) (bytes : List ℕ) → IsJudged name Read Refused Told bytes
+judged_reads : (name : List ℕ) (Read : Type 0) (Refused : Refusal → Type 0) (IsDetail : Option ℕ → List ℕ → Type 0) (bytes : List ℕ) → IsCheckOutcome name Read Refused IsDetail bytes
     → IsReadable bytes
-judged_reads name Read Refused Told bytes (inl h) = empty bytes h.1
-judged_reads name Read Refused Told bytes (inr h) = at_whole name _ _ (Told h.0.place) bytes h.2
+judged_reads name Read Refused IsDetail bytes (inl h) = empty bytes h.1
+judged_reads name Read Refused IsDetail bytes (inr h) = at_whole name _ _ (IsDetail h.0.place) bytes h.2
 
 entities_read : (o : Option StatedSchema) (file : Option File) (bytes : List ℕ) → AreEntitiesExplained o file bytes → IsReadable bytes
 entities_read o None bytes h = empty bytes h

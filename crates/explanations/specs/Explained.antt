@@ -29,16 +29,17 @@ AreTokensOf text ts = IsLexed text ts ⊎ (((at : ℕ) × IsBadAt text at) × (t
 
 -- ---- a file of policies
 
--- `IsUnreadExplained s file text pieces r bytes` holds if `bytes` explain a file that is rejected with `r`: first its
--- pieces, and then `r`, unless one of them has this error.
+-- `IsUnreadExplained s file text pieces r bytes` holds if `bytes` explain why the file `file`, with this text and these
+-- pieces, is rejected with `r`: first each piece, under the schema `s` if there is one, and then `r`, unless a piece
+-- has that error.
 abbrev pub IsUnreadExplained : Option StatedSchema → List ℕ → List ℕ → List Piece → Refusal → List ℕ → Type 0
 IsUnreadExplained s file text pieces r bytes =
     ArePiecesExplained s file text r pieces true bytes
     ⊎ ((before : List ℕ) × (last : List ℕ) × ArePiecesExplained s file text r pieces false before
     × IsSourceAt file text [] r.code (unwrap_or r.place 0) last × (bytes ≡ before ++ last))
 
--- `IsOutcomeExplained s file held text pieces bytes` holds if `bytes` explain what is rejected in a file with the
--- content `held`, which has this text and these pieces.
+-- `IsOutcomeExplained s file held text pieces bytes` holds if `bytes` explain what is rejected in the file `file` with
+-- the content `held`, this text and these pieces.
 pub data IsOutcomeExplained (s : Option StatedSchema) (file held text : List ℕ) (pieces : List Piece) : List ℕ → Type 0
   where
     read : (names : List (List ℕ)) (cores : List Policy) (bytes : List ℕ) → ArePoliciesOf held names cores
@@ -46,8 +47,8 @@ pub data IsOutcomeExplained (s : Option StatedSchema) (file held text : List ℕ
     unread : (r : Refusal) (bytes : List ℕ) → ArePoliciesRefused held r → IsUnreadExplained s file text pieces r bytes
         → IsOutcomeExplained s file held text pieces bytes
 
--- `IsFileExplained s file held bytes` holds if `bytes` explain what is rejected in the file `file` of policies, with
--- the content `held`.
+-- `IsFileExplained s file held bytes` holds if `bytes` explain what is rejected in the file `file` of policies, whose
+-- content is `held`, under the schema `s` if there is one.
 pub record IsFileExplained (s : Option StatedSchema) (file held bytes : List ℕ) : Type 0 where
   pub text : List ℕ
   pub is_text : IsTextOf held text

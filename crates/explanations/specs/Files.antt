@@ -16,11 +16,11 @@ pub record Files : Type 0 where
   pub entities : Option File
   pub request : Option File
 
--- `file_of source` is the file that the value `source` of the code holds.
+-- `file_of source` is the file that the Rust value `source` holds.
 abbrev pub file_of : NamedText → File
 file_of source = record { name = source.name.now; text = source.text.now }
 
--- `files_of given` are the files that the value `given` of the code holds.
+-- `files_of given` are the files that the Rust value `given` holds.
 abbrev pub files_of : Given → Files
 files_of given = record {
   schema = option_map file_of given.schema;

@@ -1,4 +1,4 @@
--- Defines the theorem that a terminal shows explanations and does not obey them.
+-- Defines the theorem that explanations have no characters that control a terminal.
 -- Rules of this product: an explanation contains no control character except tabs and the line feeds that end its
 -- lines, and none that changes the direction of writing.
 use Rattle.std.specs.Prelude.{ℕ, List}
@@ -8,7 +8,7 @@ use Rattle.explanations.specs.Parts.{IsMessageExplained}
 use Rattle.explanations.specs.Explained.{IsExplained}
 
 -- `ExplainedTextsAreReadable`: each explanation of files, and of a rejected message, is readable (`IsReadable`),
--- whatever the files contain, and whatever their names are.
+-- whatever the files contain and whatever their names are.
 abbrev pub ExplainedTextsAreReadable : Type 0
 ExplainedTextsAreReadable = ((given : Files) (bytes : List ℕ) → IsExplained given bytes → IsReadable bytes)
     × ((file : List ℕ) (code : ℕ) (bytes : List ℕ) → IsMessageExplained file code bytes → IsReadable bytes)

@@ -6,5 +6,6 @@ pub mod Unread
 pub mod Others
 pub mod Explained
 pub mod Laws
+pub mod inner
 -- Specifications of lower crates, re-exported.
 pub use Rattle.explanation_texts.specs as explanation_texts

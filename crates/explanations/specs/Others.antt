@@ -11,7 +11,7 @@ use Rattle.schema_decisions.specs.decision_texts.Decisions as bare
 use Rattle.schema_decisions.specs.decision_texts.EntityArrays.{entities_of}
 use Rattle.schema_decisions.specs.Decisions as typed
 use Rattle.schema_decisions.specs.UnderSchema.{reading_under}
-use Rattle.value_paths.specs.Told.{IsItemTold, IsAskedTold}
+use Rattle.value_paths.specs.PartWords.{NamesPartOfItem, NamesPartOfRequestText}
 use Rattle.explanations.specs.Files.{File}
 use Rattle.explanations.specs.Parts.{IsNothing, IsWholeAt}
 
@@ -25,12 +25,13 @@ any_request = codes "{\"principal\":{\"type\":\"A\",\"id\":\"\"},\"action\":{\"t
 abbrev pub AreBareTextsRead : List ℕ → List ℕ → Type 0
 AreBareTextsRead entities request = (line : List ℕ) × bare.IsDecided bare_reading [] entities request line
 
--- `AreBareTextsRefused entities request r` holds if it cannot, with the error `r`.
+-- `AreBareTextsRefused entities request r` holds if `request` cannot be decided in this way over `entities`, and the
+-- error is `r`.
 abbrev pub AreBareTextsRefused : List ℕ → List ℕ → Refusal → Type 0
 AreBareTextsRefused entities request r = bare.IsDecisionRefused bare_reading [] entities request r
 
--- `AreEntitiesRead s text` holds if `text` is an array of entities under the schema or, without one, if `any_request`
--- can be decided over it.
+-- `AreEntitiesRead s text` holds if `text` is an array of entities under the schema `s`; without a schema, if
+-- `any_request` can be decided over `text`.
 abbrev pub AreEntitiesRead : Option StatedSchema → List ℕ → Type 0
 AreEntitiesRead None text = AreBareTextsRead text any_request
 AreEntitiesRead (Some s) text = (es : List Entity) × (entities_of (reading_under s) text ≡ Ok es)
@@ -40,8 +41,8 @@ abbrev pub AreEntitiesRefused : Option StatedSchema → List ℕ → Refusal →
 AreEntitiesRefused None text r = AreBareTextsRefused text any_request r
 AreEntitiesRefused (Some s) text r = entities_of (reading_under s) text ≡ Err r
 
--- `IsRequestRead schema text` holds if `text` is a request: it can be decided without entities and policies, under a
--- schema if there is one.
+-- `IsRequestRead schema text` holds if `text` is a request: it can be decided without entities and policies, under the
+-- schema that the text `schema` describes if there is one.
 abbrev pub IsRequestRead : Option (List ℕ) → List ℕ → Type 0
 IsRequestRead None text = AreBareTextsRead (codes "[]") text
 IsRequestRead (Some schema) text = (line : List ℕ) × typed.IsDecided schema [] (codes "[]") text line
@@ -52,39 +53,41 @@ IsRequestRefused None text r = AreBareTextsRefused (codes "[]") text r
 IsRequestRefused (Some schema) text r = typed.IsSchemaDecisionRefused schema [] (codes "[]") text r
 
 -- `IsEntityPartNamed s text index words` holds if `words` name the part at fault of the entity at this index of `text`,
--- under the schema `s`; without a schema they are empty.
+-- under the schema `s`; without a schema `words` are empty.
 abbrev pub IsEntityPartNamed : Option StatedSchema → List ℕ → Option ℕ → List ℕ → Type 0
 IsEntityPartNamed None text index words = IsNothing words
-IsEntityPartNamed (Some s) text index words = IsItemTold s text index words
+IsEntityPartNamed (Some s) text index words = NamesPartOfItem s text index words
 
 -- `IsRequestPartNamed s text words` holds likewise if `words` name the part at fault of the request `text`.
 abbrev pub IsRequestPartNamed : Option StatedSchema → List ℕ → List ℕ → Type 0
 IsRequestPartNamed None text words = IsNothing words
-IsRequestPartNamed (Some s) text words = IsAskedTold s text words
+IsRequestPartNamed (Some s) text words = NamesPartOfRequestText s text words
 
--- `IsJudgedText name Told judged bytes` holds if `bytes` explain the error of the file `name`, with words for which
--- `Told` holds at its index; `bytes` are empty if there is no error.
-abbrev pub IsJudgedText : List ℕ → (Option ℕ → List ℕ → Type 0) → Result ⊤ Refusal → List ℕ → Type 0
-IsJudgedText name Told (Ok done) bytes = bytes ≡ []
-IsJudgedText name Told (Err r) bytes = (r ≡ no_memory → ⊥) × IsWholeAt name r.code r.place (Told r.place) bytes
+-- `IsCheckedText name IsDetail judged bytes` holds if `bytes` explain the error `judged` of the file `name`, with words
+-- for which `IsDetail` holds at the index of the error; if `judged` is not an error, `bytes` are empty.
+abbrev pub IsCheckedText : List ℕ → (Option ℕ → List ℕ → Type 0) → Result ⊤ Refusal → List ℕ → Type 0
+IsCheckedText name IsDetail (Ok done) bytes = bytes ≡ []
+IsCheckedText name IsDetail (Err r) bytes = (r ≡ no_memory → ⊥) × IsWholeAt name r.code r.place (IsDetail r.place) bytes
 
--- `IsJudged name Read Refused Told bytes` holds if `bytes` are empty, for an accepted file, or explain its error.
-abbrev pub IsJudged : List ℕ → Type 0 → (Refusal → Type 0) → (Option ℕ → List ℕ → Type 0) → List ℕ → Type 0
-IsJudged name Read Refused Told bytes =
-    (Read × (bytes ≡ [])) ⊎ ((r : Refusal) × Refused r × IsWholeAt name r.code r.place (Told r.place) bytes)
+-- `IsCheckOutcome name Read Refused IsDetail bytes` holds if the file `name` is accepted (`Read`) and `bytes` are
+-- empty, or it has an error for which `Refused` holds, and `bytes` explain the error with words for which `IsDetail`
+-- holds.
+abbrev pub IsCheckOutcome : List ℕ → Type 0 → (Refusal → Type 0) → (Option ℕ → List ℕ → Type 0) → List ℕ → Type 0
+IsCheckOutcome name Read Refused IsDetail bytes =
+    (Read × (bytes ≡ [])) ⊎ ((r : Refusal) × Refused r × IsWholeAt name r.code r.place (IsDetail r.place) bytes)
 
--- `AreEntitiesExplained s file bytes` holds if `bytes` explain why the entities of `file` are rejected; they are empty
--- if none are, or without a file.
+-- `AreEntitiesExplained s file bytes` holds if `bytes` explain why the entities of `file` are rejected; `bytes` are
+-- empty if no entity is rejected, or without a file.
 abbrev pub AreEntitiesExplained : Option StatedSchema → Option File → List ℕ → Type 0
 AreEntitiesExplained s None bytes = bytes ≡ []
 AreEntitiesExplained s (Some file) bytes =
-    IsJudged file.name (AreEntitiesRead s file.text) (AreEntitiesRefused s file.text) (IsEntityPartNamed s file.text)
-    bytes
+    IsCheckOutcome file.name (AreEntitiesRead s file.text) (AreEntitiesRefused s file.text)
+    (IsEntityPartNamed s file.text) bytes
 
 -- `IsRequestExplained s schema file bytes` is the same relation for the request of `file`, where `s` is the schema of
 -- the text `schema`.
 abbrev pub IsRequestExplained : Option StatedSchema → Option (List ℕ) → Option File → List ℕ → Type 0
 IsRequestExplained s schema None bytes = bytes ≡ []
 IsRequestExplained s schema (Some file) bytes =
-    IsJudged file.name (IsRequestRead schema file.text) (IsRequestRefused schema file.text)
+    IsCheckOutcome file.name (IsRequestRead schema file.text) (IsRequestRefused schema file.text)
     (λ place. IsRequestPartNamed s file.text) bytes

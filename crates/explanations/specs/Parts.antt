@@ -7,8 +7,8 @@ use Rattle.explanation_texts.specs.declared.finding.SourceFinding.{SourceFinding
 use Rattle.explanation_texts.specs.declared.finding.WholeFinding.{WholeFinding}
 use Rattle.explanation_texts.specs.Explained.{IsSourceText, IsWholeText}
 
--- `IsPartOf text from to part` holds if `part` is the text between the bytes `from` and `to`, or empty if one of them
--- is within a character.
+-- `IsPartOf text from to part` holds if `part` is the text between the bytes `from` and `to`, or empty if they are not
+-- character boundaries of `text` in this order.
 abbrev pub IsPartOf : List ℕ → ℕ → ℕ → List ℕ → Type 0
 IsPartOf text from to part = (part ≡ drop from (take to text))
     ⊎ ((part ≡ []) × ((IsCharBoundary text to → ⊥) ⊎ (IsCharBoundary (take to text) from → ⊥)))
@@ -27,14 +27,16 @@ pub record IsSourceAt (file text note : List ℕ) (code start : ℕ) (bytes : Li
 abbrev pub IsNothing : List ℕ → Type 0
 IsNothing words = words ≡ []
 
--- `IsWholeAt file code index Told bytes` holds if `bytes` explain an error of this code, at the item with this index in
--- the array of `file`, or of the whole file if there is no index, with words on it for which `Told` holds.
-pub record IsWholeAt (file : List ℕ) (code : ℕ) (index : Option ℕ) (Told : List ℕ → Type 0) (bytes : List ℕ) : Type 0
+-- `IsWholeAt file code index IsDetail bytes` holds if `bytes` explain an error of this code, at the item with this
+-- index in the array of `file`, or of the whole file if there is no index, with words on the error for which `IsDetail`
+-- holds.
+pub record IsWholeAt (file : List ℕ) (code : ℕ) (index : Option ℕ) (IsDetail : List ℕ → Type 0) (bytes : List ℕ) :
+    Type 0
   where
     pub finding : WholeFinding
     pub code_is : finding.code ≡ code
     pub index_is : finding.index ≡ index
-    pub told : Told finding.detail.now
+    pub detail_holds : IsDetail finding.detail.now
     pub is_text : IsWholeText file finding bytes
 
 -- `IsMessageExplained file code bytes` holds if `bytes` explain that the message in `file` is rejected with this code.

@@ -1,7 +1,7 @@
 -- Defines the positions of policies in their file; a `Piece` is such a position.
--- Source: Cedar reference guide 4.0, "Grammar specification for Cedar policy syntax": a policy ends with `;`, its only
--- one. Rules of this product: a policy begins with its first token, so comments before it do not belong to it; one that
--- no `;` ends, ends with the text.
+-- Source: Cedar reference guide 4.0, "Grammar specification for Cedar policy syntax": a policy ends with `;`, the only
+-- one in it. Rules of this product: a policy begins with its first token, so comments before it do not belong to it; a
+-- policy that no `;` ends, ends with the text.
 use Rattle.std.specs.Prelude.{◌≡◌, ℕ, Bool, true, false, if◌then◌else◌, List, [], ◌∷◌, ◌++◌}
 use Rattle.std.specs.Prelude.{Option, Some, None, unwrap_or, slice_get}
 use Rattle.grammar_desugaring.specs.grammar_tokens.declared.token.TokenKind.{TokenKind}

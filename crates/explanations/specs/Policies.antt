@@ -1,11 +1,13 @@
 -- Defines the explanation of the policies of a file that do not pass validation.
 -- Rules of this product: each policy that `check` reports as rejected is explained, in the order of the file, once,
--- with the code that `check` reports, and no other policy is. One of at most 10,000 bytes is explained with its cause
--- and the types in its first environment with an error, at the name or the expression at fault; a longer one at its
--- position. A note says so if the whole policy is shown. Without a schema no policy is rejected.
-use Rattle.std.specs.Prelude.{◌≡◌, ℕ, ◌+◌, ◌-◌, min, nat_le, Bool, true, false, List, [], ◌∷◌, ◌++◌, length}
+-- with the code that `check` reports, and no other policy is. A policy of at most 10,000 bytes, whose condition has at
+-- most 10,000 nodes, is explained with the cause and the types in the first environment with an error, at the name or
+-- the expression at fault; a larger one at its position. A note says so if the whole policy is shown. Without a schema
+-- no policy is rejected.
+use Rattle.std.specs.Prelude.{◌≡◌, ℕ, ◌+◌, ◌-◌, min, nat_le, Bool, true, false, ◌&&◌, List, [], ◌∷◌, ◌++◌, length}
 use Rattle.std.specs.Prelude.{Option, Some, None}
 use Rattle.std.specs.Prelude.{string_bytes, codes}
+use Rattle.grammar_core.specs.Size.{node_count}
 use Rattle.policy_grammar.specs.declared.policy.Policy.{Policy}
 use Rattle.schema_decisions.specs.schema.Schemas.{StatedSchema}
 use Rattle.schema_decisions.specs.validator.declared.fault.TypeFault.{TypeFault}
@@ -22,9 +24,11 @@ use Rattle.token_spans.specs.declared.spans.Span.{Span}
 use Rattle.token_spans.specs.Spans.{IsSpanOf, IsNameSpanOf}
 use Rattle.explanations.specs.Parts.{IsPartOf, IsSourceAt}
 
--- `is_searched place` tests whether the policy at `place` is searched for the expression at fault.
-abbrev pub is_searched : Piece → Bool
-is_searched place = nat_le (place.end - place.start) 10000
+-- `is_searched place policy` tests whether `policy`, at `place`, is searched for the expression at fault: its text has
+-- at most 10,000 bytes, and its condition at most 10,000 nodes. (A text of 1,000 bytes may have 1,000,000 nodes: nested
+-- `x is T in y` double them, since each is `x is T && x in y`.)
+abbrev pub is_searched : Piece → Policy → Bool
+is_searched place policy = nat_le (place.end - place.start) 10000 && nat_le (node_count policy.condition) 10000
 
 -- `is_name f` tests for the errors of undeclared names (40, 41).
 abbrev pub is_name : TypeFault → Bool
@@ -33,7 +37,7 @@ is_name fault.UnknownAction = true
 is_name f = false
 
 -- `IsFoundAs is_name part path found` holds if `found` is the span of the name at `path` of the policy `part`, if
--- `is_name`; otherwise that of the expression there.
+-- `is_name`; otherwise the span of the expression there.
 abbrev pub IsFoundAs : Bool → List ℕ → List ℕ → Option Span → Type 0
 IsFoundAs true part path found = IsNameSpanOf part path found
 IsFoundAs false part path found = IsSpanOf part path found
@@ -43,13 +47,13 @@ abbrev pub IsSpanFound : List ℕ → Piece → PolicyFault → Option Span → 
 IsSpanFound text place f found =
     (part : List ℕ) × IsPartOf text place.start place.end part × IsFoundAs (is_name f.fault) part f.path.items found
 
--- `start_at place found` is the byte of the whole text at which the span `found` in the policy begins; that of the
--- policy if nothing was found. (At most 2^64 - 1, which is no restriction: no text is so long.)
+-- `start_at place found` is the byte of the whole text at which the span `found` in the policy begins; if nothing was
+-- found, the byte at which the policy begins. (At most 2^64 - 1, which is no restriction: no text is so long.)
 abbrev pub start_at : Piece → Option Span → ℕ
 start_at place None = place.start
 start_at place (Some s) = min (place.start + s.start) 18446744073709551615
 
--- `end_at place found` is likewise the byte at which it ends.
+-- `end_at place found` is likewise the byte at which that span, or the policy, ends.
 abbrev pub end_at : Piece → Option Span → ℕ
 end_at place None = place.end
 end_at place (Some s) = min (place.start + s.end) 18446744073709551615
@@ -78,13 +82,13 @@ pub record IsFaultText (file text : List ℕ) (place : Piece) (f : PolicyFault) 
   pub is_text : IsSourceText file text finding bytes
 
 -- `IsCheckExplained s file text place policy bytes` holds if `bytes` explain why `policy`, at `place`, is rejected
--- under `s`; they are empty if it passes.
+-- under `s`; `bytes` are empty if `policy` passes.
 pub data IsCheckExplained (s : StatedSchema) (file text : List ℕ) (place : Piece) (policy : Policy) : List ℕ → Type 0
   where
     passes_so : Passes s policy → IsCheckExplained s file text place policy []
-    rejected_so : (f : PolicyFault) (bytes : List ℕ) → is_searched place ≡ true → IsPolicyFault s policy f
+    rejected_so : (f : PolicyFault) (bytes : List ℕ) → is_searched place policy ≡ true → IsPolicyFault s policy f
         → IsFaultText file text place f bytes → IsCheckExplained s file text place policy bytes
-    too_large : (fault : TypeFault) (bytes : List ℕ) → is_searched place ≡ false → IsCheckRefused s policy fault
+    too_large : (fault : TypeFault) (bytes : List ℕ) → is_searched place policy ≡ false → IsCheckRefused s policy fault
         → IsSourceAt file text large_note (code_of fault) place.start bytes
         → IsCheckExplained s file text place policy bytes
 
@@ -93,8 +97,8 @@ abbrev pub IsPolicyExplained : Option StatedSchema → List ℕ → List ℕ →
 IsPolicyExplained None file text place policy bytes = bytes ≡ []
 IsPolicyExplained (Some s) file text place policy bytes = IsCheckExplained s file text place policy bytes
 
--- `ArePoliciesExplained s file text pieces policies bytes` holds if `bytes` explain each of `policies`, in order;
--- each is at the piece of its index.
+-- `ArePoliciesExplained s file text pieces policies bytes` holds if `bytes` explain each rejected policy of `policies`,
+-- in order; each policy is at the piece of its index.
 pub data ArePoliciesExplained (s : Option StatedSchema) (file text : List ℕ) (pieces : List Piece)
     : List Policy → List ℕ → Type 0 where
   none : ArePoliciesExplained s file text pieces [] []

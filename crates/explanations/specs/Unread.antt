@@ -1,8 +1,8 @@
 -- Defines the explanation of the policies of a file that does not parse.
--- Rules of this product: each part of the file that ends as a policy does, or with the file, is parsed as a file of its
--- own, in order. A part that does not parse is explained by its first error, and a policy that does not pass like one
--- of a parsed file. The error of a part is that of the file if both have one code at one byte, or one code whose errors
--- have no byte of their own (18, 19).
+-- Rules of this product: each part of the file that ends with a `;`, or with the file, is parsed as a file of its own,
+-- in order. A part that does not parse is explained by its first error, and a policy that does not pass like one of a
+-- parsed file. The error of a part is that of the file if both have the same code at the same byte, or the same code 18
+-- or 19, whose errors have no byte of their own.
 use Rattle.std.specs.Prelude.{◌==◌, ◌&&◌, nat_le}
 use Rattle.std.specs.Prelude.{◌≡◌, ℕ, ◌+◌, min, Bool, true, false, ◌||◌, List, [], ◌∷◌, ◌++◌, Option, unwrap_or}
 use Rattle.policy_grammar.specs.declared.policy.Policy.{Policy}
@@ -29,7 +29,7 @@ abbrev pub is_that : Refusal → ℕ → ℕ → Bool
 is_that r code at = (code == r.code) && ((at == unwrap_or r.place 0) || is_placeless code)
 
 -- `IsPieceExplained s file text r piece told bytes` holds if `bytes` explain a piece of a file that is rejected with
--- `r`; `told` says whether the piece by itself does not parse, and `r` is its error.
+-- `r`; `told` says whether the piece by itself does not parse and has the error `r`.
 pub data IsPieceExplained (s : Option StatedSchema) (file text : List ℕ) (r : Refusal) (piece : Piece)
     : Bool → List ℕ → Type 0 where
   is_read : (part : List ℕ) (names : List (List ℕ)) (cores : List Policy) (bytes : List ℕ)
@@ -48,6 +48,6 @@ pub data ArePiecesExplained (s : Option StatedSchema) (file text : List ℕ) (r 
       → ArePiecesExplained s file text r ps some before → IsPieceExplained s file text r p told bytes
       → ArePiecesExplained s file text r (ps ++ p ∷ []) (some || told) (before ++ bytes)
 
--- `AppendsExplained Is old new told` holds if `new` is `old` followed by bytes for which `Is` holds, with `told`.
+-- `AppendsExplained Is old new told` holds if `new` is `old` followed by bytes for which `Is told` holds.
 abbrev pub AppendsExplained : (Bool → List ℕ → Type 0) → List ℕ → List ℕ → Bool → Type 0
 AppendsExplained Is old new told = (bytes : List ℕ) × Is told bytes × (new ≡ old ++ bytes)

@@ -76,11 +76,11 @@ fn explain_file(
     let tokens = tokens_of(alloc, text)?;
     let all = tokens.as_slice();
     let pieces = pieces_of(alloc, all, text.len())?;
-    let spots = pieces.as_slice();
+    let found_pieces = pieces.as_slice();
     match policies_of_file(alloc, source.text) {
         Ok(policies) => {
             let named = policies.as_slice();
-            explain_policies(alloc, out, schema, source.name, text, spots, named)?;
+            explain_policies(alloc, out, schema, source.name, text, found_pieces, named)?;
             Ok(())
         }
         Err(refusal) => {
@@ -91,7 +91,7 @@ fn explain_file(
                 tokens: all,
                 refusal,
             };
-            explain_unread(alloc, out, schema, lexed, spots)?;
+            explain_unread(alloc, out, schema, lexed, found_pieces)?;
             Ok(())
         }
     }
@@ -129,7 +129,7 @@ fn explain_others(
     Ok(())
 }
 
-/// Appends the explanations of files under the schema of a text, or why that schema is rejected.
+/// Appends the explanation of what is rejected in the given files under `schema`, or of why `schema` itself is.
 fn explain_under(
     alloc: Global,
     out: &mut String,
@@ -173,10 +173,10 @@ fn explain_given(alloc: Global, out: &mut String, given: &Given<'_, '_>) -> Resu
 /// rejected policy, in the order of the file, then the first error of the entities, then that of the request. It is
 /// empty if and only if nothing is rejected.
 ///
-/// A policy that does not pass validation has the code that `check` reports. If the file does not parse, each part of
-/// it that ends with a `;`, or with the file, is parsed as a file of its own: it is explained by its own first error
-/// or, if it parses, checked as a policy of a file. The error of the file comes last, unless a part has it. A text that
-/// is not UTF-8, or in which no token begins at some byte, has no parts.
+/// A policy that does not pass validation is explained with the code that `check` reports. If the file does not parse,
+/// each piece of it, which ends with a `;` or with the file, is parsed as a file of its own: it is explained by its own
+/// first error or, if it parses, checked as a policy of a file. The file's error comes last, unless a piece has it. A
+/// text that is not UTF-8, or in which no token begins at some byte, has no pieces.
 ///
 /// # Errors
 ///

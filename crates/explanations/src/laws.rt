@@ -1,7 +1,7 @@
 //! Theorems about explanations; the functions are no-ops.
 ghost use Rattle.explanations.specs.Laws.{ExplainedTextsAreReadable};
 
-/// Proves that a terminal shows explanations and does not obey them. No-op.
+/// Proves that explanations have no characters that control a terminal. No-op.
 ///
 /// Whatever the files contain, and whatever their names are, an explanation has no control characters except tabs and
 /// line feeds, and none that changes the direction of writing.

@@ -1,11 +1,12 @@
-//! Explanations for authors of what is rejected in a schema, policies, entities and a request: each rejected policy,
-//! the first rejected entity, and the request.
+//! Explanations of what is rejected in a schema, policies, entities and a request, for their authors: each rejected
+//! policy, the first rejected entity, and the request.
 #![tactic(auto)]
 
 mod explaining;
 mod given;
 mod laws;
 mod messages;
+mod node_limits;
 mod others;
 mod parts;
 mod pieces;

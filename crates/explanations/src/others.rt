@@ -7,7 +7,7 @@ ghost use Rattle.explanations.specs.Files.{file_of};
 ghost use Rattle.explanations.specs.Parts.{AppendsSome, IsWholeAt};
 ghost use Rattle.explanations.specs.Others.{any_request, AreBareTextsRead, AreBareTextsRefused};
 ghost use Rattle.explanations.specs.Others.{AreEntitiesRead, AreEntitiesRefused, IsRequestRead};
-ghost use Rattle.explanations.specs.Others.{IsRequestRefused, IsJudgedText, AreEntitiesExplained, IsRequestExplained};
+ghost use Rattle.explanations.specs.Others.{IsRequestRefused, IsCheckedText, AreEntitiesExplained, IsRequestExplained};
 ghost use Rattle.explanations.specs.Others.{IsEntityPartNamed, IsRequestPartNamed};
 
 use crate::given::NamedText;
@@ -26,7 +26,7 @@ fn any_request() -> &'static [u8]
 }
 
 /// Checks that texts are an array of entities and a request, without a schema.
-fn judge_bare(alloc: Global, entities: &[u8], request: &[u8]) -> Result<(), Refusal>
+fn check_bare(alloc: Global, entities: &[u8], request: &[u8]) -> Result<(), Refusal>
     ensures read { OnOk result (AreBareTextsRead entities.now request.now) }
     ensures refused { IfErr result (OrNoMemory no_memory (AreBareTextsRefused entities.now request.now)) }
 {
@@ -36,8 +36,8 @@ fn judge_bare(alloc: Global, entities: &[u8], request: &[u8]) -> Result<(), Refu
     }
 }
 
-/// Checks that a text is a request under the schema of another.
-fn judge_typed(alloc: Global, schema: &[u8], request: &[u8]) -> Result<(), Refusal>
+/// Checks that a text is a request under the schema that the text `schema` describes.
+fn check_typed(alloc: Global, schema: &[u8], request: &[u8]) -> Result<(), Refusal>
     ensures read { OnOk result (IsRequestRead (Some schema.now) request.now) }
     ensures refused { IfErr result (OrNoMemory no_memory (IsRequestRefused (Some schema.now) request.now)) }
 {
@@ -48,7 +48,7 @@ fn judge_typed(alloc: Global, schema: &[u8], request: &[u8]) -> Result<(), Refus
 }
 
 /// Checks that a text is an array of entities.
-fn judge_array(alloc: Global, schema: Option<&Schema>, text: &[u8]) -> Result<(), Refusal>
+fn check_array(alloc: Global, schema: Option<&Schema>, text: &[u8]) -> Result<(), Refusal>
     ensures read { OnOk result
         (AreEntitiesRead (option_map (λ s. schema_view s.now) schema.entry) text.now) }
     ensures refused { IfErr result (OrNoMemory no_memory
@@ -56,19 +56,19 @@ fn judge_array(alloc: Global, schema: Option<&Schema>, text: &[u8]) -> Result<()
 {
     match schema {
         Some(schema) => check_entities(alloc, &UnderSchema { schema }, text),
-        None => judge_bare(alloc, text, any_request()),
+        None => check_bare(alloc, text, any_request()),
     }
 }
 
 /// Checks that a text is a request.
-fn judge_request(alloc: Global, schema: Option<&[u8]>, text: &[u8]) -> Result<(), Refusal>
+fn check_request(alloc: Global, schema: Option<&[u8]>, text: &[u8]) -> Result<(), Refusal>
     ensures read { OnOk result (IsRequestRead (option_map (λ s. s.now) schema.entry) text.now) }
     ensures refused { IfErr result (OrNoMemory no_memory
         (IsRequestRefused (option_map (λ s. s.now) schema.entry) text.now)) }
 {
     match schema {
-        Some(schema) => judge_typed(alloc, schema, text),
-        None => judge_bare(alloc, b"[]", text),
+        Some(schema) => check_typed(alloc, schema, text),
+        None => check_bare(alloc, b"[]", text),
     }
 }
 
@@ -141,7 +141,7 @@ fn explain_array(
     source: NamedText<'_, '_>,
     judged: Result<(), Refusal>,
 ) -> Result<(), NoMemory>
-    ensures { OnOk result (AppendsSome (IsJudgedText source.entry.name.now
+    ensures { OnOk result (AppendsSome (IsCheckedText source.entry.name.now
         (IsEntityPartNamed (option_map (λ s. schema_view s.now) schema.entry) source.entry.text.now) judged)
         (string_bytes out.old) (string_bytes out.new)) }
 {
@@ -163,7 +163,7 @@ fn explain_asked(
     source: NamedText<'_, '_>,
     judged: Result<(), Refusal>,
 ) -> Result<(), NoMemory>
-    ensures { OnOk result (AppendsSome (IsJudgedText source.entry.name.now
+    ensures { OnOk result (AppendsSome (IsCheckedText source.entry.name.now
         (λ place. IsRequestPartNamed (option_map (λ s. schema_view s.now) schema.entry) source.entry.text.now) judged)
         (string_bytes out.old) (string_bytes out.new)) }
 {
@@ -190,7 +190,7 @@ pub(crate) fn explain_entities(
 {
     match entities {
         Some(source) => {
-            let judged = judge_array(alloc, schema, source.text);
+            let judged = check_array(alloc, schema, source.text);
             explain_array(alloc, out, schema, source, judged)?;
             Ok(())
         }
@@ -198,8 +198,8 @@ pub(crate) fn explain_entities(
     }
 }
 
-/// Appends why the request is rejected, if there is one and it is rejected. `schema` is the schema of the text
-/// `stated`.
+/// Appends why the request is rejected, if there is one and it is rejected. `schema` is the schema that the text
+/// `stated` describes.
 pub(crate) fn explain_request(
     alloc: Global,
     out: &mut String,
@@ -213,7 +213,7 @@ pub(crate) fn explain_request(
 {
     match request {
         Some(source) => {
-            let judged = judge_request(alloc, stated, source.text);
+            let judged = check_request(alloc, stated, source.text);
             explain_asked(alloc, out, schema, source, judged)?;
             Ok(())
         }

@@ -8,7 +8,7 @@ use plain::NoMemory;
 use schema_decisions::Refusal;
 use std::alloc::Global;
 
-/// Returns the text between two bytes; nothing if one of them is within a character.
+/// Returns the text between two bytes; nothing if they are not character boundaries in this order.
 pub(crate) fn part_of(text: &str, from: usize, to: usize) -> &str
     ensures { IsPartOf text.now from to result.now }
 {

@@ -10,9 +10,9 @@ use std::alloc::Global;
 /// The position of a policy in its file.
 #[derive(Clone, Copy)]
 pub(crate) struct Piece {
-    /// The byte at which its first token starts.
+    /// The byte at which the first token of the policy starts.
     pub start: usize,
-    /// The byte after the token that ends it.
+    /// The byte after the `;` that ends the policy; without one, the length of the text.
     pub end: usize,
 }
 

@@ -8,6 +8,7 @@ ghost use Rattle.explanations.specs.Policies.{IsFaultText};
 ghost use Rattle.explanations.specs.Policies.{IsCheckExplained, IsPolicyExplained};
 ghost use Rattle.explanations.specs.Policies.{ArePoliciesExplained};
 
+use crate::node_limits::has_at_most;
 use crate::parts::{PlainFinding, part_of, push_at};
 use crate::pieces::{Piece, piece_at};
 use explanation_texts::{SourceFinding, push_source};
@@ -17,16 +18,20 @@ use schema_decisions::{Policy, Schema};
 use std::alloc::Global;
 use token_spans::{Span, name_span, span_of};
 
-// The greatest length in bytes of a policy that is searched for the expression at fault. The search types the part at
-// fault again on each of at most 1,000 levels: at most 10,000,000 nodes in an environment, ten times the 1,000,000
-// nodes of the largest policy.
-const MOST_SEARCHED: usize = 10000;
+// The greatest length in bytes of a policy that is searched for the expression at fault.
+const MOST_BYTES: usize = 10000;
+
+// The greatest number of nodes of the condition of such a policy. The search types the part at fault, of at most these
+// nodes, again on each of at most 1,000 levels: in an environment at most 10,000,000 nodes, ten times the 1,000,000 of
+// the largest policy.
+const MOST_NODES: u64 = 10000;
 
 /// Returns whether a policy is searched for the expression at fault.
-fn is_searched(piece: Piece) -> bool
-    ensures { result ≡ is_searched piece }
+fn is_searched(piece: Piece, policy: &Policy) -> bool
+    ensures { result ≡ is_searched piece policy.now }
 {
-    piece.end.saturating_sub(piece.start) <= MOST_SEARCHED
+    piece.end.saturating_sub(piece.start) <= MOST_BYTES
+        && has_at_most(&policy.condition, MOST_NODES)
 }
 
 /// Returns whether an error is that of an undeclared name (40, 41).
@@ -129,7 +134,7 @@ fn explain_searched(
     piece: Piece,
     policy: &Policy,
 ) -> Result<(), NoMemory>
-    ensures { is_searched piece ≡ true → OnOk result (AppendsSome
+    ensures { is_searched piece policy.now ≡ true → OnOk result (AppendsSome
         (IsCheckExplained (schema_view schema.now) file.now text.now piece policy.now)
         (string_bytes out.old) (string_bytes out.new)) }
 {
@@ -170,7 +175,7 @@ fn explain_large(
     piece: Piece,
     policy: &Policy,
 ) -> Result<(), NoMemory>
-    ensures { is_searched piece ≡ false → OnOk result (AppendsSome
+    ensures { is_searched piece policy.now ≡ false → OnOk result (AppendsSome
         (IsCheckExplained (schema_view schema.now) file.now text.now piece policy.now)
         (string_bytes out.old) (string_bytes out.new)) }
 {
@@ -204,7 +209,7 @@ fn explain_check(
         (IsCheckExplained (schema_view schema.now) file.now text.now piece policy.now)
         (string_bytes out.old) (string_bytes out.new)) }
 {
-    if is_searched(piece) {
+    if is_searched(piece, policy) {
         explain_searched(alloc, out, schema, file, text, piece, policy)
     } else {
         explain_large(alloc, out, schema, file, text, piece, policy)

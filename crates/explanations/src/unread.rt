@@ -54,7 +54,7 @@ fn cause_at(text: &str, code: u8, at: usize, end: usize) -> &str {
     "end of the text"
 }
 
-/// Returns the finding of this code at this byte, with the token there.
+/// Returns the finding with this code at this byte, and the token there as its cause.
 fn finding_at<'t>(lexed: Lexed<'t>, code: u8, at: usize) -> PlainFinding<'t>
     ensures code { result.code ≡ code }
     ensures start { result.start ≡ at }

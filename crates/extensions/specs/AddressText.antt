@@ -1,4 +1,4 @@
--- Defines which strings are IP addresses, and the number that each denotes.
+-- Defines which strings are IP addresses without a prefix, and the number that each denotes.
 -- Source: Cedar reference guide 4.0, "Supported data types" (ipaddr) and the function `ip`; RFC 4291, section 2.2,
 -- forms 1 and 2, for IPv6.
 -- Rules of this product: form 3, an IPv4 address in an IPv6 text, is rejected.
@@ -7,7 +7,7 @@ use Rattle.std.specs.Fmt.{decimal}
 use Rattle.std.specs.Str.Parse.{IsNumeral, digits_value}
 
 -- `IsIpv4Text text n` holds if `text` is four numbers from 0 to 255, in decimal digits without leading zeros, with a
--- dot between each two, the most significant first; together they are `n`.
+-- dot between each two. `n` is the number whose four bytes these are, the most significant first.
 pub record IsIpv4Text (text : List ℕ) (n : ℕ) : Type 0 where
   pub a : ℕ
   pub b : ℕ
@@ -23,21 +23,21 @@ pub record IsGroup (text : List ℕ) (n : ℕ) : Type 0 where
   pub short : length text ≤ 4
   pub value : digits_value 16 text ≡ n
 
--- `AreGroups text ns` holds if `text` is groups that denote `ns`, with a colon between each two; it is empty if `ns`
--- is.
+-- `AreGroups text ns` holds if `text` is groups that denote `ns`, with a colon between each two; `text` is empty if
+-- `ns` is.
 abbrev pub AreGroups : List ℕ → List ℕ → Type 0
 AreGroups text [] = text ≡ []
 AreGroups text (n ∷ []) = IsGroup text n
 AreGroups text (n ∷ next ∷ more) =
     (group rest : List ℕ) × (text ≡ group ++ codes ":" ++ rest) × IsGroup group n × AreGroups rest (next ∷ more)
 
--- `IsFull text groups` holds if `text` is written with all eight groups, which denote `groups`.
+-- `IsFull text groups` holds if `text` is eight groups that denote the numbers `groups`, without a `::`.
 pub record IsFull (text groups : List ℕ) : Type 0 where
   pub written : AreGroups text groups
   pub eight : length groups ≡ 8
 
--- `IsElided text groups` holds if `text` is some groups, `::` and some groups, where `::` stands for one or more zeros,
--- so that the eight numbers are `groups`. Either side may be empty.
+-- `IsElided text groups` holds if `text` is groups, `::` and groups, and denotes the eight numbers `groups`, where `::`
+-- represents one or more zeros. There may be no group before `::`, or after it.
 pub record IsElided (text groups : List ℕ) : Type 0 where
   pub head_text : List ℕ
   pub tail_text : List ℕ

@@ -6,12 +6,12 @@ use Rattle.std.proofs.Common.{inl, inr}
 abbrev pub Decided : Type 0 → Type 0
 Decided P = P ⊎ (P → ⊥)
 
--- `told d` is true if the decision `d` is a proof, and false if it is a refutation.
-abbrev pub told : {P : Type 0} → Decided P → Bool
-told (inl p) = true
-told (inr n) = false
+-- `is_proved d` is true if the decision `d` is a proof, and false if it is a refutation.
+abbrev pub is_proved : {P : Type 0} → Decided P → Bool
+is_proved (inl p) = true
+is_proved (inr n) = false
 
--- `found d` is the value in the proof `d` that some value satisfies a property; `None` if `d` is a refutation.
-abbrev pub found : {A : Type 0} {P : A → Type 0} → Decided ((a : A) × P a) → Option A
-found (inl h) = Some h.0
-found (inr n) = None
+-- `witness d` is the value in the proof `d` that some value satisfies a property; `None` if `d` is a refutation.
+abbrev pub witness : {A : Type 0} {P : A → Type 0} → Decided ((a : A) × P a) → Option A
+witness (inl h) = Some h.0
+witness (inr n) = None

@@ -18,12 +18,13 @@ pub record IsUnsignedText (text : List ℕ) (n : ℕ) : Type 0 where
   pub short : length fraction ≤ 4
   pub value : n * 10 ^ length fraction ≡ digits_value 10 (whole ++ fraction) * 10000
 
--- `IsSignedText text z` holds if `text` is such a string, alone or after a `-`, and denotes `z` ten-thousandths.
+-- `IsSignedText text z` holds if `text` is an unsigned text (`IsUnsignedText`), alone or after a `-`, and denotes `z`
+-- ten-thousandths.
 pub data IsSignedText : List ℕ → ℤ → Type 0 where
   plain : {text : List ℕ} {n : ℕ} → IsUnsignedText text n → IsSignedText text (pos n)
   minus : {text : List ℕ} {n : ℕ} → IsUnsignedText text n → IsSignedText (codes "-" ++ text) (neg_ℤ (pos n))
 
--- `IsDecimalText text z` holds if `text` is a decimal of `z` ten-thousandths, which fit in signed 64 bits.
+-- `IsDecimalText text z` holds if `text` is a decimal of `z` ten-thousandths, and `z` fits in signed 64 bits.
 abbrev pub IsDecimalText : List ℕ → ℤ → Type 0
 IsDecimalText text z = IsSignedText text z × FitsSigned w64 z
 

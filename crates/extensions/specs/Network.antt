@@ -1,4 +1,4 @@
--- Defines networks (IP addresses with a prefix) and their ranges, as numbers.
+-- Defines networks (IP addresses with a prefix), and the range of addresses that each covers.
 -- Source: RFC 4632, section 3.1, and RFC 4291, section 2.3, for the prefix; Cedar reference guide 4.0, the functions
 -- `isInRange`, `isLoopback` and `isMulticast`; RFC 1122, section 3.2.1.3, RFC 5771 and RFC 4291, sections 2.5.3 and
 -- 2.7, for the four ranges.

@@ -15,8 +15,8 @@ abbrev pub IsAddressText : Version → List ℕ → ℕ → Type 0
 IsAddressText V4 text n = IsIpv4Text text n
 IsAddressText V6 text n = IsIpv6Text text n
 
--- `IsPrefixText bits text prefix` holds if `text` is empty and `prefix` is `bits`, or `text` is `/` and the decimal
--- number `prefix` without leading zeros, at most `bits`.
+-- `IsPrefixText bits text prefix` holds if `text` is empty and `prefix` is `bits`, or if `text` is `/` and the decimal
+-- number `prefix` without leading zeros, and `prefix` is at most `bits`.
 abbrev pub IsPrefixText : ℕ → List ℕ → ℕ → Type 0
 IsPrefixText bits text prefix = ((text ≡ []) × (prefix ≡ bits))
     ⊎ ((text ≡ codes "/" ++ decimal prefix) × (prefix ≤ bits))
@@ -44,7 +44,7 @@ groups_text n =
     digits 16 false (n / 2 ^ 48) ++ codes ":" ++ digits 16 false (n / 2 ^ 32 % 65536) ++ codes ":"
     ++ digits 16 false (n / 2 ^ 16 % 65536) ++ codes ":" ++ digits 16 false (n % 65536)
 
--- `ipv6_text n` is the address `n` as eight such groups with `:` between them.
+-- `ipv6_text n` is the address `n` as eight groups, as in `groups_text`, with `:` between them.
 abbrev pub ipv6_text : ℕ → List ℕ
 ipv6_text n = groups_text (n / 2 ^ 64) ++ codes ":" ++ groups_text (n % 2 ^ 64)
 

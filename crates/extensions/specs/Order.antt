@@ -33,7 +33,7 @@ network_cmp_total =
 abbrev pub version_of : ℕ → Version
 version_of k = if k == 4 then V4 else V6
 
--- `version_back` and `same_version`: the number of a version determines it.
+-- `version_back` and `same_version`: the number of a version determines the version.
 version_back : (v : Version) → version_of (version_number v) ≡ v
 version_back V4 = refl
 version_back V6 = refl
@@ -64,12 +64,12 @@ network_cmp-IsAntisymmetric m n e =
     let prefix = nat_cmp-IsAntisymmetric m.prefix n.prefix second.1 in
     λ i. record { version = version i; address = address i; prefix = prefix i }
 
--- `network_numbers n` is the network `n` as three numbers, which determine it; higher crates encode data with networks
--- by them.
+-- `network_numbers n` is the network `n` as three numbers, which determine it. Higher crates use them to encode data
+-- that contains networks.
 abbrev pub network_numbers : Network → ℕ × (ℕ × ℕ)
 network_numbers n = (version_number n.version, (n.address, n.prefix))
 
--- `network_of k` is the network that these three numbers represent.
+-- `network_of k` is the network that the three numbers `k` represent.
 abbrev pub network_of : ℕ × (ℕ × ℕ) → Network
 network_of k = record { version = version_of k.0; address = k.1.0; prefix = k.1.1 }
 
@@ -78,7 +78,7 @@ pub network_of-network_numbers : (n : Network) → network_of (network_numbers n
 network_of-network_numbers n =
     λ i. record { version = version_back n.version i; address = n.address; prefix = n.prefix }
 
--- `network_code` encodes networks by these numbers.
+-- `network_code` encodes networks by their `network_numbers`.
 abbrev pub network_code : Coded Network
 network_code = code_by (ℕ × (ℕ × ℕ)) (coded× coded_ℕ (coded× coded_ℕ coded_ℕ)) network_numbers network_of
     network_of-network_numbers

@@ -1,7 +1,8 @@
--- Defines decision procedures for decimals and IP addresses: whether a string is one, and of which value, and whether a
--- range is within another. The type of each states what it decides, so how it decides need not be trusted.
+-- Defines decision procedures for decimals and networks: whether a string denotes such a value, and which; and whether
+-- the range of a network is within another. A network is an IP address, alone or with a prefix. The type of each
+-- procedure states what it decides, so its body need not be trusted.
 use Rattle.std.specs.Prelude.{◌⊎◌, ℕ, ℤ, List, Option}
-use Rattle.extensions.specs.Decided.{Decided, found}
+use Rattle.extensions.specs.Decided.{Decided, witness}
 use Rattle.extensions.specs.DecimalText.{IsDecimalText}
 use Rattle.extensions.specs.Network.{Network, IsWithin}
 use Rattle.extensions.specs.NetworkText.{IsNetworkText}
@@ -11,7 +12,7 @@ use Rattle.extensions.specs.inner.DecidingTexts as deciding
 pub decimal_text_decided : (text : List ℕ) → Decided ((z : ℤ) × IsDecimalText text z)
 decimal_text_decided text = deciding.decimal_text_decided text
 
--- `network_text_decided text` decides whether `text` is an IP address, and gives its network.
+-- `network_text_decided text` decides whether `text` denotes a network, and gives it.
 pub network_text_decided : (text : List ℕ) → Decided ((n : Network) × IsNetworkText text n)
 network_text_decided text = deciding.network_text_decided text
 
@@ -25,8 +26,8 @@ in_either_decided n a b = deciding.in_either_decided n a b
 
 -- `decimal_of text` is the number of ten-thousandths that `text` denotes, if it is a decimal.
 abbrev pub decimal_of : List ℕ → Option ℤ
-decimal_of text = found (decimal_text_decided text)
+decimal_of text = witness (decimal_text_decided text)
 
--- `network_of text` is the network that `text` denotes, if it is an IP address.
+-- `network_of text` is the network that `text` denotes, if it denotes one.
 abbrev pub network_of : List ℕ → Option Network
-network_of text = found (network_text_decided text)
+network_of text = witness (network_text_decided text)

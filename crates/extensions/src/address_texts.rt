@@ -10,7 +10,7 @@ ghost use Rattle.extensions.specs.NetworkText.{IsAddressText, ipv4_text, ipv6_te
 ghost use Rattle.extensions.specs.NetworkText.{groups_text};
 
 use crate::ip_net::Version;
-use crate::pieces::{append, append_byte, append_group};
+use crate::pieces::{append, append_decimal_byte, append_group};
 use std::net::{Ipv4Addr, Ipv6Addr};
 
 /// Parses an address without a prefix; returns it with its version, or `None` if the string is not an address.
@@ -85,23 +85,23 @@ fn is_padded(text: &str) -> bool
     text.starts_with('0') && text.len() > 1
 }
 
-/// Appends an IPv4 address as four decimal numbers, in at most 15 bytes.
+/// Appends an IPv4 address as four decimal numbers with `.` between them, in at most 15 bytes.
 pub(crate) fn append_ipv4(address: u128, out: &mut String)
     requires { string_len out.old + 15 ≤ string_capacity out.old }
     ensures bytes { string_bytes out.new ≡ string_bytes out.old ++ ipv4_text address }
     ensures len { string_len out.new ≤ string_len out.old + 15 }
     ensures capacity { string_capacity out.old ≤ string_capacity out.new }
 {
-    append_byte(out, (address / 0x100_0000 % 256) as u8);
+    append_decimal_byte(out, (address / 0x100_0000 % 256) as u8);
     append(out, ".");
-    append_byte(out, (address / 0x1_0000 % 256) as u8);
+    append_decimal_byte(out, (address / 0x1_0000 % 256) as u8);
     append(out, ".");
-    append_byte(out, (address / 0x100 % 256) as u8);
+    append_decimal_byte(out, (address / 0x100 % 256) as u8);
     append(out, ".");
-    append_byte(out, (address % 256) as u8)
+    append_decimal_byte(out, (address % 256) as u8)
 }
 
-/// Appends an IPv6 address as eight groups, in at most 39 bytes.
+/// Appends an IPv6 address as eight groups of hexadecimal digits with `:` between them, in at most 39 bytes.
 pub(crate) fn append_ipv6(address: u128, out: &mut String)
     requires { string_len out.old + 39 ≤ string_capacity out.old }
     ensures bytes { string_bytes out.new ≡ string_bytes out.old ++ ipv6_text address }
@@ -113,7 +113,7 @@ pub(crate) fn append_ipv6(address: u128, out: &mut String)
     append_groups((address % 0x1_0000_0000_0000_0000) as u64, out)
 }
 
-/// Appends the four groups of a number of 64 bits, in at most 19 bytes.
+/// Appends a number of 64 bits as four groups of hexadecimal digits with `:` between them, in at most 19 bytes.
 fn append_groups(groups: u64, out: &mut String)
     requires { string_len out.old + 19 ≤ string_capacity out.old }
     ensures bytes { string_bytes out.new ≡ string_bytes out.old ++ groups_text groups }

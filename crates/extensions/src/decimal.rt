@@ -1,4 +1,4 @@
-//! Decimals with four places.
+//! Decimals with four decimal places.
 ghost use Rattle.std.specs.Prelude.{◌≡◌, ℕ, ℤ, pos, ◌<◌, ◌≤◌, ◌<ℤ◌, ◌≤ℤ◌, ◌↔◌, IsTrue, IsNone, IfSome, SomeIff, ◌^◌};
 ghost use Rattle.std.specs.Prelude.{◌*◌, ◌-◌, ◌+◌, length, FitsSigned, neg_ℤ, OnOk, OnErr, string_bytes, string_len};
 ghost use Rattle.std.specs.Prelude.{string_capacity, ◌++◌, List, Some, refl};
@@ -66,12 +66,13 @@ impl Decimal {
         self.ten_thousandths <= other.ten_thousandths
     }
 
-    /// Appends the canonical string: four digits after the point, no unnecessary leading zeros, and no `-` on zero.
-    /// It parses as this number.
+    /// Appends the canonical string: four digits after the point, no unnecessary leading zeros, and no `-` on zero. The
+    /// string parses as this number.
     ///
     /// # Errors
     ///
-    /// - `NoMemory`: the string has no capacity for the longest text, and an allocation failed. Nothing is appended.
+    /// - `NoMemory`: `out` has no capacity left for the longest canonical string, and an allocation failed. Nothing is
+    ///   appended.
     pub fn write_to(&self, out: &mut String) -> Result<(), NoMemory>
         ensures written { OnOk result (string_bytes out.new ≡ string_bytes out.old ++ decimal_text self.now) }
         ensures unchanged { OnErr result (string_bytes out.new ≡ string_bytes out.old) }
@@ -140,8 +141,8 @@ fn append_size(size: u64, out: &mut String)
     append_digit(out, (size % 10) as u32)
 }
 
-/// Returns the ten-thousandths of a decimal without a sign; `None` for any other string, and for `2^64` or more of
-/// them.
+/// Returns the number of ten-thousandths of a decimal without a sign; `None` for any other string, and for `2^64`
+/// ten-thousandths or more.
 fn size_of_text(text: &str) -> Option<u64>
     ensures some { IfSome result (IsUnsignedText text.now) }
     ensures none { IsNone result → (n : ℕ) → IsUnsignedText text.now n → 2 ^ 64 ≤ n }
@@ -173,7 +174,7 @@ fn positive(size: u64) -> Option<i64>
     i64::try_from(size).ok()
 }
 
-/// Returns the ten-thousandths that one to four digits after the point denote; `None` for any other string.
+/// Returns the number of ten-thousandths that one to four digits after the point denote; `None` for any other string.
 fn ten_thousandths(fraction: &str) -> Option<u64>
     ensures { SomeIff result (IsNumeral 10 fraction.now × (length fraction.now ≤ 4))
         (digits_value 10 fraction.now * 10 ^ (4 - length fraction.now)) }

@@ -9,12 +9,12 @@ ghost use Rattle.std.specs.Cmp.{IsTotalOrder};
 ghost use Rattle.std.specs.declared.cmp.Ordering.TheVariants.{Equal};
 ghost use Rattle.extensions.specs.Order.{network_cmp};
 ghost use Rattle.extensions.specs.NetworkText.{IsNetworkText, network_text};
-ghost use Rattle.extensions.specs.Decided.{told};
+ghost use Rattle.extensions.specs.Decided.{is_proved};
 ghost use Rattle.extensions.specs.TextsDecided.{network_of, within_decided};
 
 use crate::NoMemory;
 use crate::address_texts::{address_of_text, append_ipv4, append_ipv6, prefix_of_text};
-use crate::pieces::{append, append_byte};
+use crate::pieces::{append, append_decimal_byte};
 use std::cmp::Ordering;
 use std::marker::Model;
 
@@ -31,7 +31,7 @@ pub enum Version {
     V6,
 }
 
-/// A network: an address with all its bits, and the length of its prefix in bits. Contracts see a `Network`.
+/// A network: an address, unmasked, and the length of its prefix in bits. Contracts see a `Network`.
 ///
 /// Networks are ordered by version (IPv4 before IPv6), then by address, then by prefix.
 #[derive(Clone, Copy)]
@@ -172,8 +172,8 @@ impl IpNet {
     ghost use Rattle.extensions.specs.NetworkText.{IsNetworkText, network_text};
     ghost use Rattle.extensions.specs.declared.ip_net.Version.TheVariants.{V4, V6};
 
-    /// Parses a network: an address, alone or followed by `/` and a prefix. An address alone has the prefix of all its
-    /// bits. Returns `None` for any other string.
+    /// Parses a network: an address, alone or followed by `/` and a prefix. An address alone has the longest prefix,
+    /// 32 or 128. Returns `None` for any other string.
     pub fn parse(text: &str) -> Option<IpNet>
         ensures some { IfSome result (IsNetworkText text.now) }
         ensures none { IsNone result → (n : Network) → ¬ (IsNetworkText text.now n) }
@@ -199,21 +199,21 @@ impl IpNet {
         }
     }
 
-    /// Returns whether this is an IPv4 address.
+    /// Returns whether the address of this network is one of IPv4.
     pub fn is_ipv4(&self) -> bool
         ensures { IsTrue result ↔ (self.now.version ≡ V4) }
     {
         self.version == Version::V4
     }
 
-    /// Returns whether this is an IPv6 address.
+    /// Returns whether the address of this network is one of IPv6.
     pub fn is_ipv6(&self) -> bool
         ensures { IsTrue result ↔ (self.now.version ≡ V6) }
     {
         self.version == Version::V6
     }
 
-    /// Returns whether the versions agree and this range is within the other.
+    /// Returns whether the two networks have the same version and this one's range is within the other's.
     pub fn is_in_range(&self, other: &IpNet) -> bool
         ensures { IsTrue result ↔ IsWithin self.now other.now }
     {
@@ -222,14 +222,14 @@ impl IpNet {
             && self.greatest() <= other.greatest()
     }
 
-    /// Returns whether the whole range is in 127.0.0.0/8 or in ::1/128.
+    /// Returns whether the whole range of this network is in 127.0.0.0/8 or in ::1/128.
     pub fn is_loopback(&self) -> bool
         ensures { IsTrue result ↔ (IsWithin self.now loopback_v4 ⊎ IsWithin self.now loopback_v6) }
     {
         self.is_in_range(&LOOPBACK_V4) || self.is_in_range(&LOOPBACK_V6)
     }
 
-    /// Returns whether the whole range is in 224.0.0.0/4 or in ff00::/8.
+    /// Returns whether the whole range of this network is in 224.0.0.0/4 or in ff00::/8.
     pub fn is_multicast(&self) -> bool
         ensures { IsTrue result ↔ (IsWithin self.now multicast_v4 ⊎ IsWithin self.now multicast_v6) }
     {
@@ -237,11 +237,12 @@ impl IpNet {
     }
 
     /// Appends the canonical string: always with the prefix, and IPv6 as eight groups in lower case without leading
-    /// zeros. It parses as this network.
+    /// zeros. The string parses as this network.
     ///
     /// # Errors
     ///
-    /// - `NoMemory`: the string has no capacity for the longest text, and an allocation failed. Nothing is appended.
+    /// - `NoMemory`: `out` has no capacity left for the longest canonical string, and an allocation failed. Nothing is
+    ///   appended.
     pub fn write_to(&self, out: &mut String) -> Result<(), NoMemory>
         ensures written { OnOk result (string_bytes out.new ≡ string_bytes out.old ++ network_text self.now) }
         ensures unchanged { OnErr result (string_bytes out.new ≡ string_bytes out.old) }
@@ -255,7 +256,7 @@ impl IpNet {
             Version::V6 => append_ipv6(address, out),
         }
         append(out, "/");
-        append_byte(out, prefix);
+        append_decimal_byte(out, prefix);
         Ok(())
     }
 
@@ -303,11 +304,11 @@ pub fn one_network_a_text()
     ensures { (text : List ℕ) (m n : Network) → IsNetworkText text m → IsNetworkText text n → m ≡ n }
 {}
 
-/// Proves that `network_of` gives the network of a string if and only if the string denotes it; and that the test by
-/// `within_decided` accepts a range if and only if it is within the other. No-op.
+/// Proves that `network_of` gives the network of a string if and only if the string denotes it; and that
+/// `within_decided a b` is true if and only if the range of `a` is within that of `b`. No-op.
 pub fn network_texts_are_decided()
     ensures texts { (text : List ℕ) (n : Network) → (network_of text ≡ Some n) ↔ IsNetworkText text n }
-    ensures ranges { (a b : Network) → IsTrue (told (within_decided a b)) ↔ IsWithin a b }
+    ensures ranges { (a b : Network) → IsTrue (is_proved (within_decided a b)) ↔ IsWithin a b }
 {}
 
 /// Proves that the order of networks is total, and that only equal networks compare as equal. No-op.

@@ -1,5 +1,5 @@
-//! Functions that append a piece of text within the capacity of a string. They do not allocate, so no text is written
-//! in part.
+//! Functions that append a piece of text to a string whose capacity has room for it. They do not allocate, so they do
+//! not fail.
 ghost use Rattle.std.specs.Prelude.{◌≡◌, ◌+◌, ◌/◌, ◌%◌, ◌^◌, ◌<◌, ◌≤◌, ◌++◌, ◌∷◌, [], false, length, string_bytes};
 ghost use Rattle.std.specs.Prelude.{string_len, string_capacity};
 ghost use Rattle.std.specs.Fmt.{decimal, digits, digit_glyph};
@@ -18,7 +18,7 @@ pub(crate) fn append(out: &mut String, piece: &str)
 }
 
 /// Appends a number below 256 in decimal.
-pub(crate) fn append_byte(out: &mut String, n: u8)
+pub(crate) fn append_decimal_byte(out: &mut String, n: u8)
     requires { string_len out.old + 3 ≤ string_capacity out.old }
     ensures bytes { string_bytes out.new ≡ string_bytes out.old ++ decimal n }
     ensures len { string_len out.new ≤ string_len out.old + 3 }
@@ -28,7 +28,7 @@ pub(crate) fn append_byte(out: &mut String, n: u8)
     append(out, buffer.format(n))
 }
 
-/// Appends a number of at most fifteen digits in decimal.
+/// Appends a number of at most fifteen decimal digits, in decimal.
 pub(crate) fn append_whole(out: &mut String, n: u64)
     requires small { n < 10 ^ 15 }
     requires room { string_len out.old + 15 ≤ string_capacity out.old }

@@ -21,7 +21,7 @@ use Rattle.validator.proofs.OutcomeLemmas.{policy_is_test, typed_or_faulty}
 use Rattle.typing.specs.Blamed.{Blame, blamed}
 use Rattle.fault_paths.specs.FirstBlamed.{environment_blamed, blamed_there}
 use Rattle.fault_paths.specs.Views.{place_view}
-use Rattle.fault_paths.specs.Told.{IsFirstBlame, IsTypeBlame}
+use Rattle.fault_paths.specs.FirstTypingError.{IsFirstBlame, IsTypeBlame}
 use Rattle.fault_paths.specs.inner.Judging.{IsBlamedAt, IsBlamedIn}
 use Rattle.fault_paths.specs.declared.blaming.TypeBlame.{TypeBlame}
 use Rattle.typing.proofs.OnePlace.{one_blame}

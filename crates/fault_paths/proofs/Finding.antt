@@ -22,7 +22,7 @@ use Rattle.type_checker.specs.declared.fault.ExpressionFault.TheVariants as faul
 use Rattle.typing.specs.Blamed.{blamed}
 use Rattle.fault_paths.specs.Views.{place_view}
 use Rattle.fault_paths.specs.declared.blaming.TypeBlame.{TypeBlame}
-use Rattle.fault_paths.specs.inner.Judging.{IsFault, IsFaultyIn, IsToldIn, IsBlamedAt}
+use Rattle.fault_paths.specs.inner.Judging.{IsFault, IsFaultyIn, IsTypingFault, IsBlamedAt}
 use Rattle.fault_paths.specs.inner.Steps.{IsFound, IsFoundIn}
 
 module _ (env : Environment) (x : Expr) where
@@ -71,7 +71,7 @@ module _ (env : Environment) (x : Expr) where
 
 module _ (env : Environment) (x : Expr) where
   pub told_is : {B : Type 0} (ps : List Capability) (r : Result Typed at_hand.ExpressionFault) (q : Result (Option TypeFault) B) → ps ≡ []
-      → IfOk r (TypedBehind env x ps) → IfErr r (FaultyBehind env x ps) → IsToldIn r q → IfOk q (IsFaultyIn env x)
+      → IfOk r (TypedBehind env x ps) → IfErr r (FaultyBehind env x ps) → IsTypingFault r q → IfOk q (IsFaultyIn env x)
   told_is ps r (Ok None) e h g t = typed_there env x ps e t.1 h
   told_is ps r (Ok (Some f)) e h g t = faulty_there env x ps f e t.2 t.1 t.3 g
   told_is ps r (Err m) e h g t = tt

@@ -10,7 +10,7 @@ use Rattle.validator.specs.Unknown.{IsKnown}
 use Rattle.validator.specs.Passing
 use Rattle.validator.specs.Passing.{environments_of, HasBooleanType, Passes, IsCheckRefused}
 use Rattle.fault_paths.specs.NamesAt.{IsNameBlame}
-use Rattle.fault_paths.specs.Told.{IsTypeBlame}
+use Rattle.fault_paths.specs.FirstTypingError.{IsTypeBlame}
 use Rattle.fault_paths.specs.Refused.{IsBlame}
 use Rattle.fault_paths.specs.declared.names.NameBlame.{NameBlame}
 use Rattle.fault_paths.specs.declared.blaming.TypeBlame.{TypeBlame}

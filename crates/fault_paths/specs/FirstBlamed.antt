@@ -12,7 +12,7 @@ abbrev pub environment_blamed : {x : Expr} {envs : List Environment} {n : Expres
 environment_blamed (faulty_here g) = 0
 environment_blamed (faulty_later h g) = suc (environment_blamed g)
 
--- `blamed_there f` is what the error derived by `f` blames in that environment.
+-- `blamed_there f` is what the error derived by `f` blames in the environment at the index `environment_blamed f`.
 abbrev pub blamed_there : {x : Expr} {envs : List Environment} {n : ExpressionFault} → FirstFaulty x envs n → Blame
 blamed_there (faulty_here g) = blamed g
 blamed_there (faulty_later h g) = blamed_there g

@@ -2,7 +2,7 @@ pub mod FirstBlamed
 pub mod Laws
 pub mod NamesAt
 pub mod Refused
-pub mod Told
+pub mod FirstTypingError
 pub mod Views
 pub mod Words
 pub mod Worded

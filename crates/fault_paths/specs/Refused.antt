@@ -1,4 +1,4 @@
--- Defines the report on a rejected policy: its error, and the undeclared name or the expression that this blames.
+-- Defines the report on a rejected policy: its error, and the undeclared name or the expression that the error blames.
 -- Source: docs/codes.md.
 -- Rules of this product: names are reported before types.
 use Rattle.std.specs.Prelude.{All}
@@ -10,7 +10,7 @@ use Rattle.validator.specs.Names.{names_of}
 use Rattle.validator.specs.Unknown.{IsKnown}
 use Rattle.validator.specs.Passing.{IsCheckRefused}
 use Rattle.fault_paths.specs.NamesAt.{IsNameBlame}
-use Rattle.fault_paths.specs.Told.{IsTypeBlame}
+use Rattle.fault_paths.specs.FirstTypingError.{IsTypeBlame}
 use Rattle.fault_paths.specs.declared.refusing.PolicyBlame.{PolicyBlame}
 use Rattle.fault_paths.specs.declared.refusing.PolicyBlame.TheVariants.{Name, Typing}
 

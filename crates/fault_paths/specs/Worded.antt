@@ -17,7 +17,8 @@ abbrev pub path_of : PolicyBlame → List ℕ
 path_of (Name b) = b.path.items
 path_of (Typing b) = b.place.path.items
 
--- `cause_of b` is the cause that the report on `b` names: an undeclared name, or the attribute of error 44.
+-- `cause_of b` is the cause that the report on `b` names: an undeclared name, or the attribute that is undeclared or
+-- may be missing (error 44); empty for other errors.
 abbrev pub cause_of : PolicyBlame → List ℕ
 cause_of (Name b) = name_words (name_view b.name)
 cause_of (Typing b) = typing_cause b.fault b.place.form.now

@@ -1,8 +1,8 @@
 -- Defines the words of an explanation: those for types, names, environments and typing errors of a policy that does not
 -- pass validation.
 -- Source: docs/language.md for names of entities; docs/formats.md for names of types.
--- Rules of this product: a type is named as schemas name it, a set and a record without their parts; an environment is
--- named by the type of its principal, its action and the type of its resource.
+-- Rules of this product: a type is named as schemas name it, a set type by `Set` and a record type by `Record`; an
+-- environment is named by the type of its principal, its action and the type of its resource.
 use Rattle.std.specs.Prelude.{ℕ, Bool, true, false, if◌then◌else◌, List, [], ◌∷◌, ◌++◌, map, codes}
 use Rattle.std.specs.Prelude.{Option, None, Some, is_ok, slice_get}
 use Rattle.grammar_core.specs.declared.expr.Expr.{Expr}
@@ -53,7 +53,8 @@ abbrev pub name_words : names.Name → List ℕ
 name_words (names.tested_type n) = n
 name_words (names.entity u) = uid_words u
 
--- `environment_words e` names the environment `e` by the three parts that tell it apart: `in U, Action::"a", R`.
+-- `environment_words e` names the environment `e` by the type of its principal, its action and the type of its
+-- resource: `in U, Action::"a", R`.
 abbrev pub environment_words : EnvironmentOf → List ℕ
 environment_words e = codes "in " ++ e.place.principal ++ codes ", " ++ uid_words e.place.action ++ codes ", "
     ++ e.place.resource
@@ -74,8 +75,8 @@ attribute_in y = []
 abbrev pub attribute_of : Expr → List ℕ
 attribute_of x = attribute_in (out-Expr x)
 
--- `declaration_words declared t` says, by `declared`, whether the attribute is optional in the type `t` or not declared
--- in it.
+-- `declaration_words declared t` says that the attribute is optional in the type `t` if `declared`, else that it is not
+-- declared in `t`.
 abbrev pub declaration_words : Bool → StaticType → List ℕ
 declaration_words true t = codes ": optional in " ++ type_word t
 declaration_words false t = codes ": not declared in " ++ type_word t
@@ -96,8 +97,8 @@ typing_cause f x = if is_missing f then attribute_of x else []
 abbrev pub what_words : Environment → TypeFault → Expr → List StaticType → List ℕ
 what_words env f x ts = if is_missing f then declared_words env (attribute_of x) ts else types_words ts
 
--- `detail_in s o f x ts` are the words for the environment `o` of the schema `s`, followed by the details of the error
--- `f` there; empty without an environment.
+-- `detail_in s o f x ts` are the words for the environment `o` of the schema `s`, followed by the details there of the
+-- error `f` of the form `x`, which is about the types `ts`; empty if `o` is `None`.
 abbrev pub detail_in : StatedSchema → Option EnvironmentOf → TypeFault → Expr → List StaticType → List ℕ
 detail_in s None f x ts = []
 detail_in s (Some e) f x ts = environment_words e ++ what_words (typing_environment_of s e) f x ts

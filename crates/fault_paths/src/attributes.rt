@@ -13,8 +13,8 @@ use type_checker::{
 
 /// Returns whether the type `owner` declares the attribute `name`, as required or optional.
 ///
-/// A policy may access a declared attribute where a test by `has` shows it to be present. For an undeclared one no such
-/// test helps.
+/// A policy may access a declared attribute if a test by `has` shows the attribute to be present. For an undeclared
+/// attribute no such test helps.
 ///
 /// # Errors
 ///

@@ -5,8 +5,8 @@ ghost use Rattle.type_checker.specs.schema.Views.{schema_view, environment_view}
 ghost use Rattle.type_checker.specs.Views.{typing_environment};
 ghost use Rattle.type_checker.specs.FromSchemas.{typing_environment_of};
 ghost use Rattle.validator.specs.Passing.{environments_of, HasBooleanType};
-ghost use Rattle.fault_paths.specs.Told.{IsTypeBlame};
-ghost use Rattle.fault_paths.specs.inner.Judging.{IsBlamedIn, IsFaultyIn, IsToldIn};
+ghost use Rattle.fault_paths.specs.FirstTypingError.{IsTypeBlame};
+ghost use Rattle.fault_paths.specs.inner.Judging.{IsBlamedIn, IsFaultyIn, IsTypingFault};
 
 use crate::descending::{BlamedForm, descend};
 use grammar_core::Expr;
@@ -14,7 +14,7 @@ use plain::NoMemory;
 use std::alloc::Global;
 use type_checker::{
     Capability, Environment, ExpressionFault, Policy, Schema, Typed, TypingEnvironment,
-    expressions_have_one_judgement, judge_behind,
+    expressions_have_one_judgement, judge_under,
 };
 use validator::TypeFault;
 
@@ -25,13 +25,13 @@ pub struct TypeBlame<'a> {
     pub fault: TypeFault,
     /// The index of the first environment of the schema with an error.
     pub environment: usize,
-    /// What is blamed in it.
+    /// What the error blames in this environment.
     pub place: BlamedForm<'a>,
 }
 
-/// Returns the validator's error for the error in `judged`, or `None` if that is a type.
-fn told(judged: Result<Typed<'_>, ExpressionFault>) -> Result<Option<TypeFault>, NoMemory>
-    ensures { IsToldIn judged.entry result }
+/// Returns the validator's error for the error in `judged`, or `None` if `judged` has a type.
+fn typing_fault(judged: Result<Typed<'_>, ExpressionFault>) -> Result<Option<TypeFault>, NoMemory>
+    ensures { IsTypingFault judged.entry result }
 {
     match judged {
         Ok(typed) => {
@@ -54,7 +54,7 @@ fn fault_in<'a>(
     ensures { IfOk result (IsFaultyIn (typing_environment env.entry) whole.entry.now) }
 {
     let nothing: Vec<Capability<'a>> = Vec::new(alloc);
-    told(judge_behind(alloc, env, nothing.as_slice(), whole))
+    typing_fault(judge_under(alloc, env, nothing.as_slice(), whole))
 }
 
 /// Returns the error of `whole` in the environment of the index `at`, with what it blames, or `None` if `whole` has a
@@ -89,8 +89,8 @@ fn blame_in<'a>(
 /// `whole` is the policy's expression, as [`expression_of`](validator::expression_of) builds it: paths begin at its
 /// root.
 ///
-/// Types the policy once in each environment up to the first with an error. There, types parts of it once more for each
-/// level of the path to the blamed expression.
+/// Types the policy once in each environment up to the first with an error. In this one, types parts of the policy once
+/// more for each level of the path to the blamed expression.
 ///
 /// # Errors
 ///

@@ -1,4 +1,4 @@
-//! The cause of a typing error that a report names: the attribute of error 44.
+//! The cause of a typing error that a report names: the attribute that is undeclared or may be missing (error 44).
 ghost use Rattle.std.specs.Prelude.{◌≡◌, ◌++◌, OnOk, string_bytes};
 ghost use Rattle.fault_paths.specs.Words.{is_missing, attribute_of, typing_cause};
 

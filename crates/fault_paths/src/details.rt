@@ -14,7 +14,7 @@ use plain::NoMemory;
 use type_checker::{Environment, Schema, StaticType};
 use validator::TypeFault;
 
-/// Appends that an attribute is optional in the type `owner`, or not declared in it.
+/// Appends that an attribute is optional in the type `owner` if `declared`, else that it is not declared in this type.
 fn push_declaration(
     out: &mut String,
     declared: bool,
@@ -54,7 +54,8 @@ fn push_declared<'a>(
     }
 }
 
-/// Appends, for error 44, whether the attribute is declared; for other errors the types that the demand is about.
+/// Appends the details of an error: for 44 (an attribute that is undeclared or may be missing), whether the attribute
+/// is declared; for any other error, the types that the demand is about.
 fn push_what<'a>(
     out: &mut String,
     schema: &'a Schema,

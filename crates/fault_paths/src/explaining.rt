@@ -26,7 +26,7 @@ pub struct PolicyFault {
     pub fault: TypeFault,
     /// The indexes of operands that lead from the policy's whole expression to the form at fault.
     pub path: Vec<usize>,
-    /// The undeclared name, or the attribute of error 44; empty for other errors.
+    /// The undeclared name, or the attribute that is undeclared or may be missing (error 44); empty for other errors.
     pub cause: String,
     /// The first environment that has an error, and there the types that the error is about or, for error 44, whether
     /// the attribute is declared; empty for an undeclared name.
@@ -65,7 +65,11 @@ fn detail_of<'a>(
 }
 
 /// Returns the report on an undeclared name: its cause, and no detail.
-fn tell_name(alloc: Global, schema: &Schema, blame: NameBlame<'_>) -> Result<PolicyFault, NoMemory>
+fn report_name(
+    alloc: Global,
+    schema: &Schema,
+    blame: NameBlame<'_>,
+) -> Result<PolicyFault, NoMemory>
     ensures { IfOk result (IsWordedAs (schema_view schema.now) (PolicyBlame.Name blame.entry)) }
 {
     let _ = schema;
@@ -79,7 +83,7 @@ fn tell_name(alloc: Global, schema: &Schema, blame: NameBlame<'_>) -> Result<Pol
 }
 
 /// Returns the report on a typing error: its cause, and its environment with the types there.
-fn tell_typing<'a>(
+fn report_typing<'a>(
     alloc: Global,
     schema: &'a Schema,
     blame: TypeBlame<'a>,
@@ -105,8 +109,8 @@ fn tell<'a>(
     ensures { IfOk result (IsWordedAs (schema_view schema.entry.now) blame.entry) }
 {
     match blame {
-        PolicyBlame::Name(blame) => tell_name(alloc, schema, blame),
-        PolicyBlame::Typing(blame) => tell_typing(alloc, schema, blame),
+        PolicyBlame::Name(blame) => report_name(alloc, schema, blame),
+        PolicyBlame::Typing(blame) => report_typing(alloc, schema, blame),
     }
 }
 
@@ -132,9 +136,9 @@ fn explain_whole<'a>(
 
 /// Returns why a policy does not pass validation, in words, or `None` if it passes.
 ///
-/// The error is the one that [`check`](validator::check) returns, the environment the first that has an error. Types
-/// the policy once in each environment up to this one. There, types parts of it once more for each level of the path
-/// to the expression at fault.
+/// The error is the one that [`check`](validator::check) returns, and the environment is the first that has an error.
+/// Types the policy once in each environment up to this one. In this one, types parts of the policy once more for each
+/// level of the path to the expression at fault.
 ///
 /// # Errors
 ///

@@ -7,9 +7,9 @@ ghost use Rattle.fault_paths.specs.inner.Steps.{IsFound, IsFoundIn};
 use grammar_core::Expr;
 use plain::NoMemory;
 use std::alloc::Global;
-use type_checker::{Capability, ExpressionFault, Typed, TypingEnvironment, judge_behind};
+use type_checker::{Capability, ExpressionFault, Typed, TypingEnvironment, judge_under};
 
-/// Returns the type in `judged`, or `None` if that is an error of typing.
+/// Returns the type in `judged`, or `None` if `judged` has an error of typing.
 fn found<'a>(judged: Result<Typed<'a>, ExpressionFault>) -> Result<Option<Typed<'a>>, NoMemory>
     ensures { IsFoundIn judged.entry result }
 {
@@ -32,7 +32,7 @@ pub(crate) fn judge<'a>(
     ensures { IfOk result (λ found. IsFound (typing_environment env.entry) (pairs known.now.items)
         expr.entry.now found) }
 {
-    found(judge_behind(alloc, env, known.as_slice(), expr))
+    found(judge_under(alloc, env, known.as_slice(), expr))
 }
 
 /// Appends the gained capabilities to the known ones.

@@ -252,8 +252,8 @@ fn step_and<'a>(
         (form.And left.entry.now right.entry.now) (pairs known.new.items)) }
 {
     expressions_have_one_judgement();
-    let left = left.get();
-    let right = right.get();
+    let left = &**left;
+    let right = &**right;
     match judge(alloc, env, known, left)? {
         Some(typed) => from_and(alloc, env, known, typed, right),
         None => Ok(Step::Down(0, left)),
@@ -272,8 +272,8 @@ fn step_or<'a>(
         (form.Or left.entry.now right.entry.now) K) }
 {
     expressions_have_one_judgement();
-    let left = left.get();
-    let right = right.get();
+    let left = &**left;
+    let right = &**right;
     match judge(alloc, env, known, left)? {
         Some(typed) => from_or(alloc, env, known, typed, right),
         None => Ok(Step::Down(0, left)),
@@ -293,9 +293,9 @@ fn step_if<'a>(
         (form.If test.entry.now consequent.entry.now alternative.entry.now) (pairs known.new.items)) }
 {
     expressions_have_one_judgement();
-    let test = test.get();
-    let consequent = consequent.get();
-    let alternative = alternative.get();
+    let test = &**test;
+    let consequent = &**consequent;
+    let alternative = &**alternative;
     match judge(alloc, env, known, test)? {
         Some(typed) => from_if(alloc, env, known, typed, consequent, alternative),
         None => Ok(Step::Down(0, test)),

@@ -26,7 +26,7 @@ fn leaf_word<'r>(leaf: &'r Leaf<'_>) -> &'r str
     }
 }
 
-/// Returns the word for a type that schemas use.
+/// Returns the word that schemas use for a type.
 fn type_word<'r>(ty: &'r StaticType<'_>) -> &'r str
     ensures { result.now ≡ type_word (static_view ty.now) }
 {

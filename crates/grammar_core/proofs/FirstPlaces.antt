@@ -8,7 +8,7 @@ use Rattle.std.specs.Str.{IsUtf8, IsCharBoundary}
 use Rattle.std.specs.Str.Pattern.{FindsText, FindsTextSuffix, HasSuffixMatch}
 use Rattle.std.proofs.lemmas.List.{drop-drop, append-nil}
 use Rattle.std.proofs.lemmas.Bool.{cases_lt}
-use Rattle.grammar_core.specs.Like.{behind_stars}
+use Rattle.grammar_core.specs.Like.{after_stars}
 use Rattle.grammar_core.specs.LikeTest.{Joins}
 
 -- For each of the literals in order, something that has the property and then the literal: that is the text.
@@ -20,12 +20,12 @@ Tail P (run ∷ runs) text = (before : List ℕ) × (after : List ℕ) × (text 
 abbrev pub Anything : List ℕ → Type 0
 Anything piece = Unit {0}
 
-pub tail_from_joins : (runs : List (List ℕ)) (text : List ℕ) → Joins (behind_stars runs) text → Tail IsUtf8 runs text
+pub tail_from_joins : (runs : List (List ℕ)) (text : List ℕ) → Joins (after_stars runs) text → Tail IsUtf8 runs text
 tail_from_joins [] text h = h
 tail_from_joins (run ∷ runs) text h =
     (h.0, h.4.1, h.2 ∙ ap (λ (xs : List ℕ). h.0 ++ xs) (h.4.2 ∙ ap (λ (xs : List ℕ). xs ++ h.4.1) h.4.3), h.3, tail_from_joins runs h.4.1 h.4.4)
 
-pub joins_from_tail : (runs : List (List ℕ)) (text : List ℕ) → Tail IsUtf8 runs text → Joins (behind_stars runs) text
+pub joins_from_tail : (runs : List (List ℕ)) (text : List ℕ) → Tail IsUtf8 runs text → Joins (after_stars runs) text
 joins_from_tail [] text h = h
 joins_from_tail (run ∷ runs) text h = (h.0, run ++ h.1, h.2, h.3, (run, h.1, refl, refl, joins_from_tail runs h.1 h.4))
 

@@ -10,15 +10,15 @@ pub data Element : Type 0 where
   literal : List ℕ → Element
   star : Element
 
--- `behind_stars texts` are the literals `texts`, with a star before each.
-abbrev pub behind_stars : List (List ℕ) → List Element
-behind_stars [] = []
-behind_stars (text ∷ texts) = star ∷ literal text ∷ behind_stars texts
+-- `after_stars texts` are the literals `texts`, with a star before each.
+abbrev pub after_stars : List (List ℕ) → List Element
+after_stars [] = []
+after_stars (text ∷ texts) = star ∷ literal text ∷ after_stars texts
 
 -- `elements texts` are the elements of the pattern whose literal texts are `texts`, with a star between each two.
 abbrev pub elements : List (List ℕ) → List Element
 elements [] = []
-elements (text ∷ texts) = literal text ∷ behind_stars texts
+elements (text ∷ texts) = literal text ∷ after_stars texts
 
 -- `IsPieceOf e piece` holds if the element `e` matches `piece`: a literal matches only itself, a star any UTF-8 string.
 abbrev pub IsPieceOf : Element → List ℕ → Type 0
@@ -28,7 +28,7 @@ IsPieceOf star piece = IsUtf8 piece
 -- `IsJoined es text` holds if `text` is a concatenation of pieces, one for each element of `es` in order.
 pub record IsJoined (es : List Element) (text : List ℕ) : Type 0 where
   pub pieces : List (List ℕ)
-  pub stand : AllZip IsPieceOf es pieces
+  pub each_matches : AllZip IsPieceOf es pieces
   pub joined : text ≡ concat pieces
 
 -- `Matches pattern text` holds if `text` matches the pattern whose literal texts are `pattern`.

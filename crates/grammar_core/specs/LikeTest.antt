@@ -31,19 +31,20 @@ is_match pattern text = is_joined (elements pattern) text
 
 -- ## The test and the relation agree.
 
--- `Joins es text` says the same as `IsJoined es text` by recursion on `es`: `text` is a piece of the first element,
--- followed by a concatenation of pieces of the others.
+-- `Joins es text` is `IsJoined es text` defined by recursion on `es`: `text` is a piece of the first element, followed
+-- by a concatenation of pieces of the others.
 abbrev pub Joins : List Element → List ℕ → Type 0
 Joins [] text = text ≡ []
 Joins (e ∷ es) text = (piece : List ℕ) × (rest : List ℕ) × (text ≡ piece ++ rest) × IsPieceOf e piece × Joins es rest
 
+-- `joined_from_joins` and, below, `joins_from_joined` prove that `Joins` and `IsJoined` are equivalent.
 pub joined_from_joins : (es : List Element) (text : List ℕ) → Joins es text → IsJoined es text
-joined_from_joins [] text h = record { pieces = []; stand = tt; joined = h }
+joined_from_joins [] text h = record { pieces = []; each_matches = tt; joined = h }
 joined_from_joins (e ∷ es) text h =
     let more = joined_from_joins es h.1 h.4 in
     record {
       pieces = h.0 ∷ more.pieces;
-      stand = (h.3, more.stand);
+      each_matches = (h.3, more.each_matches);
       joined =
           h.2 ∙ ap (λ (rest : List ℕ). h.0 ++ rest) more.joined;
     }
@@ -56,7 +57,7 @@ joins_pieces (x ∷ xs) [] text h e = absurd h
 joins_pieces (x ∷ xs) (p ∷ ps) text h e = (p, concat ps, e, h.0, joins_pieces xs ps (concat ps) h.1 refl)
 
 pub joins_from_joined : (es : List Element) (text : List ℕ) → IsJoined es text → Joins es text
-joins_from_joined es text h = joins_pieces es h.pieces text h.stand h.joined
+joins_from_joined es text h = joins_pieces es h.pieces text h.each_matches h.joined
 
 -- `SomeCut test text` holds if `text` can be cut in two so that the two strings pass `test`.
 SomeCut : (List ℕ → List ℕ → Bool) → List ℕ → Type 0
@@ -134,6 +135,7 @@ LiteralsMatchThemselves = (literal text : List ℕ) → Matches (literal ∷ [])
 abbrev pub WildcardMatchesAll : Type 0
 WildcardMatchesAll = (text : List ℕ) → IsUtf8 text → Matches ([] ∷ [] ∷ []) text
 
+-- `literal_alone` and `any_text` prove the last two of these theorems.
 pub literal_alone : LiteralsMatchThemselves
 literal_alone run text = (
   λ m. let h = joins_from_joined (literal run ∷ []) text m in h.2 ∙ ap (λ (xs : List ℕ). h.0 ++ xs) h.4

@@ -2,8 +2,8 @@
 ghost use Rattle.std.specs.Prelude.{◌≡◌, IfOk};
 
 use crate::expr::Expr;
-use crate::held::{three, twice, two};
 use crate::operator::{Binary, BinaryCall, Unary, UnaryCall};
+use crate::sharing::{three, twice, two};
 use plain::{NoMemory, Shared, Text};
 use std::alloc::Global;
 use values::TypeName;

@@ -11,7 +11,7 @@ pub enum Literal {
     Long(i64),
     /// The value of a string.
     Text(Text),
-    /// The entity of this uid.
+    /// The entity with this uid.
     Entity(EntityUid),
 }
 

@@ -5,11 +5,11 @@
 
 mod builders;
 mod expr;
-mod held;
 mod laws;
 mod leaf;
 mod operator;
 mod pattern;
+mod sharing;
 mod size;
 
 pub use expr::{Expr, Named};
@@ -17,4 +17,4 @@ pub use laws::patterns_are_decided;
 pub use leaf::{Literal, Variable};
 pub use operator::{Binary, BinaryCall, Method, Unary, UnaryCall, function_named, method_named};
 pub use pattern::Pattern;
-pub use size::{FORMS_MAX, HEIGHT_MAX};
+pub use size::{HEIGHT_MAX, NODES_MAX};

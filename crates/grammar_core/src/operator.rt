@@ -23,7 +23,8 @@ pub enum Unary {
 pub enum Binary {
     /// `==`.
     Equal,
-    /// `in`: whether an entity equals another one, or one of a set, or is a descendant of it.
+    /// `in`: whether the left operand, an entity, equals or is a descendant of the right one, an entity or a member of
+    /// a set.
     In,
     /// `<`.
     Less,
@@ -35,11 +36,11 @@ pub enum Binary {
     Subtract,
     /// `*`.
     Multiply,
-    /// `contains`: whether a value is a member of the set.
+    /// `contains`: whether the left operand, a set, contains the right one.
     Contains,
-    /// `containsAll`: whether all members of another set are members of the set.
+    /// `containsAll`: whether the left operand, a set, contains all members of the right one.
     ContainsAll,
-    /// `containsAny`: whether some member of another set is a member of the set.
+    /// `containsAny`: whether the left operand, a set, contains some member of the right one.
     ContainsAny,
 }
 

@@ -1,6 +1,6 @@
 //! Patterns of `like`.
 ghost use Rattle.std.specs.Prelude.{◌≡◌, ◌↔◌, ◌<◌, ◌++◌, [], ◌∷◌, IsTrue, length};
-ghost use Rattle.grammar_core.specs.Like.{Matches, literal, behind_stars};
+ghost use Rattle.grammar_core.specs.Like.{Matches, literal, after_stars};
 ghost use Rattle.grammar_core.specs.LikeTest.{Joins, is_match};
 
 use plain::{Items, Text};
@@ -72,7 +72,7 @@ impl Pattern {
 /// Returns whether a string begins with the first literal, and its rest matches the other literals, in order, with a
 /// wildcard before each.
 fn first_matches(first: &Text, middle: &[Text], last: &Text, text: &str) -> bool
-    ensures { IsTrue result ↔ Joins (literal first.now ∷ behind_stars (middle.now ++ last.now ∷ [])) text.now }
+    ensures { IsTrue result ↔ Joins (literal first.now ∷ after_stars (middle.now ++ last.now ∷ [])) text.now }
 {
     match text.strip_prefix(first.as_str()) {
         Some(rest) => others_match(middle, last.as_str(), rest),
@@ -85,7 +85,7 @@ fn first_matches(first: &Text, middle: &[Text], last: &Text, text: &str) -> bool
 /// Each literal but the last is matched at its first occurrence. That leaves the longest rest, and the next wildcard
 /// may match what a later occurrence would have skipped, so the search never backtracks.
 fn others_match(middle: &[Text], last: &str, text: &str) -> bool
-    ensures { IsTrue result ↔ Joins (behind_stars (middle.now ++ last.now ∷ [])) text.now }
+    ensures { IsTrue result ↔ Joins (after_stars (middle.now ++ last.now ∷ [])) text.now }
 {
     let mut rest = text;
     for literal in middle {

@@ -1,8 +1,9 @@
-//! Limits on the size of a policy's expression. specs/Size defines the height (`height`), the number of nodes (`forms`)
-//! and the limits (`IsSmall`); the parser computes them on the syntax tree, before it builds a core expression.
+//! Limits on the size of a policy's expression. specs/Size defines the height (`height`), the number of nodes
+//! (`node_count`) and the limits (`IsSmall`); the parser computes height and number on the syntax tree, before it
+//! builds a core expression.
 
 /// The greatest height of a policy's expression.
 pub const HEIGHT_MAX: u32 = 1_000;
 
 /// The greatest number of nodes of a policy's expression.
-pub const FORMS_MAX: u32 = 1_000_000;
+pub const NODES_MAX: u32 = 1_000_000;

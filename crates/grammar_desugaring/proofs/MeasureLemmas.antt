@@ -20,7 +20,7 @@ use Rattle.grammar_core.specs.declared.operator.Binary.TheVariants.{In, Multiply
 use Rattle.grammar_core.specs.declared.expr.Expr.{Expr}
 use Rattle.grammar_core.specs.declared.expr.Expr.TheVariants as core
 use Rattle.grammar_core.specs.declared.expr.Named.{Named}
-use Rattle.grammar_core.specs.Size.{height, height_step, forms, forms_step, greatest, total}
+use Rattle.grammar_core.specs.Size.{height, height_step, node_count, node_count_step, greatest, total}
 use Rattle.grammar_core.proofs.Forms.{fold_record}
 use Rattle.grammar_desugaring.specs.declared.fault.DesugarFault.{DesugarFault}
 use Rattle.grammar_desugaring.specs.Numbers.{fits, fits_negated}
@@ -33,7 +33,7 @@ use Rattle.grammar_desugaring.specs.Repeats.{repeat_faults}
 use Rattle.grammar_desugaring.specs.Refused.{earlier_of, least}
 use Rattle.grammar_desugaring.specs.Faults.{faults_of, range, call_faults, function_faults, access_faults, key_of}
 use Rattle.grammar_desugaring.specs.Measured.{measure, of, of_row, measured, measured_negated}
-use Rattle.grammar_desugaring.specs.Sums.{nothing, leaf, above, beside, paired, called, with_fault, measured_all}
+use Rattle.grammar_desugaring.specs.Sums.{nothing, leaf, above, side_by_side, paired, called, with_fault, measured_all}
 use Rattle.grammar_desugaring.specs.Sums.{measured_chain, measured_term, measured_entry, measured_compared, measured_call}
 use Rattle.grammar_desugaring.specs.Sums.{measured_access}
 use Rattle.grammar_trees.proofs.Flat.{flat_map_map}
@@ -64,7 +64,7 @@ module _ (text : List ℕ) where
   rowed : (xs : List ExprTree) → of_row (map (core_of text) xs) (flat_map (faults_of text) xs) ≡ measured_all text xs
   rowed xs =
       ap (λ es. of_row es (flat_map (faults_of text) xs)) (sym (fold_snoc (core_of text) xs []))
-      ∙ fused of_row (λ es x. es ++ core_of text x ∷ []) (faults_of text) (λ j x. beside j (measured text x)) (λ es fs x. row-snoc es (core_of text x) fs (faults_of text x)) xs [] []
+      ∙ fused of_row (λ es x. es ++ core_of text x ∷ []) (faults_of text) (λ j x. side_by_side j (measured text x)) (λ es fs x. row-snoc es (core_of text x) fs (faults_of text x)) xs [] []
 
   valued : (entries : List (RecordEntry ExprTree)) →
       of_row (map (λ entry. core_of text entry.value) entries) (flat_map (λ entry. faults_of text entry.value) entries) ≡ fold (measured_entry text) nothing entries
@@ -84,8 +84,8 @@ module _ (text : List ℕ) where
       let values = map (λ entry. core_of text entry.value) entries in
       let fields = map (field text) (map (in_entry (core_of text)) entries) in
       same _ _ _ _ (least fs) (least fs) (fold_record ℕ height_step fields ∙ ap (λ ns. greatest ns + 1) (heights height entries))
-      (fold_record ℕ forms_step fields ∙ ap (λ ns. total ns + 1) (heights forms entries)) refl
-      ∙ capped_above (greatest (map height values)) (total (map forms values)) (least fs)
+      (fold_record ℕ node_count_step fields ∙ ap (λ ns. total ns + 1) (heights node_count entries)) refl
+      ∙ capped_above (greatest (map height values)) (total (map node_count values)) (least fs)
 
   -- calls
   access_law : (e : Expr) (fs : List DesugarFault) (x : Access (List ExprTree)) →
@@ -99,9 +99,9 @@ module _ (text : List ℕ) where
       (length-mapped (faults_of text) xs ∙ sym (length-mapped (core_of text) xs))
       ∙ ap (λ hs. of (accessed text e (access.Method name cs)) (fs ++ (call_faults name.start (method_takes m) (length cs) ++ hs))) (flat_map_map (λ f. f) (faults_of text) xs)
       ∙ of-method m name.start e fs cs gs
-      ∙ ap (λ n. called (least (call_faults name.start (method_takes m) n)) (beside (of e fs) (with_fault (least (call_faults name.start (method_takes m) n)) (of_row cs gs))))
+      ∙ ap (λ n. called (least (call_faults name.start (method_takes m) n)) (side_by_side (of e fs) (with_fault (least (call_faults name.start (method_takes m) n)) (of_row cs gs))))
       (length-mapped (core_of text) xs)
-      ∙ ap (λ row. called (least (call_faults name.start (method_takes m) (length xs))) (beside (of e fs) (with_fault (least (call_faults name.start (method_takes m) (length xs))) row)))
+      ∙ ap (λ row. called (least (call_faults name.start (method_takes m) (length xs))) (side_by_side (of e fs) (with_fault (least (call_faults name.start (method_takes m) (length xs))) row)))
       (rowed xs)
 
   pub measured-Boolean : (value : Bool) → measured text (t.Boolean value) ≡ leaf None
@@ -143,7 +143,7 @@ module _ (text : List ℕ) where
   pub measured-Record : (entries : List (RecordEntry ExprTree)) → measured text (t.Record entries) ≡ above (with_fault (least (repeat_faults (map (key_of text) entries))) (fold (measured_entry text) nothing entries))
   measured-Record entries =
       same_of (core-Record text entries) (faults-Record text entries) ∙ of-Record entries (repeat_faults (map (key_of text) entries) ++ flat_map (λ entry. faults_of text entry.value) entries)
-      ∙ ap (λ o. above (measure (greatest (map height (map (λ entry. core_of text entry.value) entries))) (total (map forms (map (λ entry. core_of text entry.value) entries))) o))
+      ∙ ap (λ o. above (measure (greatest (map height (map (λ entry. core_of text entry.value) entries))) (total (map node_count (map (λ entry. core_of text entry.value) entries))) o))
       (least-append (repeat_faults (map (key_of text) entries)) (flat_map (λ entry. faults_of text entry.value) entries))
       ∙ ap (λ j. above (with_fault (least (repeat_faults (map (key_of text) entries))) j)) (valued entries)
 
@@ -190,7 +190,7 @@ module _ (text : List ℕ) where
   pub measured-IsIn : (a : ExprTree) (path : PathTree) (b : ExprTree) → measured text (t.IsIn a path b) ≡ paired (above (measured text a)) (paired (measured text a) (measured text b))
   measured-IsIn a path b =
       same_of (core-IsIn text a path b) (faults-IsIn text a path b) ∙ ap (measure (height (core.And (core.Unary (Is (path_name text path)) (core_of text a)) (core.Binary In (core_of text a) (core_of text b))))
-      (forms (core.And (core.Unary (Is (path_name text path)) (core_of text a)) (core.Binary In (core_of text a) (core_of text b)))))
+      (node_count (core.And (core.Unary (Is (path_name text path)) (core_of text a)) (core.Binary In (core_of text a) (core_of text b)))))
       (twice (faults_of text a) (faults_of text b))
       ∙ of-And (core.Unary (Is (path_name text path)) (core_of text a)) (core.Binary In (core_of text a) (core_of text b)) (faults_of text a) (faults_of text a ++ faults_of text b)
       ∙ ap (λ j. paired j (of (core.Binary In (core_of text a) (core_of text b)) (faults_of text a ++ faults_of text b))) (of-Unary (Is (path_name text path)) (core_of text a) (faults_of text a))
@@ -206,7 +206,7 @@ module _ (text : List ℕ) where
       same_of (core-Or text a more) (faults-Or text a more) ∙ ap (λ e. of e (faults_of text a ++ flat_map (faults_of text) more)) (fold_map core.Or (core_of text) more (core_of text a))
       ∙ fused of (λ e x. core.Or e (core_of text x)) (faults_of text) (λ j x. paired j (measured text x)) (λ e fs x. of-Or e (core_of text x) fs (faults_of text x)) more (core_of text a) (faults_of text a)
 
-  pub measured-If : (a b c : ExprTree) → measured text (t.If a b c) ≡ above (beside (measured text a) (beside (measured text b) (measured text c)))
+  pub measured-If : (a b c : ExprTree) → measured text (t.If a b c) ≡ above (side_by_side (measured text a) (side_by_side (measured text b) (measured text c)))
   measured-If a b c =
       same_of (core-If text a b c) (faults-If text a b c) ∙ of-If (core_of text a) (core_of text b) (core_of text c) (faults_of text a) (faults_of text b) (faults_of text c)
 

@@ -52,106 +52,106 @@ module _ (text : List ℕ) where
   access_in (access.Method name arguments) all = (all.0, all_in arguments all.1)
 
   opened : (x : ExprTree) (ps : List Part) (y : ExprTree) → x ≡ y → parts_of y ≡ ps → WellFormed text x → All ps
-  opened x ps y is same stands = subst All (ap parts_of is ∙ same) stands.parts
+  opened x ps y is same is_well_formed = subst All (ap parts_of is ∙ same) is_well_formed.parts
 
   pub of-Number : (x : ExprTree) (token : Token) → x ≡ t.Number token → WellFormed text x → TokenIn text (only k.Number) token
-  of-Number x token is stands =
-      let all = opened x (part (only k.Number) token ∷ []) (t.Number token) is (parts-Number token) stands in
+  of-Number x token is is_well_formed =
+      let all = opened x (part (only k.Number) token ∷ []) (t.Number token) is (parts-Number token) is_well_formed in
       all.0
 
   pub of-Text : (x : ExprTree) (token : Token) → x ≡ t.Text token → WellFormed text x → TokenIn text (only k.Text) token
-  of-Text x token is stands =
-      let all = opened x (part (only k.Text) token ∷ []) (t.Text token) is (parts-Text token) stands in
+  of-Text x token is is_well_formed =
+      let all = opened x (part (only k.Text) token ∷ []) (t.Text token) is (parts-Text token) is_well_formed in
       all.0
 
   pub of-Uid : (x : ExprTree) (uid : UidTree) → x ≡ t.Uid uid → WellFormed text x → UidIn text uid
-  of-Uid x uid is stands =
-      let all = opened x (uid_parts uid) (t.Uid uid) is (parts-Uid uid) stands in
+  of-Uid x uid is is_well_formed =
+      let all = opened x (uid_parts uid) (t.Uid uid) is (parts-Uid uid) is_well_formed in
       record { path = path_in uid.path all.1; id = all.0 }
 
   pub of-Call : (x : ExprTree) (path : PathTree) (arguments : List ExprTree) → x ≡ t.Call path arguments → WellFormed text x → PathIn text path × AllWellFormed text arguments
-  of-Call x path arguments is stands =
-      let all = opened x (path_parts path ++ flat_map parts_of arguments) (t.Call path arguments) is (parts-Call path arguments) stands in
+  of-Call x path arguments is is_well_formed =
+      let all = opened x (path_parts path ++ flat_map parts_of arguments) (t.Call path arguments) is (parts-Call path arguments) is_well_formed in
       (path_in path (all_left Is (path_parts path) (flat_map parts_of arguments) all), all_in arguments (all_right Is (path_parts path) (flat_map parts_of arguments) all))
 
   pub of-Parentheses : (x : ExprTree) (a : ExprTree) → x ≡ t.Parentheses a → WellFormed text x → WellFormed text a
-  of-Parentheses x a is stands =
-      let all = opened x (parts_of a) (t.Parentheses a) is (parts-Parentheses a) stands in
+  of-Parentheses x a is is_well_formed =
+      let all = opened x (parts_of a) (t.Parentheses a) is (parts-Parentheses a) is_well_formed in
       tree_in a all
 
   pub of-Set : (x : ExprTree) (members : List ExprTree) → x ≡ t.Set members → WellFormed text x → AllWellFormed text members
-  of-Set x members is stands =
-      let all = opened x (flat_map parts_of members) (t.Set members) is (parts-Set members) stands in
+  of-Set x members is is_well_formed =
+      let all = opened x (flat_map parts_of members) (t.Set members) is (parts-Set members) is_well_formed in
       all_in members all
 
   pub of-Record : (x : ExprTree) (entries : List (RecordEntry ExprTree)) → x ≡ t.Record entries → WellFormed text x → AllByRecursion (WellFormedEntry text) entries
-  of-Record x entries is stands =
-      let all = opened x (flat_map parts_of_entry entries) (t.Record entries) is (parts-Record entries) stands in
+  of-Record x entries is is_well_formed =
+      let all = opened x (flat_map parts_of_entry entries) (t.Record entries) is (parts-Record entries) is_well_formed in
       all_flat Is (WellFormedEntry text) parts_of_entry (λ entry parts. record { key = key_in entry.key parts.0; value = tree_in entry.value parts.1 }) entries all
 
   pub of-Member : (x : ExprTree) (a : ExprTree) (accesses : List (Access (List ExprTree))) → x ≡ t.Member a accesses → WellFormed text x → WellFormed text a × AllByRecursion (WellFormedAccess text) accesses
-  of-Member x a accesses is stands =
-      let all = opened x (parts_of a ++ flat_map parts_of_access accesses) (t.Member a accesses) is (parts-Member a accesses) stands in
+  of-Member x a accesses is is_well_formed =
+      let all = opened x (parts_of a ++ flat_map parts_of_access accesses) (t.Member a accesses) is (parts-Member a accesses) is_well_formed in
       (tree_in a (all_left Is (parts_of a) (flat_map parts_of_access accesses) all), all_flat Is (WellFormedAccess text) parts_of_access access_in accesses (all_right Is (parts_of a) (flat_map parts_of_access accesses) all))
 
   pub of-Not : (x : ExprTree) (a : ExprTree) → x ≡ t.Not a → WellFormed text x → WellFormed text a
-  of-Not x a is stands =
-      let all = opened x (parts_of a) (t.Not a) is (parts-Not a) stands in
+  of-Not x a is is_well_formed =
+      let all = opened x (parts_of a) (t.Not a) is (parts-Not a) is_well_formed in
       tree_in a all
 
   pub of-Minus : (x : ExprTree) (a : ExprTree) → x ≡ t.Minus a → WellFormed text x → WellFormed text a
-  of-Minus x a is stands =
-      let all = opened x (parts_of a) (t.Minus a) is (parts-Minus a) stands in
+  of-Minus x a is is_well_formed =
+      let all = opened x (parts_of a) (t.Minus a) is (parts-Minus a) is_well_formed in
       tree_in a all
 
   pub of-Product : (x : ExprTree) (a : ExprTree) (more : List ExprTree) → x ≡ t.Product a more → WellFormed text x → WellFormed text a × AllWellFormed text more
-  of-Product x a more is stands =
-      let all = opened x (parts_of a ++ flat_map parts_of more) (t.Product a more) is (parts-Product a more) stands in
+  of-Product x a more is is_well_formed =
+      let all = opened x (parts_of a ++ flat_map parts_of more) (t.Product a more) is (parts-Product a more) is_well_formed in
       (tree_in a (all_left Is (parts_of a) (flat_map parts_of more) all), all_in more (all_right Is (parts_of a) (flat_map parts_of more) all))
 
   pub of-Sum : (x : ExprTree) (a : ExprTree) (terms : List (Term ExprTree)) → x ≡ t.Sum a terms → WellFormed text x → WellFormed text a × AllByRecursion (WellFormedTerm text) terms
-  of-Sum x a terms is stands =
-      let all = opened x (parts_of a ++ flat_map parts_of_term terms) (t.Sum a terms) is (parts-Sum a terms) stands in
+  of-Sum x a terms is is_well_formed =
+      let all = opened x (parts_of a ++ flat_map parts_of_term terms) (t.Sum a terms) is (parts-Sum a terms) is_well_formed in
       (tree_in a (all_left Is (parts_of a) (flat_map parts_of_term terms) all), all_flat Is (WellFormedTerm text) parts_of_term (λ term parts. record { operand = tree_in term.operand parts }) terms (all_right Is (parts_of a) (flat_map parts_of_term terms) all))
 
   pub of-Compare : (x : ExprTree) (a : ExprTree) (operator : Comparison) (b : ExprTree) → x ≡ t.Compare a operator b → WellFormed text x → WellFormed text a × WellFormed text b
-  of-Compare x a operator b is stands =
-      let all = opened x (parts_of a ++ parts_of b) (t.Compare a operator b) is (parts-Compare a operator b) stands in
+  of-Compare x a operator b is is_well_formed =
+      let all = opened x (parts_of a ++ parts_of b) (t.Compare a operator b) is (parts-Compare a operator b) is_well_formed in
       (tree_in a (all_left Is (parts_of a) (parts_of b) all), tree_in b (all_right Is (parts_of a) (parts_of b) all))
 
   pub of-Has : (x : ExprTree) (a : ExprTree) (key : KeyTree) → x ≡ t.Has a key → WellFormed text x → WellFormed text a × KeyIn text key
-  of-Has x a key is stands =
-      let all = opened x (parts_of a ++ key_part key ∷ []) (t.Has a key) is (parts-Has a key) stands in
+  of-Has x a key is is_well_formed =
+      let all = opened x (parts_of a ++ key_part key ∷ []) (t.Has a key) is (parts-Has a key) is_well_formed in
       (tree_in a (all_left Is (parts_of a) (key_part key ∷ []) all), key_in key (all_right Is (parts_of a) (key_part key ∷ []) all).0)
 
   pub of-Like : (x : ExprTree) (a : ExprTree) (token : Token) → x ≡ t.Like a token → WellFormed text x → WellFormed text a × TokenIn text patterns token
-  of-Like x a token is stands =
-      let all = opened x (parts_of a ++ part patterns token ∷ []) (t.Like a token) is (parts-Like a token) stands in
+  of-Like x a token is is_well_formed =
+      let all = opened x (parts_of a ++ part patterns token ∷ []) (t.Like a token) is (parts-Like a token) is_well_formed in
       (tree_in a (all_left Is (parts_of a) (part patterns token ∷ []) all), (all_right Is (parts_of a) (part patterns token ∷ []) all).0)
 
   pub of-Is : (x : ExprTree) (a : ExprTree) (path : PathTree) → x ≡ t.Is a path → WellFormed text x → WellFormed text a × PathIn text path
-  of-Is x a path is stands =
-      let all = opened x (parts_of a ++ path_parts path) (t.Is a path) is (parts-Is a path) stands in
+  of-Is x a path is is_well_formed =
+      let all = opened x (parts_of a ++ path_parts path) (t.Is a path) is (parts-Is a path) is_well_formed in
       (tree_in a (all_left Is (parts_of a) (path_parts path) all), path_in path (all_right Is (parts_of a) (path_parts path) all))
 
   pub of-IsIn : (x : ExprTree) (a : ExprTree) (path : PathTree) (b : ExprTree) → x ≡ t.IsIn a path b → WellFormed text x → WellFormed text a × (PathIn text path × WellFormed text b)
-  of-IsIn x a path b is stands =
-      let all = opened x (parts_of a ++ (path_parts path ++ parts_of b)) (t.IsIn a path b) is (parts-IsIn a path b) stands in
+  of-IsIn x a path b is is_well_formed =
+      let all = opened x (parts_of a ++ (path_parts path ++ parts_of b)) (t.IsIn a path b) is (parts-IsIn a path b) is_well_formed in
       let behind = all_right Is (parts_of a) (path_parts path ++ parts_of b) all in
       (tree_in a (all_left Is (parts_of a) (path_parts path ++ parts_of b) all), (path_in path (all_left Is (path_parts path) (parts_of b) behind), tree_in b (all_right Is (path_parts path) (parts_of b) behind)))
 
   pub of-And : (x : ExprTree) (a : ExprTree) (more : List ExprTree) → x ≡ t.And a more → WellFormed text x → WellFormed text a × AllWellFormed text more
-  of-And x a more is stands =
-      let all = opened x (parts_of a ++ flat_map parts_of more) (t.And a more) is (parts-And a more) stands in
+  of-And x a more is is_well_formed =
+      let all = opened x (parts_of a ++ flat_map parts_of more) (t.And a more) is (parts-And a more) is_well_formed in
       (tree_in a (all_left Is (parts_of a) (flat_map parts_of more) all), all_in more (all_right Is (parts_of a) (flat_map parts_of more) all))
 
   pub of-Or : (x : ExprTree) (a : ExprTree) (more : List ExprTree) → x ≡ t.Or a more → WellFormed text x → WellFormed text a × AllWellFormed text more
-  of-Or x a more is stands =
-      let all = opened x (parts_of a ++ flat_map parts_of more) (t.Or a more) is (parts-Or a more) stands in
+  of-Or x a more is is_well_formed =
+      let all = opened x (parts_of a ++ flat_map parts_of more) (t.Or a more) is (parts-Or a more) is_well_formed in
       (tree_in a (all_left Is (parts_of a) (flat_map parts_of more) all), all_in more (all_right Is (parts_of a) (flat_map parts_of more) all))
 
   pub of-If : (x : ExprTree) (a b c : ExprTree) → x ≡ t.If a b c → WellFormed text x → WellFormed text a × (WellFormed text b × WellFormed text c)
-  of-If x a b c is stands =
-      let all = opened x (parts_of a ++ (parts_of b ++ parts_of c)) (t.If a b c) is (parts-If a b c) stands in
+  of-If x a b c is is_well_formed =
+      let all = opened x (parts_of a ++ (parts_of b ++ parts_of c)) (t.If a b c) is (parts-If a b c) is_well_formed in
       let behind = all_right Is (parts_of a) (parts_of b ++ parts_of c) all in
       (tree_in a (all_left Is (parts_of a) (parts_of b ++ parts_of c) all), (tree_in b (all_left Is (parts_of b) (parts_of c) behind), tree_in c (all_right Is (parts_of b) (parts_of c) behind)))

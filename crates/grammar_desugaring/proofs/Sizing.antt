@@ -15,7 +15,7 @@ use Rattle.grammar_core.specs.declared.operator.Binary.{Binary}
 use Rattle.grammar_core.specs.declared.operator.Binary.TheVariants.{Equal, In, Less, LessOrEqual}
 use Rattle.grammar_core.specs.declared.operator.UnaryCall.{UnaryCall}
 use Rattle.grammar_core.specs.declared.operator.BinaryCall.{BinaryCall}
-use Rattle.grammar_core.specs.Size.{height, height_step, forms, forms_step, capped, greatest, total}
+use Rattle.grammar_core.specs.Size.{height, height_step, node_count, node_count_step, capped, greatest, total}
 use Rattle.grammar_core.proofs.Forms.{fold_literal, fold_variable, fold_if, fold_and, fold_or, fold_unary, fold_binary, fold_field, fold_has, fold_set, fold_unary_call, fold_binary_call}
 use Rattle.grammar_desugaring.specs.declared.fault.DesugarFault.{DesugarFault}
 use Rattle.grammar_desugaring.specs.declared.fault.DesugarFault.TheVariants.{UnknownCall, Arity}
@@ -28,7 +28,7 @@ use Rattle.grammar_desugaring.specs.Core.{compared, method_called, no_call}
 use Rattle.grammar_desugaring.specs.Core as spec
 use Rattle.grammar_desugaring.specs.Faults.{call_faults}
 use Rattle.grammar_desugaring.specs.Measured.{measure, of, of_row}
-use Rattle.grammar_desugaring.specs.Sums.{leaf, above, beside, paired, called, with_fault, measured_compared}
+use Rattle.grammar_desugaring.specs.Sums.{leaf, above, side_by_side, paired, called, with_fault, measured_compared}
 use Rattle.grammar_desugaring.proofs.Least.{least-append}
 
 pub same : (h k f g : ℕ) (o p : Option DesugarFault) → h ≡ k → f ≡ g → o ≡ p → measure h f o ≡ measure k g p
@@ -36,7 +36,7 @@ same h k f g o p a b c = ap (λ x. measure x f o) a ∙ ap (λ x. measure k x o)
 
 -- without the cap
 abbrev as_is : ℕ → ℕ → Option DesugarFault → Measure
-as_is h f o = record { height = h; forms = f; fault = o }
+as_is h f o = record { height = h; node_count = f; fault = o }
 
 made : (h k f g : ℕ) (o : Option DesugarFault) → h ≡ k → f ≡ g → as_is h f o ≡ as_is k g o
 made h k f g o a b = ap (λ x. as_is x f o) a ∙ ap (λ x. as_is k x o) b
@@ -47,32 +47,32 @@ capped_above h f o =
     let d : capped (f + 1) ≡ capped (capped f + 1) = omega arith in
     made (capped (h + 1)) (capped (capped h + 1)) (capped (f + 1)) (capped (capped f + 1)) o e d
 
-capped_beside : (h k f g : ℕ) (o p : Option DesugarFault) → measure (max h k) (f + g) (earlier_of o p) ≡ beside (measure h f o) (measure k g p)
+capped_beside : (h k f g : ℕ) (o p : Option DesugarFault) → measure (max h k) (f + g) (earlier_of o p) ≡ side_by_side (measure h f o) (measure k g p)
 capped_beside h k f g o p =
     let e : capped (max h k) ≡ capped (max (capped h) (capped k)) = omega arith in
     let d : capped (f + g) ≡ capped (capped f + capped g) = omega arith in
     made (capped (max h k)) (capped (max (capped h) (capped k))) (capped (f + g)) (capped (capped f + capped g)) (earlier_of o p) e d
 
 pub of-Literal : (l : Literal) (fs : List DesugarFault) → of (core.Literal l) fs ≡ leaf (least fs)
-of-Literal l fs = same _ _ _ _ _ _ (fold_literal ℕ height_step l) (fold_literal ℕ forms_step l) refl
+of-Literal l fs = same _ _ _ _ _ _ (fold_literal ℕ height_step l) (fold_literal ℕ node_count_step l) refl
 
 pub of-Variable : (v : Variable) (fs : List DesugarFault) → of (core.Variable v) fs ≡ leaf (least fs)
-of-Variable v fs = same _ _ _ _ _ _ (fold_variable ℕ height_step v) (fold_variable ℕ forms_step v) refl
+of-Variable v fs = same _ _ _ _ _ _ (fold_variable ℕ height_step v) (fold_variable ℕ node_count_step v) refl
 
 pub of-Unary : (op : Unary) (a : Expr) (fs : List DesugarFault) → of (core.Unary op a) fs ≡ above (of a fs)
-of-Unary op a fs = same _ _ _ _ _ _ (fold_unary ℕ height_step op a) (fold_unary ℕ forms_step op a) refl ∙ capped_above (height a) (forms a) (least fs)
+of-Unary op a fs = same _ _ _ _ _ _ (fold_unary ℕ height_step op a) (fold_unary ℕ node_count_step op a) refl ∙ capped_above (height a) (node_count a) (least fs)
 
 pub of-UnaryCall : (call : UnaryCall) (a : Expr) (fs : List DesugarFault) → of (core.UnaryCall call a) fs ≡ above (of a fs)
-of-UnaryCall call a fs = same _ _ _ _ _ _ (fold_unary_call ℕ height_step call a) (fold_unary_call ℕ forms_step call a) refl ∙ capped_above (height a) (forms a) (least fs)
+of-UnaryCall call a fs = same _ _ _ _ _ _ (fold_unary_call ℕ height_step call a) (fold_unary_call ℕ node_count_step call a) refl ∙ capped_above (height a) (node_count a) (least fs)
 
 pub of-Field : (a : Expr) (name : List ℕ) (fs : List DesugarFault) → of (core.Field a name) fs ≡ above (of a fs)
-of-Field a name fs = same _ _ _ _ _ _ (fold_field ℕ height_step a name) (fold_field ℕ forms_step a name) refl ∙ capped_above (height a) (forms a) (least fs)
+of-Field a name fs = same _ _ _ _ _ _ (fold_field ℕ height_step a name) (fold_field ℕ node_count_step a name) refl ∙ capped_above (height a) (node_count a) (least fs)
 
 pub of-Has : (a : Expr) (name : List ℕ) (fs : List DesugarFault) → of (core.Has a name) fs ≡ above (of a fs)
-of-Has a name fs = same _ _ _ _ _ _ (fold_has ℕ height_step a name) (fold_has ℕ forms_step a name) refl ∙ capped_above (height a) (forms a) (least fs)
+of-Has a name fs = same _ _ _ _ _ _ (fold_has ℕ height_step a name) (fold_has ℕ node_count_step a name) refl ∙ capped_above (height a) (node_count a) (least fs)
 
 pub of-Set : (es : List Expr) (fs : List DesugarFault) → of (core.Set es) fs ≡ above (of_row es fs)
-of-Set es fs = same _ _ _ _ _ _ (fold_set ℕ height_step es) (fold_set ℕ forms_step es) refl ∙ capped_above (greatest (map height es)) (total (map forms es)) (least fs)
+of-Set es fs = same _ _ _ _ _ _ (fold_set ℕ height_step es) (fold_set ℕ node_count_step es) refl ∙ capped_above (greatest (map height es)) (total (map node_count es)) (least fs)
 
 two : (h k f g : ℕ) (fs gs : List DesugarFault) → measure (max h k + 1) (f + g + 1) (least (fs ++ gs)) ≡ paired (measure h f (least fs)) (measure k g (least gs))
 two h k f g fs gs =
@@ -80,27 +80,27 @@ two h k f g fs gs =
     ∙ ap above (capped_beside h k f g (least fs) (least gs))
 
 pub of-And : (a b : Expr) (fs gs : List DesugarFault) → of (core.And a b) (fs ++ gs) ≡ paired (of a fs) (of b gs)
-of-And a b fs gs = same _ _ _ _ _ _ (fold_and ℕ height_step a b) (fold_and ℕ forms_step a b) refl ∙ two (height a) (height b) (forms a) (forms b) fs gs
+of-And a b fs gs = same _ _ _ _ _ _ (fold_and ℕ height_step a b) (fold_and ℕ node_count_step a b) refl ∙ two (height a) (height b) (node_count a) (node_count b) fs gs
 
 pub of-Or : (a b : Expr) (fs gs : List DesugarFault) → of (core.Or a b) (fs ++ gs) ≡ paired (of a fs) (of b gs)
-of-Or a b fs gs = same _ _ _ _ _ _ (fold_or ℕ height_step a b) (fold_or ℕ forms_step a b) refl ∙ two (height a) (height b) (forms a) (forms b) fs gs
+of-Or a b fs gs = same _ _ _ _ _ _ (fold_or ℕ height_step a b) (fold_or ℕ node_count_step a b) refl ∙ two (height a) (height b) (node_count a) (node_count b) fs gs
 
 pub of-Binary : (op : Binary) (a b : Expr) (fs gs : List DesugarFault) → of (core.Binary op a b) (fs ++ gs) ≡ paired (of a fs) (of b gs)
-of-Binary op a b fs gs = same _ _ _ _ _ _ (fold_binary ℕ height_step op a b) (fold_binary ℕ forms_step op a b) refl ∙ two (height a) (height b) (forms a) (forms b) fs gs
+of-Binary op a b fs gs = same _ _ _ _ _ _ (fold_binary ℕ height_step op a b) (fold_binary ℕ node_count_step op a b) refl ∙ two (height a) (height b) (node_count a) (node_count b) fs gs
 
 pub of-BinaryCall : (call : BinaryCall) (a b : Expr) (fs gs : List DesugarFault) → of (core.BinaryCall call a b) (fs ++ gs) ≡ paired (of a fs) (of b gs)
 of-BinaryCall call a b fs gs =
-    same _ _ _ _ _ _ (fold_binary_call ℕ height_step call a b) (fold_binary_call ℕ forms_step call a b) refl ∙ two (height a) (height b) (forms a) (forms b) fs gs
+    same _ _ _ _ _ _ (fold_binary_call ℕ height_step call a b) (fold_binary_call ℕ node_count_step call a b) refl ∙ two (height a) (height b) (node_count a) (node_count b) fs gs
 
 three : (a b c : ℕ) → a + b + c + 1 ≡ a + (b + c) + 1
 three a b c = omega arith
 
-pub of-If : (a b c : Expr) (fs gs hs : List DesugarFault) → of (core.If a b c) (fs ++ (gs ++ hs)) ≡ above (beside (of a fs) (beside (of b gs) (of c hs)))
+pub of-If : (a b c : Expr) (fs gs hs : List DesugarFault) → of (core.If a b c) (fs ++ (gs ++ hs)) ≡ above (side_by_side (of a fs) (side_by_side (of b gs) (of c hs)))
 of-If a b c fs gs hs =
-    same _ _ _ _ _ _ (fold_if ℕ height_step a b c) (fold_if ℕ forms_step a b c ∙ three (forms a) (forms b) (forms c)) refl
-    ∙ two (height a) (max (height b) (height c)) (forms a) (forms b + forms c) fs (gs ++ hs)
-    ∙ ap (λ j. above (beside (of a fs) j))
-    (ap (measure (max (height b) (height c)) (forms b + forms c)) (least-append gs hs) ∙ capped_beside (height b) (height c) (forms b) (forms c) (least gs) (least hs))
+    same _ _ _ _ _ _ (fold_if ℕ height_step a b c) (fold_if ℕ node_count_step a b c ∙ three (node_count a) (node_count b) (node_count c)) refl
+    ∙ two (height a) (max (height b) (height c)) (node_count a) (node_count b + node_count c) fs (gs ++ hs)
+    ∙ ap (λ j. above (side_by_side (of a fs) j))
+    (ap (measure (max (height b) (height c)) (node_count b + node_count c)) (least-append gs hs) ∙ capped_beside (height b) (height c) (node_count b) (node_count c) (least gs) (least hs))
 
 pub of-compared : (operator : Comparison) (a b : Expr) (fs gs : List DesugarFault) → of (compared operator a b) (fs ++ gs) ≡ measured_compared operator (of a fs) (of b gs)
 of-compared is.Less a b fs gs = of-Binary Less a b fs gs
@@ -121,21 +121,21 @@ total-snoc : (ns : List ℕ) (n : ℕ) → total (ns ++ n ∷ []) ≡ total ns +
 total-snoc [] n = omega arith
 total-snoc (m ∷ ns) n = let more : total (ns ++ n ∷ []) ≡ total ns + n = total-snoc ns n in omega arith
 
-pub row-snoc : (es : List Expr) (e : Expr) (fs gs : List DesugarFault) → of_row (es ++ e ∷ []) (fs ++ gs) ≡ beside (of_row es fs) (of e gs)
+pub row-snoc : (es : List Expr) (e : Expr) (fs gs : List DesugarFault) → of_row (es ++ e ∷ []) (fs ++ gs) ≡ side_by_side (of_row es fs) (of e gs)
 row-snoc es e fs gs =
     same _ _ _ _ _ _ (ap greatest (map-append height es (e ∷ [])) ∙ greatest-snoc (map height es) (height e))
-    (ap total (map-append forms es (e ∷ [])) ∙ total-snoc (map forms es) (forms e)) (least-append fs gs)
-    ∙ capped_beside (greatest (map height es)) (height e) (total (map forms es)) (forms e) (least fs) (least gs)
+    (ap total (map-append node_count es (e ∷ [])) ∙ total-snoc (map node_count es) (node_count e)) (least-append fs gs)
+    ∙ capped_beside (greatest (map height es)) (height e) (total (map node_count es)) (node_count e) (least fs) (least gs)
 
 -- with a row of no expressions, and faults of none
-no_row : (h f : ℕ) (fs gs : List DesugarFault) → measure h f (least (fs ++ gs)) ≡ beside (measure h f (least fs)) (of_row [] gs)
+no_row : (h f : ℕ) (fs gs : List DesugarFault) → measure h f (least (fs ++ gs)) ≡ side_by_side (measure h f (least fs)) (of_row [] gs)
 no_row h f fs gs =
     let e : capped h ≡ capped (max (capped h) (capped 0)) = omega arith in
     let d : capped f ≡ capped (capped f + capped 0) = omega arith in
     ap (measure h f) (least-append fs gs) ∙ made (capped h) (capped (max (capped h) (capped 0))) (capped f) (capped (capped f + capped 0)) (earlier_of (least fs) (least gs)) e d
 
 row_one : (e : Expr) (fs : List DesugarFault) → of_row (e ∷ []) fs ≡ of e fs
-row_one e fs = let a : max (height e) 0 ≡ height e = omega arith in let b : forms e + 0 ≡ forms e = omega arith in same _ _ _ _ _ _ a b refl
+row_one e fs = let a : max (height e) 0 ≡ height e = omega arith in let b : node_count e + 0 ≡ node_count e = omega arith in same _ _ _ _ _ _ a b refl
 
 -- a chain, whatever is put together
 pub fused : {S X : Type 0} (told : S → List DesugarFault → Measure) (step : S → X → S) (extra : X → List DesugarFault) (sum : Measure → X → Measure) →
@@ -181,7 +181,7 @@ count_refused true at gs row no' is = absurd (cc)
 count_refused false at gs row no' is = refused (Arity at) gs ∙ ap (λ o. leaf (earlier_of (Some (Arity at)) o)) (sym is)
 
 method_refused : (right : Bool) (at : ℕ) (e : Expr) (fs gs : List DesugarFault) (row : Measure) → right ≡ false → row.fault ≡ least gs →
-    of no_call (fs ++ (of_fault right at ++ gs)) ≡ called (least (of_fault right at)) (beside (of e fs) (with_fault (least (of_fault right at)) row))
+    of no_call (fs ++ (of_fault right at ++ gs)) ≡ called (least (of_fault right at)) (side_by_side (of e fs) (with_fault (least (of_fault right at)) row))
 method_refused true at e fs gs row no' is = absurd (cc)
 method_refused false at e fs gs row no' is = refused_behind (Arity at) fs gs ∙ ap (λ o. leaf (earlier_of (least fs) (earlier_of (Some (Arity at)) o))) (sym is)
 
@@ -195,11 +195,11 @@ of-called (Some f) at (e ∷ (d ∷ es)) gs = count_refused (nat_eq (suc (suc (l
 
 pub of-method : (m : Option Method) (at : ℕ) (e : Expr) (fs : List DesugarFault) (es : List Expr) (gs : List DesugarFault) →
     of (method_called m e es) (fs ++ (call_faults at (method_takes m) (length es) ++ gs))
-    ≡ called (least (call_faults at (method_takes m) (length es))) (beside (of e fs) (with_fault (least (call_faults at (method_takes m) (length es))) (of_row es gs)))
+    ≡ called (least (call_faults at (method_takes m) (length es))) (side_by_side (of e fs) (with_fault (least (call_faults at (method_takes m) (length es))) (of_row es gs)))
 of-method None at e fs es gs = refused_behind (UnknownCall at) fs gs
 of-method (Some (method.Alone call)) at e fs [] gs =
     of-UnaryCall call e (fs ++ gs)
-    ∙ ap above (no_row (height e) (forms e) fs gs)
+    ∙ ap above (no_row (height e) (node_count e) fs gs)
 of-method (Some (method.Alone call)) at e fs (x ∷ xs) gs = method_refused (nat_eq (suc (length xs)) 0) at e fs gs (of_row (x ∷ xs) gs) (some (length xs)) refl
 of-method (Some (method.Operator op)) at e fs [] gs = refused_behind (Arity at) fs gs
 of-method (Some (method.Operator op)) at e fs (x ∷ []) gs = of-Binary op e x fs gs ∙ ap (paired (of e fs)) (sym (row_one x gs))

@@ -1,12 +1,12 @@
--- Defines what it means that a tree is made of tokens that a text spells.
+-- Defines when a tree is made of tokens that a text spells.
 use Rattle.std.specs.Prelude.{ℕ, List}
 use Rattle.std.specs.List.{AllByRecursion}
 use Rattle.grammar_trees.specs.grammar_tokens.declared.token.Token.{Token}
 use Rattle.grammar_trees.specs.grammar_tokens.Lexing.{IsSpelledIn}
 
--- `IsBuiltFrom text WellFormed` holds if there are tokens, each spelled in `text`, of which `WellFormed` holds: it says
--- of a tree that it is made of given tokens.
+-- `IsBuiltFrom text WellFormed` holds if there are tokens `ts`, each spelled in `text`, for which `WellFormed ts`
+-- holds, where `WellFormed ts` states that some tree is made of the tokens `ts`.
 pub record IsBuiltFrom (text : List ℕ) (WellFormed : List Token → Type 0) : Type 0 where
   pub tokens : List Token
   pub spelled : AllByRecursion (IsSpelledIn text) tokens
-  pub stands : WellFormed tokens
+  pub is_well_formed : WellFormed tokens

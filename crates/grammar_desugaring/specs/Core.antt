@@ -41,11 +41,11 @@ pub record Meaning : Type 0 where
 abbrev pub long : ℤ → Expr
 long n = core.Literal (literal.Long n)
 
--- `number digits` is the meaning of a number: a minus before it belongs to it.
+-- `number digits` is the meaning of a number. A minus before a number belongs to the number.
 abbrev pub number : List ℕ → Meaning
 number digits = record { alone = long (positive digits); negated = long (negative digits) }
 
--- `plain e` is the meaning of any other tree, with the expression `e`: a minus before it is an operator.
+-- `plain e` is the meaning of any other tree, with the expression `e`. A minus before such a tree is an operator.
 abbrev pub plain : Expr → Meaning
 plain e = record { alone = e; negated = core.Unary Negate e }
 
@@ -59,8 +59,8 @@ compared is.Equal a b = core.Binary Equal a b
 compared is.NotEqual a b = core.Unary Not (core.Binary Equal a b)
 compared is.In a b = core.Binary In a b
 
--- `no_call` is the placeholder for a call that is rejected, since no function or method has the name and this number of
--- arguments.
+-- `no_call` is the placeholder for a call that is rejected, since no function or method has its name and takes its
+-- number of arguments.
 abbrev pub no_call : Expr
 no_call = core.Literal (literal.Boolean false)
 
@@ -74,12 +74,13 @@ function_at text first (word ∷ more) = None
 abbrev pub function : List ℕ → PathTree → Option UnaryCall
 function text path = function_at text path.first path.more
 
--- `called function arguments` is a call of `function`, or the placeholder.
+-- `called function arguments` is the call of `function` with `arguments`, or `no_call` if there is no such call.
 abbrev pub called : Option UnaryCall → List Expr → Expr
 called (Some call) (a ∷ []) = core.UnaryCall call a
 called _ _ = no_call
 
--- `method_called method receiver arguments` is a call of `method`, or the placeholder.
+-- `method_called method receiver arguments` is the call of `method` of `receiver` with `arguments`, or `no_call` if
+-- there is no such call.
 abbrev pub method_called : Option Method → Expr → List Expr → Expr
 method_called (Some (method.Alone call)) receiver [] = core.UnaryCall call receiver
 method_called (Some (method.Operator operator)) receiver (a ∷ []) = core.Binary operator receiver a
@@ -116,7 +117,7 @@ module _ {A B : Type 0} (f : A → B) where
 abbrev by_itself : Meaning → Expr
 by_itself m = m.alone
 
--- `core_step text x` is the meaning of the node `x`, given the meanings of its subexpressions in the place of these.
+-- `core_step text x` is the meaning of the node `x`, in which every subexpression is replaced by its meaning.
 abbrev pub core_step : List ℕ → tree Meaning → Meaning
 core_step text (tree.Boolean value) = plain (core.Literal (literal.Boolean value))
 core_step text (tree.Number t) = number (spelling_of text t)
@@ -156,7 +157,7 @@ negated text x = (meaning text x).negated
 
 -- ## Steps of the code's loops
 
--- `joined_by chain a b` joins two operands of a chain.
+-- `joined_by chain a b` is the operator of `chain` with the operands `a` and `b`.
 abbrev pub joined_by : Chain → Expr → Expr → Expr
 joined_by chain.Product = core.Binary Multiply
 joined_by (chain.Sum sign) = core.Binary (sign_of sign)
@@ -168,7 +169,8 @@ abbrev pub single_of : List Expr → Option Expr
 single_of (a ∷ []) = Some a
 single_of _ = None
 
--- `called_with method receiver a` is a call of `method` with one argument, or the placeholder.
+-- `called_with method receiver a` is the call of `method` of `receiver` with the argument `a`, or `no_call` if `method`
+-- takes no argument.
 abbrev pub called_with : Method → Expr → Expr → Expr
 called_with (method.Alone call) receiver a = no_call
 called_with (method.Operator operator) receiver a = core.Binary operator receiver a

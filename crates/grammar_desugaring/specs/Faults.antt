@@ -1,4 +1,5 @@
--- Defines the errors of a syntax tree over the text that its tokens are in: its own, and then those of its parts.
+-- Defines the errors of a syntax tree over the text that its tokens are in. The list has the errors of a call of a
+-- function, or of a record, before those of its parts; and those of an expression before those of each access to it.
 -- Source: Cedar reference guide 4.0, "Data types: Long", "Data types: Record", "Operators and functions". The offsets
 -- are a rule of this product.
 use Rattle.std.specs.Prelude.{ℕ, Bool, List, [], ◌∷◌, ◌++◌, map, length, Option, Some, None, nat_eq, if◌then◌else◌}
@@ -29,8 +30,8 @@ pub record Faulty : Type 0 where
 abbrev pub either_way : List DesugarFault → Faulty
 either_way faults = record { alone = faults; negated = faults }
 
--- `range within t` is the error of the number at the token `t`, where `within` says whether it is in range; `[]` if it
--- is.
+-- `range within t` is the error of the number at the token `t`, or `[]` if `within` is true, where `within` says
+-- whether the number is in range.
 abbrev pub range : Bool → Token → List DesugarFault
 range within t = if within then [] else NumberRange t.start ∷ []
 
@@ -45,8 +46,8 @@ call_faults at (Some takes) count = if nat_eq count takes then [] else Arity at 
 abbrev pub function_faults : List ℕ → PathTree → ℕ → List DesugarFault
 function_faults text path count = call_faults path.first.start (function_takes (function text path)) count
 
--- `access_faults text access` are the errors of an access, given those of its arguments: that of a method, at its name,
--- and then those of the arguments.
+-- `access_faults text access` are the errors of an access, in which every argument is replaced by its errors: that of
+-- the call of a method, at the method's name, and then those of the arguments.
 abbrev pub access_faults : List ℕ → Access (List (List DesugarFault)) → List DesugarFault
 access_faults text (access.Field key) = []
 access_faults text (access.Method name arguments) =
@@ -64,7 +65,7 @@ by_itself f = f.alone
 abbrev in_all : List Faulty → List DesugarFault
 in_all = flat_map by_itself
 
--- `fault_step text x` are the errors of the node `x`, given those of its subexpressions in the place of these.
+-- `fault_step text x` are the errors of the node `x`, in which every subexpression is replaced by its errors.
 abbrev pub fault_step : List ℕ → tree Faulty → Faulty
 fault_step text (tree.Boolean value) = either_way []
 fault_step text (tree.Number t) =

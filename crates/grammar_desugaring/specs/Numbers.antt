@@ -8,15 +8,16 @@ use Rattle.std.specs.List.{fold}
 abbrev pub written : List ℕ → ℕ
 written digits = fold (λ n digit. 10 * n + (digit - code "0")) 0 digits
 
--- `fits digits` and `fits_negated digits` test whether this number is in range by itself, and after a minus.
+-- `fits digits` and `fits_negated digits` test whether `written digits` is in the range of signed 64 bits by itself,
+-- and after a minus.
 abbrev pub fits : List ℕ → Bool
 fits digits = nat_lt (written digits) (2 ^ 63)
 
 abbrev pub fits_negated : List ℕ → Bool
 fits_negated digits = nat_le (written digits) (2 ^ 63)
 
--- `positive digits` and `negative digits` are the number by itself, and after a minus; 0 if it is out of range, which
--- is an error.
+-- `positive digits` and `negative digits` are `written digits` by itself, and after a minus; 0 if the number is out of
+-- range, which is an error.
 abbrev pub positive : List ℕ → ℤ
 positive digits = if fits digits then pos (written digits) else pos 0
 

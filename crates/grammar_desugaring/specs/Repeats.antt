@@ -1,4 +1,4 @@
--- Defines the offsets at which names repeat an earlier one, as a list, and the errors there.
+-- Defines the list of the offsets at which a name occurs that also occurs earlier, and the errors at these offsets.
 -- Source: Cedar reference guide 4.0, "Data types: Record": the keys of a record are distinct.
 use Rattle.std.specs.Prelude.{◌≡◌, ◌↔◌, ℕ, List, [], ◌∷◌, ◌++◌, map, filter, Contains}
 use Rattle.std.specs.Str.{bytes_eq}
@@ -17,7 +17,7 @@ abbrev pub repeats : List NameAt → List ℕ
 repeats [] = []
 repeats (mark ∷ behind) = places_of mark.name behind ++ repeats behind
 
--- `repeat_faults marks` are the errors at these offsets.
+-- `repeat_faults marks` are the errors `RepeatedKey` at the offsets `repeats marks`.
 abbrev pub repeat_faults : List NameAt → List DesugarFault
 repeat_faults marks = map RepeatedKey (repeats marks)
 
@@ -27,7 +27,7 @@ repeat_faults marks = map RepeatedKey (repeats marks)
 abbrev pub RepeatsAreExact : Type 0
 RepeatsAreExact = (marks : List NameAt) (at : ℕ) → Contains (repeats marks) at ↔ IsRepeatedAt marks at
 
--- `RepeatsAreReported`: the reported error depends only on the set of these offsets.
+-- `RepeatsAreReported`: the reported error depends only on the set of the offsets of repeated names.
 abbrev pub RepeatsAreReported : Type 0
 RepeatsAreReported = (marks others : List NameAt) → ((at : ℕ) → IsRepeatedAt marks at → IsRepeatedAt others at) →
     ((at : ℕ) → IsRepeatedAt others at → IsRepeatedAt marks at) →

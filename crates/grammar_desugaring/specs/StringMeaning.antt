@@ -1,11 +1,12 @@
--- Defines what functions that give strings their meaning must satisfy.
+-- Defines functions that give a string its value, and a pattern its literal texts.
 -- Source: Cedar reference guide 4.0, "Data types: String" and "Operators: like".
 use Rattle.std.specs.Prelude.{◌≡◌, ℕ, List}
 use Rattle.grammar_trees.specs.grammar_tokens.Strings.{IsStringOf, IsPatternOf}
 
--- A `StringMeaning` has two functions of a string in its quotes: one gives its value, the other its literal texts as a
--- pattern, both as the grammar of strings and their escapes defines them. They may give anything for a text that is not
--- a string. For example, the value of `"a\n"` has two bytes, an `a` and a line feed.
+-- A `StringMeaning` has two functions of a string as it is written, with its quotes. As the grammar of strings and
+-- escapes defines it, `value` gives the string's value, and `pattern` the literal texts before, between and after its
+-- wildcards. For example, the value of `"a\n"` has two bytes, an `a` and a line feed. For a text that is not a string
+-- the functions may give anything.
 pub record StringMeaning : Type 0 where
   pub value : List ℕ → List ℕ
   pub pattern : List ℕ → List (List ℕ)

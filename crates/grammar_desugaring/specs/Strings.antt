@@ -9,8 +9,7 @@ use Rattle.grammar_desugaring.specs.inner.StringReading.{string_meaning}
 abbrev pub value_of : List ℕ → List ℕ
 value_of = string_meaning.value
 
--- `pattern_of spelling` are the literal texts of the string `spelling` as a pattern, which has a wildcard between each
--- two.
+-- `pattern_of spelling` are the literal texts of the string `spelling` as a pattern, with a wildcard between each two.
 abbrev pub pattern_of : List ℕ → List (List ℕ)
 pattern_of = string_meaning.pattern
 

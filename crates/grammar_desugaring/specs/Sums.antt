@@ -22,8 +22,8 @@ use Rattle.grammar_core.specs.Operators.{method_of, method_takes}
 use Rattle.grammar_desugaring.specs.Faults.{call_faults, function_faults}
 use Rattle.grammar_desugaring.specs.Measured.{measure, of, measured}
 
--- `nothing` is the measure of no expressions side by side; `leaf fault` is that of a node without operands,
--- with the error `fault`, if any.
+-- `nothing` is the measure of no expressions side by side; `leaf fault` is that of a node without operands, with the
+-- error `fault`, if there is one.
 abbrev pub nothing : Measure
 nothing = measure 0 0 None
 
@@ -32,25 +32,26 @@ leaf fault = measure 1 1 fault
 
 -- `above j` is the measure of a node over one operand of the measure `j`.
 abbrev pub above : Measure → Measure
-above j = measure (j.height + 1) (j.forms + 1) j.fault
+above j = measure (j.height + 1) (j.node_count + 1) j.fault
 
--- `beside i j` is the measure of two expressions side by side, with the measures `i` and `j`; `paired i j` is that of a
--- node over both.
-abbrev pub beside : Measure → Measure → Measure
-beside i j = measure (max i.height j.height) (i.forms + j.forms) (earlier_of i.fault j.fault)
+-- `side_by_side i j` is the measure of two expressions side by side, with the measures `i` and `j`; `paired i j` is
+-- that of a node over both.
+abbrev pub side_by_side : Measure → Measure → Measure
+side_by_side i j = measure (max i.height j.height) (i.node_count + j.node_count) (earlier_of i.fault j.fault)
 
 abbrev pub paired : Measure → Measure → Measure
-paired i j = above (beside i j)
+paired i j = above (side_by_side i j)
 
--- `called fault operands` is the measure of a call, where `operands` is that of its operands side by side: if the call
--- has an error of its own, its core expression is a placeholder, a leaf.
+-- `called fault operands` is the measure of a call, where `fault` is the call's own error, and `operands` is the
+-- measure of its operands side by side. A call with an error of its own has a placeholder, a leaf, as its core
+-- expression.
 abbrev pub called : Option DesugarFault → Measure → Measure
 called None operands = above operands
 called (Some fault) operands = leaf operands.fault
 
 -- `with_fault fault j` is the measure `j` with the earlier of `fault` and the error of `j`.
 abbrev pub with_fault : Option DesugarFault → Measure → Measure
-with_fault fault j = record { height = j.height; forms = j.forms; fault = earlier_of fault j.fault }
+with_fault fault j = record { height = j.height; node_count = j.node_count; fault = earlier_of fault j.fault }
 
 -- ## Theorems
 
@@ -72,21 +73,22 @@ AndIsPaired = (a b : Expr) (faults more : List DesugarFault) →
 
 -- `measured_all text xs` is the measure of the trees `xs` side by side.
 abbrev pub measured_all : List ℕ → List ExprTree → Measure
-measured_all text xs = fold (λ j x. beside j (measured text x)) nothing xs
+measured_all text xs = fold (λ j x. side_by_side j (measured text x)) nothing xs
 
 -- `measured_chain text j xs` is the measure of a chain of operands: the first with the measure `j`, and then the trees
 -- `xs`.
 abbrev pub measured_chain : List ℕ → Measure → List ExprTree → Measure
 measured_chain text = fold (λ j x. paired j (measured text x))
 
--- `measured_term text j term` is the measure of a sum whose last term is `term`; `j` is that of the sum before it.
+-- `measured_term text j term` is the measure of a sum whose last term is `term`, where `j` is the measure of the sum
+-- before that term.
 abbrev pub measured_term : List ℕ → Measure → Term ExprTree → Measure
 measured_term text j term = paired j (measured text term.operand)
 
--- `measured_entry text j entry` is the measure of entries of a record side by side, the last of which is `entry`; `j`
--- is that of those before it.
+-- `measured_entry text j entry` is the measure of entries of a record side by side, the last of which is `entry`, where
+-- `j` is the measure of the entries before it.
 abbrev pub measured_entry : List ℕ → Measure → RecordEntry ExprTree → Measure
-measured_entry text j entry = beside j (measured text entry.value)
+measured_entry text j entry = side_by_side j (measured text entry.value)
 
 -- `measured_compared operator i j` is the measure of a comparison of operands with the measures `i` and `j`. `>`, `>=`
 -- and `!=` become negations, which have one more node.
@@ -99,7 +101,7 @@ measured_compared is.Equal i j = paired i j
 measured_compared is.NotEqual i j = above (paired i j)
 measured_compared is.In i j = paired i j
 
--- `measured_call text path arguments` is the measure of a call of the function `path`.
+-- `measured_call text path arguments` is the measure of a call of the function `path` with `arguments`.
 abbrev pub measured_call : List ℕ → PathTree → List ExprTree → Measure
 measured_call text path arguments =
     let fault = least (function_faults text path (length arguments)) in
@@ -110,4 +112,4 @@ abbrev pub measured_access : List ℕ → Measure → Access (List ExprTree) →
 measured_access text j (access.Field key) = above j
 measured_access text j (access.Method name arguments) =
     let fault = least (call_faults name.start (method_takes (method_of (spelling_of text name))) (length arguments)) in
-    called fault (beside j (with_fault fault (measured_all text arguments)))
+    called fault (side_by_side j (with_fault fault (measured_all text arguments)))

@@ -36,7 +36,7 @@ pub(crate) fn build_tree(alloc: Global, text: &str, tree: &ExprTree) -> Result<E
             function_at(text, path),
             build_all(alloc, text, arguments.as_slice()),
         ),
-        ExprTree::Parentheses(inner) => build_tree(alloc, text, inner.get()),
+        ExprTree::Parentheses(inner) => build_tree(alloc, text, inner),
         ExprTree::Set(members) => Ok(Expr::Set(build_all(alloc, text, members.as_slice())?)),
         ExprTree::Record(entries) => Ok(Expr::Record(build_entries(
             alloc,
@@ -44,33 +44,33 @@ pub(crate) fn build_tree(alloc: Global, text: &str, tree: &ExprTree) -> Result<E
             entries.as_slice(),
         )?)),
         ExprTree::Member(inner, accesses) => build_accesses(alloc, text, accesses, inner),
-        ExprTree::Not(inner) => apply(alloc, Unary::Not, build_tree(alloc, text, inner.get())),
-        ExprTree::Minus(inner) => build_behind_minus(alloc, text, inner.get()),
+        ExprTree::Not(inner) => apply(alloc, Unary::Not, build_tree(alloc, text, inner)),
+        ExprTree::Minus(inner) => build_behind_minus(alloc, text, inner),
         ExprTree::Product(inner, more) => build_chain(alloc, text, more, inner, Chain::Product),
         ExprTree::Sum(inner, terms) => build_terms(alloc, text, terms, inner),
         ExprTree::Compare(left, operator, right) => {
             compare(alloc, *operator, build_both(alloc, text, left, right))
         }
-        ExprTree::Has(inner, key) => has(alloc, text, build_tree(alloc, text, inner.get()), *key),
+        ExprTree::Has(inner, key) => has(alloc, text, build_tree(alloc, text, inner), *key),
         ExprTree::Like(inner, token) => {
-            like(alloc, text, build_tree(alloc, text, inner.get()), *token)
+            like(alloc, text, build_tree(alloc, text, inner), *token)
         }
-        ExprTree::Is(inner, path) => is(alloc, text, build_tree(alloc, text, inner.get()), path),
+        ExprTree::Is(inner, path) => is(alloc, text, build_tree(alloc, text, inner), path),
         ExprTree::IsIn(inner, path, outer) => {
             is_in(alloc, text, build_both(alloc, text, inner, outer), path)
         }
         ExprTree::And(inner, more) => build_chain(alloc, text, more, inner, Chain::And),
         ExprTree::Or(inner, more) => build_chain(alloc, text, more, inner, Chain::Or),
         ExprTree::If(test, consequent, alternative) => {
-            let first = build_tree(alloc, text, test.get());
-            let second = build_tree(alloc, text, consequent.get());
-            let third = build_tree(alloc, text, alternative.get());
+            let first = build_tree(alloc, text, test);
+            let second = build_tree(alloc, text, consequent);
+            let third = build_tree(alloc, text, alternative);
             if_then_else(alloc, first, second, third)
         }
     }
 }
 
-/// Returns the core expression of a tree after a minus, which belongs to the tree if that is a number.
+/// Returns the core expression of a tree after a minus. A minus before a number belongs to the number.
 #[cycle(build)]
 fn build_behind_minus(alloc: Global, text: &str, tree: &ExprTree) -> Result<Expr, NoMemory>
     requires { WellFormed text.now tree.now }
@@ -93,8 +93,8 @@ fn build_both(
     requires { WellFormed text.now left.now × WellFormed text.now right.now }
     ensures { IfOk result (λ pair. pair ≡ (core_of text.now left.now, core_of text.now right.now)) }
 {
-    let first = build_tree(alloc, text, left.get());
-    both(first, build_tree(alloc, text, right.get()))
+    let first = build_tree(alloc, text, left);
+    both(first, build_tree(alloc, text, right))
 }
 
 /// Returns the core expressions of some trees, in order.
@@ -128,7 +128,7 @@ fn build_entries(
     Ok(Items::from_vec(row))
 }
 
-/// Returns the core expression of a chain of operands.
+/// Returns the core expression of the operands `first` and `more` of a chain, grouped to the left.
 #[cycle(build)]
 fn build_chain(
     alloc: Global,
@@ -142,7 +142,7 @@ fn build_chain(
         (λ e. e ≡ fold (spec.joined_by chain) (core_of text.now first.now) (map (core_of text.now) more.now)) }
 {
     let trees = more.as_slice();
-    let mut left = build_tree(alloc, text, first.get())?;
+    let mut left = build_tree(alloc, text, first)?;
     for tree in trees {
         left = join_next(alloc, chain, left, build_tree(alloc, text, tree))?;
     }
@@ -162,7 +162,7 @@ fn build_terms(
         (λ e. e ≡ fold spec.added (core_of text.now first.now) (map (spec.in_term (core_of text.now)) more.now)) }
 {
     let terms = more.as_slice();
-    let mut left = build_tree(alloc, text, first.get())?;
+    let mut left = build_tree(alloc, text, first)?;
     for term in terms {
         let right = build_tree(alloc, text, &term.operand);
         left = join_next(alloc, Chain::Sum(term.sign), left, right)?;
@@ -185,7 +185,7 @@ fn build_accesses(
         (map (spec.in_access (core_of text.now)) more.now)) }
 {
     let accesses = more.as_slice();
-    let mut left = build_tree(alloc, text, receiver.get())?;
+    let mut left = build_tree(alloc, text, receiver)?;
     for access in accesses {
         left = build_access(alloc, text, access, left)?;
     }

@@ -5,7 +5,7 @@ ghost use Rattle.grammar_core.specs.declared.operator.Method.TheVariants as meth
 ghost use Rattle.grammar_desugaring.specs.inner.Giving.{Gave};
 
 use grammar_core::{Expr, Literal, Method, UnaryCall};
-use plain::{Items, NoMemory, beside};
+use plain::{Items, NoMemory, pair_with};
 use std::alloc::Global;
 
 /// Returns the placeholder for a call that is rejected, and drops its parts.
@@ -82,7 +82,7 @@ pub(crate) fn call_with_row(
 ) -> Result<Expr, NoMemory>
     ensures { IfOk result (λ e. Gave arguments (λ es. e ≡ spec.method_called method receiver es)) }
 {
-    let (receiver, arguments) = beside(receiver, arguments)?;
+    let (receiver, arguments) = pair_with(receiver, arguments)?;
     match method {
         None => Ok(no_call(receiver, arguments)),
         Some(Method::Alone(called)) => call_alone(alloc, called, receiver, arguments),

@@ -4,7 +4,7 @@ ghost use Rattle.grammar_desugaring.specs.Refused as spec;
 
 use thiserror::Error;
 
-/// Why a tree does not have a core expression. Each offset is that of a byte, counted from 0.
+/// A reason why a tree does not have a core expression. Each offset is that of a byte, counted from 0.
 #[derive(Clone, Copy, Debug, Error)]
 pub enum DesugarFault {
     /// The number at this token is outside signed 64 bits.

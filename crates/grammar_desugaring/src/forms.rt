@@ -1,4 +1,5 @@
-//! Core expressions made of their operands. An operand is a result, since building it may fail; its error is returned.
+//! Core expressions made of their operands. An operand is passed as a result, since building it may fail; the functions
+//! return its error.
 ghost use Rattle.std.specs.Prelude.{◌≡◌, IfOk};
 ghost use Rattle.grammar_trees.specs.grammar_tokens.Lexing.{spelling_of};
 ghost use Rattle.grammar_core.specs.declared.operator.Unary.TheVariants as unary;
@@ -15,7 +16,7 @@ use crate::pairs::{all_three, both};
 use crate::words::{name, path_type, pattern, sign};
 use grammar_core::{Binary, Expr, Named, Unary};
 use grammar_trees::{Comparison, KeyTree, PathTree, Sign, Token};
-use plain::{NoMemory, Text, beside};
+use plain::{NoMemory, Text, pair_with};
 use std::alloc::Global;
 
 /// The operator that joins the operands of a chain.
@@ -51,7 +52,7 @@ pub(crate) fn has(
     Expr::has(alloc, owner, name)
 }
 
-/// Returns `operand like pattern`.
+/// Returns `operand like pattern`, where the pattern is the string at `token`.
 pub(crate) fn like(
     alloc: Global,
     text: &str,
@@ -157,7 +158,7 @@ pub(crate) fn compare(
     }
 }
 
-/// Joins a chain with its next operand.
+/// Returns the chain `left` joined with its next operand.
 pub(crate) fn join_next(
     alloc: Global,
     chain: Chain,
@@ -166,7 +167,7 @@ pub(crate) fn join_next(
 ) -> Result<Expr, NoMemory>
     ensures { IfOk result (λ e. Gave right (λ b. e ≡ spec.joined_by chain left b)) }
 {
-    let (left, right) = beside(left, right)?;
+    let (left, right) = pair_with(left, right)?;
     match chain {
         Chain::Product => Expr::binary(alloc, Binary::Multiply, left, right),
         Chain::Sum(before) => Expr::binary(alloc, sign(before), left, right),

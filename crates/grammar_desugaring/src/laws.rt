@@ -19,8 +19,8 @@ pub fn strings_are_read()
     ensures patterns { PatternIsPattern }
 {}
 
-/// Proves that `repeats` has exactly the offsets of names that occur earlier, and that the reported error depends only
-/// on the set of these offsets. No-op.
+/// Proves that `repeats` has exactly the offsets of names that also occur earlier, and that the reported error depends
+/// only on the set of these offsets. No-op.
 pub fn repeats_are_exact()
     ensures again { RepeatsAreExact }
     ensures told { RepeatsAreReported }

@@ -31,7 +31,7 @@ pub(crate) fn variable(word: grammar_trees::RequestKeyword) -> Expr
     }
 }
 
-/// Returns the literal of a number by itself.
+/// Returns the literal of the number at `token`, without a minus before it.
 pub(crate) fn number_literal(text: &str, token: Token) -> Expr
     requires { TokenIn text.now (only k.Number) token }
     ensures { result ≡ spec.long (positive (spelling_of text.now token)) }
@@ -39,7 +39,7 @@ pub(crate) fn number_literal(text: &str, token: Token) -> Expr
     Expr::Literal(Literal::Long(numbers::positive(spelling(text, token).as_bytes())))
 }
 
-/// Returns the literal of a number after a minus, which belongs to it.
+/// Returns the literal of the number at `token`, after a minus. The minus belongs to the number.
 pub(crate) fn negated_literal(text: &str, token: Token) -> Expr
     requires { TokenIn text.now (only k.Number) token }
     ensures { result ≡ spec.long (negative (spelling_of text.now token)) }
@@ -47,7 +47,7 @@ pub(crate) fn negated_literal(text: &str, token: Token) -> Expr
     Expr::Literal(Literal::Long(numbers::negative(spelling(text, token).as_bytes())))
 }
 
-/// Returns the literal of a string.
+/// Returns the literal of the string at `token`.
 pub(crate) fn text_literal(alloc: Global, text: &str, token: Token) -> Result<Expr, NoMemory>
     requires { TokenIn text.now (only k.Text) token }
     ensures { IfOk result (λ e. e ≡ core.Literal (literal.Text (value_of (spelling_of text.now token)))) }

@@ -11,7 +11,7 @@ pub struct Measure {
     /// The height; 1 for a leaf.
     pub height: u32,
     /// The number of nodes.
-    pub forms: u32,
+    pub node_count: u32,
     /// The error at the least offset, or `None`: then the tree has a core expression.
     pub fault: Option<DesugarFault>,
 }
@@ -23,18 +23,18 @@ impl Measure {
     {
         Measure {
             height: 0,
-            forms: 0,
+            node_count: 0,
             fault: None,
         }
     }
 
-    /// Returns the measure of an expression without operands.
+    /// Returns the measure of an expression without operands, with the error `fault`, if there is one.
     pub(crate) fn leaf(fault: Option<DesugarFault>) -> Measure
         ensures { result ≡ spec.leaf fault }
     {
         Measure {
             height: 1,
-            forms: 1,
+            node_count: 1,
             fault,
         }
     }
@@ -45,31 +45,32 @@ impl Measure {
     {
         Measure {
             height: self.height.saturating_add(1),
-            forms: self.forms.saturating_add(1),
+            node_count: self.node_count.saturating_add(1),
             fault: self.fault,
         }
     }
 
     /// Returns the measure of two expressions side by side.
-    pub(crate) fn beside(self, other: Measure) -> Measure
-        ensures { result ≡ spec.beside self other }
+    pub(crate) fn side_by_side(self, other: Measure) -> Measure
+        ensures { result ≡ spec.side_by_side self other }
     {
         Measure {
             height: self.height.max(other.height),
-            forms: self.forms.saturating_add(other.forms),
+            node_count: self.node_count.saturating_add(other.node_count),
             fault: earlier_of(self.fault, other.fault),
         }
     }
 
-    /// Returns the measure of a node over two operands. Of two errors at one offset, it has the first operand's.
+    /// Returns the measure of a node over two operands. Of two errors at one offset, the measure has that of the first
+    /// operand.
     pub fn paired(self, other: Measure) -> Measure
         ensures { result ≡ spec.paired self other }
     {
-        self.beside(other).above()
+        self.side_by_side(other).above()
     }
 
-    /// Returns the measure of a call with these operands, whose own error is `fault`: with one, the core expression is
-    /// a placeholder, a leaf.
+    /// Returns the measure of a call, where `self` is the measure of its operands, and `fault` is the call's own error.
+    /// A call with an error of its own has a placeholder, a leaf, as its core expression.
     pub(crate) fn called(self, fault: Option<DesugarFault>) -> Measure
         ensures { result ≡ spec.called fault self }
     {
@@ -79,13 +80,13 @@ impl Measure {
         }
     }
 
-    /// Returns the measure with one more error.
+    /// Returns the measure with the earlier of `fault` and its own error.
     pub(crate) fn with_fault(self, fault: Option<DesugarFault>) -> Measure
         ensures { result ≡ spec.with_fault fault self }
     {
         Measure {
             height: self.height,
-            forms: self.forms,
+            node_count: self.node_count,
             fault: earlier_of(fault, self.fault),
         }
     }

@@ -1,5 +1,5 @@
-//! Measuring of a tree: whether it has a core expression, and the size of that, found without building it. Only the
-//! keys of records are allocated.
+//! Functions that measure a tree: whether it has a core expression, and the size of that expression, without building
+//! it. They allocate only the keys of records.
 ghost use Rattle.std.specs.Prelude.{◌≡◌, IfOk};
 ghost use Rattle.std.specs.List.{AllByRecursion, fold};
 ghost use Rattle.grammar_trees.specs.grammar_tokens.declared.token.TokenKind.TheVariants as k;
@@ -29,12 +29,13 @@ use plain::{Boxed, Items, NoMemory};
 use std::alloc::Global;
 
 /// A measure, or `NoMemory`.
-type Told = Result<Measure, NoMemory>;
+type MeasureResult = Result<Measure, NoMemory>;
 
 /// Two measures, or `NoMemory`.
 type BothMeasured = Result<(Measure, Measure), NoMemory>;
 
-/// Returns the error of a number, or `None` if it is `within` range.
+/// Returns the error of the number at `token`, or `None` if `within` is true, where `within` says whether the number is
+/// in range.
 fn range_fault(within: bool, token: Token) -> Option<DesugarFault>
     ensures { result ≡ least (range within token) }
 {
@@ -45,7 +46,7 @@ fn range_fault(within: bool, token: Token) -> Option<DesugarFault>
     }
 }
 
-/// Returns the measure of a number by itself.
+/// Returns the measure of the number at `token`, without a minus before it.
 fn measure_number(text: &str, token: Token) -> Measure
     requires { TokenIn text.now (only k.Number) token }
     ensures { result ≡ spec.leaf (least (range (number.fits (spelling_of text.now token)) token)) }
@@ -54,7 +55,7 @@ fn measure_number(text: &str, token: Token) -> Measure
     Measure::leaf(range_fault(fits(digits), token))
 }
 
-/// Returns the measure of a number after a minus, which belongs to it.
+/// Returns the measure of the number at `token`, after a minus. The minus belongs to the number.
 fn measure_negated_number(text: &str, token: Token) -> Measure
     requires { TokenIn text.now (only k.Number) token }
     ensures { result ≡ spec.leaf (least (range (number.fits_negated (spelling_of text.now token)) token)) }
@@ -63,7 +64,8 @@ fn measure_negated_number(text: &str, token: Token) -> Measure
     Measure::leaf(range_fault(fits_negated(digits), token))
 }
 
-/// Returns the error of a call with `count` arguments of a name that takes `takes`, or that is unknown (`None`).
+/// Returns the error of a call at offset `at` with `count` arguments, of a name that takes `takes` arguments, or that
+/// is unknown (`None`).
 fn call_fault(at: usize, takes: Option<usize>, count: usize) -> Option<DesugarFault>
     ensures { result ≡ least (call_faults at takes count) }
 {
@@ -90,7 +92,7 @@ pub(crate) fn function_at(text: &str, path: &PathTree) -> Option<UnaryCall>
     }
 }
 
-/// Returns the error of a call of a function with `count` arguments.
+/// Returns the error of a call of the function `path` with `count` arguments.
 fn function_fault(text: &str, path: &PathTree, count: usize) -> Option<DesugarFault>
     requires { PathIn text.now path.now }
     ensures { result ≡ least (function_faults text.now path.now count) }
@@ -102,7 +104,7 @@ fn function_fault(text: &str, path: &PathTree, count: usize) -> Option<DesugarFa
     call_fault(path.first.start, takes, count)
 }
 
-/// Returns the error of a call of a method with `count` arguments.
+/// Returns the error of a call of the method `name` with `count` arguments.
 fn method_fault(text: &str, name: Token, count: usize) -> Option<DesugarFault>
     requires { TokenIn text.now identifiers name }
     ensures { result ≡ least (call_faults name.start (method_takes (method_of (spelling_of text.now name))) count) }
@@ -115,21 +117,21 @@ fn method_fault(text: &str, name: Token, count: usize) -> Option<DesugarFault>
 }
 
 /// Returns the measure of a node over one operand.
-fn above(operand: Told) -> Told
+fn above(operand: MeasureResult) -> MeasureResult
     ensures { IfOk result (λ j. Gave operand (λ i. j ≡ spec.above i)) }
 {
     Ok(operand?.above())
 }
 
 /// Returns the measure of a function call, from its arguments and its own error.
-fn call(fault: Option<DesugarFault>, arguments: Told) -> Told
+fn call(fault: Option<DesugarFault>, arguments: MeasureResult) -> MeasureResult
     ensures { IfOk result (λ j. Gave arguments (λ i. j ≡ spec.called fault (spec.with_fault fault i))) }
 {
     Ok(arguments?.with_fault(fault).called(fault))
 }
 
 /// Returns the measure of a record, from its entries and the error of its keys.
-fn record(fault: Result<Option<DesugarFault>, NoMemory>, entries: Told) -> Told
+fn record(fault: Result<Option<DesugarFault>, NoMemory>, entries: MeasureResult) -> MeasureResult
     ensures { IfOk result (λ j. Gave fault (λ o. Gave entries (λ i. j ≡ spec.above (spec.with_fault o i)))) }
 {
     let fault = fault?;
@@ -137,7 +139,7 @@ fn record(fault: Result<Option<DesugarFault>, NoMemory>, entries: Told) -> Told
 }
 
 /// Returns the measure of `left operator right`: a negated comparison has one more node.
-fn compare(operator: Comparison, operands: BothMeasured) -> Told
+fn compare(operator: Comparison, operands: BothMeasured) -> MeasureResult
     ensures { IfOk result (λ j. Gave operands (λ pair. j ≡ spec.measured_compared operator pair.0 pair.1)) }
 {
     let (left, right) = operands?;
@@ -151,7 +153,7 @@ fn compare(operator: Comparison, operands: BothMeasured) -> Told
 }
 
 /// Returns the measure of `operand is path in ancestor`, in which the operand occurs twice.
-fn is_in(operands: BothMeasured) -> Told
+fn is_in(operands: BothMeasured) -> MeasureResult
     ensures { IfOk result
         (λ j. Gave operands (λ pair. j ≡ spec.paired (spec.above pair.0) (spec.paired pair.0 pair.1))) }
 {
@@ -160,18 +162,25 @@ fn is_in(operands: BothMeasured) -> Told
 }
 
 /// Returns the measure of `if test then consequent else alternative`.
-fn if_then_else(test: Told, consequent: Told, alternative: Told) -> Told
+fn if_then_else(
+    test: MeasureResult,
+    consequent: MeasureResult,
+    alternative: MeasureResult,
+) -> MeasureResult
     ensures { IfOk result (λ j. Gave test (λ i. Gave consequent
-        (λ k. Gave alternative (λ l. j ≡ spec.above (spec.beside i (spec.beside k l)))))) }
+        (λ k. Gave alternative (λ l. j ≡ spec.above (spec.side_by_side i (spec.side_by_side k l)))))) }
 {
     let test = test?;
     let consequent = consequent?;
-    Ok(test.beside(consequent.beside(alternative?)).above())
+    Ok(
+        test.side_by_side(consequent.side_by_side(alternative?))
+            .above(),
+    )
 }
 
 /// Returns the measure of a tree.
 #[cycle(measuring)]
-pub(crate) fn measure_tree(alloc: Global, text: &str, tree: &ExprTree) -> Told
+pub(crate) fn measure_tree(alloc: Global, text: &str, tree: &ExprTree) -> MeasureResult
     requires { WellFormed text.now tree.now }
     ensures { IfOk result (λ j. j ≡ measured text.now tree.now) }
 {
@@ -185,38 +194,38 @@ pub(crate) fn measure_tree(alloc: Global, text: &str, tree: &ExprTree) -> Told
             function_fault(text, path, arguments.len()),
             measure_all(alloc, text, arguments.as_slice()),
         ),
-        ExprTree::Parentheses(inner) => measure_tree(alloc, text, inner.get()),
+        ExprTree::Parentheses(inner) => measure_tree(alloc, text, inner),
         ExprTree::Set(members) => above(measure_all(alloc, text, members.as_slice())),
         ExprTree::Record(entries) => record(
             repeated_key(alloc, text, entries.as_slice()),
             measure_entries(alloc, text, entries.as_slice()),
         ),
         ExprTree::Member(inner, accesses) => measure_accesses(alloc, text, accesses, inner),
-        ExprTree::Not(inner) => above(measure_tree(alloc, text, inner.get())),
-        ExprTree::Minus(inner) => measure_behind_minus(alloc, text, inner.get()),
+        ExprTree::Not(inner) => above(measure_tree(alloc, text, inner)),
+        ExprTree::Minus(inner) => measure_behind_minus(alloc, text, inner),
         ExprTree::Product(inner, more) => measure_chain(alloc, text, more, inner),
         ExprTree::Sum(inner, terms) => measure_terms(alloc, text, terms, inner),
         ExprTree::Compare(left, operator, right) => {
             compare(*operator, measure_both(alloc, text, left, right))
         }
-        ExprTree::Has(inner, _) => above(measure_tree(alloc, text, inner.get())),
-        ExprTree::Like(inner, _) => above(measure_tree(alloc, text, inner.get())),
-        ExprTree::Is(inner, _) => above(measure_tree(alloc, text, inner.get())),
+        ExprTree::Has(inner, _) => above(measure_tree(alloc, text, inner)),
+        ExprTree::Like(inner, _) => above(measure_tree(alloc, text, inner)),
+        ExprTree::Is(inner, _) => above(measure_tree(alloc, text, inner)),
         ExprTree::IsIn(inner, _, outer) => is_in(measure_both(alloc, text, inner, outer)),
         ExprTree::And(inner, more) => measure_chain(alloc, text, more, inner),
         ExprTree::Or(inner, more) => measure_chain(alloc, text, more, inner),
         ExprTree::If(test, consequent, alternative) => {
-            let first = measure_tree(alloc, text, test.get());
-            let second = measure_tree(alloc, text, consequent.get());
-            let third = measure_tree(alloc, text, alternative.get());
+            let first = measure_tree(alloc, text, test);
+            let second = measure_tree(alloc, text, consequent);
+            let third = measure_tree(alloc, text, alternative);
             if_then_else(first, second, third)
         }
     }
 }
 
-/// Returns the measure of a tree after a minus, which belongs to the tree if that is a number.
+/// Returns the measure of a tree after a minus. A minus before a number belongs to the number.
 #[cycle(measuring)]
-fn measure_behind_minus(alloc: Global, text: &str, tree: &ExprTree) -> Told
+fn measure_behind_minus(alloc: Global, text: &str, tree: &ExprTree) -> MeasureResult
     requires { WellFormed text.now tree.now }
     ensures { IfOk result (λ j. j ≡ measured_negated text.now tree.now) }
 {
@@ -237,45 +246,50 @@ fn measure_both(
     requires { WellFormed text.now left.now × WellFormed text.now right.now }
     ensures { IfOk result (λ pair. pair ≡ (measured text.now left.now, measured text.now right.now)) }
 {
-    let first = measure_tree(alloc, text, left.get())?;
-    let second = measure_tree(alloc, text, right.get())?;
+    let first = measure_tree(alloc, text, left)?;
+    let second = measure_tree(alloc, text, right)?;
     Ok((first, second))
 }
 
 /// Returns the measure of some trees side by side.
 #[cycle(measuring)]
-fn measure_all(alloc: Global, text: &str, trees: &[ExprTree]) -> Told
+fn measure_all(alloc: Global, text: &str, trees: &[ExprTree]) -> MeasureResult
     requires { AllWellFormed text.now trees.now }
     ensures { IfOk result (λ j. j ≡ spec.measured_all text.now trees.now) }
 {
     let mut row = Measure::nothing();
     for tree in trees {
-        row = row.beside(measure_tree(alloc, text, tree)?);
+        row = row.side_by_side(measure_tree(alloc, text, tree)?);
     }
     Ok(row)
 }
 
 /// Returns the measure of the values of a record's entries side by side.
 #[cycle(measuring)]
-fn measure_entries(alloc: Global, text: &str, entries: &[RecordEntry<ExprTree>]) -> Told
+fn measure_entries(alloc: Global, text: &str, entries: &[RecordEntry<ExprTree>]) -> MeasureResult
     requires { AllByRecursion (WellFormedEntry text.now) entries.now }
     ensures { IfOk result (λ j. j ≡ fold (spec.measured_entry text.now) spec.nothing entries.now) }
 {
     let mut row = Measure::nothing();
     for entry in entries {
-        row = row.beside(measure_tree(alloc, text, &entry.value)?);
+        row = row.side_by_side(measure_tree(alloc, text, &entry.value)?);
     }
     Ok(row)
 }
 
 /// Returns the measure of a chain of operands.
 #[cycle(measuring)]
-fn measure_chain(alloc: Global, text: &str, more: &Items<ExprTree>, first: &Boxed<ExprTree>) -> Told
+fn measure_chain(
+    alloc: Global,
+    text: &str,
+    more: &Items<ExprTree>,
+    first: &Boxed<ExprTree>,
+) -> MeasureResult
     requires { WellFormed text.now first.now × AllWellFormed text.now more.now }
     ensures { IfOk result (λ j. j ≡ spec.measured_chain text.now (measured text.now first.now) more.now) }
 {
     let trees = more.as_slice();
-    let mut left = measure_tree(alloc, text, first.get())?;
+    let mut left = measure_tree(alloc, text, first)?;
     for tree in trees {
         left = left.paired(measure_tree(alloc, text, tree)?);
     }
@@ -289,12 +303,12 @@ fn measure_terms(
     text: &str,
     more: &Items<Term<ExprTree>>,
     first: &Boxed<ExprTree>,
-) -> Told
+) -> MeasureResult
     requires { WellFormed text.now first.now × AllByRecursion (WellFormedTerm text.now) more.now }
     ensures { IfOk result (λ j. j ≡ fold (spec.measured_term text.now) (measured text.now first.now) more.now) }
 {
     let terms = more.as_slice();
-    let mut left = measure_tree(alloc, text, first.get())?;
+    let mut left = measure_tree(alloc, text, first)?;
     for term in terms {
         left = left.paired(measure_tree(alloc, text, &term.operand)?);
     }
@@ -308,12 +322,12 @@ fn measure_accesses(
     text: &str,
     more: &Items<Access<Items<ExprTree>>>,
     receiver: &Boxed<ExprTree>,
-) -> Told
+) -> MeasureResult
     requires { WellFormed text.now receiver.now × AllByRecursion (WellFormedAccess text.now) more.now }
     ensures { IfOk result (λ j. j ≡ fold (spec.measured_access text.now) (measured text.now receiver.now) more.now) }
 {
     let accesses = more.as_slice();
-    let mut left = measure_tree(alloc, text, receiver.get())?;
+    let mut left = measure_tree(alloc, text, receiver)?;
     for access in accesses {
         left = measure_access(alloc, text, access, left)?;
     }
@@ -327,7 +341,7 @@ fn measure_access(
     text: &str,
     access: &Access<Items<ExprTree>>,
     receiver: Measure,
-) -> Told
+) -> MeasureResult
     requires { WellFormedAccess text.now access.now }
     ensures { IfOk result (λ j. j ≡ spec.measured_access text.now receiver access.now) }
 {
@@ -336,7 +350,7 @@ fn measure_access(
         Access::Method(name, arguments) => {
             let row = measure_all(alloc, text, arguments.as_slice())?;
             let fault = method_fault(text, *name, arguments.len());
-            Ok(receiver.beside(row.with_fault(fault)).called(fault))
+            Ok(receiver.side_by_side(row.with_fault(fault)).called(fault))
         }
     }
 }

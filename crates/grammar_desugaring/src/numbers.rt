@@ -2,7 +2,7 @@
 ghost use Rattle.std.specs.Prelude.{◌≡◌, ◌<◌, ◌≤◌, ◌^◌, ◌+◌, ◌*◌, ◌-◌, MatchOption};
 ghost use Rattle.grammar_desugaring.specs.Numbers.{written, fits, fits_negated, positive, negative};
 
-/// Returns the number with one more decimal digit, if it fits in 64 bits.
+/// Returns the number with one more decimal digit (a byte, where 48 is `0`), if it fits in unsigned 64 bits.
 fn with_digit(number: u64, digit: u8) -> Option<u64>
     ensures { MatchOption result (2 ^ 64 ≤ 10 * number + (digit - 48)) (λ n. n ≡ 10 * number + (digit - 48)) }
 {
@@ -14,7 +14,7 @@ fn with_digit(number: u64, digit: u8) -> Option<u64>
     }
 }
 
-/// Returns the number that these digits denote, if it fits in 64 bits.
+/// Returns the number that these digits denote, if it fits in unsigned 64 bits.
 fn amount(digits: &[u8]) -> Option<u64>
     ensures { MatchOption result (2 ^ 64 ≤ written digits.now) (λ n. n ≡ written digits.now) }
 {

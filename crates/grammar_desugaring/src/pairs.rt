@@ -34,7 +34,7 @@ pub(crate) fn all_three<A: Drop, B: Drop, C: Drop>(
     Ok((first, second, third))
 }
 
-/// Appends a built value to a list, or returns its error.
+/// Appends the value of `made` to a list. Returns `NoMemory` if `made` has no value, or if the list cannot grow.
 pub(crate) fn add<T: Drop>(row: &mut Vec<T>, made: Result<T, NoMemory>) -> Result<(), NoMemory>
     ensures { IfOk result (λ done. Gave made (λ x. row.new.items ≡ row.old.items ++ x ∷ [])) }
 {

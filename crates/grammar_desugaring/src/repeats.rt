@@ -20,7 +20,7 @@ pub(crate) struct Key {
     at: usize,
 }
 
-/// Returns the error of a repeated name at this offset.
+/// Returns the error of a repeated name at this offset, or `None` without an offset.
 fn fault_at(place: Option<usize>) -> Option<DesugarFault>
     ensures { result ≡ repeat_fault place }
 {

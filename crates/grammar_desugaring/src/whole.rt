@@ -20,8 +20,8 @@ use values::TypeName;
 /// Returns the measure of a tree: the size of its core expression, which is not built, and its error at the least
 /// offset.
 ///
-/// Allocates only for the keys of records. Takes time proportional to the tree, except that n keys of a record take O(n
-/// log n). The only error is `NoMemory`.
+/// Allocates only for the keys of records. Takes time proportional to the size of the tree, except that n keys of a
+/// record take O(n log n). The only error is `NoMemory`.
 pub fn measure_expr(alloc: Global, text: &str, tree: &ExprTree) -> Result<Measure, NoMemory>
     requires { IsBuiltFrom text.now (λ tokens. WellFormedExpr tokens tree.now) }
     ensures { IfOk result (λ measure. measure ≡ measured text.now tree.now) }
@@ -33,7 +33,7 @@ pub fn measure_expr(alloc: Global, text: &str, tree: &ExprTree) -> Result<Measur
 ///
 /// Source: Cedar reference guide 4.0, "Grammar specification for Cedar policy syntax" and "Operators and functions".
 pub fn build_expr(alloc: Global, text: &str, tree: &ExprTree) -> Result<Expr, NoMemory>
-    requires stands { IsBuiltFrom text.now (λ tokens. WellFormedExpr tokens tree.now) }
+    requires is_well_formed { IsBuiltFrom text.now (λ tokens. WellFormedExpr tokens tree.now) }
     requires sound { faults_of text.now tree.now ≡ [] }
     ensures { IfOk result (λ expr. expr ≡ core_of text.now tree.now) }
 {

@@ -26,7 +26,7 @@ pub(crate) fn sign(sign: Sign) -> Binary
     }
 }
 
-/// Returns the value of a string.
+/// Returns the value of the string at `token`.
 pub(crate) fn string(alloc: Global, text: &str, token: Token) -> Result<Text, NoMemory>
     requires { TokenIn text.now (only k.Text) token }
     ensures { IfOk result (λ value. value ≡ value_of (spelling_of text.now token)) }
@@ -34,7 +34,7 @@ pub(crate) fn string(alloc: Global, text: &str, token: Token) -> Result<Text, No
     decode_string(alloc, text, token)
 }
 
-/// Returns the pattern that a string denotes.
+/// Returns the pattern that the string at `token` denotes.
 pub(crate) fn pattern(alloc: Global, text: &str, token: Token) -> Result<Pattern, NoMemory>
     requires { TokenIn text.now patterns token }
     ensures { IfOk result (λ pattern. pattern ≡ pattern_of (spelling_of text.now token)) }
@@ -80,7 +80,7 @@ fn words_of<'a>(alloc: Global, text: &'a str, path: &PathTree) -> Result<Vec<&'a
     Ok(words)
 }
 
-/// Returns the type name that a Path of one word denotes: most Paths are such. Allocates only for the name.
+/// Returns the type name that a Path of one word, the usual case, denotes. Allocates only for the name.
 fn word_type(alloc: Global, text: &str, word: Token) -> Result<TypeName, NoMemory>
     requires { TokenIn text.now identifiers word }
     ensures { IfOk result (λ name. name ≡ spelling_of text.now word) }

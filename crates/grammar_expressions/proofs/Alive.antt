@@ -14,7 +14,7 @@ use Rattle.grammar_trees.specs.grammar_tokens.Lang as lang
 use Rattle.grammar_expressions.specs.Expressions as g
 use Rattle.grammar_expressions.specs.Expressions.{sign_of, comparison_of, signs, comparisons, is_in}
 use Rattle.grammar_expressions.specs.ExpressionParsing.{firsts}
-use Rattle.grammar_trees.specs.grammar_tokens.Reads.{Begins}
+use Rattle.grammar_trees.specs.grammar_tokens.ParseResults.{Begins}
 use Rattle.grammar_trees.proofs.of_grammar_tokens.Forms.{Starts, starts_of, starts_both, starts_or, alive_empty}
 use Rattle.grammar_trees.proofs.of_grammar_tokens.Forms.{alive_right}
 use Rattle.grammar_trees.proofs.of_grammar_tokens.Steps.{go, go_one, alive_maybe, starts_one, wide_starts}

@@ -19,7 +19,7 @@ use Rattle.grammar_trees.specs.grammar_tokens.Grammar.{identifiers, path, uid}
 use Rattle.grammar_expressions.specs.Expressions as g
 use Rattle.grammar_expressions.specs.Expressions.{known, boolean_of, variable_of, booleans, keys, joined, accessed}
 use Rattle.grammar_expressions.specs.ExpressionParsing.{openers, access_firsts}
-use Rattle.grammar_trees.specs.grammar_tokens.Reads.{Begins}
+use Rattle.grammar_trees.specs.grammar_tokens.ParseResults.{Begins}
 use Rattle.grammar_trees.proofs.of_grammar_tokens.Forms.{Starts, starts_of, starts_both, starts_or, alive_empty}
 use Rattle.grammar_trees.proofs.of_grammar_tokens.Forms.{alive_left, alive_right, begin_of}
 use Rattle.grammar_trees.proofs.of_grammar_tokens.Many.{alive_many}

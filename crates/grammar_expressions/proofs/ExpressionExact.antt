@@ -7,8 +7,8 @@ use Rattle.grammar_expressions.specs.Expressions as g
 use Rattle.grammar_expressions.specs.Expressions.{nesting_limit, any_expr}
 use Rattle.grammar_expressions.specs.ExpressionParsing as r
 use Rattle.grammar_trees.specs.grammar_tokens.ParsesTo.{ParsesTo}
-use Rattle.grammar_trees.specs.grammar_tokens.Reads.{Begins, HasOneTree, HasOneAnswerWithin}
-use Rattle.grammar_trees.specs.grammar_tokens.Reads.{ReadsFrontWithin, OpensNextLevel}
+use Rattle.grammar_trees.specs.grammar_tokens.ParseResults.{Begins, HasOneTree, HasOneAnswerWithin}
+use Rattle.grammar_trees.specs.grammar_tokens.ParseResults.{ReadsFrontWithin, OpensNextLevel}
 use Rattle.grammar_trees.proofs.of_grammar_tokens.Rules.{Rule}
 use Rattle.grammar_expressions.proofs.Follows.{after_expr}
 use Rattle.grammar_expressions.proofs.ExpressionRules.{expr_rule, alive_expr}

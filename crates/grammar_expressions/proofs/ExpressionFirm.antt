@@ -13,7 +13,7 @@ use Rattle.grammar_trees.specs.grammar_tokens.Lang as lang
 use Rattle.grammar_expressions.specs.Expressions as g
 use Rattle.grammar_expressions.specs.Expressions.{sign_of, comparison_of, patterns, signs, comparisons, is_in}
 use Rattle.grammar_expressions.specs.Expressions.{is_positive}
-use Rattle.grammar_trees.specs.grammar_tokens.Reading.{Parser, ◌>>=◌, ◌>>◌, pure, token, optional}
+use Rattle.grammar_trees.specs.grammar_tokens.ParserCombinators.{Parser, ◌>>=◌, ◌>>◌, pure, token, optional}
 use Rattle.grammar_expressions.specs.ExpressionParsing as r
 use Rattle.grammar_trees.proofs.of_grammar_tokens.Sets.{apart}
 use Rattle.grammar_trees.proofs.of_grammar_tokens.Rules.{Rule, Levels}

@@ -11,10 +11,10 @@ use Rattle.grammar_trees.specs.grammar_tokens.Lang as lang
 use Rattle.grammar_expressions.specs.Expressions as g
 use Rattle.grammar_expressions.specs.Expressions.{sign_of, comparison_of, patterns, signs, comparisons, is_in}
 use Rattle.grammar_expressions.specs.Expressions.{is_positive}
-use Rattle.grammar_trees.specs.grammar_tokens.Reading.{Parser, Why, Unexpected, TooDeep, ◌>>◌}
+use Rattle.grammar_trees.specs.grammar_tokens.ParserCombinators.{Parser, StopReason, Unexpected, TooDeep, ◌>>◌}
 use Rattle.grammar_expressions.specs.ExpressionParsing as r
 use Rattle.grammar_expressions.specs.ExpressionParsing.{firsts}
-use Rattle.grammar_trees.specs.grammar_tokens.Reads.{Begins}
+use Rattle.grammar_trees.specs.grammar_tokens.ParseResults.{Begins}
 use Rattle.grammar_trees.proofs.of_grammar_tokens.Sets.{apart, within}
 use Rattle.grammar_trees.proofs.of_grammar_tokens.Rules.{Rule, Levels, Keeps}
 use Rattle.grammar_trees.proofs.of_grammar_tokens.Forms.{Starts, Leads, of, nothing, or, leads_starts, leads_empty}
@@ -250,7 +250,7 @@ positive : (n m : ℕ) → n < m → is_positive m ≡ true
 positive n zero h = absurd (omega (arith, h))
 positive n (suc m) h = refl
 
-keeps_deeper : (n m : ℕ) (w : Why) → Keeps (suc n ≡ suc m) w → Keeps (n ≡ m) w
+keeps_deeper : (n m : ℕ) (w : StopReason) → Keeps (suc n ≡ suc m) w → Keeps (n ≡ m) w
 keeps_deeper n m Unexpected h = tt
 keeps_deeper n m TooDeep h = omega (arith, h)
 

@@ -13,7 +13,7 @@ use Rattle.grammar_trees.specs.grammar_tokens.Lang as lang
 use Rattle.grammar_trees.specs.grammar_tokens.Grammar.{identifiers, path, uid}
 use Rattle.grammar_expressions.specs.Expressions as g
 use Rattle.grammar_expressions.specs.Expressions.{known, variable_of}
-use Rattle.grammar_trees.specs.grammar_tokens.Reads.{Begins}
+use Rattle.grammar_trees.specs.grammar_tokens.ParseResults.{Begins}
 use Rattle.grammar_trees.specs.grammar_tokens.Parsing.{pieces, is_text, ended_by, ends, uid_tree}
 use Rattle.grammar_expressions.specs.ExpressionParsing.{path_of, variable_at}
 use Rattle.grammar_trees.proofs.of_grammar_tokens.Sets.{is_within}

@@ -16,7 +16,7 @@ use Rattle.grammar_trees.specs.grammar_tokens.Lang as lang
 use Rattle.grammar_trees.specs.grammar_tokens.Grammar.{identifiers}
 use Rattle.grammar_expressions.specs.Expressions as g
 use Rattle.grammar_expressions.specs.Expressions.{boolean_of, booleans, joined, accessed}
-use Rattle.grammar_trees.specs.grammar_tokens.Reading.{Parser, ◌>>=◌, ◌>>◌, pure}
+use Rattle.grammar_trees.specs.grammar_tokens.ParserCombinators.{Parser, ◌>>=◌, ◌>>◌, pure}
 use Rattle.grammar_expressions.specs.ExpressionParsing as r
 use Rattle.grammar_expressions.specs.ExpressionParsing.{openers, access_firsts, path_of, name_by, variable_at}
 use Rattle.grammar_trees.specs.grammar_tokens.Parsing.{ends, uid_tree}

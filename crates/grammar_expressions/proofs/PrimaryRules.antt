@@ -15,13 +15,13 @@ use Rattle.grammar_trees.specs.grammar_tokens.Lang as lang
 use Rattle.grammar_trees.specs.grammar_tokens.Grammar.{identifiers}
 use Rattle.grammar_expressions.specs.Expressions as g
 use Rattle.grammar_expressions.specs.Expressions.{boolean_of, booleans, keys, joined, accessed}
-use Rattle.grammar_trees.specs.grammar_tokens.Reading.{Parser, ParseResult, Read, Stop, and_then, ◌>>=◌, ◌>>◌, pure}
-use Rattle.grammar_trees.specs.grammar_tokens.Reading.{many}
-use Rattle.grammar_trees.specs.grammar_tokens.Reading as reading
+use Rattle.grammar_trees.specs.grammar_tokens.ParserCombinators.{Parser, ParseResult, Read, Stop, and_then, ◌>>=◌, ◌>>◌, pure}
+use Rattle.grammar_trees.specs.grammar_tokens.ParserCombinators.{many}
+use Rattle.grammar_trees.specs.grammar_tokens.ParserCombinators as reading
 use Rattle.grammar_expressions.specs.ExpressionParsing as r
 use Rattle.grammar_expressions.specs.ExpressionParsing.{openers, access_firsts, firsts, path_of, name_by, variable_at}
 use Rattle.grammar_trees.specs.grammar_tokens.Parsing.{piece, ended_by, goes_on, ends, uid_tree}
-use Rattle.grammar_trees.specs.grammar_tokens.Reads.{Begins}
+use Rattle.grammar_trees.specs.grammar_tokens.ParseResults.{Begins}
 use Rattle.grammar_trees.proofs.of_grammar_tokens.Sets.{apart, within}
 use Rattle.grammar_trees.proofs.of_grammar_tokens.Rules.{Rule, Levels, both}
 use Rattle.grammar_trees.proofs.of_grammar_tokens.Forms.{Starts, Leads, of, one, nothing, refused, or, starts_both}

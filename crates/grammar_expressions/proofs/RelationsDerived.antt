@@ -5,7 +5,7 @@ use Rattle.grammar_trees.specs.grammar_tokens.declared.token.Token.{Token}
 use Rattle.grammar_trees.specs.declared.tree.ExprTree.{ExprTree}
 use Rattle.grammar_trees.specs.grammar_tokens.declared.fault.StopCause.{StopCause}
 use Rattle.grammar_trees.specs.grammar_tokens.Lang.{Lang}
-use Rattle.grammar_trees.specs.grammar_tokens.Reading.{Parser, Read}
+use Rattle.grammar_trees.specs.grammar_tokens.ParserCombinators.{Parser, Read}
 use Rattle.grammar_trees.specs.grammar_tokens.ParsesTo.{ParsesTo}
 use Rattle.grammar_trees.specs.Relations.{DerivesFront}
 use Rattle.grammar_expressions.specs.Expressions as g

@@ -4,8 +4,8 @@ use Rattle.std.proofs.Common.{◌∙◌, length-append, arith}
 use Rattle.grammar_trees.specs.grammar_tokens.declared.token.Token.{Token}
 use Rattle.grammar_trees.specs.grammar_tokens.declared.token.TokenKind.{TokenKind}
 use Rattle.grammar_trees.specs.grammar_tokens.Kinds.{Kinds}
-use Rattle.grammar_trees.specs.grammar_tokens.Reading.{Read, Stop, Why, Unexpected, TooDeep}
-use Rattle.grammar_trees.specs.grammar_tokens.Reads.{Begins, sees}
+use Rattle.grammar_trees.specs.grammar_tokens.ParserCombinators.{Read, Stop, StopReason, Unexpected, TooDeep}
+use Rattle.grammar_trees.specs.grammar_tokens.ParseResults.{Begins, sees}
 use Rattle.grammar_trees.proofs.of_grammar_tokens.Rules.{Rule, Levels, ReadsFront, Stops}
 use Rattle.grammar_trees.proofs.of_grammar_tokens.Forms.{Starts}
 use Rattle.grammar_trees.proofs.of_grammar_tokens.Openings.{Opening}
@@ -39,7 +39,7 @@ symbol_read : {A : Type 0} (o : Option A) (t : Token) (a : A) (ts rest : List To
 symbol_read None t a ts rest h = absurd (cc)
 symbol_read (Some b) t a ts rest h = (let e : b ≡ a = cc in ap Some e, cc)
 
-symbol_stop : {A : Type 0} (o : Option A) (t : Token) (w : Why) (ts rest : List Token) → symbol_by o t ts ≡ Stop w rest → (o ≡ None) × (w ≡ Unexpected) × (rest ≡ t ∷ ts)
+symbol_stop : {A : Type 0} (o : Option A) (t : Token) (w : StopReason) (ts rest : List Token) → symbol_by o t ts ≡ Stop w rest → (o ≡ None) × (w ≡ Unexpected) × (rest ≡ t ∷ ts)
 symbol_stop None t w ts rest h = (refl, cc, cc)
 symbol_stop (Some b) t w ts rest h = absurd (cc)
 
@@ -61,7 +61,7 @@ module _ {A : Type 0} (meaning : TokenKind → Option A) where
   stops_symbol : (ts rest : List Token) → rest ≡ ts → Stops (g.symbol meaning) ts rest
   stops_symbol ts rest h = record { front = []; whole = sym h; begins = inl refl }
 
-  viable_symbol : (ts : List Token) (w : Why) (rest : List Token) → r.symbol meaning ts ≡ Stop w rest → Stops (g.symbol meaning) ts rest
+  viable_symbol : (ts : List Token) (w : StopReason) (rest : List Token) → r.symbol meaning ts ≡ Stop w rest → Stops (g.symbol meaning) ts rest
   unfolding r.symbol
   viable_symbol [] w rest h = stops_symbol [] rest (cc)
   viable_symbol (t ∷ ts) w rest h = stops_symbol (t ∷ ts) rest (symbol_stop (meaning t.kind) t w ts rest h).2
@@ -79,7 +79,7 @@ module _ {A : Type 0} (meaning : TokenKind → Option A) where
       let e = ap length (symbol_read (meaning t.kind) t a (u ∷ (front ++ b ∷ more)) (b ∷ more) h).1 in
       absurd (omega (arith, length-append front (b ∷ more), e))
 
-  stop_again : (w : Why) (front : List Token) (b : Token) (more others : List Token) → r.symbol meaning (front ++ b ∷ more) ≡ Stop w (b ∷ more) → r.symbol meaning (front ++ b ∷ others) ≡ Stop w (b ∷ others)
+  stop_again : (w : StopReason) (front : List Token) (b : Token) (more others : List Token) → r.symbol meaning (front ++ b ∷ more) ≡ Stop w (b ∷ more) → r.symbol meaning (front ++ b ∷ others) ≡ Stop w (b ∷ others)
   unfolding r.symbol
   stop_again w [] b more others h =
       let e = symbol_stop (meaning b.kind) b w more (b ∷ more) h in

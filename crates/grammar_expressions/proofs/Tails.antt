@@ -4,9 +4,9 @@ use Rattle.grammar_trees.specs.grammar_tokens.declared.token.Token.{Token}
 use Rattle.grammar_trees.specs.grammar_tokens.declared.token.TokenKind.TheVariants as k
 use Rattle.grammar_trees.specs.declared.tree.ExprTree.{ExprTree}
 use Rattle.grammar_trees.specs.grammar_tokens.Kinds.{only}
-use Rattle.grammar_trees.specs.grammar_tokens.Reads.{sees}
-use Rattle.grammar_trees.specs.grammar_tokens.Reading.{Parser, ParseResult, Read, Stop, and_then, take, token, pure}
-use Rattle.grammar_trees.specs.grammar_tokens.Reading.{chosen}
+use Rattle.grammar_trees.specs.grammar_tokens.ParseResults.{sees}
+use Rattle.grammar_trees.specs.grammar_tokens.ParserCombinators.{Parser, ParseResult, Read, Stop, and_then, take, token, pure}
+use Rattle.grammar_trees.specs.grammar_tokens.ParserCombinators.{chosen}
 use Rattle.grammar_trees.specs.grammar_tokens.Parsing.{path}
 use Rattle.grammar_expressions.specs.Expressions.{comparison_of, comparisons, patterns}
 use Rattle.grammar_expressions.specs.ExpressionParsing as r

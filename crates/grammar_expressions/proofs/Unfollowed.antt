@@ -3,8 +3,8 @@ use Rattle.std.proofs.Common.{◌≡◌, ℕ, zero, suc, Bool, true, false, List
 use Rattle.grammar_trees.specs.grammar_tokens.declared.token.Token.{Token}
 use Rattle.grammar_trees.specs.declared.tree.ExprTree.{ExprTree}
 use Rattle.grammar_trees.specs.grammar_tokens.Kinds.{Kinds}
-use Rattle.grammar_trees.specs.grammar_tokens.Reads.{sees}
-use Rattle.grammar_trees.specs.grammar_tokens.Reading.{Parser, Read, and_then, pure, chosen, loop_from}
+use Rattle.grammar_trees.specs.grammar_tokens.ParseResults.{sees}
+use Rattle.grammar_trees.specs.grammar_tokens.ParserCombinators.{Parser, Read, and_then, pure, chosen, loop_from}
 use Rattle.grammar_expressions.specs.Expressions.{joined}
 use Rattle.grammar_expressions.specs.inner.Chains.{chained}
 

@@ -17,9 +17,10 @@ use Rattle.grammar_trees.specs.declared.tree.ExprTree.{ExprTree}
 use Rattle.grammar_trees.specs.declared.tree.ExprTree.TheVariants as tree
 use Rattle.grammar_trees.specs.declared.tree.RequestKeyword.{RequestKeyword}
 use Rattle.grammar_trees.specs.grammar_tokens.Kinds.{Kinds, only}
-use Rattle.grammar_trees.specs.grammar_tokens.Reading.{Parser, ParseResult, Read, Stop, Unexpected, take, token, pure}
-use Rattle.grammar_trees.specs.grammar_tokens.Reading.{refuse, ◌>>=◌}
-use Rattle.grammar_trees.specs.grammar_tokens.Reading.{◌>>◌, either, optional, many, gate, too_deep}
+use Rattle.grammar_trees.specs.grammar_tokens.ParserCombinators.{Parser, ParseResult, Read, Stop, Unexpected, take}
+use Rattle.grammar_trees.specs.grammar_tokens.ParserCombinators.{token, pure}
+use Rattle.grammar_trees.specs.grammar_tokens.ParserCombinators.{refuse, ◌>>=◌}
+use Rattle.grammar_trees.specs.grammar_tokens.ParserCombinators.{◌>>◌, either, optional, many, gate, too_deep}
 use Rattle.grammar_trees.specs.grammar_tokens.Grammar.{identifiers}
 use Rattle.grammar_trees.specs.grammar_tokens.Parsing.{path}
 pub use Rattle.grammar_trees.specs.grammar_tokens.Parsing.{path_of, name_by}
@@ -59,8 +60,8 @@ firsts kind = identifiers kind
 
 -- ---- tokens whose kind is all their meaning
 
--- `symbol_by meaning t ts` consumes the token `t`, which `ts` follow, with its meaning `meaning` as the value; it stops
--- before `t` if that is `None`.
+-- `symbol_by meaning t ts` consumes the token `t`, so that the tokens `ts` remain, with the value in `meaning`, the
+-- meaning of `t`; it stops before `t` if `meaning` is `None`.
 abbrev pub symbol_by : {A : Type 0} → Option A → Token → List Token → ParseResult A
 symbol_by None t ts = Stop Unexpected (t ∷ ts)
 symbol_by (Some a) t ts = Read a ts
@@ -247,8 +248,8 @@ module _ (may : Bool) (inner : Parser ExprTree) where
 
   -- ---- operators
 
-  -- `signed sign make n` parses at most `n` tokens of the kind `sign` and a Member, where `make` is the tree of a sign
-  -- with its operand.
+  -- `signed sign make n` parses at most `n` tokens of the kind `sign` and a Member, where `make x` is the tree of a
+  -- sign with the operand `x`.
   unfoldable pub signed : TokenKind → (ExprTree → ExprTree) → ℕ → Parser ExprTree
   signed sign make zero = member
   signed sign make (suc n) = either (only sign) (do token sign; x ← signed sign make n; pure (make x)) member
@@ -372,7 +373,7 @@ module _ (may : Bool) (inner : Parser ExprTree) where
     more ← ors
     pure (joined tree.Or x more)
 
-  -- `branch word` parses the word, "then" or "else", and an expression.
+  -- `branch word` parses the keyword `word`, which is "then" or "else", and an expression.
   abbrev pub branch : TokenKind → Parser ExprTree
   branch word = token word >> inner
 

@@ -1,5 +1,5 @@
--- Defines the grammar of expressions over tokens, which says which trees a list of tokens derives. A comment states the
--- production that its definition writes in the combinators of Lang.
+-- Defines the grammar of expressions: which trees of expressions a list of tokens derives. The comment above a
+-- definition states the production that the definition writes in the combinators of Lang.
 -- Source: Cedar reference guide 4.0, "Grammar specification for Cedar policy syntax".
 -- Rules of this product: a variable's word followed by `::` or `(` is a Path, and the nesting of expressions is
 -- limited.
@@ -36,7 +36,7 @@ use Rattle.grammar_trees.specs.grammar_tokens.Grammar.{identifiers, path, uid}
 abbrev pub symbol : {A : Type 0} → (TokenKind → Option A) → Lang A
 symbol meaning ts a = (t : Token) × (ts ≡ t ∷ []) × (meaning t.kind ≡ Some a)
 
--- `known meaning` are the kinds that have a meaning.
+-- `known meaning` are the kinds that have a meaning by `meaning`.
 abbrev pub known : {A : Type 0} → (TokenKind → Option A) → Kinds
 known meaning kind = is_some (meaning kind)
 
@@ -91,7 +91,8 @@ keys kind = identifiers kind
 
 -- ## Productions
 
--- `joined make x more` is `x` with the pieces `more` after it, or `x` itself if `more` is empty.
+-- `joined make x more` is `make x more`, the tree of `x` with the pieces `more` after it; or `x` itself if `more` is
+-- empty.
 abbrev pub joined : {A : Type 0} → (ExprTree → List A → ExprTree) → ExprTree → List A → ExprTree
 joined make x [] = x
 joined make x (next ∷ more) = make x (next ∷ more)
@@ -106,7 +107,7 @@ abbrev pub is_in : ExprTree → PathTree → Option ExprTree → ExprTree
 is_in x type_name None = tree.Is x type_name
 is_in x type_name (Some y) = tree.IsIn x type_name y
 
--- `chain first piece make`: First { Piece }, with the tree that `make` gives to the first and the pieces
+-- `chain first piece make`: First { Piece }, with the tree that `make` builds from the first and the pieces
 abbrev pub chain : {A : Type 0} → Lang ExprTree → Lang A → (ExprTree → List A → ExprTree) → Lang ExprTree
 chain first piece make = do
   x ← first
@@ -216,8 +217,8 @@ module _ (may : Bool) (inner : Lang ExprTree) where
   abbrev pub member : Lang ExprTree
   member = chain primary (dotted or indexed) tree.Member
 
-  -- `signed sign make n`: at most `n` tokens of the kind `sign`, and a Member, where `make` is the tree of a sign with
-  -- its operand
+  -- `signed sign make n`: at most `n` tokens of the kind `sign`, and a Member, where `make x` is the tree of a sign
+  -- with the operand `x`
   abbrev pub signed : TokenKind → (ExprTree → ExprTree) → ℕ → Lang ExprTree
   signed sign make zero = member
   signed sign make (suc n) = (do one sign; x ← signed sign make n; empty (make x)) or member
@@ -304,7 +305,7 @@ module _ (may : Bool) (inner : Lang ExprTree) where
   abbrev pub level : Lang ExprTree
   level = gate may conditional or disjunction
 
--- `is_positive n` tests whether one more level of nesting may be opened.
+-- `is_positive n` tests whether `n`, the number of levels of nesting that may still be opened, is not 0.
 abbrev pub is_positive : ℕ → Bool
 is_positive zero = false
 is_positive (suc n) = true

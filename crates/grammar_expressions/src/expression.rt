@@ -7,12 +7,12 @@ ghost use Rattle.grammar_expressions.specs.Expressions as grammar;
 ghost use Rattle.grammar_expressions.specs.Expressions.{is_positive};
 ghost use Rattle.grammar_trees.specs.grammar_tokens.ParsesTo.{ParsesTo};
 ghost use Rattle.grammar_expressions.specs.inner.Nests.{Nests};
-ghost use Rattle.grammar_trees.specs.grammar_tokens.Reads.{ReadsFrontWithin};
+ghost use Rattle.grammar_trees.specs.grammar_tokens.ParseResults.{ReadsFrontWithin};
 ghost use Rattle.grammar_trees.specs.grammar_tokens.declared.fault.StopCause.TheVariants as halt;
 
 use crate::primary::Reader;
 use grammar_trees::{Cursor, ExprTree, StopCause, TokenKind};
-use plain::{Boxed, beside};
+use plain::{Boxed, pair_with};
 use std::alloc::Global;
 
 /// The greatest number of levels of nesting of an expression: its own, and one more inside parentheses, brackets,
@@ -44,7 +44,7 @@ impl<F: Fn(Global, &mut Cursor<'_>, usize) -> Result<ExprTree, StopCause>> Reade
             test consequent tokens.old.rest.now)
             result tokens.new.rest.now }
     {
-        let ((test, consequent), alternative) = beside(
+        let ((test, consequent), alternative) = pair_with(
             (test, consequent),
             self.branch(tokens, TokenKind::Else),
         )?;
@@ -63,7 +63,7 @@ impl<F: Fn(Global, &mut Cursor<'_>, usize) -> Result<ExprTree, StopCause>> Reade
             (spec.expr self.now.levels) test tokens.old.rest.now)
             result tokens.new.rest.now }
     {
-        let (test, consequent) = beside(test, self.branch(tokens, TokenKind::Then))?;
+        let (test, consequent) = pair_with(test, self.branch(tokens, TokenKind::Then))?;
         self.decided(tokens, test, consequent)
     }
 

@@ -1,6 +1,6 @@
 //! Theorems about the grammar of expressions. The function is a no-op.
 ghost use Rattle.grammar_expressions.specs.Expressions.{expr, any_expr, nesting_limit};
-ghost use Rattle.grammar_trees.specs.grammar_tokens.Reads.{HasOneTree, HasOneAnswerWithin, OpensNextLevel};
+ghost use Rattle.grammar_trees.specs.grammar_tokens.ParseResults.{HasOneTree, HasOneAnswerWithin, OpensNextLevel};
 
 /// Proves that each list of tokens has exactly one result as an expression, a tree or an error, and that a token with
 /// the error `TooDeep` opens the first level past the limit. No-op.

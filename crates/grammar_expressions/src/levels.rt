@@ -2,13 +2,13 @@
 
 ghost use Rattle.std.specs.Prelude.{◌≡◌, List, IfOk};
 ghost use Rattle.grammar_trees.specs.grammar_tokens.ParsesTo.{ParsesTo};
-ghost use Rattle.grammar_trees.specs.grammar_tokens.Reading.{Parser, many};
+ghost use Rattle.grammar_trees.specs.grammar_tokens.ParserCombinators.{Parser, many};
 ghost use Rattle.grammar_trees.specs.declared.tree.ExprTree as trees;
 ghost use Rattle.grammar_expressions.specs.Expressions.{joined};
 ghost use Rattle.grammar_expressions.specs.inner.Chains.{chained};
 
 use grammar_trees::{Cursor, ExprTree, KindSet, StopCause, read_many};
-use plain::{Boxed, Items, beside};
+use plain::{Boxed, Items, pair_with};
 use std::alloc::{AllocError, Global};
 
 /// A level of operators. All levels share the functions of this module and their proofs.
@@ -62,8 +62,8 @@ fn join<L: Level>(
     }
 }
 
-/// Parses the pieces after the operand `first`, as long as the next token is in the set. Returns the tree of both. An
-/// operand without pieces, the usual case, is returned as it is, without a list.
+/// Parses the pieces after the operand `first`, as long as the next token is in the set. Returns the tree of the
+/// operand and the pieces. Returns an operand without pieces, the usual case, as it is, without a list.
 pub(crate) fn chain<L: Level, S: KindSet>(
     alloc: Global,
     tokens: &mut Cursor<'_>,
@@ -78,6 +78,6 @@ pub(crate) fn chain<L: Level, S: KindSet>(
     if !tokens.sees_one_of(set) {
         return Ok(first);
     }
-    let (first, more) = beside(first, pieces(alloc, tokens, level, set))?;
+    let (first, more) = pair_with(first, pieces(alloc, tokens, level, set))?;
     Ok(join::<L>(alloc, first, more)?)
 }

@@ -52,7 +52,7 @@ fn under(alloc: Global, prefix: Prefix, x: ExprTree) -> Result<ExprTree, AllocEr
 }
 
 impl<F: Fn(Global, &mut Cursor<'_>, usize) -> Result<ExprTree, StopCause>> Reader<F> {
-    /// [ "(" Arguments ")" ]
+    /// Parses "(" Arguments ")" if "(" comes next.
     #[tactic(auto, unfolding(crate::specs::ExpressionParsing::maybe_called))]
     fn maybe_called(&self, tokens: &mut Cursor<'_>) -> Result<Option<Items<ExprTree>>, StopCause>
         requires { Nests self.now.levels (F.pre self.now.expr) (F.post self.now.expr) }
@@ -102,7 +102,7 @@ impl<F: Fn(Global, &mut Cursor<'_>, usize) -> Result<ExprTree, StopCause>> Reade
         )
     }
 
-    /// Parses at most `most` of a prefix, and a Member.
+    /// Parses at most `most` tokens of the prefix `sign`, and a Member.
     fn signed(&self, tokens: &mut Cursor<'_>, sign: Prefix, most: u8) -> Result<ExprTree, StopCause>
         requires { Nests self.now.levels (F.pre self.now.expr) (F.post self.now.expr) }
         ensures { ParsesTo (spec.signed (is_positive self.now.levels) (spec.expr self.now.levels)

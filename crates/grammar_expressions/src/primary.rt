@@ -13,7 +13,7 @@ use grammar_trees::{
     Access, Cursor, ExprTree, KeyTree, NameSet, PathOrUid, PathTree, RecordEntry, RequestKeyword,
     StopCause, TokenKind, read_more, rest_of_name,
 };
-use plain::{Boxed, Items, beside};
+use plain::{Boxed, Items, pair_with};
 use std::alloc::Global;
 
 /// Parses "true" | "false" | Number | String.
@@ -241,11 +241,11 @@ impl<F: Fn(Global, &mut Cursor<'_>, usize) -> Result<ExprTree, StopCause>> Reade
         if self.levels == 0 {
             return Err(StopCause::TooDeep);
         }
-        let (path, found) = beside(path, self.called(tokens))?;
+        let (path, found) = pair_with(path, self.called(tokens))?;
         Ok(ExprTree::Call(path, found))
     }
 
-    /// Variable | Uid | Path "(" Arguments ")"
+    /// Parses Variable | Uid | Path "(" Arguments ")".
     #[tactic(auto, unfolding(crate::specs::ExpressionParsing::named, crate::specs::ExpressionParsing::rest_of_named))]
     fn named(&self, tokens: &mut Cursor<'_>) -> Result<ExprTree, StopCause>
         requires { Nests self.now.levels (F.pre self.now.expr) (F.post self.now.expr) }
@@ -269,7 +269,7 @@ impl<F: Fn(Global, &mut Cursor<'_>, usize) -> Result<ExprTree, StopCause>> Reade
     {
         tokens.take(TokenKind::LParen)?;
         let x = self.boxed_inner(tokens)?;
-        let (x, _closed) = beside(x, tokens.take(TokenKind::RParen))?;
+        let (x, _closed) = pair_with(x, tokens.take(TokenKind::RParen))?;
         Ok(ExprTree::Parentheses(x))
     }
 

@@ -13,7 +13,7 @@ use crate::token_sets::TokenSet;
 use grammar_trees::{
     Comparison, Cursor, ExprTree, KeyTree, PathTree, StopCause, Token, TokenKind, path,
 };
-use plain::{Boxed, beside};
+use plain::{Boxed, pair_with};
 use std::alloc::{AllocError, Global};
 
 /// The tail of a relation: what may follow its first Sum.
@@ -71,7 +71,7 @@ fn relate(alloc: Global, x: ExprTree, tail: Option<Tail>) -> Result<ExprTree, Al
     match tail {
         None => Ok(x),
         Some(tail) => {
-            let (tail, x) = beside(tail, Boxed::new(alloc, x))?;
+            let (tail, x) = pair_with(tail, Boxed::new(alloc, x))?;
             Ok(form(x, tail))
         }
     }
@@ -101,7 +101,7 @@ impl<F: Fn(Global, &mut Cursor<'_>, usize) -> Result<ExprTree, StopCause>> Reade
         Ok(Some(Tail::Compared(operator, y)))
     }
 
-    /// [ "in" Sum ]
+    /// Parses "in" Sum if "in" comes next.
     #[tactic(auto, unfolding(crate::specs::ExpressionParsing::maybe_inside, crate::specs::ExpressionParsing::inside))]
     fn maybe_inside(&self, tokens: &mut Cursor<'_>) -> Result<Option<Boxed<ExprTree>>, StopCause>
         requires { Nests self.now.levels (F.pre self.now.expr) (F.post self.now.expr) }
@@ -126,7 +126,7 @@ impl<F: Fn(Global, &mut Cursor<'_>, usize) -> Result<ExprTree, StopCause>> Reade
     {
         tokens.take(TokenKind::Is)?;
         let type_name = path(self.alloc, tokens)?;
-        let (type_name, entity) = beside(type_name, self.maybe_inside(tokens))?;
+        let (type_name, entity) = pair_with(type_name, self.maybe_inside(tokens))?;
         Ok(Some(Tail::Is(type_name, entity)))
     }
 
@@ -171,11 +171,11 @@ impl<F: Fn(Global, &mut Cursor<'_>, usize) -> Result<ExprTree, StopCause>> Reade
             (spec.expr self.now.levels) x tokens.old.rest.now)
             result tokens.new.rest.now }
     {
-        let (x, tail) = beside(x, self.tail(tokens))?;
+        let (x, tail) = pair_with(x, self.tail(tokens))?;
         Ok(relate(self.alloc, x, tail)?)
     }
 
-    /// Parses the tail after the Sum `x`, which may be empty, and returns the relation of both.
+    /// Parses the tail, which may be empty, after the Sum `x`, and returns the relation of both.
     pub(crate) fn related(
         &self,
         tokens: &mut Cursor<'_>,

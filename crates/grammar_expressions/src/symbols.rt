@@ -11,6 +11,7 @@ use grammar_trees::{Comparison, Cursor, RequestKeyword, Sign, StopCause, TokenKi
 
 /// Values that are the meanings of some kinds of tokens.
 pub trait Symbol: Copy {
+    /// The meaning of tokens of each kind, if they have one.
     ghost meaning: { kinds.TokenKind → Option Self };
 
     /// Returns the meaning of tokens of this kind, if they have one.
@@ -73,7 +74,8 @@ impl Symbol for Comparison {
     }
 }
 
-/// Parses a token whose kind has a meaning of this type, and returns the meaning. Consumes nothing if it has none.
+/// Parses a token whose kind has a meaning of this type, and returns the meaning. Consumes nothing if the next token
+/// has no such meaning.
 ///
 /// The only error is `Unexpected`.
 #[tactic(auto, unfolding(crate::specs::ExpressionParsing::symbol))]

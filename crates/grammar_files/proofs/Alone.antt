@@ -14,7 +14,7 @@ use Rattle.grammar_policies.specs.grammar_tokens.Lexing.{IsLexed, IsGap, blank, 
 use Rattle.grammar_policies.proofs.of_grammar_tokens.Unique.{gap_token, same_gap}
 use Rattle.grammar_policies.proofs.of_grammar_tokens.Parts.{past}
 use Rattle.grammar_policies.proofs.of_grammar_tokens.Spelled.{all_spelled}
-use Rattle.grammar_files.specs.Cuts.{is_end, parts_from, left_from, StandsAlone, EachStandsAlone, IsSpaced, EachIsSpaced}
+use Rattle.grammar_files.specs.Cuts.{is_end, parts_from, left_from, IsSelfContained, EachIsSelfContained, IsSpaced, EachIsSpaced}
 use Rattle.grammar_files.specs.Cuts.{PartsJoin}
 use Rattle.grammar_files.proofs.Splitting.{NoEnd, FirstPart, split}
 
@@ -200,7 +200,7 @@ no_end_back : (at : ℕ) (ts : List Token) → NoEnd ts → NoEnd (map (back at)
 no_end_back at [] h = tt
 no_end_back at (t ∷ ts) h = (h.0, no_end_back at ts h.1)
 
-alone_from : (w : List ℕ) (at to : ℕ) (before : List Token) (last : Token) → Lex at w (before ++ last ∷ []) to [] → NoEnd before → is_end last.kind ≡ true → last.end ≡ to → StandsAlone w
+alone_from : (w : List ℕ) (at to : ℕ) (before : List Token) (last : Token) → Lex at w (before ++ last ∷ []) to [] → NoEnd before → is_end last.kind ≡ true → last.end ≡ to → IsSelfContained w
 alone_from w at to before last h n e l =
     let all = lex_len h in
     let m = moved at 0 (omega arith) h in
@@ -213,13 +213,13 @@ alone_from w at to before last h n e l =
       at_end = omega arith;
     }
 
-part_alone : (w : List ℕ) → IsPart w → StandsAlone (trim_start w)
+part_alone : (w : List ℕ) → IsPart w → IsSelfContained (trim_start w)
 unfolding trim_start
 part_alone w p =
     let t = trimmed (chars w) p.at (p.at + length w) (p.before ++ p.last ∷ []) (subst (λ (x : List ℕ). Lex p.at x (p.before ++ p.last ∷ []) (p.at + length w) []) (sym (encodes-chars w p.utf8)) p.lexed) in
     alone_from (encode_utf8_all (skip_leading_whitespace (chars w))) t.at (p.at + length w) p.before p.last t.lexed p.none_before p.ends p.at_end
 
-all_alone : (ws : List (List ℕ)) → AllByRecursion IsPart ws → AllByRecursion StandsAlone (map trim_start ws)
+all_alone : (ws : List (List ℕ)) → AllByRecursion IsPart ws → AllByRecursion IsSelfContained (map trim_start ws)
 all_alone [] h = tt
 all_alone (w ∷ ws) h = (part_alone w h.0, all_alone ws h.1)
 
@@ -227,7 +227,7 @@ all_spaced : (ws : List (List ℕ)) → AllByRecursion IsPart ws → AllZip IsSp
 all_spaced [] h = tt
 all_spaced (w ∷ ws) h = (part_spaced w h.0.utf8, all_spaced ws h.1)
 
-pub each_alone : EachStandsAlone
+pub each_alone : EachIsSelfContained
 each_alone text ts u h = all_alone (parts_from text 0 ts) (all_parts text ts u h)
 
 pub each_spaced : EachIsSpaced

@@ -11,7 +11,7 @@ use Rattle.grammar_files.specs.grammar_tokens.declared.token.Token.{Token}
 use Rattle.grammar_files.specs.grammar_tokens.Lexing.{Lex, finish, gap, token, IsSpelledIn, OneLexing}
 use Rattle.grammar_files.proofs.of_grammar_tokens.Parts.{past}
 use Rattle.grammar_files.proofs.of_grammar_tokens.Spelled.{all_spelled}
-use Rattle.grammar_files.specs.grammar_tokens.Reads.{HasOneTree}
+use Rattle.grammar_files.specs.grammar_tokens.ParseResults.{HasOneTree}
 use Rattle.grammar_files.specs.grammar_expressions.Expressions.{nesting_limit}
 use Rattle.grammar_files.specs.grammar_policies.declared.tree.PolicyTree.{PolicyTree}
 use Rattle.grammar_files.specs.grammar_policies.Grammar.{policies, policy}

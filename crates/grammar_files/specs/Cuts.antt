@@ -1,7 +1,7 @@
 -- Defines the text of each policy in a file.
 --
 -- Source: Cedar reference guide 4.0, "Grammar specification for Cedar policy syntax": a policy ends with `;`, and no
--- other token of it is one.
+-- other token of a policy is a `;`.
 -- Rules of this product: the text of a policy begins at the first character after the previous policy that is not
 -- whitespace, so comments before a policy belong to its text. What follows the last `;` belongs to no policy.
 use Rattle.std.specs.Prelude.{◌≡◌, ℕ, Bool, true, false, List, [], ◌∷◌, ◌++◌, length, map, drop, slice_range}
@@ -28,13 +28,13 @@ parts_from text from [] = []
 parts_from text from (t ∷ ts) =
     if is_end t.kind then slice_range text from t.end ∷ parts_from text t.end ts else parts_from text from ts
 
--- `left_from from ts` is the byte after the last of these parts, or `from` otherwise.
+-- `left_from from ts` is the byte after the last part of `parts_from`, or `from` if there is no part.
 abbrev pub left_from : ℕ → List Token → ℕ
 left_from from [] = from
 left_from from (t ∷ ts) = if is_end t.kind then left_from t.end ts else left_from from ts
 
--- `policy_texts text ts` are the texts of the policies of `text`, whose tokens are `ts`: the parts without leading
--- whitespace.
+-- `policy_texts text ts` are the texts of the policies of `text`, where `ts` are the tokens of `text`: the parts
+-- without leading whitespace.
 abbrev pub policy_texts : List ℕ → List Token → List (List ℕ)
 policy_texts text ts = map trim_start (parts_from text 0 ts)
 
@@ -44,8 +44,9 @@ AreTextsOf text texts = (ts : List Token) × IsLexed text ts × (texts ≡ polic
 
 -- ## Theorems
 
--- `StandsAlone text` holds if `text` by itself has tokens, of which exactly the last is a `;`, and that ends `text`.
-pub record StandsAlone (text : List ℕ) : Type 0 where
+-- `IsSelfContained text` holds if `text` by itself has tokens, of which exactly the last is a `;`, and this `;` ends
+-- `text`.
+pub record IsSelfContained (text : List ℕ) : Type 0 where
   pub before : List Token
   pub last : Token
   pub lexed : IsLexed text (before ++ last ∷ [])
@@ -53,10 +54,10 @@ pub record StandsAlone (text : List ℕ) : Type 0 where
   pub ends : is_end last.kind ≡ true
   pub at_end : last.end ≡ length text
 
--- `EachStandsAlone`: each text of `policy_texts` stands alone.
-abbrev pub EachStandsAlone : Type 0
-EachStandsAlone = (text : List ℕ) (ts : List Token) → IsUtf8 text → IsLexed text ts
-    → AllByRecursion StandsAlone (policy_texts text ts)
+-- `EachIsSelfContained`: each text of `policy_texts` is self-contained.
+abbrev pub EachIsSelfContained : Type 0
+EachIsSelfContained = (text : List ℕ) (ts : List Token) → IsUtf8 text → IsLexed text ts
+    → AllByRecursion IsSelfContained (policy_texts text ts)
 
 -- `PartsJoin`: a text is the concatenation of its parts and of the rest after the last.
 abbrev pub PartsJoin : Type 0
@@ -74,7 +75,8 @@ abbrev pub EachIsSpaced : Type 0
 EachIsSpaced = (text : List ℕ) (ts : List Token) → IsUtf8 text → IsLexed text ts
     → AllZip IsSpaced (parts_from text 0 ts) (policy_texts text ts)
 
--- `AreAsManyAsPolicies`: if the tokens of a text derive policies, it has one text for each of them.
+-- `AreAsManyAsPolicies`: if the tokens of a text derive policies, `AreTextsOf` gives one text for each of these
+-- policies.
 abbrev pub AreAsManyAsPolicies : Type 0
 AreAsManyAsPolicies = (levels : ℕ) (text : List ℕ) (ts : List Token) (trees : List PolicyTree) (texts : List (List ℕ))
     → IsLexed text ts → policies levels ts trees → AreTextsOf text texts → length texts ≡ length trees

@@ -7,13 +7,13 @@ use Rattle.policy_grammar.specs.declared.policy.Policy.{Policy}
 use Rattle.policy_grammar.specs.PolicyText.{IsPolicyFile, IsPolicyText}
 use Rattle.grammar_files.specs.Cuts.{AreTextsOf}
 
--- `ReadsAs text policy` holds if `text` is parsed as no policy other than `policy`. It may be parsed as none: a policy
--- in a file may be too long by itself.
+-- `ReadsAs text policy` holds if `text` is parsed as no policy other than `policy`. The text may be parsed as no policy
+-- at all: a policy of a file may be too long by itself.
 abbrev pub ReadsAs : List ℕ → Policy → Type 0
 ReadsAs text policy = (read : Policy) → IsPolicyText text read → read ≡ policy
 
 -- `EachReadsAsInItsFile`: the text of each policy of a file, by itself, is parsed as the policy at the same index, if
--- it is parsed at all.
+-- the text is parsed at all.
 abbrev pub EachReadsAsInItsFile : Type 0
 EachReadsAsInItsFile = (text : List ℕ) (names : List (List ℕ)) (policies : List Policy) (texts : List (List ℕ))
     → IsUtf8 text → IsPolicyFile text names policies → AreTextsOf text texts → AllZip ReadsAs texts policies

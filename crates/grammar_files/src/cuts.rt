@@ -36,8 +36,8 @@ fn cut<'t>(alloc: Global, text: &'t str, tokens: &[Token]) -> Result<Vec<&'t str
 /// Returns the text of each policy of a file, in order, as slices of the file.
 ///
 /// A policy's text begins at the first character after the previous policy that is not whitespace, so comments before a
-/// policy belong to its text. It ends with its `;`. What follows the last `;` belongs to no policy. The text is cut by
-/// its tokens alone: it need not be a file of policies.
+/// policy belong to its text. A policy's text ends with its `;`. What follows the last `;` belongs to no policy. `text`
+/// is cut by its tokens alone, and need not be a file of policies.
 ///
 /// O(length of `text`). Allocates the tokens and the list of texts.
 ///

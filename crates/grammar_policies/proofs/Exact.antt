@@ -7,8 +7,8 @@ use Rattle.grammar_policies.specs.Grammar as g
 use Rattle.grammar_policies.specs.inner.Parsing as r
 use Rattle.grammar_policies.specs.inner.Parsing.{policy_firsts}
 use Rattle.grammar_expressions.specs.grammar_tokens.ParsesTo.{ParsesTo}
-use Rattle.grammar_expressions.specs.grammar_tokens.Reads.{HasOneTree, HasOneAnswerWithin, OpensNextLevel, ReadsWithin}
-use Rattle.grammar_expressions.specs.grammar_tokens.Reads.{whole_of}
+use Rattle.grammar_expressions.specs.grammar_tokens.ParseResults.{HasOneTree, HasOneAnswerWithin, OpensNextLevel, ReadsWithin}
+use Rattle.grammar_expressions.specs.grammar_tokens.ParseResults.{whole_of}
 use Rattle.grammar_expressions.proofs.of_grammar_tokens.Steps.{none}
 use Rattle.grammar_policies.proofs.PolicyRules.{policy_rule, alive_policy, policies_rule, alive_policies}
 use Rattle.grammar_expressions.specs.Expressions.{nesting_limit}

@@ -18,8 +18,8 @@ use Rattle.grammar_expressions.specs.Expressions.{expr, symbol}
 use Rattle.grammar_expressions.specs.ExpressionParsing as expressions
 use Rattle.grammar_expressions.proofs.Published.{after_expr, expr_rule, alive_expr, starts_symbol, symbol_rule}
 use Rattle.grammar_expressions.proofs.of_grammar_tokens.Depths.{levels}
-use Rattle.grammar_expressions.specs.grammar_tokens.Reads.{Begins, sees}
-use Rattle.grammar_expressions.specs.grammar_tokens.Reading.{pure, ◌>>=◌}
+use Rattle.grammar_expressions.specs.grammar_tokens.ParseResults.{Begins, sees}
+use Rattle.grammar_expressions.specs.grammar_tokens.ParserCombinators.{pure, ◌>>=◌}
 use Rattle.grammar_policies.specs.inner.Parsing as r
 use Rattle.grammar_policies.specs.inner.Parsing.{policy_firsts}
 use Rattle.grammar_expressions.proofs.of_grammar_tokens.Sets.{wide_sees, sees-append}

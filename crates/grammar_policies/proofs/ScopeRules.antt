@@ -14,8 +14,8 @@ use Rattle.grammar_expressions.specs.grammar_tokens.Lang.{Lang}
 use Rattle.grammar_expressions.specs.grammar_tokens.Lang as lang
 use Rattle.grammar_policies.specs.Grammar as g
 use Rattle.grammar_policies.specs.Grammar.{identifiers, is_in}
-use Rattle.grammar_expressions.specs.grammar_tokens.Reads.{Begins}
-use Rattle.grammar_expressions.specs.grammar_tokens.Reading.{Parser, pure, either, ◌>>=◌}
+use Rattle.grammar_expressions.specs.grammar_tokens.ParseResults.{Begins}
+use Rattle.grammar_expressions.specs.grammar_tokens.ParserCombinators.{Parser, pure, either, ◌>>=◌}
 use Rattle.grammar_policies.specs.inner.Parsing as r
 use Rattle.grammar_expressions.proofs.of_grammar_tokens.Sets.{apart, within}
 use Rattle.grammar_expressions.proofs.of_grammar_tokens.Rules.{Rule, Levels}

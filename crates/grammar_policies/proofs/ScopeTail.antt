@@ -2,7 +2,7 @@
 use Rattle.std.proofs.Common.{◌≡◌, ℕ, List, refl}
 use Rattle.grammar_expressions.specs.grammar_tokens.declared.token.TokenKind.TheVariants as k
 use Rattle.grammar_expressions.specs.grammar_tokens.declared.token.Token.{Token}
-use Rattle.grammar_expressions.specs.grammar_tokens.Reading.{ParseResult, Read, Stop, and_then, token, pure}
+use Rattle.grammar_expressions.specs.grammar_tokens.ParserCombinators.{ParseResult, Read, Stop, and_then, token, pure}
 use Rattle.grammar_policies.specs.declared.tree.Annotation.{Annotation}
 use Rattle.grammar_policies.specs.declared.tree.ScopeTree.{ScopeTree}
 use Rattle.grammar_policies.specs.declared.tree.Condition.{Condition}

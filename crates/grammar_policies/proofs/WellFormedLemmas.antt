@@ -14,7 +14,7 @@ use Rattle.grammar_expressions.specs.grammar_tokens.Kinds.{only}
 use Rattle.grammar_expressions.specs.grammar_tokens.Lang as lang
 use Rattle.grammar_expressions.specs.grammar_tokens.Lang.{Lang}
 use Rattle.grammar_expressions.specs.grammar_tokens.declared.fault.SyntaxFault.{SyntaxFault}
-use Rattle.grammar_expressions.specs.grammar_tokens.Reads.{Reads, ReadsWithin}
+use Rattle.grammar_expressions.specs.grammar_tokens.ParseResults.{Reads, ReadsWithin}
 use Rattle.grammar_policies.specs.Grammar as g
 use Rattle.grammar_policies.specs.Grammar.{words, effects, condition_word_of, is_in}
 use Rattle.grammar_policies.specs.WellFormed.{WellFormedPath, WellFormedUid, WellFormedValue, WellFormedAnnotation}

@@ -1,5 +1,5 @@
--- Defines the grammar of policies over tokens, which says which trees a list of tokens derives. A comment states the
--- production that its definition writes in the combinators of Lang.
+-- Defines the grammar of policies: which trees of policies a list of tokens derives. The comment above a definition
+-- states the production that the definition writes in the combinators of Lang.
 -- Source: Cedar reference guide 4.0, "Grammar specification for Cedar policy syntax".
 -- Rules of this product: `__cedar` is reserved too, and so is not an Ident; an annotation may lack its value, with or
 -- without the parentheses.
@@ -77,8 +77,8 @@ type_test = do
 abbrev pub entity_constraint : Lang PartTree
 entity_constraint = (equal_uid giving part.Equal) or (in_uid giving part.In) or type_test or empty part.Any
 
--- `entity_part variable`: the word `variable` and a constraint. Principal is that of "principal", and Resource that of
--- "resource".
+-- `entity_part variable`: the word `variable` and a constraint. The production Principal is `entity_part` of
+-- "principal", and Resource is `entity_part` of "resource".
 abbrev pub entity_part : TokenKind → Lang PartTree
 entity_part variable = one variable >> entity_constraint
 
@@ -122,7 +122,7 @@ condition_word_of k.When = Some When
 condition_word_of k.Unless = Some Unless
 condition_word_of _ = None
 
--- the kinds of "when" and "unless"
+-- `condition_words`: the kinds of "when" and "unless"
 abbrev pub condition_words : Kinds
 condition_words = known condition_word_of
 

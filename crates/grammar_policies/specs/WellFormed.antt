@@ -1,4 +1,4 @@
--- Defines well-formed trees of policies: their tokens are tokens of the text, each of a kind that its position allows.
+-- Defines well-formed trees of policies: their tokens are among given tokens, each of a kind that its position allows.
 use Rattle.std.specs.Prelude.{List, Option, Some, None}
 use Rattle.std.specs.List.{AllByRecursion}
 use Rattle.grammar_expressions.specs.grammar_tokens.declared.token.TokenKind.TheVariants as k

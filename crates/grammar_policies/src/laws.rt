@@ -4,8 +4,8 @@ ghost use Rattle.grammar_policies.specs.Grammar.{policy, policies, uid};
 ghost use Rattle.grammar_policies.specs.WellFormed.{IsMadeOfTokens, WellFormedPolicy, WellFormedUid};
 ghost use Rattle.grammar_expressions.specs.Expressions.{nesting_limit};
 ghost use Rattle.grammar_expressions.specs.grammar_tokens.Lang.{at_any};
-ghost use Rattle.grammar_expressions.specs.grammar_tokens.Reads.{HasOneTree, HasOneAnswer, HasOneAnswerWithin};
-ghost use Rattle.grammar_expressions.specs.grammar_tokens.Reads.{OpensNextLevel};
+ghost use Rattle.grammar_expressions.specs.grammar_tokens.ParseResults.{HasOneTree, HasOneAnswer, HasOneAnswerWithin};
+ghost use Rattle.grammar_expressions.specs.grammar_tokens.ParseResults.{OpensNextLevel};
 
 /// Proves that each list of tokens has exactly one result, a tree or an error, as a policy, as a list of policies and
 /// as a uid; and that a token with the error `TooDeep` opens the first level past the limit. No-op.

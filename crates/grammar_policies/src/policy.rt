@@ -12,7 +12,7 @@ use crate::tree::{Annotation, Condition, ConditionWord, PolicyTree, ScopeTree};
 use grammar_expressions::{
     Cursor, NESTING_LIMIT, StopCause, Token, TokenKind, expr, read_many, take_symbol,
 };
-use plain::{Items, beside};
+use plain::{Items, pair_with};
 use std::alloc::Global;
 
 /// Parses [ String ].
@@ -28,7 +28,7 @@ fn maybe_text(tokens: &mut Cursor<'_>) -> Result<Option<Token>, StopCause>
     Ok(Some(text))
 }
 
-/// [ "(" [ String ] ")" ]
+/// Parses "(" [ String ] ")" if "(" comes next.
 #[tactic(auto, unfolding(crate::specs::inner::Parsing::maybe_value, crate::specs::inner::Parsing::annotation_value))]
 fn maybe_value(tokens: &mut Cursor<'_>) -> Result<Option<Token>, StopCause>
     ensures reads { ParsesTo (spec.maybe_value tokens.old.rest.now) result tokens.new.rest.now }
@@ -71,7 +71,7 @@ fn condition(alloc: Global, tokens: &mut Cursor<'_>) -> Result<Condition, StopCa
     let word = take_symbol::<ConditionWord>(tokens)?;
     tokens.take(TokenKind::LBrace)?;
     let expression = expr(alloc, tokens, NESTING_LIMIT)?;
-    let (expression, _closed) = beside(expression, tokens.take(TokenKind::RBrace))?;
+    let (expression, _closed) = pair_with(expression, tokens.take(TokenKind::RBrace))?;
     Ok(Condition { word, expression })
 }
 
@@ -92,7 +92,7 @@ fn scope_tail(alloc: Global, tokens: &mut Cursor<'_>) -> Result<Items<Condition>
 {
     tokens.take(TokenKind::RParen)?;
     let conditions = conditions(alloc, tokens)?;
-    let (conditions, _ended) = beside(conditions, tokens.take(TokenKind::Semicolon))?;
+    let (conditions, _ended) = pair_with(conditions, tokens.take(TokenKind::Semicolon))?;
     Ok(conditions)
 }
 
@@ -108,7 +108,7 @@ fn policy_of(
     ensures { ParsesTo (spec.policy_of nesting_limit annotations effect found tokens.old.rest.now)
         result tokens.new.rest.now }
 {
-    let ((annotations, found), conditions) = beside(
+    let ((annotations, found), conditions) = pair_with(
         (annotations, found),
         scope_tail(alloc, tokens),
     )?;

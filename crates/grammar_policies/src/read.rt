@@ -4,7 +4,7 @@ ghost use Rattle.std.specs.Prelude.{IfOk};
 ghost use Rattle.std.specs.List.{AllByRecursion};
 ghost use Rattle.grammar_expressions.specs.Expressions.{nesting_limit};
 ghost use Rattle.grammar_expressions.specs.grammar_tokens.Lang.{at_any};
-ghost use Rattle.grammar_expressions.specs.grammar_tokens.Reads.{Reads, ReadsWithin, with_items};
+ghost use Rattle.grammar_expressions.specs.grammar_tokens.ParseResults.{Reads, ReadsWithin, with_items};
 ghost use Rattle.grammar_policies.specs.Grammar as grammar;
 ghost use Rattle.grammar_policies.specs.WellFormed.{WellFormedPolicy, WellFormedUid};
 
@@ -22,7 +22,7 @@ use std::alloc::Global;
 /// - `NoMemory`: an allocation failed; possible at any point.
 pub fn read_policy(alloc: Global, tokens: &[Token]) -> Result<PolicyTree, SyntaxFault>
     ensures reads { ReadsWithin (grammar.policy nesting_limit) (at_any grammar.policy) tokens.now result }
-    ensures stands { IfOk result (WellFormedPolicy tokens.now) }
+    ensures is_well_formed { IfOk result (WellFormedPolicy tokens.now) }
 {
     let mut cursor = Cursor { rest: tokens };
     let read = policy(alloc, &mut cursor);
@@ -41,7 +41,7 @@ pub fn read_policy(alloc: Global, tokens: &[Token]) -> Result<PolicyTree, Syntax
 pub fn read_policies(alloc: Global, tokens: &[Token]) -> Result<Vec<PolicyTree>, SyntaxFault>
     ensures reads { ReadsWithin (grammar.policies nesting_limit) (at_any grammar.policies)
         tokens.now (with_items result) }
-    ensures stands { IfOk result (λ found. AllByRecursion (WellFormedPolicy tokens.now) found.items) }
+    ensures is_well_formed { IfOk result (λ found. AllByRecursion (WellFormedPolicy tokens.now) found.items) }
 {
     let mut cursor = Cursor { rest: tokens };
     let read = policies(alloc, &mut cursor);
@@ -59,7 +59,7 @@ pub fn read_policies(alloc: Global, tokens: &[Token]) -> Result<Vec<PolicyTree>,
 /// - `NoMemory`: an allocation failed; possible at any point.
 pub fn read_uid(alloc: Global, tokens: &[Token]) -> Result<UidTree, SyntaxFault>
     ensures reads { Reads grammar.uid tokens.now result }
-    ensures stands { IfOk result (WellFormedUid tokens.now) }
+    ensures is_well_formed { IfOk result (WellFormedUid tokens.now) }
 {
     let mut cursor = Cursor { rest: tokens };
     let read = uid(alloc, &mut cursor);

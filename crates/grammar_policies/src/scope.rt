@@ -5,7 +5,7 @@ ghost use Rattle.grammar_policies.specs.inner.Parsing as spec;
 
 use crate::tree::{ActionTree, PartTree, ScopeTree};
 use grammar_expressions::{Cursor, NameSet, StopCause, TokenKind, UidTree, path, read_more, uid};
-use plain::{Items, beside};
+use plain::{Items, pair_with};
 use std::alloc::Global;
 
 /// Parses "==" Uid.
@@ -168,10 +168,10 @@ pub(crate) fn scope(alloc: Global, tokens: &mut Cursor<'_>) -> Result<ScopeTree,
     ensures { ParsesTo (spec.scope tokens.old.rest.now) result tokens.new.rest.now }
 {
     let principal = entity_part(alloc, tokens, TokenKind::Principal)?;
-    let (principal, _comma) = beside(principal, tokens.take(TokenKind::Comma))?;
-    let (principal, action) = beside(principal, action_part(alloc, tokens))?;
-    let (parts, _comma) = beside((principal, action), tokens.take(TokenKind::Comma))?;
-    let ((principal, action), resource) = beside(
+    let (principal, _comma) = pair_with(principal, tokens.take(TokenKind::Comma))?;
+    let (principal, action) = pair_with(principal, action_part(alloc, tokens))?;
+    let (parts, _comma) = pair_with((principal, action), tokens.take(TokenKind::Comma))?;
+    let ((principal, action), resource) = pair_with(
         parts,
         entity_part(alloc, tokens, TokenKind::Resource),
     )?;

@@ -6,7 +6,7 @@ use Rattle.grammar_tokens.specs.declared.piece.Piece.TheVariants.{Byte, Char, St
 use Rattle.grammar_tokens.specs.declared.token.TokenKind.{TokenKind}
 use Rattle.grammar_tokens.specs.declared.token.TokenKind.TheVariants.{Text}
 use Rattle.grammar_tokens.specs.Lexing.{IsEscape, IsBody, done, itself, escape, kind_of_pieces, IsToken, quoted, NoToken}
-use Rattle.grammar_tokens.specs.inner.Reading.{NoEscape, kind_with, IsFirst}
+use Rattle.grammar_tokens.specs.inner.Tokenizing.{NoEscape, kind_with, IsFirst}
 use Rattle.plain.specs.Words.{is_letter, is_digit}
 use Rattle.grammar_tokens.proofs.Escapes.{shaped, same_escape}
 use Rattle.grammar_tokens.proofs.FirstByte.{quotes, class, OfClass}

@@ -5,7 +5,7 @@ use Rattle.std.proofs.lemmas.List.{drop-drop, length-drop}
 use Rattle.grammar_tokens.specs.declared.token.TokenKind.{TokenKind}
 use Rattle.grammar_tokens.specs.declared.piece.Escape.{Escape}
 use Rattle.grammar_tokens.specs.Lexing.{NoToken}
-use Rattle.grammar_tokens.specs.inner.Reading.{NoEscape, IsFirstEscape, kind_with, IsFirst}
+use Rattle.grammar_tokens.specs.inner.Tokenizing.{NoEscape, IsFirstEscape, kind_with, IsFirst}
 use Rattle.grammar_tokens.proofs.Bodies.{Passed, passed_byte, passed_escape, quoted_found, bad_escape, never_closed}
 use Rattle.grammar_tokens.proofs.Parts.{past}
 

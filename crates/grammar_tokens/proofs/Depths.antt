@@ -5,8 +5,8 @@ use Rattle.grammar_tokens.specs.declared.fault.StopCause.{StopCause}
 use Rattle.grammar_tokens.specs.Kinds.{Kinds}
 use Rattle.grammar_tokens.specs.Lang.{Lang, at_any}
 use Rattle.grammar_tokens.specs.ParsesTo.{ParsesTo}
-use Rattle.grammar_tokens.specs.Reading.{Parser, Read, Stop, Why, Unexpected, TooDeep}
-use Rattle.grammar_tokens.specs.Reads.{Begins, BreaksAt, GoesOn, HasOneTree, HasOneAnswerWithin, ReadsWithin, ReadsFrontWithin, OpensNextLevel, whole_of}
+use Rattle.grammar_tokens.specs.ParserCombinators.{Parser, Read, Stop, StopReason, Unexpected, TooDeep}
+use Rattle.grammar_tokens.specs.ParseResults.{Begins, BreaksAt, GoesOn, HasOneTree, HasOneAnswerWithin, ReadsWithin, ReadsFrontWithin, OpensNextLevel, whole_of}
 use Rattle.grammar_tokens.proofs.Rules.{Rule, Levels, Opens}
 use Rattle.grammar_tokens.proofs.Firm.{Firm}
 use Rattle.grammar_tokens.proofs.Whole as whole
@@ -19,7 +19,7 @@ levels n m = record { Deeper = n < m; Equal = n ≡ m }
 read_of : {A : Type 0} (a b : A) (ts us : List Token) → Read a ts ≡ Read b us → ts ≡ us
 read_of a b ts us h = cc
 
-read_or_stop : {A : Type 0} (a : A) (w : Why) (ts us : List Token) → Read a ts ≡ Stop w us → ⊥
+read_or_stop : {A : Type 0} (a : A) (w : StopReason) (ts us : List Token) → Read a ts ≡ Stop w us → ⊥
 read_or_stop a w ts us h = cc
 
 some_or_none : (b : Token) (bs : List Token) → [] ≡ b ∷ bs → ⊥

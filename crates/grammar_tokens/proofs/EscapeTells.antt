@@ -7,7 +7,7 @@ use Rattle.std.specs.Char.{IsScalar, digit_value}
 use Rattle.grammar_tokens.specs.declared.piece.Piece.TheVariants.{Char, Star}
 use Rattle.plain.specs.Words.{AllAre, run}
 use Rattle.grammar_tokens.specs.Lexing.{escaped, is_hex, hex_after, letter, star, short, long}
-use Rattle.grammar_tokens.specs.inner.Reading.{NoEscape, IsFirstEscape}
+use Rattle.grammar_tokens.specs.inner.Tokenizing.{NoEscape, IsFirstEscape}
 use Rattle.std.proofs.lemmas.List.{length-take-le}
 use Rattle.plain.proofs.Runs.{run_all}
 use Rattle.grammar_tokens.proofs.Escapes.{Sort, letters, sort, Shape, goes, closed}

@@ -7,7 +7,7 @@ use Rattle.grammar_tokens.specs.declared.piece.Piece.{Piece}
 use Rattle.grammar_tokens.specs.declared.piece.Piece.TheVariants.{Char, Star}
 use Rattle.plain.specs.Words.{AllAre}
 use Rattle.grammar_tokens.specs.Lexing.{escaped, is_hex, hex_after, IsEscape, letter, star, short, long}
-use Rattle.grammar_tokens.specs.inner.Reading.{NoEscape}
+use Rattle.grammar_tokens.specs.inner.Tokenizing.{NoEscape}
 
 pub data Sort : Type 0 where
   letters : Sort

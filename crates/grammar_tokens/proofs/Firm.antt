@@ -5,8 +5,8 @@ use Rattle.grammar_tokens.specs.declared.token.TokenKind.{TokenKind}
 use Rattle.grammar_tokens.specs.Kinds.{Kinds}
 use Rattle.grammar_tokens.specs.Lang.{Lang, Joined}
 use Rattle.grammar_tokens.specs.Lang as lang
-use Rattle.grammar_tokens.specs.Reading.{Parser, Read, Stop, Unexpected, ◌>>=◌, ◌>>◌, pure, token, either, too_deep, optional, gate, loop_from, loop, many}
-use Rattle.grammar_tokens.specs.Reads.{sees}
+use Rattle.grammar_tokens.specs.ParserCombinators.{Parser, Read, Stop, Unexpected, ◌>>=◌, ◌>>◌, pure, token, either, too_deep, optional, gate, loop_from, loop, many}
+use Rattle.grammar_tokens.specs.ParseResults.{sees}
 use Rattle.grammar_tokens.proofs.Sets.{apart, within, sees-append}
 use Rattle.grammar_tokens.proofs.Rules.{Rule, Levels, stop_either, recut}
 use Rattle.grammar_tokens.proofs.Forms.{Starts, Leads, one, nothing, leads_empty, choice, not_stop, nothing_read}

@@ -5,8 +5,8 @@ use Rattle.grammar_tokens.specs.declared.token.TokenKind.{TokenKind}
 use Rattle.grammar_tokens.specs.Kinds.{Kinds, only, same_kind, number_of}
 use Rattle.grammar_tokens.specs.Lang.{Lang}
 use Rattle.grammar_tokens.specs.Lang as lang
-use Rattle.grammar_tokens.specs.Reading.{Parser, ParseResult, Read, Stop, Why, Unexpected, TooDeep, pure, take, take_if, either, chosen, refuse}
-use Rattle.grammar_tokens.specs.Reads.{Begins, sees}
+use Rattle.grammar_tokens.specs.ParserCombinators.{Parser, ParseResult, Read, Stop, StopReason, Unexpected, TooDeep, pure, take, take_if, either, chosen, refuse}
+use Rattle.grammar_tokens.specs.ParseResults.{Begins, sees}
 use Rattle.grammar_tokens.proofs.Sets.{apart, within, sees-append, sees_apart, unseen_within, sees_same}
 use Rattle.grammar_tokens.proofs.Rules.{Rule, Levels, Keeps, ReadsFront, Stops, Opens}
 
@@ -60,7 +60,7 @@ take_read : (b : Bool) (t a : Token) (ts rest : List Token) → take_if b t ts �
 take_read true t a ts rest h = (refl, cc, cc)
 take_read false t a ts rest h = absurd (cc)
 
-take_stop : (b : Bool) (t : Token) (w : Why) (ts rest : List Token) → take_if b t ts ≡ Stop w rest → (b ≡ false) × (w ≡ Unexpected) × (rest ≡ t ∷ ts)
+take_stop : (b : Bool) (t : Token) (w : StopReason) (ts rest : List Token) → take_if b t ts ≡ Stop w rest → (b ≡ false) × (w ≡ Unexpected) × (rest ≡ t ∷ ts)
 take_stop true t w ts rest h = absurd (cc)
 take_stop false t w ts rest h = (refl, cc, cc)
 
@@ -81,7 +81,7 @@ begin_of ks k e = let t : Token = record { kind = k; start = 0; end = 0 } in rec
 stops_one : (ks : Kinds) (ts rest : List Token) → rest ≡ ts → Stops (lang.of ks) ts rest
 stops_one ks ts rest h = record { front = []; whole = sym h; begins = inl refl }
 
-viable_one : (ks : Kinds) (ts : List Token) (w : Why) (rest : List Token) → take ks ts ≡ Stop w rest → Stops (lang.of ks) ts rest
+viable_one : (ks : Kinds) (ts : List Token) (w : StopReason) (rest : List Token) → take ks ts ≡ Stop w rest → Stops (lang.of ks) ts rest
 unfolding take
 viable_one ks [] w rest h = stops_one ks [] rest (cc)
 viable_one ks (t ∷ ts) w rest h = stops_one ks (t ∷ ts) rest (take_stop (ks t.kind) t w ts rest h).2
@@ -105,7 +105,7 @@ read_one_again ks (t ∷ u ∷ front) b more others a h =
     let e = ap length (take_read (ks t.kind) t a (u ∷ (front ++ b ∷ more)) (b ∷ more) h).2 in
     absurd (omega (arith, length-append front (b ∷ more), e))
 
-stop_one_again : (ks : Kinds) (w : Why) (front : List Token) (b : Token) (more others : List Token) → take ks (front ++ b ∷ more) ≡ Stop w (b ∷ more) → take ks (front ++ b ∷ others) ≡ Stop w (b ∷ others)
+stop_one_again : (ks : Kinds) (w : StopReason) (front : List Token) (b : Token) (more others : List Token) → take ks (front ++ b ∷ more) ≡ Stop w (b ∷ more) → take ks (front ++ b ∷ others) ≡ Stop w (b ∷ others)
 unfolding take
 stop_one_again ks w [] b more others h =
     let r = take_stop (ks b.kind) b w more (b ∷ more) h in
@@ -138,7 +138,7 @@ alive_empty a = record { more = []; value = a; derived = (refl, refl) }
 pub nothing_read : {A : Type 0} (a x : A) (ts rest : List Token) → Read a ts ≡ Read x rest → (a ≡ x) × (ts ≡ rest)
 nothing_read a x ts rest h = (cc, cc)
 
-pub not_stop : {A : Type 0} (a : A) (w : Why) (ts rest : List Token) → Read a ts ≡ Stop w rest → ⊥
+pub not_stop : {A : Type 0} (a : A) (w : StopReason) (ts rest : List Token) → Read a ts ≡ Stop w rest → ⊥
 not_stop a w ts rest h = cc
 
 pub cut_same : (front : List Token) (b : Token) (more : List Token) → front ++ b ∷ more ≡ b ∷ more → front ≡ []
@@ -199,7 +199,7 @@ module _ {A : Type 0} (L K M N : Lang A) (p p' q q' : Parser A) (ks js : Kinds) 
   complete_either front a rest (inl x) h = took (sees ks (front ++ rest)) p q (front ++ rest) (sees-append ks front rest (starts front a x)) ∙ l.complete front a rest x h
   complete_either front a rest (inr x) h = left (sees ks (front ++ rest)) p q (front ++ rest) (leads front a rest x h) ∙ m.complete front a rest x h
 
-  viable_either : (ts : List Token) (w : Why) (rest : List Token) → either ks p q ts ≡ Stop w rest → Stops (lang.◌or◌ L M) ts rest
+  viable_either : (ts : List Token) (w : StopReason) (rest : List Token) → either ks p q ts ≡ Stop w rest → Stops (lang.◌or◌ L M) ts rest
   viable_either ts w rest h = elim (choice (sees ks ts) p q ts (Stop w rest) h) [
     | inl c ↦ (let r = l.viable ts w rest c.1 in record { front = r.front; whole = r.whole; begins = begin_left r.front r.begins })
     | inr c ↦ (let r = m.viable ts w rest c.1 in record { front = r.front; whole = r.whole; begins = begin_right r.front r.begins })
@@ -215,7 +215,7 @@ module _ {A : Type 0} (L K M N : Lang A) (p p' q q' : Parser A) (ks js : Kinds) 
     | inr c ↦ left (sees ks (front ++ b ∷ others)) p' q' (front ++ b ∷ others) (sees_same ks front b others more ∙ c.0) ∙ m.local.read front b more others a c.1
   ]
 
-  stop_either_again : (w : Why) → Keeps D.Equal w → (front : List Token) (b : Token) (more others : List Token) → either ks p q (front ++ b ∷ more) ≡ Stop w (b ∷ more) → either ks p' q' (front ++ b ∷ others) ≡ Stop w (b ∷ others)
+  stop_either_again : (w : StopReason) → Keeps D.Equal w → (front : List Token) (b : Token) (more others : List Token) → either ks p q (front ++ b ∷ more) ≡ Stop w (b ∷ more) → either ks p' q' (front ++ b ∷ others) ≡ Stop w (b ∷ others)
   stop_either_again w keeps front b more others h = elim (choice (sees ks (front ++ b ∷ more)) p q (front ++ b ∷ more) (Stop w (b ∷ more)) h) [
     | inl c ↦ took (sees ks (front ++ b ∷ others)) p' q' (front ++ b ∷ others) (sees_same ks front b others more ∙ c.0) ∙ l.local.stop w keeps front b more others c.1
     | inr c ↦ left (sees ks (front ++ b ∷ others)) p' q' (front ++ b ∷ others) (sees_same ks front b others more ∙ c.0) ∙ m.local.stop w keeps front b more others c.1
@@ -242,16 +242,16 @@ module _ {A : Type 0} (L K M N : Lang A) (p p' q q' : Parser A) (ks js : Kinds) 
 never_read : {A : Type 0} (a : A) (ts rest : List Token) → refuse ts ≡ Read a rest → ⊥
 never_read a ts rest h = cc
 
-stops_here : {A : Type 0} (ts rest : List Token) (w : Why) → refuse {A = A} ts ≡ Stop w rest → ts ≡ rest
+stops_here : {A : Type 0} (ts rest : List Token) (w : StopReason) → refuse {A = A} ts ≡ Stop w rest → ts ≡ rest
 stops_here ts rest w h = cc
 
 not_too_deep : {A : Type 0} (ts rest : List Token) → refuse {A = A} ts ≡ Stop TooDeep rest → ⊥
 not_too_deep ts rest h = cc
 
-why_refused : {A : Type 0} (ts rest : List Token) (w : Why) → refuse {A = A} ts ≡ Stop w rest → Unexpected ≡ w
+why_refused : {A : Type 0} (ts rest : List Token) (w : StopReason) → refuse {A = A} ts ≡ Stop w rest → Unexpected ≡ w
 why_refused ts rest w h = cc
 
-refuse_again : {A : Type 0} (w : Why) (front : List Token) (b : Token) (more others : List Token) → refuse {A = A} (front ++ b ∷ more) ≡ Stop w (b ∷ more) → refuse {A = A} (front ++ b ∷ others) ≡ Stop w (b ∷ others)
+refuse_again : {A : Type 0} (w : StopReason) (front : List Token) (b : Token) (more others : List Token) → refuse {A = A} (front ++ b ∷ more) ≡ Stop w (b ∷ more) → refuse {A = A} (front ++ b ∷ others) ≡ Stop w (b ∷ others)
 refuse_again w front b more others h =
     ap (λ z. Stop Unexpected (z ++ b ∷ others)) (cut_same front b more (stops_here (front ++ b ∷ more) (b ∷ more) w h))
     ∙ ap (λ z. Stop z (b ∷ others)) (why_refused (front ++ b ∷ more) (b ∷ more) w h)

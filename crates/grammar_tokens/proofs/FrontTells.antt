@@ -5,7 +5,7 @@ use Rattle.grammar_tokens.specs.declared.token.TokenKind.TheVariants.{Number}
 use Rattle.grammar_tokens.specs.declared.token.ScannedToken.{ScannedToken}
 use Rattle.plain.specs.Words.{is_letter, is_digit, is_word_byte, run}
 use Rattle.grammar_tokens.specs.Lexing.{kind_of_word, listed, singles, pairs, IsToken, word, number, single, pair, NoToken}
-use Rattle.grammar_tokens.specs.inner.Reading.{IsFirst, ReportsToken, sized, first_found, mark_of}
+use Rattle.grammar_tokens.specs.inner.Tokenizing.{IsFirst, ReportsToken, sized, first_found, mark_of}
 use Rattle.plain.proofs.Runs.{run_all, run_most, run_within}
 use Rattle.grammar_tokens.proofs.FirstByte.{Class, letters, digits, others, class, OfClass, class_of_letter, class_of_digit, of_class, not_empty}
 

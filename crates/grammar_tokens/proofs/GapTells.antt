@@ -8,7 +8,7 @@ use Rattle.std.proofs.lemmas.Bool.{cases_Bool, eqb-true}
 use Rattle.std.proofs.lemmas.List.{append-nil}
 use Rattle.grammar_tokens.specs.Lexing.{in_line, EndsLine, IsGap, blank, comment, NoGap}
 use Rattle.plain.specs.Words.{run}
-use Rattle.grammar_tokens.specs.inner.Reading.{IsGapOf, ReportsBlank}
+use Rattle.grammar_tokens.specs.inner.Tokenizing.{IsGapOf, ReportsBlank}
 use Rattle.plain.proofs.Runs.{run_all, run_within}
 
 run_ends : (cs : List ℕ) → EndsLine (drop (run in_line cs) cs)

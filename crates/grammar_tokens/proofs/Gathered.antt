@@ -1,13 +1,13 @@
 -- A loop of the code, beside the repetition that it reads.
 use Rattle.std.proofs.Common.{◌≡◌, ℕ, zero, suc, ◌+◌, ◌-◌, ◌<◌, ◌≤◌, Bool, true, false, List, [], ◌∷◌, ◌++◌, refl, sym, ap, subst, ◌∙◌, arith, append_assoc, append-nil}
 use Rattle.grammar_tokens.specs.declared.token.Token.{Token}
-use Rattle.grammar_tokens.specs.Reads.{sees}
+use Rattle.grammar_tokens.specs.ParseResults.{sees}
 use Rattle.grammar_tokens.specs.Kinds.{Kinds}
 use Rattle.std.proofs.Common.{Result, Err}
 use Rattle.grammar_tokens.specs.declared.fault.StopCause.{StopCause}
 use Rattle.grammar_tokens.specs.declared.fault.StopCause.TheVariants as halt
 use Rattle.grammar_tokens.specs.ParsesTo.{ParsesTo}
-use Rattle.grammar_tokens.specs.Reading.{Parser, ParseResult, Read, Stop, Why, Unexpected, TooDeep, and_then, pure, chosen, loop_from}
+use Rattle.grammar_tokens.specs.ParserCombinators.{Parser, ParseResult, Read, Stop, StopReason, Unexpected, TooDeep, and_then, pure, chosen, loop_from}
 
 -- what is read with n more turns, behind what was found
 abbrev pub gathered : {A : Type 0} → Kinds → Parser A → ℕ → List A → Parser (List A)
@@ -42,7 +42,7 @@ seen_read ks p n found ts mid a h e =
     ap (λ o. and_then o (λ more. pure (found ++ more))) (chose (sees ks ts) _ _ ts h ∙ ap (λ o. and_then o (λ a. λ us. and_then (loop_from (λ s a. s) (λ s. ks) (λ s. p) n (tt {0}) us) (λ more. pure (a ∷ more)))) e)
     ∙ regroup a found (loop_from (λ s a. s) (λ s. ks) (λ s. p) n (tt {0}) mid)
 
-seen_stop : {A : Type 0} (ks : Kinds) (p : Parser A) (n : ℕ) (found : List A) (ts rest : List Token) (w : Why) → sees ks ts ≡ true → p ts ≡ Stop w rest → gathered ks p (suc n) found ts ≡ Stop w rest
+seen_stop : {A : Type 0} (ks : Kinds) (p : Parser A) (n : ℕ) (found : List A) (ts rest : List Token) (w : StopReason) → sees ks ts ≡ true → p ts ≡ Stop w rest → gathered ks p (suc n) found ts ≡ Stop w rest
 unfolding loop_from
 seen_stop ks p n found ts rest w h e =
     ap (λ o. and_then o (λ more. pure (found ++ more))) (chose (sees ks ts) _ _ ts h ∙ ap (λ o. and_then o (λ a. λ us. and_then (loop_from (λ s a. s) (λ s. ks) (λ s. p) n (tt {0}) us) (λ more. pure (a ∷ more)))) e)

@@ -6,7 +6,7 @@ use Rattle.std.specs.Str.{IsUtf8}
 use Rattle.grammar_tokens.specs.declared.token.Token.{Token}
 use Rattle.grammar_tokens.specs.declared.token.ScannedToken.{ScannedToken}
 use Rattle.grammar_tokens.specs.Lexing.{Lex, finish, gap, token, NoGap, NoToken, IsBadAt}
-use Rattle.grammar_tokens.specs.inner.Reading.{IsGapOf, IsFirst}
+use Rattle.grammar_tokens.specs.inner.Tokenizing.{IsGapOf, IsFirst}
 use Rattle.grammar_tokens.proofs.GapTells.{Cuts}
 use Rattle.grammar_tokens.proofs.Ends.{boundary, ends_low}
 use Rattle.grammar_tokens.proofs.Parts.{past}

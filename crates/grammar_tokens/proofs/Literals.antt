@@ -12,7 +12,7 @@ use Rattle.grammar_tokens.specs.declared.piece.Piece.TheVariants.{Byte}
 use Rattle.grammar_tokens.specs.declared.piece.Escape.{Escape}
 use Rattle.grammar_tokens.specs.Lexing.{IsEscape, letter, star, short, long, IsBody, done, itself, escape}
 use Rattle.plain.specs.Words.{run}
-use Rattle.grammar_tokens.specs.inner.Reading.{NoEscape, IsFirstEscape, is_plain, character_of, is_literal, EndsLiteral, IsRead, IsLiteral}
+use Rattle.grammar_tokens.specs.inner.Tokenizing.{NoEscape, IsFirstEscape, is_plain, character_of, is_literal, EndsLiteral, IsRead, IsLiteral}
 use Rattle.grammar_tokens.specs.Strings.{piece_bytes, bytes_of, is_wildcard}
 use Rattle.grammar_tokens.proofs.Escapes.{same_escape}
 use Rattle.grammar_tokens.proofs.Bodies.{body_append, slash}

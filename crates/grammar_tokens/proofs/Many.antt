@@ -4,8 +4,8 @@ use Rattle.grammar_tokens.specs.declared.token.Token.{Token}
 use Rattle.grammar_tokens.specs.Kinds.{Kinds}
 use Rattle.grammar_tokens.specs.Lang.{Lang}
 use Rattle.grammar_tokens.specs.Lang as lang
-use Rattle.grammar_tokens.specs.Reading.{Parser, Read, Stop, Why, TooDeep, and_then, ◌>>=◌, pure, loop_from, loop, many}
-use Rattle.grammar_tokens.specs.Reads.{Begins, sees}
+use Rattle.grammar_tokens.specs.ParserCombinators.{Parser, Read, Stop, StopReason, TooDeep, and_then, ◌>>=◌, pure, loop_from, loop, many}
+use Rattle.grammar_tokens.specs.ParseResults.{Begins, sees}
 use Rattle.grammar_tokens.proofs.Sets.{apart, within, sees-append, sees_apart, unseen_within, sees_same}
 use Rattle.grammar_tokens.proofs.Rules.{Rule, Levels, Keeps, ReadsFront, Stops, Opens, read_both, stop_either, again, recut}
 use Rattle.grammar_tokens.proofs.Forms.{Starts, choice, took, left, nothing_read, not_stop, cut_same}
@@ -36,13 +36,13 @@ module _ {S A : Type 0} (next : S → A → S) (ks : S → Kinds) (p : S → Par
       let e = nothing_read (r.value ∷ s.value) xs s.mid rest s.second in
       record { head = r.value; tail = s.value; mid = r.mid; one = r.first; others = s.first ∙ ap (Read s.value) e.1; all = e.0 }
 
-  pub record TurnStops (n : ℕ) (st : S) (ts : List Token) (w : Why) (rest : List Token) : Type 0 where
+  pub record TurnStops (n : ℕ) (st : S) (ts : List Token) (w : StopReason) (rest : List Token) : Type 0 where
     pub head : A
     pub mid : List Token
     pub one : p st ts ≡ Read head mid
     pub others : loop_from next ks p n (next st head) mid ≡ Stop w rest
 
-  pub turn_stops : (n : ℕ) (st : S) (ts : List Token) (w : Why) (rest : List Token) → turn next ks p n st ts ≡ Stop w rest → (p st ts ≡ Stop w rest) ⊎ TurnStops n st ts w rest
+  pub turn_stops : (n : ℕ) (st : S) (ts : List Token) (w : StopReason) (rest : List Token) → turn next ks p n st ts ≡ Stop w rest → (p st ts ≡ Stop w rest) ⊎ TurnStops n st ts w rest
   turn_stops n st ts w rest h = elim (stop_either (p st ts) (λ a. loop_from next ks p n (next st a) >>= (λ more. pure (a ∷ more))) w rest h) [
     | inl s ↦ inl s
     | inr s ↦ elim (stop_either (loop_from next ks p n (next st s.value) s.mid) (λ more. pure (s.value ∷ more)) w rest s.second) [
@@ -118,7 +118,7 @@ module _ {S A : Type 0} (next : S → A → S) (L K : S → Lang A) (p q : S →
       ∙ ap (λ o. and_then o (λ a. loop_from next ks p n (next st a) >>= (λ more. pure (a ∷ more)))) ((l st d.0 (starts st d.0 x d.3)).complete d.0 x (d.1 ++ rest) d.3 (unseen (next st x) d.1 xs rest d.4 h))
       ∙ ap (λ o. and_then o (λ more. pure (x ∷ more))) (complete_many n (next st x) d.1 xs rest small d.4 h)
 
-  pub viable_many : (n : ℕ) (st : S) (ts : List Token) (w : Why) (rest : List Token) → loop_from next ks p n st ts ≡ Stop w rest → Stops (looped next L st) ts rest
+  pub viable_many : (n : ℕ) (st : S) (ts : List Token) (w : StopReason) (rest : List Token) → loop_from next ks p n st ts ≡ Stop w rest → Stops (looped next L st) ts rest
   unfolding loop_from
   viable_many zero st ts w rest h = absurd (not_stop [] w ts rest h)
   viable_many (suc n) st ts w rest h = elim (choice (sees (ks st) ts) (turn next ks p n st) (pure []) ts (Stop w rest) h) [
@@ -165,7 +165,7 @@ module _ {S A : Type 0} (next : S → A → S) (L K : S → Lang A) (p q : S →
         ∙ ap (λ z. Read [] (z ++ b ∷ others)) (cut_same front b more e.1) ∙ ap (λ z. Read z (b ∷ others)) e.0)
   ]
 
-  stop_many : (w : Why) → Keeps D.Equal w → (n m : ℕ) (st : S) (front : List Token) (b : Token) (more others : List Token) → length (front ++ b ∷ more) ≤ n → length (front ++ b ∷ others) ≤ m
+  stop_many : (w : StopReason) → Keeps D.Equal w → (n m : ℕ) (st : S) (front : List Token) (b : Token) (more others : List Token) → length (front ++ b ∷ more) ≤ n → length (front ++ b ∷ others) ≤ m
       → loop_from next ks p n st (front ++ b ∷ more) ≡ Stop w (b ∷ more) → loop_from next ks q m st (front ++ b ∷ others) ≡ Stop w (b ∷ others)
   unfolding loop_from
   stop_many w keeps zero m st front b more others e f h = absurd (omega (arith, length-append front (b ∷ more)))

@@ -4,8 +4,8 @@ use Rattle.grammar_tokens.specs.declared.token.Token.{Token}
 use Rattle.grammar_tokens.specs.Kinds.{Kinds}
 use Rattle.grammar_tokens.specs.Lang.{Lang}
 use Rattle.grammar_tokens.specs.Lang as lang
-use Rattle.grammar_tokens.specs.Reading.{Parser, Read, Stop, Why, TooDeep, ◌>>=◌, pure, either, too_deep, optional, gate}
-use Rattle.grammar_tokens.specs.Reads.{Begins, sees}
+use Rattle.grammar_tokens.specs.ParserCombinators.{Parser, Read, Stop, StopReason, TooDeep, ◌>>=◌, pure, either, too_deep, optional, gate}
+use Rattle.grammar_tokens.specs.ParseResults.{Begins, sees}
 use Rattle.grammar_tokens.proofs.Sets.{within, sees-append, sees_same}
 use Rattle.grammar_tokens.proofs.Rules.{Rule, Levels, Keeps, ReadsFront, Stops, Opens, then}
 use Rattle.grammar_tokens.proofs.Forms.{Starts, Leads, nothing, or, choice, took, left, cut_same, leads_empty, alive_empty}
@@ -38,13 +38,13 @@ same L M K N p q ks D s t r = record {
 
 module _ {A : Type 0} (K M N : Lang A) (p' q q' : Parser A) (ks js : Kinds) (D : Levels)
     (m : Rule M N q q' js D) (leads : Leads M ks js) (opens : D.Deeper → (t : Token) → ks t.kind ≡ true → Begins K (t ∷ [])) (alike : D.Equal → (ts : List Token) → p' ts ≡ too_deep ts) where
-  not_read : (a : A) (w : Why) (ts rest : List Token) → Stop w ts ≡ Read a rest → ⊥
+  not_read : (a : A) (w : StopReason) (ts rest : List Token) → Stop w ts ≡ Read a rest → ⊥
   not_read a w ts rest h = cc
 
-  the_reason : (ts rest : List Token) (w : Why) → too_deep {A = A} ts ≡ Stop w rest → TooDeep ≡ w
+  the_reason : (ts rest : List Token) (w : StopReason) → too_deep {A = A} ts ≡ Stop w rest → TooDeep ≡ w
   the_reason ts rest w h = cc
 
-  same_place : (ts rest : List Token) (w : Why) → too_deep {A = A} ts ≡ Stop w rest → ts ≡ rest
+  same_place : (ts rest : List Token) (w : StopReason) → too_deep {A = A} ts ≡ Stop w rest → ts ≡ rest
   same_place ts rest w h = cc
 
   opened : D.Deeper → (ts rest : List Token) → sees ks ts ≡ true → ts ≡ rest → Opens (lang.◌or◌ K N) ts rest
@@ -70,7 +70,7 @@ module _ {A : Type 0} (K M N : Lang A) (p' q q' : Parser A) (ks js : Kinds) (D :
   complete_closed front a rest (inl x) h = absurd x
   complete_closed front a rest (inr x) h = left (sees ks (front ++ rest)) too_deep q (front ++ rest) (leads front a rest x h) ∙ m.complete front a rest x h
 
-  viable_closed : (ts : List Token) (w : Why) (rest : List Token) → either ks too_deep q ts ≡ Stop w rest → Stops (lang.◌or◌ lang.never M) ts rest
+  viable_closed : (ts : List Token) (w : StopReason) (rest : List Token) → either ks too_deep q ts ≡ Stop w rest → Stops (lang.◌or◌ lang.never M) ts rest
   viable_closed ts w rest h = elim (choice (sees ks ts) too_deep q ts (Stop w rest) h) [
     | inl c ↦ record { front = []; whole = same_place ts rest w c.1; begins = inl refl }
     | inr c ↦ (let r = m.viable ts w rest c.1 in record { front = r.front; whole = r.whole; begins = begin_other r.front r.begins })
@@ -86,7 +86,7 @@ module _ {A : Type 0} (K M N : Lang A) (p' q q' : Parser A) (ks js : Kinds) (D :
     | inr c ↦ left (sees ks (front ++ b ∷ others)) p' q' (front ++ b ∷ others) (sees_same ks front b others more ∙ c.0) ∙ m.local.read front b more others a c.1
   ]
 
-  stop_closed : (w : Why) → Keeps D.Equal w → (front : List Token) (b : Token) (more others : List Token) → either ks too_deep q (front ++ b ∷ more) ≡ Stop w (b ∷ more) → either ks p' q' (front ++ b ∷ others) ≡ Stop w (b ∷ others)
+  stop_closed : (w : StopReason) → Keeps D.Equal w → (front : List Token) (b : Token) (more others : List Token) → either ks too_deep q (front ++ b ∷ more) ≡ Stop w (b ∷ more) → either ks p' q' (front ++ b ∷ others) ≡ Stop w (b ∷ others)
   stop_closed w keeps front b more others h = elim (choice (sees ks (front ++ b ∷ more)) too_deep q (front ++ b ∷ more) (Stop w (b ∷ more)) h) [
     | inl c ↦ (let e = the_reason (front ++ b ∷ more) (b ∷ more) w c.1 in
         took (sees ks (front ++ b ∷ others)) p' q' (front ++ b ∷ others) (sees_same ks front b others more ∙ c.0)

@@ -9,8 +9,8 @@ use Rattle.grammar_tokens.specs.declared.tree.PathOrUid.{PathOrUid}
 use Rattle.grammar_tokens.specs.declared.tree.PathOrUid.TheVariants as name
 use Rattle.grammar_tokens.specs.ParsesTo.{ParsesTo}
 use Rattle.grammar_tokens.specs.Kinds.{only}
-use Rattle.grammar_tokens.specs.Reads.{sees}
-use Rattle.grammar_tokens.specs.Reading.{Parser, ParseResult, Read, Stop, Why, Unexpected, TooDeep, and_then, pure, loop_from, ◌>>=◌}
+use Rattle.grammar_tokens.specs.ParseResults.{sees}
+use Rattle.grammar_tokens.specs.ParserCombinators.{Parser, ParseResult, Read, Stop, StopReason, Unexpected, TooDeep, and_then, pure, loop_from, ◌>>=◌}
 use Rattle.grammar_tokens.specs.Parsing.{piece, is_text, ends, beginning, last_of, name_by, rest_of_name}
 use Rattle.grammar_tokens.proofs.Gathered.{next_turn, no_more}
 use Rattle.grammar_tokens.proofs.UidLoop.{steps, step_seen, step_unseen, step_ended}
@@ -79,7 +79,7 @@ word_goes_on n first t more ts mid seen e word =
     ∙ ap (λ b. and_then (steps n b mid) (λ others. pure (name_on (ends b others) first more (t ∷ others)))) word
     ∙ ap (and_then (steps n false mid)) (fun_ext (λ others. ap (λ z. pure z) (rest_of_word first t more others)))
 
-stops_one : (n : ℕ) (first : Token) (more ts rest : List Token) (w : Why) → sees (only k.Colons) ts ≡ true → piece ts ≡ Stop w rest → taken (suc n) first more ts ≡ Stop w rest
+stops_one : (n : ℕ) (first : Token) (more ts rest : List Token) (w : StopReason) → sees (only k.Colons) ts ≡ true → piece ts ≡ Stop w rest → taken (suc n) first more ts ≡ Stop w rest
 stops_one n first more ts rest w seen e =
     ap (λ o. and_then o (finish false first more)) (step_seen n ts seen ∙ ap (λ o. and_then o (λ t. steps n (is_text t) >>= (λ others. pure (t ∷ others)))) e)
 

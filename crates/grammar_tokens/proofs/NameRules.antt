@@ -10,8 +10,8 @@ use Rattle.grammar_tokens.specs.Lang.{Lang}
 use Rattle.grammar_tokens.specs.Lang as lang
 use Rattle.grammar_tokens.specs.Grammar as g
 use Rattle.grammar_tokens.specs.Grammar.{identifiers}
-use Rattle.grammar_tokens.specs.Reads.{Begins, sees}
-use Rattle.grammar_tokens.specs.Reading as reading
+use Rattle.grammar_tokens.specs.ParseResults.{Begins, sees}
+use Rattle.grammar_tokens.specs.ParserCombinators as reading
 use Rattle.grammar_tokens.specs.Parsing as r
 use Rattle.grammar_tokens.specs.Parsing.{pieces, is_text, ended_by, goes_on, piece, ends, beginning, last_of, uid_tree, finished}
 use Rattle.grammar_tokens.proofs.Sets.{apart, within}

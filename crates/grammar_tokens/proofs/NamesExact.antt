@@ -7,7 +7,7 @@ use Rattle.grammar_tokens.specs.declared.tree.UidTree.{UidTree}
 use Rattle.grammar_tokens.specs.Grammar as g
 use Rattle.grammar_tokens.specs.Parsing as r
 use Rattle.grammar_tokens.specs.ParsesTo.{ParsesTo}
-use Rattle.grammar_tokens.specs.Reads.{HasOneTree, HasOneAnswer, Reads, ReadsFront, whole_of}
+use Rattle.grammar_tokens.specs.ParseResults.{HasOneTree, HasOneAnswer, Reads, ReadsFront, whole_of}
 use Rattle.grammar_tokens.proofs.Rules.{Levels}
 use Rattle.grammar_tokens.proofs.NameRules.{after_name, path_rule, alive_path, uid_rule, alive_uid}
 use Rattle.grammar_tokens.proofs.NamesFirm.{firm_path, firm_uid}

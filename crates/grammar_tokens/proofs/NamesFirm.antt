@@ -6,7 +6,7 @@ use Rattle.grammar_tokens.specs.Kinds.{only, same_kind}
 use Rattle.grammar_tokens.specs.Lang as lang
 use Rattle.grammar_tokens.specs.Grammar as g
 use Rattle.grammar_tokens.specs.Grammar.{identifiers}
-use Rattle.grammar_tokens.specs.Reading as reading
+use Rattle.grammar_tokens.specs.ParserCombinators as reading
 use Rattle.grammar_tokens.specs.Parsing as r
 use Rattle.grammar_tokens.specs.Parsing.{pieces, ended_by, goes_on, piece, ends, uid_tree, finished}
 use Rattle.grammar_tokens.proofs.Rules.{Levels}

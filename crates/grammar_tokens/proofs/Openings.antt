@@ -5,8 +5,8 @@ use Rattle.grammar_tokens.specs.declared.token.TokenKind.{TokenKind}
 use Rattle.grammar_tokens.specs.Kinds.{Kinds, only}
 use Rattle.grammar_tokens.specs.Lang.{Lang}
 use Rattle.grammar_tokens.specs.Lang as lang
-use Rattle.grammar_tokens.specs.Reading.{Parser, ◌>>=◌, pure}
-use Rattle.grammar_tokens.specs.Reads.{Begins}
+use Rattle.grammar_tokens.specs.ParserCombinators.{Parser, ◌>>=◌, pure}
+use Rattle.grammar_tokens.specs.ParseResults.{Begins}
 use Rattle.grammar_tokens.proofs.Rules.{Rule, Levels, begin_front, on_alive}
 use Rattle.grammar_tokens.proofs.Forms.{Starts, nothing, alive_empty}
 use Rattle.grammar_tokens.proofs.Steps.{none, seq, free}

@@ -7,7 +7,7 @@ use Rattle.grammar_tokens.specs.declared.piece.Piece.TheVariants.{Byte}
 use Rattle.grammar_tokens.specs.declared.token.TokenKind.{TokenKind}
 use Rattle.grammar_tokens.specs.declared.token.TokenKind.TheVariants.{Text, StarText}
 use Rattle.grammar_tokens.specs.Lexing.{IsBody, done, itself, escape, has_star, IsToken}
-use Rattle.grammar_tokens.specs.inner.Reading.{EndsLiteral, IsLiteral}
+use Rattle.grammar_tokens.specs.inner.Tokenizing.{EndsLiteral, IsLiteral}
 use Rattle.grammar_tokens.specs.Strings.{is_string, piece_bytes, bytes_of, is_wildcard, literals_of, prefixed, IsStringOf, IsPatternOf, HasValue, HasPattern}
 use Rattle.grammar_tokens.proofs.Bodies.{body_append, slash}
 use Rattle.grammar_tokens.proofs.Between.{between, body_in}

@@ -5,8 +5,8 @@ use Rattle.grammar_tokens.specs.declared.token.Token.{Token}
 use Rattle.grammar_tokens.specs.Kinds.{Kinds}
 use Rattle.grammar_tokens.specs.Lang.{Lang, Joined}
 use Rattle.grammar_tokens.specs.Lang as lang
-use Rattle.grammar_tokens.specs.Reading.{Parser, ParseResult, Read, Stop, Why, Unexpected, TooDeep, and_then, ◌>>=◌}
-use Rattle.grammar_tokens.specs.Reads.{Begins, sees}
+use Rattle.grammar_tokens.specs.ParserCombinators.{Parser, ParseResult, Read, Stop, StopReason, Unexpected, TooDeep, and_then, ◌>>=◌}
+use Rattle.grammar_tokens.specs.ParseResults.{Begins, sees}
 
 pub record ReadsFront {A : Type 0} (L : Lang A) (ts : List Token) (a : A) (rest : List Token) : Type 0 where
   pub front : List Token
@@ -34,20 +34,20 @@ pub record Levels : Type 1 where
   pub Equal : Type 0
 
 -- where a reason stays one at the second's levels
-abbrev pub Keeps : Type 0 → Why → Type 0
+abbrev pub Keeps : Type 0 → StopReason → Type 0
 Keeps E Unexpected = Unit {0}
 Keeps E TooDeep = E
 
 -- q does what p does, and tokens behind the next one don't matter
 pub record Local {A : Type 0} (E : Type 0) (p q : Parser A) : Type 0 where
   pub read : (front : List Token) (b : Token) (more others : List Token) (a : A) → p (front ++ b ∷ more) ≡ Read a (b ∷ more) → q (front ++ b ∷ others) ≡ Read a (b ∷ others)
-  pub stop : (w : Why) → Keeps E w → (front : List Token) (b : Token) (more others : List Token) → p (front ++ b ∷ more) ≡ Stop w (b ∷ more) → q (front ++ b ∷ others) ≡ Stop w (b ∷ others)
+  pub stop : (w : StopReason) → Keeps E w → (front : List Token) (b : Token) (more others : List Token) → p (front ++ b ∷ more) ≡ Stop w (b ∷ more) → q (front ++ b ∷ others) ≡ Stop w (b ∷ others)
 
 -- p reads L, and q reads the wider K; what may follow is no token of the set
 pub record Rule {A : Type 0} (L K : Lang A) (p q : Parser A) (ks : Kinds) (D : Levels) : Type 0 where
   pub sound : (ts : List Token) (a : A) (rest : List Token) → p ts ≡ Read a rest → ReadsFront L ts a rest
   pub complete : (front : List Token) (a : A) (rest : List Token) → L front a → sees ks rest ≡ false → p (front ++ rest) ≡ Read a rest
-  pub viable : (ts : List Token) (w : Why) (rest : List Token) → p ts ≡ Stop w rest → Stops L ts rest
+  pub viable : (ts : List Token) (w : StopReason) (rest : List Token) → p ts ≡ Stop w rest → Stops L ts rest
   pub wider : (ts : List Token) (a : A) → L ts a → K ts a
   pub local : Local D.Equal p q
   pub deep : D.Deeper → (ts rest : List Token) → p ts ≡ Stop TooDeep rest → Opens K ts rest
@@ -64,13 +64,13 @@ pub read_both : {A B : Type 0} (o : ParseResult A) (f : A → Parser B) (b : B) 
 read_both (Read a mid) f b rest h = record { value = a; mid = mid; first = refl; second = h }
 read_both (Stop w mid) f b rest h = absurd (cc)
 
-pub record StopsSecond {A B : Type 0} (o : ParseResult A) (f : A → Parser B) (w : Why) (rest : List Token) : Type 0 where
+pub record StopsSecond {A B : Type 0} (o : ParseResult A) (f : A → Parser B) (w : StopReason) (rest : List Token) : Type 0 where
   pub value : A
   pub mid : List Token
   pub first : o ≡ Read value mid
   pub second : f value mid ≡ Stop w rest
 
-pub stop_either : {A B : Type 0} (o : ParseResult A) (f : A → Parser B) (w : Why) (rest : List Token) → and_then o f ≡ Stop w rest → (o ≡ Stop w rest) ⊎ StopsSecond o f w rest
+pub stop_either : {A B : Type 0} (o : ParseResult A) (f : A → Parser B) (w : StopReason) (rest : List Token) → and_then o f ≡ Stop w rest → (o ≡ Stop w rest) ⊎ StopsSecond o f w rest
 stop_either (Read a mid) f w rest h = inr (record { value = a; mid = mid; first = refl; second = h })
 stop_either (Stop w' mid) f w rest h = inl (cc)
 
@@ -126,7 +126,7 @@ module _ {A B : Type 0} (L K : Lang A) (p q : Parser A) (M N : A → Lang B) (f 
     derived = record { front = one; back = two ++ b.more; value = a; whole = append_assoc one two b.more; first = d; second = b.derived };
   }
 
-  second_stops : (ts rest : List Token) (w : Why) → StopsSecond (p ts) f w rest → Stops (lang.◌>>=◌ L M) ts rest
+  second_stops : (ts rest : List Token) (w : StopReason) → StopsSecond (p ts) f w rest → Stops (lang.◌>>=◌ L M) ts rest
   second_stops ts rest w s =
       let x = l.sound ts s.value s.mid s.first in
       let y = (m s.value).viable s.mid w rest s.second in
@@ -143,7 +143,7 @@ module _ {A B : Type 0} (L K : Lang A) (p q : Parser A) (M N : A → Lang B) (f 
   first_stops : (ts rest : List Token) → Stops L ts rest → Stops (lang.◌>>=◌ L M) ts rest
   first_stops ts rest s = record { front = s.front; whole = s.whole; begins = first_begins s.front s.begins }
 
-  viable_both : (ts : List Token) (w : Why) (rest : List Token) → (p >>= f) ts ≡ Stop w rest → Stops (lang.◌>>=◌ L M) ts rest
+  viable_both : (ts : List Token) (w : StopReason) (rest : List Token) → (p >>= f) ts ≡ Stop w rest → Stops (lang.◌>>=◌ L M) ts rest
   viable_both ts w rest h = elim (stop_either (p ts) f w rest h) [ inl s ↦ first_stops ts rest (l.viable ts w rest s) | inr s ↦ second_stops ts rest w s ]
 
   wider_both : (ts : List Token) (b : B) → Joined L M ts b → Joined K N ts b
@@ -157,14 +157,14 @@ module _ {A B : Type 0} (L K : Lang A) (p q : Parser A) (M N : A → Lang B) (f 
       ap (λ o. and_then o g) (again l.local front one.front two.front r.mid b more others r.value one.whole two.whole r.first)
       ∙ (m r.value).local.read two.front b more others x (ap (f r.value) (sym two.whole) ∙ r.second)
 
-  second_again : (w : Why) → Keeps D.Equal w → (front : List Token) (b : Token) (more others : List Token) → StopsSecond (p (front ++ b ∷ more)) f w (b ∷ more) → (q >>= g) (front ++ b ∷ others) ≡ Stop w (b ∷ others)
+  second_again : (w : StopReason) → Keeps D.Equal w → (front : List Token) (b : Token) (more others : List Token) → StopsSecond (p (front ++ b ∷ more)) f w (b ∷ more) → (q >>= g) (front ++ b ∷ others) ≡ Stop w (b ∷ others)
   second_again w keeps front b more others s =
       let one = l.sound (front ++ b ∷ more) s.value s.mid s.first in
       let two = (m s.value).viable s.mid w (b ∷ more) s.second in
       ap (λ o. and_then o g) (again l.local front one.front two.front s.mid b more others s.value one.whole two.whole s.first)
       ∙ (m s.value).local.stop w keeps two.front b more others (ap (f s.value) (sym two.whole) ∙ s.second)
 
-  stop_again : (w : Why) → Keeps D.Equal w → (front : List Token) (b : Token) (more others : List Token) → (p >>= f) (front ++ b ∷ more) ≡ Stop w (b ∷ more) → (q >>= g) (front ++ b ∷ others) ≡ Stop w (b ∷ others)
+  stop_again : (w : StopReason) → Keeps D.Equal w → (front : List Token) (b : Token) (more others : List Token) → (p >>= f) (front ++ b ∷ more) ≡ Stop w (b ∷ more) → (q >>= g) (front ++ b ∷ others) ≡ Stop w (b ∷ others)
   stop_again w keeps front b more others h = elim (stop_either (p (front ++ b ∷ more)) f w (b ∷ more) h)
       [ inl s ↦ ap (λ o. and_then o g) (l.local.stop w keeps front b more others s) | inr s ↦ second_again w keeps front b more others s ]
 

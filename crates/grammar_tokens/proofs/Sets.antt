@@ -4,7 +4,7 @@ use Rattle.std.specs.List.{list_all}
 use Rattle.grammar_tokens.specs.declared.token.Token.{Token}
 use Rattle.grammar_tokens.specs.declared.token.TokenKind.{TokenKind}
 use Rattle.grammar_tokens.specs.declared.token.TokenKind.TheVariants as k
-use Rattle.grammar_tokens.specs.Reads.{sees}
+use Rattle.grammar_tokens.specs.ParseResults.{sees}
 use Rattle.grammar_tokens.specs.Kinds.{Kinds, number_of}
 
 abbrev pub all_kinds : List TokenKind

@@ -9,7 +9,7 @@ use Rattle.grammar_tokens.specs.declared.token.TokenKind.{TokenKind}
 use Rattle.grammar_tokens.specs.declared.token.TokenKind.TheVariants.{PrincipalSlot, ResourceSlot}
 use Rattle.plain.specs.Words.{is_letter, is_digit}
 use Rattle.grammar_tokens.specs.Lexing.{listed, slots, IsToken, slot, NoToken}
-use Rattle.grammar_tokens.specs.inner.Reading.{IsFirst}
+use Rattle.grammar_tokens.specs.inner.Tokenizing.{IsFirst}
 use Rattle.grammar_tokens.proofs.FirstByte.{class, OfClass}
 use Rattle.grammar_tokens.proofs.FrontTells.{begins}
 

@@ -7,7 +7,7 @@ use Rattle.grammar_tokens.specs.declared.piece.Piece.TheVariants.{Char, Star}
 use Rattle.grammar_tokens.specs.declared.piece.Escape.{Escape}
 use Rattle.grammar_tokens.specs.Lexing.{escaped, is_hex, hex_after}
 use Rattle.plain.specs.Words.{run}
-use Rattle.grammar_tokens.specs.inner.Reading.{NoEscape, IsFirstEscape}
+use Rattle.grammar_tokens.specs.inner.Tokenizing.{NoEscape, IsFirstEscape}
 use Rattle.grammar_tokens.proofs.Escapes.{letters, sort, no_escape_alone}
 use Rattle.grammar_tokens.proofs.EscapeTells.{letter_found, no_letter, star_found, short_found, no_short, no_long, no_long_at, long_at}
 use Rattle.grammar_tokens.proofs.Parts.{heads, tails, nothing, not_both}

@@ -6,7 +6,7 @@ use Rattle.std.specs.List.{starts_with}
 use Rattle.std.proofs.lemmas.Bool.{cases_Bool, cases_lt, or_cases, and_parts, eqb-true, ltb-true}
 use Rattle.grammar_tokens.specs.Lexing.{in_line, blank, NoGap}
 use Rattle.plain.specs.Words.{run}
-use Rattle.grammar_tokens.specs.inner.Reading.{IsGapOf}
+use Rattle.grammar_tokens.specs.inner.Tokenizing.{IsGapOf}
 use Rattle.grammar_tokens.proofs.GapTells.{comment_found, no_gap}
 use Rattle.grammar_tokens.proofs.Slots.{prefix, no_prefix}
 use Rattle.grammar_tokens.proofs.Parts.{not_both}

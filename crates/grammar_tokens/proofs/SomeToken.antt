@@ -8,7 +8,7 @@ use Rattle.grammar_tokens.specs.declared.token.TokenKind.TheVariants.{Number, Te
 use Rattle.grammar_tokens.specs.declared.token.ScannedToken.{ScannedToken}
 use Rattle.grammar_tokens.specs.declared.piece.Piece.{Piece}
 use Rattle.grammar_tokens.specs.Lexing.{kind_of_word, IsEscape, NoToken}
-use Rattle.grammar_tokens.specs.inner.Reading.{kind_with, IsFirst, ReportsToken, mark_of}
+use Rattle.grammar_tokens.specs.inner.Tokenizing.{kind_with, IsFirst, ReportsToken, mark_of}
 use Rattle.grammar_tokens.proofs.Escapes.{shaped}
 use Rattle.grammar_tokens.proofs.FirstByte.{class_of_other}
 use Rattle.grammar_tokens.proofs.FrontTells.{at_end, word_found, number_found, mark_tells}

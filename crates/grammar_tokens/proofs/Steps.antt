@@ -5,8 +5,8 @@ use Rattle.grammar_tokens.specs.declared.token.TokenKind.{TokenKind}
 use Rattle.grammar_tokens.specs.Kinds.{Kinds, only}
 use Rattle.grammar_tokens.specs.Lang.{Lang}
 use Rattle.grammar_tokens.specs.Lang as lang
-use Rattle.grammar_tokens.specs.Reading.{Parser, ◌>>=◌, ◌>>◌, pure, token}
-use Rattle.grammar_tokens.specs.Reads.{Begins, sees}
+use Rattle.grammar_tokens.specs.ParserCombinators.{Parser, ◌>>=◌, ◌>>◌, pure, token}
+use Rattle.grammar_tokens.specs.ParseResults.{Begins, sees}
 use Rattle.grammar_tokens.proofs.Sets.{apart, within, wide_sees}
 use Rattle.grammar_tokens.proofs.Rules.{Rule, Levels, then, alive_both}
 use Rattle.grammar_tokens.proofs.Forms.{Starts, Leads, one, nothing, starts_of, starts_both, leads_starts, alive_one}

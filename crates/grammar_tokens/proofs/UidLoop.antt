@@ -8,8 +8,8 @@ use Rattle.grammar_tokens.specs.declared.fault.StopCause.TheVariants as halt
 use Rattle.grammar_tokens.specs.declared.tree.UidTree.{UidTree}
 use Rattle.grammar_tokens.specs.ParsesTo.{ParsesTo}
 use Rattle.grammar_tokens.specs.Kinds.{Kinds, only}
-use Rattle.grammar_tokens.specs.Reads.{sees}
-use Rattle.grammar_tokens.specs.Reading.{Parser, ParseResult, Read, Stop, Why, Unexpected, TooDeep, and_then, pure, refuse, take, take_if, loop_from, ◌>>=◌}
+use Rattle.grammar_tokens.specs.ParseResults.{sees}
+use Rattle.grammar_tokens.specs.ParserCombinators.{Parser, ParseResult, Read, Stop, StopReason, Unexpected, TooDeep, and_then, pure, refuse, take, take_if, loop_from, ◌>>=◌}
 use Rattle.grammar_tokens.specs.Parsing.{rest_of_uid, piece, pieces, is_text, ended_by, goes_on, ends, beginning, last_of, finished}
 use Rattle.grammar_tokens.proofs.Forms.{took, left}
 use Rattle.grammar_tokens.proofs.Gathered.{next_turn, no_more}
@@ -64,23 +64,23 @@ pub step_unseen : (n : ℕ) (ts : List Token) → sees (only k.Colons) ts ≡ fa
 unfolding loop_from
 step_unseen n ts h = left (sees (only k.Colons) ts) (turn n false) (pure []) ts h
 
-abbrev token_stop : Why → List Token → ParseResult Token
+abbrev token_stop : StopReason → List Token → ParseResult Token
 token_stop w ts = Stop w ts
 
-abbrev uid_stop : Why → List Token → ParseResult UidTree
+abbrev uid_stop : StopReason → List Token → ParseResult UidTree
 uid_stop w ts = Stop w ts
 
-same_stop : (ts rest : List Token) (w v : Why) → token_stop w ts ≡ token_stop v rest → uid_stop w ts ≡ uid_stop v rest
+same_stop : (ts rest : List Token) (w v : StopReason) → token_stop w ts ≡ token_stop v rest → uid_stop w ts ≡ uid_stop v rest
 same_stop ts rest w v h = let e : w ≡ v = cc in let f : ts ≡ rest = cc in ap (λ z. uid_stop z ts) e ∙ ap (uid_stop v) f
 
-stops_by : (seen : Bool) (n : ℕ) (first : Token) (more ts rest : List Token) (w : Why) → sees (only k.Colons) ts ≡ seen → piece ts ≡ Stop w rest → taken (suc n) first more ts ≡ Stop w rest
+stops_by : (seen : Bool) (n : ℕ) (first : Token) (more ts rest : List Token) (w : StopReason) → sees (only k.Colons) ts ≡ seen → piece ts ≡ Stop w rest → taken (suc n) first more ts ≡ Stop w rest
 stops_by true n first more ts rest w seen e =
     ap (λ o. and_then o (λ rest. finished_on (ends false rest) first more rest)) (step_seen n ts seen ∙ ap (λ o. and_then o (λ t. steps n (is_text t) >>= (λ more. pure (t ∷ more)))) e)
 stops_by false n first more ts rest w seen e =
     ap (λ o. and_then o (λ rest. finished_on (ends false rest) first more rest)) (step_unseen n ts seen)
     ∙ same_stop ts rest Unexpected w (sym (piece_unseen ts seen) ∙ e)
 
-read_or_stop : (t : Token) (mid ts : List Token) (w : Why) → Read t mid ≡ Stop w ts → ⊥
+read_or_stop : (t : Token) (mid ts : List Token) (w : StopReason) → Read t mid ≡ Stop w ts → ⊥
 read_or_stop t mid ts w h = cc
 
 reads_by : (seen : Bool) (n : ℕ) (first t : Token) (more ts mid : List Token) → sees (only k.Colons) ts ≡ seen → piece ts ≡ Read t mid

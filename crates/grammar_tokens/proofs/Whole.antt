@@ -8,9 +8,9 @@ use Rattle.grammar_tokens.specs.declared.fault.SyntaxFault.{SyntaxFault}
 use Rattle.grammar_tokens.specs.declared.fault.SyntaxFault.TheVariants as fault
 use Rattle.grammar_tokens.specs.Kinds.{Kinds}
 use Rattle.grammar_tokens.specs.Lang.{Lang}
-use Rattle.grammar_tokens.specs.Reading.{Parser, ParseResult, Read, Stop, Why, Unexpected, TooDeep}
+use Rattle.grammar_tokens.specs.ParserCombinators.{Parser, ParseResult, Read, Stop, StopReason, Unexpected, TooDeep}
 use Rattle.grammar_tokens.specs.ParsesTo.{ParsesTo}
-use Rattle.grammar_tokens.specs.Reads.{Begins, StopsBefore, BreaksAt, GoesOn, IsRefusedWithin, IsAnswerWithin, ReadsWithin, ReadsFrontWithin, AnsweredWithin, HasOneTree, HasOneAnswerWithin, is_slot, sees, refusal_by, refusal_at, refusal_of, whole_of}
+use Rattle.grammar_tokens.specs.ParseResults.{Begins, StopsBefore, BreaksAt, GoesOn, IsRefusedWithin, IsAnswerWithin, ReadsWithin, ReadsFrontWithin, AnsweredWithin, HasOneTree, HasOneAnswerWithin, is_slot, sees, refusal_by, refusal_at, refusal_of, whole_of}
 use Rattle.grammar_tokens.proofs.Firm.{Firm}
 use Rattle.grammar_tokens.proofs.Rules.{Rule, Levels, Keeps, Opens}
 
@@ -142,7 +142,7 @@ module _ {A : Type 0} (L : Lang A) (p : Parser A) (ks : Kinds) (D : Levels) (rul
   read_of : (a b : A) (ts us : List Token) → Read a ts ≡ Read b us → (a ≡ b) × (ts ≡ us)
   read_of a b ts us h = (cc, cc)
 
-  read_or_stop : (a : A) (w : Why) (ts us : List Token) → Read a ts ≡ Stop w us → ⊥
+  read_or_stop : (a : A) (w : StopReason) (ts us : List Token) → Read a ts ≡ Stop w us → ⊥
   read_or_stop a w ts us h = cc
 
   some_or_none : (b : Token) (bs : List Token) → [] ≡ b ∷ bs → ⊥
@@ -156,11 +156,11 @@ module _ {A : Type 0} (L : Lang A) (p : Parser A) (ks : Kinds) (D : Levels) (rul
   not_behind front b more x e begin =
       some_or_none b begin.more (sym (read_of x begin.value (b ∷ begin.more) [] (sym (rule.local.read front b more begin.more x e) ∙ begun front b begin)).1)
 
-  keeps : (w : Why) → Keeps D.Equal w
+  keeps : (w : StopReason) → Keeps D.Equal w
   keeps Unexpected = tt
   keeps TooDeep = equal
 
-  pub not_at : (w : Why) (front : List Token) (b : Token) (more : List Token) → p (front ++ b ∷ more) ≡ Stop w (b ∷ more) → Begins L (front ++ b ∷ []) → ⊥
+  pub not_at : (w : StopReason) (front : List Token) (b : Token) (more : List Token) → p (front ++ b ∷ more) ≡ Stop w (b ∷ more) → Begins L (front ++ b ∷ []) → ⊥
   not_at w front b more e begin =
       read_or_stop begin.value w [] (b ∷ begin.more) (sym (begun front b begin) ∙ rule.local.stop w (keeps w) front b more begin.more e)
 
@@ -182,12 +182,12 @@ module _ {A : Type 0} (L : Lang A) (p : Parser A) (ks : Kinds) (D : Levels) (rul
         stops = not_behind s.front b more x (ap p (sym s.whole) ∙ e);
       }
 
-  stops_at : (w : Why) (ts front rest : List Token) → ts ≡ front ++ rest → p ts ≡ Stop w rest → StopsBefore L front rest
+  stops_at : (w : StopReason) (ts front rest : List Token) → ts ≡ front ++ rest → p ts ≡ Stop w rest → StopsBefore L front rest
   stops_at w ts front [] whole e = λ x d.
       read_or_stop x w [] [] (sym (read_whole ts x (subst (λ z. L z x) (sym (whole ∙ append-nil front)) d)) ∙ e)
   stops_at w ts front (b ∷ more) whole e = not_at w front b more (ap p (sym whole) ∙ e)
 
-  pub breaks_stop : (w : Why) (ts rest : List Token) → p ts ≡ Stop w rest → BreaksAt L ts (length ts - length rest) rest
+  pub breaks_stop : (w : StopReason) (ts rest : List Token) → p ts ≡ Stop w rest → BreaksAt L ts (length ts - length rest) rest
   breaks_stop w ts rest e =
       let s = rule.viable ts w rest e in
       record {

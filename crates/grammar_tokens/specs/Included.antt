@@ -3,7 +3,7 @@ use Rattle.grammar_tokens.specs.declared.kind_sets.NameSet.{NameSet}
 use Rattle.grammar_tokens.specs.declared.kind_sets.NameSet.TheVariants as set
 use Rattle.grammar_tokens.specs.Kinds.{Kinds}
 use Rattle.grammar_tokens.specs.Grammar.{identifiers}
-use Rattle.grammar_tokens.specs.Reads.{is_slot}
+use Rattle.grammar_tokens.specs.ParseResults.{is_slot}
 use Rattle.grammar_tokens.specs.Parsing.{pieces}
 
 -- `included set` are the token kinds in `set`.

@@ -4,7 +4,7 @@ use Rattle.grammar_tokens.specs.declared.token.TokenKind.{TokenKind}
 use Rattle.grammar_tokens.specs.contracts.token.TokenKind.{the_type}
 use denote.Enum.Declared.{tag_of}
 
--- `Kinds` are sets of token kinds, as tests.
+-- `Kinds` is the type of sets of token kinds. A set is a test for its members.
 abbrev pub Kinds : Type 0
 Kinds = TokenKind → Bool
 

@@ -21,7 +21,7 @@ one k = of (only k)
 abbrev pub empty : {A : Type 0} → A → Lang A
 empty a ts x = (ts ≡ []) × (x ≡ a)
 
--- `Joined L M`: tokens of `L` with a value, then tokens of `M` of that value
+-- `Joined L M ts b`: `ts` are tokens that derive some `value` in `L`, then tokens that derive `b` in `M value`
 pub record Joined {A B : Type 0} (L : Lang A) (M : A → Lang B) (ts : List Token) (b : B) : Type 0 where
   pub front : List Token
   pub back : List Token
@@ -63,11 +63,12 @@ many L ts (x ∷ xs) = (front : List Token) × (back : List Token) × (ts ≡ fr
 abbrev pub never : {A : Type 0} → Lang A
 never ts x = ⊥
 
--- `at_any L`: what `L` derives with some limit of nesting of at least one level, so what it derives without a limit
+-- `at_any L`: what `L` derives under some limit on nesting of one or more levels, which is what it derives without a
+-- limit
 abbrev pub at_any : {A : Type 0} → (ℕ → Lang A) → Lang A
 at_any L ts x = (levels : ℕ) × L (suc levels) ts x
 
--- `gate open L`: `L` if another level of nesting may be opened, else nothing
+-- `gate open L`: `L` if `open` is true (another level of nesting may be opened), else `never`
 abbrev pub gate : {A : Type 0} → Bool → Lang A → Lang A
 gate true L = L
 gate false L = never

@@ -97,7 +97,7 @@ abbrev pub or_ident : Option TokenKind → TokenKind
 or_ident None = Ident
 or_ident (Some k) = k
 
--- `kind_of_word w` is the kind of the word `w`: reserved, a keyword, or another identifier.
+-- `kind_of_word w` is the kind of the word `w`: that of a reserved word or of a keyword, else `Ident`.
 unfoldable pub kind_of_word : List ℕ → TokenKind
 kind_of_word w = or_ident (or_else (listed reserved w) (listed named w))
 
@@ -230,7 +230,8 @@ NoGap text = (w rest : List ℕ) → IsGap w rest → text ≡ w ++ rest → ⊥
 -- ## Texts
 
 -- `Lex at text ts to left` holds if `text`, which begins at offset `at`, is a concatenation of whitespace, comments and
--- the tokens `ts`, each the longest that starts at its offset, followed by `left`, which begins at offset `to`.
+-- the tokens `ts`, followed by `left`, which begins at offset `to`. Each token is the longest that starts at its
+-- offset.
 pub data Lex : ℕ → List ℕ → List Token → ℕ → List ℕ → Type 0 where
   finish : {at : ℕ} {text : List ℕ} → Lex at text [] at text
   gap : {at to : ℕ} {text left : List ℕ} {ts : List Token} (w rest : List ℕ) → text ≡ w ++ rest → IsGap w rest →
@@ -244,8 +245,8 @@ pub data Lex : ℕ → List ℕ → List Token → ℕ → List ℕ → Type 0 w
 abbrev pub IsLexed : List ℕ → List Token → Type 0
 IsLexed text ts = (to : ℕ) × Lex 0 text ts to []
 
--- `IsBadAt text at` holds if `text` up to `at` is such a concatenation, does not end there, and goes on with neither
--- whitespace nor a comment nor a token.
+-- `IsBadAt text at` holds if `text` up to offset `at` is a concatenation of whitespace, comments and tokens (`Lex`),
+-- does not end there, and goes on with neither whitespace nor a comment nor a token.
 pub record IsBadAt (text : List ℕ) (at : ℕ) : Type 0 where
   pub tokens : List Token
   pub here : ℕ
@@ -265,8 +266,8 @@ IsFault (BadToken at) text = IsBadAt text at
 abbrev pub spelling_of : List ℕ → Token → List ℕ
 spelling_of text t = take (t.end - t.start) (drop t.start text)
 
--- `IsSpelledIn text t` holds if this part of `text` spells a token of the kind of `t`, and both its ends are boundaries
--- of characters.
+-- `IsSpelledIn text t` holds if the bytes of `text` from the start of `t` up to its end spell a token of the kind of
+-- `t`, and both offsets are boundaries of characters.
 pub record IsSpelledIn (text : List ℕ) (t : Token) : Type 0 where
   pub nonempty : t.start < t.end
   pub within : t.end ≤ length text

@@ -5,10 +5,10 @@ pub mod inner
 pub mod Kinds
 pub mod Lang
 pub mod Grammar
-pub mod Reads
-pub mod Reading
+pub mod ParseResults
+pub mod ParserCombinators
 pub mod Parsing
 pub mod ParsesTo
 pub mod WellFormed
 pub mod Included
-pub mod Repeats
+pub mod Repetition

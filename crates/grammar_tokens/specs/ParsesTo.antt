@@ -1,10 +1,11 @@
--- Defines the contract of a parser over tokens: it returns the outcome of its parsing function, or `NoMemory`. No
--- outcome is `NoMemory`; a parser that does not allocate has a further clause: it never returns that error.
+-- Defines the contract of a parser over tokens: it returns the outcome of its parsing function, or `NoMemory`. A
+-- parsing function does not model allocation, so no outcome is `NoMemory`. A parser that does not allocate has a
+-- further clause, that it never returns `NoMemory`.
 use Rattle.std.specs.Prelude.{◌≡◌, Result, Ok, Err, List}
 use Rattle.grammar_tokens.specs.declared.token.Token.{Token}
 use Rattle.grammar_tokens.specs.declared.fault.StopCause.{StopCause}
 use Rattle.grammar_tokens.specs.declared.fault.StopCause.TheVariants as halt
-use Rattle.grammar_tokens.specs.Reading.{ParseResult, Read, Stop, Unexpected, TooDeep}
+use Rattle.grammar_tokens.specs.ParserCombinators.{ParseResult, Read, Stop, Unexpected, TooDeep}
 
 -- `ParsesTo outcome r rest` holds if the result `r`, with the tokens `rest` remaining, is `outcome`, or `r` is
 -- `NoMemory`.

@@ -1,4 +1,4 @@
--- Defines how names are parsed, from the left with one token of lookahead, in the combinators of Reading.
+-- Defines how names are parsed, from the left with one token of lookahead, by parser combinators.
 use Rattle.std.specs.Prelude.{Bool, true, false, List, [], ◌∷◌}
 use Rattle.grammar_tokens.specs.declared.token.TokenKind.TheVariants as k
 use Rattle.grammar_tokens.specs.declared.token.Token.{Token}
@@ -7,7 +7,7 @@ use Rattle.grammar_tokens.specs.declared.tree.UidTree.{UidTree}
 use Rattle.grammar_tokens.specs.declared.tree.PathOrUid.{PathOrUid}
 use Rattle.grammar_tokens.specs.declared.tree.PathOrUid.TheVariants as name
 use Rattle.grammar_tokens.specs.Kinds.{Kinds, only, same_kind}
-use Rattle.grammar_tokens.specs.Reading.{Parser, take, token, pure, refuse, ◌>>=◌, ◌>>◌, many, loop}
+use Rattle.grammar_tokens.specs.ParserCombinators.{Parser, take, token, pure, refuse, ◌>>=◌, ◌>>◌, many, loop}
 use Rattle.grammar_tokens.specs.Grammar.{identifiers}
 
 -- `path_word` parses "::" and an Ident.
@@ -22,7 +22,7 @@ rest_of_path first = many (only k.Colons) path_word >>= (λ more. pure (record {
 unfoldable pub path : Parser PathTree
 path = take identifiers >>= rest_of_path
 
--- `pieces` are the kinds of a piece: what may follow a "::", an Ident or a String. A Path and a Uid begin alike, so a
+-- `pieces` are the kinds of a piece, the token after a "::": an Ident or a String. A Path and a Uid begin alike, so a
 -- Uid is parsed piece by piece, each after its "::", up to a String.
 abbrev pub pieces : Kinds
 pieces k.Text = true
@@ -32,11 +32,13 @@ pieces kind = identifiers kind
 abbrev pub is_text : Token → Bool
 is_text t = same_kind t.kind k.Text
 
--- `ended_by ended t` tests whether the piece `t` ends the name: a String does. It does not depend on `ended`.
+-- `ended_by ended t` tests whether the piece `t` ends the name, as a String does. The state `ended` before the piece
+-- does not matter.
 abbrev pub ended_by : Bool → Token → Bool
 ended_by ended t = is_text t
 
--- `goes_on ended` are the kinds with which a name goes on: "::", or none if `ended`: if a String has ended it.
+-- `goes_on ended` are the kinds of the tokens with which a name goes on: only "::", or none if `ended` is true (a
+-- String has ended the name).
 abbrev pub goes_on : Bool → Kinds
 goes_on false = only k.Colons
 goes_on true = λ kind. false
@@ -45,7 +47,7 @@ goes_on true = λ kind. false
 unfoldable pub piece : Parser Token
 piece = token k.Colons >> take pieces
 
--- `ends ended ts` tests whether the last of the pieces `ts` is a String; without pieces it is `ended`.
+-- `ends ended ts` tests whether the last of the pieces `ts` is a String; it is `ended` if `ts` is empty.
 abbrev pub ends : Bool → List Token → Bool
 ends ended [] = ended
 ends ended (t ∷ ts) = ends (is_text t) ts
@@ -65,8 +67,8 @@ last_of t (u ∷ us) = last_of u us
 abbrev pub uid_tree : Token → List Token → UidTree
 uid_tree first ts = record { path = record { first = first; more = beginning ts }; id = last_of first ts }
 
--- `finished ended first ts` parses nothing, with that Uid as its value, if a String has ended the pieces; else it stops
--- with an error.
+-- `finished ended first ts` parses nothing, with the value `uid_tree first ts`, if `ended` is true (a String has ended
+-- the pieces `ts`); else it stops with an error.
 abbrev pub finished : Bool → Token → List Token → Parser UidTree
 finished true first ts = pure (uid_tree first ts)
 finished false first ts = refuse

@@ -1,4 +1,4 @@
--- Defines well-formed trees of names: their tokens are tokens of the text, each of a kind that its position allows.
+-- Defines well-formed trees of names: their tokens are among given tokens, each of a kind that its position allows.
 use Rattle.std.specs.Prelude.{◌≡◌, true, List, Contains}
 use Rattle.std.specs.List.{AllByRecursion}
 use Rattle.grammar_tokens.specs.declared.token.TokenKind.TheVariants as k

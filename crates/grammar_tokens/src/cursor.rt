@@ -3,8 +3,8 @@
 ghost use Rattle.std.specs.Prelude.{◌≡◌, IfErr, length};
 ghost use Rattle.grammar_tokens.specs.ParsesTo.{ParsesTo};
 ghost use Rattle.grammar_tokens.specs.Kinds as spec;
-ghost use Rattle.grammar_tokens.specs.Reading as reading;
-ghost use Rattle.grammar_tokens.specs.Reads as reads;
+ghost use Rattle.grammar_tokens.specs.ParserCombinators as reading;
+ghost use Rattle.grammar_tokens.specs.ParseResults as reads;
 ghost use Rattle.grammar_tokens.specs.declared.fault.StopCause.TheVariants as halt;
 
 use crate::fault::StopCause;
@@ -49,7 +49,7 @@ impl<'a> Cursor<'a> {
     /// Consumes and returns the next token, if it is of this kind.
     ///
     /// The only error is `Unexpected`; then nothing is consumed.
-    #[tactic(auto, unfolding(crate::specs::Reading::take))]
+    #[tactic(auto, unfolding(crate::specs::ParserCombinators::take))]
     pub fn take(&mut self, kind: TokenKind) -> Result<Token, StopCause>
         ensures reads { ParsesTo (reading.token kind self.old.rest.now) result self.new.rest.now }
         ensures only { IfErr result (λ why. why ≡ halt.Unexpected) }
@@ -66,7 +66,7 @@ impl<'a> Cursor<'a> {
     /// Consumes and returns the next token, if its kind is in `set`.
     ///
     /// The only error is `Unexpected`; then nothing is consumed.
-    #[tactic(auto, unfolding(crate::specs::Reading::take))]
+    #[tactic(auto, unfolding(crate::specs::ParserCombinators::take))]
     pub fn take_one_of<S: KindSet>(&mut self, set: S) -> Result<Token, StopCause>
         ensures reads { ParsesTo (reading.take (S.included set) self.old.rest.now) result self.new.rest.now }
         ensures only { IfErr result (λ why. why ≡ halt.Unexpected) }

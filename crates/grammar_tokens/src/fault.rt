@@ -6,8 +6,8 @@ ghost use Rattle.grammar_tokens.specs.declared.fault.StopCause.TheVariants as ha
 use std::alloc::AllocError;
 use thiserror::Error;
 
-/// An error of parsing a list of tokens. Its index is that of the first token that cannot follow those before it, or
-/// the number of tokens if they end too early.
+/// An error of parsing a list of tokens. The index is that of the first token that cannot follow those before it, or
+/// the number of tokens if the tokens end too early.
 #[derive(Clone, Copy, PartialEq, Eq, Debug, Error)]
 pub enum SyntaxFault {
     /// An allocation failed.
@@ -32,7 +32,7 @@ impl From<AllocError> for SyntaxFault {
     }
 }
 
-/// Why parsing stops at the next token.
+/// The reason why parsing stops at the next token.
 #[derive(Clone, Copy, PartialEq, Eq)]
 pub enum StopCause {
     /// An allocation failed.

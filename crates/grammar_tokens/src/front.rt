@@ -1,6 +1,6 @@
 //! The token that a text begins with. Each function returns `None` if the text begins with no such token.
 ghost use Rattle.std.specs.Prelude.{◌≡◌, ◌<◌, ◌++◌, List, codes, ℕ};
-ghost use Rattle.grammar_tokens.specs.inner.Reading.{ReportsToken, mark_of};
+ghost use Rattle.grammar_tokens.specs.inner.Tokenizing.{ReportsToken, mark_of};
 
 use crate::quoted::quoted;
 use crate::token::{ScannedToken, TokenKind};

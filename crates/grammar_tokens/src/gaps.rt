@@ -2,7 +2,7 @@
 ghost use Rattle.std.specs.Prelude.{◌≡◌, ◌≤◌, length};
 ghost use Rattle.grammar_tokens.specs.Lexing.{in_line};
 ghost use Rattle.plain.specs.Words.{run};
-ghost use Rattle.grammar_tokens.specs.inner.Reading.{ReportsBlank, ReportsGap};
+ghost use Rattle.grammar_tokens.specs.inner.Tokenizing.{ReportsBlank, ReportsGap};
 
 /// Returns whether a comment may contain this byte.
 #[tactic(auto, unfolding(crate::specs::Lexing::in_line))]

@@ -8,6 +8,7 @@ use crate::token::TokenKind;
 
 /// A set of token kinds.
 pub trait KindSet: Copy {
+    /// The kinds in a set, as contracts see them.
     ghost included: { Self → Kinds };
 
     /// Returns whether tokens of this kind are in the set.
@@ -22,7 +23,7 @@ pub(crate) fn same_kind(a: TokenKind, b: TokenKind) -> bool
     a == b
 }
 
-/// The set of one kind.
+/// A kind, as the set that has only this member.
 impl KindSet for TokenKind {
     ghost included = { only };
 

@@ -19,8 +19,8 @@ const BYTES_A_TOKEN: usize = 3;
 ///
 /// # Errors
 ///
-/// - `BadToken`: neither whitespace nor a comment nor a token starts at this byte. For a string that is not closed, or
-///   has a bad escape, it is the byte of the opening quote.
+/// - `BadToken`: neither whitespace nor a comment nor a token starts at this byte. If a string is not closed, or has a
+///   bad escape, the byte is that of its opening quote.
 /// - `NoMemory`: an allocation failed; possible at any point.
 pub fn tokens(alloc: Global, text: &str) -> Result<Vec<Token>, LexFault>
     ensures found { IfOk result (λ tokens. IsLexed text.now tokens.items) }

@@ -2,8 +2,8 @@
 //!
 //! A grammar is a relation between lists of tokens and trees. A parsing function of specs/ defines how the grammar is
 //! parsed from the left with one token of lookahead, and the code follows that function. The rules of `proofs/` connect
-//! these three, production by production; higher crates import them for their own grammars. Names, which occur in all
-//! of these grammars, are parsed here.
+//! grammar, parsing function and code, production by production; higher crates import them for their own grammars.
+//! Names, which occur in all of these grammars, are parsed here.
 #![tactic(auto)]
 
 mod cursor;

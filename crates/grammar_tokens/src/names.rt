@@ -4,7 +4,7 @@ ghost use Rattle.std.specs.Prelude.{◌≡◌, IfErr};
 ghost use Rattle.grammar_tokens.specs.ParsesTo.{ParsesTo};
 ghost use Rattle.grammar_tokens.specs.Grammar as grammar;
 ghost use Rattle.grammar_tokens.specs.Parsing as spec;
-ghost use Rattle.grammar_tokens.specs.Reads.{ReadsFront};
+ghost use Rattle.grammar_tokens.specs.ParseResults.{ReadsFront};
 ghost use Rattle.grammar_tokens.specs.declared.fault.StopCause.TheVariants as halt;
 
 use crate::cursor::Cursor;

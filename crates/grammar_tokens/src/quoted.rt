@@ -5,7 +5,7 @@ ghost use Rattle.std.specs.Option.{SomeIff};
 ghost use Rattle.std.specs.Char.{digit_value};
 ghost use Rattle.plain.specs.Words.{AllAre, run};
 ghost use Rattle.grammar_tokens.specs.Lexing.{quote, backslash, escaped, is_hex, hex_after};
-ghost use Rattle.grammar_tokens.specs.inner.Reading.{kind_with, ReportsEscape, ReportsToken};
+ghost use Rattle.grammar_tokens.specs.inner.Tokenizing.{kind_with, ReportsEscape, ReportsToken};
 
 use crate::piece::{Escape, Piece};
 use crate::token::{ScannedToken, TokenKind};
@@ -57,7 +57,7 @@ fn hex_value(byte: u8) -> Option<u32>
     (byte as char).to_digit(16)
 }
 
-/// Returns the escape `\x` with two hexadecimal digits up to 7F, where `text` is what follows the `x`.
+/// Returns the escape `\x` with two hexadecimal digits up to 7F, where `text` is what follows the `x` (byte 120).
 fn short_escape(text: &[u8]) -> Option<Escape>
     ensures { ReportsEscape (backslash ∷ 120 ∷ text.now) result }
 {
@@ -87,7 +87,8 @@ fn hex_number(digits: &[u8]) -> u32
     number
 }
 
-/// Returns the escape `\u` with one to six hexadecimal digits in braces, where `text` is what follows the `u`.
+/// Returns the escape `\u` with one to six hexadecimal digits in braces, where `text` is what follows the `u` (byte
+/// 117).
 fn long_escape(text: &[u8]) -> Option<Escape>
     ensures { ReportsEscape (backslash ∷ 117 ∷ text.now) result }
 {
@@ -138,7 +139,7 @@ pub(crate) fn escape(text: &[u8]) -> Option<Escape>
     }
 }
 
-/// Returns the kind of a string with this piece, if without the piece its kind is `kind`.
+/// Returns the kind of a string that has this piece and, without it, would have the kind `kind`.
 fn kind_with(kind: TokenKind, piece: Piece) -> TokenKind
     ensures { result ≡ kind_with kind piece }
 {

@@ -1,14 +1,14 @@
 //! The result of parsing a whole list of tokens, from the result of a parser and the cursor that it leaves.
 ghost use Rattle.std.specs.Prelude.{◌≡◌, ◌-◌, length};
-ghost use Rattle.grammar_tokens.specs.Reads.{refusal_of, whole_of};
+ghost use Rattle.grammar_tokens.specs.ParseResults.{refusal_of, whole_of};
 
 use crate::cursor::Cursor;
 use crate::fault::{StopCause, SyntaxFault};
 use crate::kind_sets::NameSet;
 use crate::token::Token;
 
-/// Returns the error of `tokens` for the reason `halt` why parsing stopped. Its index is that of the first remaining
-/// token, or the number of tokens if none remains.
+/// Returns the error of `tokens`, where `halt` is the reason why parsing stopped. The error's index is that of the
+/// first remaining token, or the number of tokens if none remains.
 fn refusal(tokens: &[Token], cursor: &Cursor<'_>, halt: StopCause) -> SyntaxFault
     ensures { result ≡ refusal_of halt (length tokens.now - length cursor.now.rest.now) cursor.now.rest.now }
 {
@@ -30,7 +30,7 @@ fn refusal(tokens: &[Token], cursor: &Cursor<'_>, halt: StopCause) -> SyntaxFaul
 ///
 /// # Errors
 ///
-/// - `NoMemory`, `TooDeep`: that of `read`, `TooDeep` with the index of the first remaining token.
+/// - `NoMemory`, `TooDeep`: the error of `read`; `TooDeep` has the index of the first remaining token.
 /// - `Slot` or `Unexpected`, with the index of the first remaining token or the number of tokens: the parser stopped
 ///   there, or a token remains after the value.
 ///

@@ -2,8 +2,8 @@
 
 ghost use Rattle.std.specs.Prelude.{◌≡◌, [], IfOk};
 ghost use Rattle.grammar_tokens.specs.ParsesTo.{ParsesTo};
-ghost use Rattle.grammar_tokens.specs.Reading.{Parser, many};
-ghost use Rattle.grammar_tokens.specs.Repeats.{CallsRead, many_onto, many_after};
+ghost use Rattle.grammar_tokens.specs.ParserCombinators.{Parser, many};
+ghost use Rattle.grammar_tokens.specs.Repetition.{CallsRead, many_onto, many_after};
 
 use crate::cursor::Cursor;
 use crate::fault::StopCause;
@@ -11,7 +11,7 @@ use crate::kind_sets::KindSet;
 use plain::{Items, NoMemory};
 use std::alloc::Global;
 
-/// Returns an empty list, with a capacity of one item if one is `wanted`: most lists of pieces have one item or none.
+/// Returns an empty list, with a capacity of one item if `wanted` is true: most lists of pieces have one item or none.
 fn room_for_one<T>(alloc: Global, wanted: bool) -> Result<Items<T>, NoMemory>
     ensures { IfOk result (λ found. found ≡ []) }
 {

@@ -2,7 +2,7 @@
 ghost use Rattle.std.specs.Prelude.{◌≡◌, ◌≤◌, List, IfOk, length, true};
 ghost use Rattle.grammar_tokens.specs.Lexing.{IsSpelledIn, spelling_of, IsBody};
 ghost use Rattle.plain.specs.Words.{run};
-ghost use Rattle.grammar_tokens.specs.inner.Reading.{is_plain, character_of, IsLiteral};
+ghost use Rattle.grammar_tokens.specs.inner.Tokenizing.{is_plain, character_of, IsLiteral};
 ghost use Rattle.grammar_tokens.specs.Strings.{is_string, IsStringOf, IsPatternOf};
 ghost use Rattle.grammar_tokens.specs.declared.piece.Piece.{Piece};
 
@@ -21,7 +21,7 @@ struct Literal {
 }
 
 /// Returns whether a byte between quotes denotes itself; in a pattern a star does not.
-#[tactic(auto, unfolding(crate::specs::inner::Reading::is_plain))]
+#[tactic(auto, unfolding(crate::specs::inner::Tokenizing::is_plain))]
 fn plain_byte(in_pattern: bool, byte: u8) -> bool
     ensures { result ≡ is_plain in_pattern byte }
 {
@@ -85,7 +85,7 @@ fn read_literal(alloc: Global, body: &str, in_pattern: bool) -> Result<Literal, 
     })
 }
 
-/// Returns the value of a string: the text between its quotes, with each escape replaced by its meaning.
+/// Returns the value of the string at `token`: the text between its quotes, with each escape replaced by its meaning.
 ///
 /// Text between two escapes is copied at once, so a string without escapes is copied whole. The only error is
 /// `NoMemory`.
@@ -98,7 +98,8 @@ pub fn decode_string(alloc: Global, text: &str, token: Token) -> Result<Text, No
     Ok(value)
 }
 
-/// Returns the pattern that a string after `like` denotes: its literal texts, with a wildcard between each two.
+/// Returns the pattern that the string at `token`, after `like`, denotes: its literal texts, with a wildcard between
+/// each two.
 ///
 /// An unescaped `*` is a wildcard; an escaped one, `\*`, is a literal star. A pattern without a wildcard is one text.
 /// The only error is `NoMemory`.

@@ -109,7 +109,7 @@ impl TokenKind {
     }
 }
 
-/// A token, and its position: its text is the bytes from `start` up to `end`.
+/// A token, and its position: the token's text is the bytes of the source text from offset `start` up to offset `end`.
 #[derive(Clone, Copy, PartialEq, Eq)]
 pub struct Token {
     pub kind: TokenKind,

@@ -41,7 +41,7 @@ abbrev pub uid_parts : UidTree → List Part
 uid_parts uid = part (only k.Text) uid.id ∷ path_parts uid.path
 
 -- `access_parts`, `entry_parts` and `term_parts` are the parts of an access, of an entry of a record and of a term of a
--- sum, given the parts of their expressions in the place of these.
+-- sum. In each of these every expression is replaced by the list of its parts.
 abbrev pub access_parts : Access (List (List Part)) → List Part
 access_parts (access.Field key) = key_part key ∷ []
 access_parts (access.Method name arguments) = part identifiers name ∷ flat_map (λ parts. parts) arguments
@@ -56,7 +56,7 @@ term_parts term = term.operand
 abbrev all : List (List Part) → List Part
 all = flat_map (λ parts. parts)
 
--- `parts_step x` are the parts of the node `x`, given the parts of its subexpressions in the place of these.
+-- `parts_step x` are the parts of the node `x`, in which every subexpression is replaced by the list of its parts.
 abbrev pub parts_step : tree (List Part) → List Part
 parts_step (tree.Boolean value) = []
 parts_step (tree.Number t) = part (only k.Number) t ∷ []

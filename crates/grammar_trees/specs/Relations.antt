@@ -1,11 +1,13 @@
--- Defines the form of relations: an operand with at most one tail, so comparisons do not chain.
+-- Defines the form of relations: an operand with at most one tail (an operator and what follows it), so comparisons do
+-- not chain.
 -- Source: Cedar reference guide 4.0, "Grammar specification for Cedar policy syntax" (Relation).
 use Rattle.std.specs.Prelude.{◌≡◌, List, ◌++◌}
 use Rattle.grammar_tokens.specs.declared.token.Token.{Token}
 use Rattle.grammar_tokens.specs.Lang.{Lang, ◌>>=◌}
 use Rattle.grammar_trees.specs.declared.tree.ExprTree.{ExprTree}
 
--- `relation operand tailed` is the language of an operand `x`, followed by tokens of `tailed x`.
+-- `relation operand tailed` is the language of tokens that derive an operand `x` in `operand`, followed by tokens of
+-- `tailed x`.
 abbrev pub relation : Lang ExprTree → (ExprTree → Lang ExprTree) → Lang ExprTree
 relation operand tailed = operand >>= tailed
 

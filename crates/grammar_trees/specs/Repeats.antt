@@ -17,7 +17,7 @@ pub record IsRepeatedAt (marks : List NameAt) (at : ℕ) : Type 0 where
   pub again : Contains (map (λ m. m.name) before) mark.name
   pub place : at ≡ mark.at
 
--- `abstract_names` maps the code's names with offsets to those of these definitions.
+-- `abstract_names` maps the names with offsets of the code to those defined here.
 abbrev pub abstract_names : List code.NameAt → List NameAt
 abstract_names = map (λ m. record { name = m.name.now; at = m.at })
 
@@ -30,7 +30,7 @@ pub record IsLeast (P : ℕ → Type 0) (at : ℕ) : Type 0 where
   pub here : P at
   pub least : (other : ℕ) → P other → at ≤ other
 
--- `ReportsLeast P o` holds if `o` is the least offset at which `P` holds, or `None` otherwise.
+-- `ReportsLeast P o` holds if `o` is the least offset at which `P` holds, or `None` if there is no such offset.
 abbrev pub ReportsLeast : (ℕ → Type 0) → Option ℕ → Type 0
 ReportsLeast P None = Nowhere P
 ReportsLeast P (Some at) = IsLeast P at

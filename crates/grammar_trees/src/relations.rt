@@ -1,8 +1,8 @@
-//! Relations: an operand with at most one tail.
+//! Relations of the grammar: an operand with at most one tail, such as `< 2` or `has name`.
 ghost use Rattle.std.specs.Prelude.{IfOk};
 ghost use Rattle.grammar_tokens.specs.Lang.{Lang};
 ghost use Rattle.grammar_tokens.specs.ParsesTo.{ParsesTo};
-ghost use Rattle.grammar_tokens.specs.Reading.{Parser, and_then};
+ghost use Rattle.grammar_tokens.specs.ParserCombinators.{Parser, and_then};
 ghost use Rattle.grammar_trees.specs.Relations.{relation, DerivesFront};
 ghost use Rattle.grammar_trees.specs.declared.tree.ExprTree as trees;
 
@@ -33,7 +33,7 @@ pub trait Related {
             tokens.new.rest.now) }
         ensures reads { ParsesTo (reads_operand self.now tokens.old.rest.now) result tokens.new.rest.now };
 
-    /// Parses the tail of the operand `x`, which may be empty, and returns the relation.
+    /// Parses the tail, which may be empty, of the operand `x`, and returns the relation.
     fn with_tail(&self, tokens: &mut Cursor<'_>, x: ExprTree) -> Result<ExprTree, StopCause>
         requires { can_read self.now }
         ensures derives { IfOk result (λ e. DerivesFront (tailed self.now x) tokens.old.rest.now e
@@ -41,10 +41,10 @@ pub trait Related {
         ensures reads { ParsesTo (reads_tail self.now x tokens.old.rest.now) result tokens.new.rest.now };
 }
 
-/// Parses a relation: an operand and at most one tail.
+/// Parses a relation: an operand and at most one tail, such as `< 2` or `has name`.
 ///
-/// Comparisons do not chain: of `1 < 2 < 3` it parses `1 < 2`, and no production continues with the second `<`. The
-/// error is the first of the two parsers.
+/// Comparisons do not chain: of `1 < 2 < 3` this function parses `1 < 2`, and no production continues with the second
+/// `<`. The first parser that fails gives the error.
 ///
 /// Source: Cedar reference guide 4.0, "Grammar specification for Cedar policy syntax".
 pub fn relation<R: Related>(tokens: &mut Cursor<'_>, of: &R) -> Result<ExprTree, StopCause>

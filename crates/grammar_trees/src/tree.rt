@@ -52,7 +52,7 @@ pub enum KeyTree {
     Quoted(Token),
 }
 
-/// An access to the expression before it. `A` is the list of arguments of a call.
+/// What follows an expression to access its field, or to call its method. `A` is the type of the arguments.
 #[derive(Drop)]
 pub enum Access<A> {
     /// `.name` or `["name"]`

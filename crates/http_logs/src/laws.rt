@@ -8,7 +8,8 @@ ghost use Rattle.http_logs.specs.LogLines.{IsLogLine, decision_tail, head_text, 
 ghost use Rattle.http_logs.specs.OneLine.{HasNoLineFeed, IsOneLine};
 
 /// Proves that lines can't be forged: the line of a request, whatever its method, target and body, has one line feed,
-/// its last byte, if the reply has no line feed. So has the line for bytes that are not a request. No-op.
+/// its last byte, if the reply has no line feed. The line for bytes that are not a request also has one line feed, its
+/// last byte. No-op.
 pub fn lines_have_one_line_feed()
     ensures line { (method target body : List ℕ) (status : StatusCode) (reply line : List ℕ) → HasNoLineFeed reply
         → line ≡ log_line method target body status reply → IsOneLine line }

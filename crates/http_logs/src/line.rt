@@ -1,7 +1,7 @@
 //! The line of a request, in two steps: method and target before anything is done, and the rest after the reply.
 //!
-//! The first step reserves memory for the rest of each line of a change, so the line of a change that was made never
-//! fails.
+//! The first step reserves memory for the rest of the line of a change, so ending that line after the change needs no
+//! allocation.
 ghost use Rattle.std.specs.Prelude.{◌≡◌, ◌≢◌, ◌≤◌, ◌+◌, ◌++◌, ℕ, List, OnOk, OnErr, codes, drop, option_map};
 ghost use Rattle.std.specs.Prelude.{vec_len};
 ghost use Rattle.std.specs.Vec.{vec_capacity};
@@ -19,7 +19,7 @@ use plain::NoMemory;
 use serde_json::Value;
 use std::alloc::Global;
 
-/// Puts the beginning of the line of a request, with room for the rest of the line of a change.
+/// Appends the beginning of the line of a request, and reserves memory for the rest of the line of a change.
 ///
 /// # Errors
 ///
@@ -103,7 +103,7 @@ fn behind_first(bytes: &[u8]) -> &[u8]
     &bytes[1..]
 }
 
-/// Ends the line of a decision, given the members `asked` that name its request.
+/// Ends the line of a decision, where `asked` has the members that name principal, action and resource.
 fn put_asked_tail(
     line: &mut Vec<u8>,
     status: StatusCode,
@@ -131,7 +131,7 @@ fn put_asked_tail(
     Ok(())
 }
 
-/// Ends the line of a decision, by the JSON of its request.
+/// Ends the line of a decision on the request `json`.
 fn put_decision_tail(
     alloc: Global,
     line: &mut Vec<u8>,
@@ -151,7 +151,7 @@ fn put_decision_tail(
     }
 }
 
-/// Ends the line of a request to decide, by the JSON of its body, which the caller has parsed.
+/// Ends the line of a request to decide, whose body the caller has parsed as `json` (`None` if it is not JSON).
 ///
 /// # Errors
 ///
@@ -177,7 +177,7 @@ pub fn put_decided_tail(
     Ok(())
 }
 
-/// Ends the line of an executed operation other than a decision.
+/// Ends the line of an executed operation other than a decision. Does not allocate.
 fn put_made_tail(line: &mut Vec<u8>, route: &Route, status: StatusCode, reply: &[u8])
     requires { vec_len line.old + TAIL_ROOM ≤ vec_capacity line.old }
     ensures items { route.now ≢ Route.Authorize
@@ -199,8 +199,8 @@ fn put_made_tail(line: &mut Vec<u8>, route: &Route, status: StatusCode, reply: &
     }
 }
 
-/// Ends the line of a request whose reply has this status and this body. Does not allocate. A request to decide needs
-/// [`put_decided_tail`] instead.
+/// Ends the line of a request whose reply has `status` and the body `reply`. Does not allocate. A request to decide
+/// needs [`put_decided_tail`] instead.
 pub fn put_tail(line: &mut Vec<u8>, route: &Route, status: StatusCode, reply: &[u8])
     requires { vec_len line.old + TAIL_ROOM ≤ vec_capacity line.old }
     ensures items { route.now ≢ Route.Authorize

@@ -15,7 +15,7 @@ use plain::NoMemory;
 use serde_json::Value;
 use std::alloc::Global;
 
-/// The number of bytes that are reserved at once for the pieces of a line: most take less.
+/// The number of bytes that are reserved at once for the pieces of a line: in most lines they take less.
 const USUAL_LINE: usize = 256;
 
 /// Appends a piece within the capacity.
@@ -182,7 +182,7 @@ fn with_uid(line: Vec<u8>, kind: &str, id: &str) -> Result<Vec<u8>, NoMemory>
     with_piece(line, b"}")
 }
 
-/// Returns a line followed by the uid that an object states, or by null if it lacks a type or an id.
+/// Returns a line followed by the uid in an object, or by null if the object lacks a type or an id.
 fn with_object(line: Vec<u8>, value: &Value) -> Result<Vec<u8>, NoMemory>
     ensures { IfOk result (λ made. made.items ≡ line.items ++ object_text (view value.now)) }
 {
@@ -195,7 +195,8 @@ fn with_object(line: Vec<u8>, value: &Value) -> Result<Vec<u8>, NoMemory>
     }
 }
 
-/// Returns a line followed by the uid of an object: that of its member `__entity` if there is one, else its own.
+/// Returns a line followed by the uid in the member `__entity` of an object or, without that member, in the object
+/// itself.
 fn with_inner(line: Vec<u8>, value: &Value) -> Result<Vec<u8>, NoMemory>
     ensures { IfOk result (λ made.
         made.items ≡ line.items ++ inner_text (view value.now) (get (codes "__entity") (view value.now))) }
@@ -206,7 +207,7 @@ fn with_inner(line: Vec<u8>, value: &Value) -> Result<Vec<u8>, NoMemory>
     }
 }
 
-/// Returns a line followed by the name of an entity in a request: a string as it was sent, else the uid of an object.
+/// Returns a line followed by the name of an entity in a request: a string as it was sent, or the uid in an object.
 fn with_name(line: Vec<u8>, value: &Value) -> Result<Vec<u8>, NoMemory>
     ensures { IfOk result (λ made. made.items ≡ line.items ++ name_text (view value.now) (as_str (view value.now))) }
 {
@@ -226,7 +227,7 @@ fn with_named(line: Vec<u8>, found: Option<&Value>) -> Result<Vec<u8>, NoMemory>
     }
 }
 
-/// Returns the value of a body at a key.
+/// Returns the value at a key of a parsed body, if there is one.
 fn member<'v>(value: &'v Option<Value>, key: &str) -> Option<&'v Value>
     ensures { option_map (λ v. view v.now) result ≡ option_and_then (get key.now) (option_map view value.now) }
 {
@@ -236,7 +237,7 @@ fn member<'v>(value: &'v Option<Value>, key: &str) -> Option<&'v Value>
     }
 }
 
-/// Returns a line followed by a label and the entity that the JSON of a body names at a key.
+/// Returns a line followed by a label and the name of the entity at a key of a parsed body.
 #[tactic(auto, unfolding(crate::specs::LogLines::member_text))]
 fn with_member(
     line: Vec<u8>,
@@ -251,7 +252,7 @@ fn with_member(
     with_named(line, member(value, key))
 }
 
-/// Returns the members `principal`, `action` and `resource` of a line: the entities that the JSON of a body names.
+/// Returns the members `principal`, `action` and `resource` of a line: the names of the entities in a parsed body.
 pub(crate) fn members_of(alloc: Global, value: &Option<Value>) -> Result<Vec<u8>, NoMemory>
     ensures { IfOk result (λ made. made.items ≡ members_text (option_map view value.now)) }
 {

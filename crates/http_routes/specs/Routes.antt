@@ -23,11 +23,11 @@ is_question_mark b = b == code "?"
 abbrev pub is_slash : ℕ → Bool
 is_slash b = b == code "/"
 
--- `path_of target` is `target` up to its query.
+-- `path_of target` is the path of `target`: all before its first question mark.
 unfoldable pub path_of : List ℕ → List ℕ
 path_of target = before_first is_question_mark target
 
--- `id_in bytes` is the policy id with the decoded bytes `bytes`; `NotUtf8` if they are not UTF-8.
+-- `id_in bytes` is the policy id with the decoded bytes `bytes`, or `NotUtf8` if `bytes` are not UTF-8.
 unfoldable pub id_in : List ℕ → PolicyId
 id_in bytes = if is_utf8 bytes then Named bytes else NotUtf8
 
@@ -39,8 +39,8 @@ id_of segment = id_in (percent_decode segment)
 unfoldable pub policies : List ℕ
 policies = codes "/v1/policies/"
 
--- `segment_of path` is the rest of `path` after the prefix `policies`, if `path` begins with it and the rest is one
--- segment.
+-- `segment_of path` is the rest of `path` after the prefix `policies`, if `path` begins with this prefix and the rest
+-- is one segment.
 unfoldable pub segment_of : List ℕ → Option (List ℕ)
 segment_of path =
     if bytes_eq (take (length policies) path) policies && not (list_any is_slash (drop (length policies) path))
@@ -62,7 +62,7 @@ plain_route method path =
     else if bytes_eq path (codes "/v1/merge") then only (codes "POST") method Merge
     else Unknown
 
--- `policy_route method segment` is the route of the policy that `segment` names.
+-- `policy_route method segment` is the route of `method` for the policy that `segment` names.
 unfoldable pub policy_route : List ℕ → List ℕ → Route
 policy_route method segment =
     if bytes_eq method (codes "GET") then GetPolicy (id_of segment)
@@ -70,7 +70,8 @@ policy_route method segment =
     else if bytes_eq method (codes "DELETE") then DeletePolicy (id_of segment)
     else OtherMethod
 
--- `route_at method path segment` is the route of `path`, where `segment` names a policy if `path` is that of a policy.
+-- `route_at method path segment` is the route of `method` for `path`, where `segment` is the segment that names a
+-- policy, if `path` is that of a policy.
 abbrev pub route_at : List ℕ → List ℕ → Option (List ℕ) → Route
 route_at method path None = plain_route method path
 route_at method path (Some segment) = policy_route method segment

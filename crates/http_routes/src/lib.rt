@@ -1,4 +1,4 @@
-//! Maps a request to an operation of a site, by its method and its target, without its body.
+//! Maps a request to an operation of a site, by the request's method and target. The body does not matter.
 #![tactic(auto)]
 
 mod path;

@@ -18,7 +18,7 @@ pub(crate) fn path_of(target: &[u8]) -> &[u8]
     target
 }
 
-/// Returns the segment that names a policy, if the path is that of one.
+/// Returns the segment that names a policy, if the path is that of a policy.
 #[tactic(auto, unfolding(crate::specs::Routes::segment_of, crate::specs::Routes::policies))]
 pub(crate) fn segment_of(path: &[u8]) -> Option<&[u8]>
     ensures { option_map (λ s. s.now) result ≡ segment_of path.now }

@@ -1,4 +1,4 @@
-//! Routes by method and target.
+//! Finds the route of a request by its method and its target.
 ghost use Rattle.std.specs.Prelude.{◌≡◌, IfOk, OnErr, IsTrue, bytes_eq};
 ghost use Rattle.http_routes.specs.Routes.{id_in, id_of, only, plain_route, policy_route, route_stated, has_id};
 
@@ -77,7 +77,8 @@ fn plain_route(method: &[u8], path: &[u8]) -> Route
     Route::Unknown
 }
 
-/// Returns the route of the policy that a segment names. Allocates only if the path of a policy has this method.
+/// Returns the route of a method for the policy that a segment names. Allocates only for a method that the path of a
+/// policy has.
 #[tactic(auto, unfolding(crate::specs::Routes::policy_route))]
 fn policy_route(alloc: Global, method: &[u8], segment: &[u8]) -> Result<Route, NoMemory>
     ensures route { IfOk result (λ r. r ≡ policy_route method.now segment.now) }
@@ -97,9 +98,9 @@ fn policy_route(alloc: Global, method: &[u8], segment: &[u8]) -> Result<Route, N
 
 /// Returns the operation that a request with this method and this target asks for.
 ///
-/// The path is the target up to its first question mark. Only the id of a policy is decoded, which is one segment,
-/// possibly empty: a percent sign with two hexadecimal digits is the byte of these digits, and any other percent sign
-/// is itself (RFC 3986, section 2.1). Methods are compared by their exact bytes (RFC 9110, section 9.1).
+/// The path is the target up to its first question mark. The id of a policy is one segment, possibly empty, and is the
+/// only part that is decoded: a percent sign with two hexadecimal digits is the byte of these digits, and any other
+/// percent sign is itself (RFC 3986, section 2.1). Methods are compared by their exact bytes (RFC 9110, section 9.1).
 ///
 /// # Errors
 ///

@@ -11,10 +11,10 @@ use Rattle.site_calls.specs.site_steps.Runs.{Run}
 use Rattle.site_calls.proofs.of_site_steps.RunLemmas.{run_push, same_step}
 use Rattle.http_routes.specs.Routes.{route_stated}
 use Rattle.site_calls.specs.SiteRequest.{SiteRequest, gives, rejects, unserved}
-use Rattle.http_service.specs.Asked.{asked}
+use Rattle.http_service.specs.Asked.{request_of}
 use Rattle.site_calls.specs.Answers.{Replies}
 use Rattle.http_service.specs.Answered.{answers_over}
-use Rattle.http_service.specs.Serving.{Served, unasked, Continues, continues_run, IsServed}
+use Rattle.http_service.specs.Serving.{Served, before_requests, Continues, continues_run, IsServed}
 use Rattle.http_service.specs.declared.site_service.SiteService.{SiteService}
 use Rattle.http_service.proofs.RunLemmas.{RunsTake}
 
@@ -74,12 +74,12 @@ carry_on : (start a b : SiteService) (x : Served) (m t body : List ℕ) (status 
     → answers_over a m t body status line b
     → (y : Served) × continues_run x m t body status line y × Carries start b y
 carry_on start a b x m t body status line carries h =
-    let asks = asked (route_stated m t) body in
+    let asks = request_of (route_stated m t) body in
     let one = one_request start.site.now asks x b.site.now status line carries.running
     (subst (λ (s : SiteView). Replies s asks status line b.site.now) (sym carries.site) h.0) in
     (one.0, one.1, record { site = one.3; running = one.2; borrow = h.1 ∙ carries.borrow })
 
-carried_first : (start : SiteService) → Carries start start (unasked start.site.now)
+carried_first : (start : SiteService) → Carries start start (before_requests start.site.now)
 carried_first start = record {
   site = refl;
   running = record { run = refl; same = (refl, refl) };
@@ -101,7 +101,7 @@ module _ {R W : Type 0} (left : R → Option (List ℕ)) (read_failures : R → 
       × (new.site.ghost_name ≡ old.site.ghost_name)
   served law first last before after old new result h =
       let all = answered answers_over continues_run (Carries old) (carry_on old) left read_failures reads read_fails
-      holds write_failures write_fails first last before after old new (unasked old.site.now) result
+      holds write_failures write_fails first last before after old new (before_requests old.site.now) result
       (carried_first old) h in
       let start = old.site.now in
       let ran = subst (λ (s : SiteView). Running start (record { site = s; inputs = all.0.inputs; replies = all.0.replies }))
@@ -110,7 +110,7 @@ module _ {R W : Type 0} (left : R → Option (List ℕ)) (read_failures : R → 
           inputs = all.0.inputs;
           replies = all.0.replies;
           answered = subst (λ (s : SiteView). IsAnswered continues_run left read_failures reads read_fails holds
-              write_failures write_fails first last before after (unasked start)
+              write_failures write_fails first last before after (before_requests start)
               (record { site = s; inputs = all.0.inputs; replies = all.0.replies }) result) all.2.site all.1;
           run = ran.run;
           store = law (schema_of start) start.name (store_in start) all.0.inputs all.0.replies (store_in new.site.now)

@@ -29,7 +29,7 @@ use Rattle.http_routes.specs.Routes.{has_id}
 use Rattle.site_calls.specs.Answers.{Appends}
 use Rattle.site_calls.specs.SiteRequest.{gives, rejects, unserved, put_asked, removal_asked, not_text}
 use Rattle.site_calls.specs.Reports.{reported}
-use Rattle.http_service.specs.Asked.{asked}
+use Rattle.http_service.specs.Asked.{request_of}
 use Rattle.site_calls.specs.Replies.{fault_reply, found_reply, put_reply, stamp_reply, status_reply}
 use Rattle.site_calls.specs.site_steps.schema.Schemas.{StatedSchema}
 
@@ -74,7 +74,7 @@ put_lacks old false body id status before after e f g =
 
 pub unrouted : (old : SiteView) (r : Route) (body : List ℕ) (status : StatusCode) (before after : List ℕ) → IsTrue (has_id r)
     → status ≡ (fault_reply fault.NoMemory).0
-    → after ≡ before ++ (fault_reply fault.NoMemory).1 → Appends old (asked r body) status before after old
+    → after ≡ before ++ (fault_reply fault.NoMemory).1 → Appends old (request_of r body) status before after old
 unrouted old (route.PutPolicy (Named id)) body status before after has f g =
     put_lacks old (is_utf8 body) body id status before after refl f g
 unrouted old (route.PutPolicy NotUtf8) body status before after has f g =

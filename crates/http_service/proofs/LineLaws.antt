@@ -45,7 +45,7 @@ use Rattle.site_calls.specs.Answers.{Replies}
 use Rattle.site_calls.specs.SiteRequest.{SiteRequest, gives, not_text, rejects, unserved, removal_asked}
 use Rattle.site_calls.specs.Reports.{reported}
 use Rattle.http_service.specs.Answered.{answers}
-use Rattle.http_service.specs.Asked.{asked}
+use Rattle.http_service.specs.Asked.{request_of}
 use Rattle.http_service.specs.Lines.{IsChange, stamped_end}
 
 -- ---- the lengths of stamps
@@ -211,7 +211,7 @@ removal_asks : (uid : Option EntityUid) → AsksChange (removal_asked uid)
 removal_asks (Some uid) = tt
 removal_asks None = tt
 
-change_asks : (asking : Route) (body : List ℕ) → IsChange asking → AsksChange (asked asking body)
+change_asks : (asking : Route) (body : List ℕ) → IsChange asking → AsksChange (request_of asking body)
 change_asks (route.PutPolicy (Named id)) body c = put_asks (is_utf8 body) id body (fault.Policy (not_text id body))
 change_asks (route.PutPolicy NotUtf8) body c = tt
 change_asks (route.DeletePolicy (Named id)) body c = tt
@@ -279,7 +279,7 @@ pub change_told : (old new : SiteView) (method target body reply line : List ℕ
     → line ≡ head_text (text_of method) (text_of target) ++ stamped_end reply
 change_told old new method target body reply line named c h is =
     change_at (route_stated method target) method target body reply line c
-    (asked_fits old new (asked (route_stated method target) body) reply named (change_asks (route_stated method target) body c) h) is
+    (asked_fits old new (request_of (route_stated method target) body) reply named (change_asks (route_stated method target) body c) h) is
 
 -- ---- replies without a line feed
 
@@ -390,17 +390,17 @@ change_plainly (rejects f) c = tt
 change_plainly (unserved s) c = tt
 
 change_free : (old new : SiteView) (asking : Route) (body : List ℕ) (status : StatusCode) (line : List ℕ) → IsChange asking
-    → Replies old (asked asking body) status line new → HasNoLineFeed line
+    → Replies old (request_of asking body) status line new → HasNoLineFeed line
 change_free old new asking body status line c h =
-    asked_free old new (asked asking body) status line
-    (change_plainly (asked asking body) (change_asks asking body c)) h
+    asked_free old new (request_of asking body) status line
+    (change_plainly (request_of asking body) (change_asks asking body c)) h
 
 -- ---- one line of each request that is served
 
 served_tail : (old new : SiteView) (asking : Route) (body : List ℕ) (status : StatusCode) (line : List ℕ)
-    → Replies old (asked asking body) status line new → IsOneLine (made_tail asking status body line)
+    → Replies old (request_of asking body) status line new → IsOneLine (made_tail asking status body line)
 served_tail old new route.Authorize body status line h =
-    made_one route.Authorize status body line (asked_free old new (asked route.Authorize body) status line tt h)
+    made_one route.Authorize status body line (asked_free old new (request_of route.Authorize body) status line tt h)
 served_tail old new (route.PutPolicy id) body status line h =
     made_one (route.PutPolicy id) status body line (change_free old new (route.PutPolicy id) body status line tt h)
 served_tail old new (route.DeletePolicy id) body status line h =

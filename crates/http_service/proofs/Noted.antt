@@ -18,14 +18,14 @@ use Rattle.http_routes.specs.Routes.{has_id, route_stated}
 use Rattle.http_routes.specs.declared.route.Route.{Route}
 use Rattle.http_routes.specs.declared.route.Route.TheVariants as route
 use Rattle.site_calls.specs.SiteRequest.{SiteRequest, unserved}
-use Rattle.http_service.specs.Asked.{asked}
+use Rattle.http_service.specs.Asked.{request_of}
 use Rattle.site_calls.specs.Answers.{Appends, Replies}
 use Rattle.http_service.specs.inner.Noting.{AnswersWithLine, AnswersWithTail, IsUndoneReply, unserved_status}
 use Rattle.http_service.proofs.Dealt.{handed, removal_lacks, unrouted, unserves}
 
 -- the reply that was shown is the one that was appended
 pub noted_so : (old new : SiteView) (asking : Route) (body : List ℕ) (status : StatusCode) (before after line ended shown : List ℕ) (at : ℕ)
-    → length before ≡ at → shown ≡ drop at after → Appends old (asked asking body) status before after new
+    → length before ≡ at → shown ≡ drop at after → Appends old (request_of asking body) status before after new
     → ended ≡ line ++ tail_of asking status body shown → AnswersWithTail old asking body status before after line ended new
 noted_so old new asking body status before after line ended shown at len cut (told, f, replies) e = (
   told,
@@ -65,7 +65,7 @@ tail_by line ended body json status shown is e = e ∙ sym (ap (λ (o : Option D
 -- a decision and its line, both from that JSON
 pub noted_by : (site : SiteView) (body : List ℕ) (json : Option Data) (status : StatusCode) (before after line ended shown : List ℕ) (at : ℕ)
     → length before ≡ at → shown ≡ drop at after → json_of body ≡ json
-    → Appends site (asked route.Authorize body) status before after site → ended ≡ line ++ decided_tail status json shown
+    → Appends site (request_of route.Authorize body) status before after site → ended ≡ line ++ decided_tail status json shown
     → AnswersWithTail site route.Authorize body status before after line ended site
 noted_by site body json status before after line ended shown at len cut is appends e =
     noted_so site site route.Authorize body status before after line ended shown at len cut appends
@@ -104,13 +104,13 @@ unserved_lacks _ u status before after is e f = absurd cc
 
 lacks_so : (asking : Route) (status : StatusCode) (before after : List ℕ) → IsUndone asking status (fault_reply fault.NoMemory).1
     → after ≡ before ++ (fault_reply fault.NoMemory).1
-    → ((old : SiteView) (body : List ℕ) → Appends old (asked asking body) status [] (fault_reply fault.NoMemory).1 old)
+    → ((old : SiteView) (body : List ℕ) → Appends old (request_of asking body) status [] (fault_reply fault.NoMemory).1 old)
     → IsUndoneReply asking status before after
 lacks_so asking status before after undone f each = (
   (fault_reply fault.NoMemory).1,
   f,
   undone,
-  λ old body. replies_alone old old (asked asking body) status (fault_reply fault.NoMemory).1 (each old body),
+  λ old body. replies_alone old old (request_of asking body) status (fault_reply fault.NoMemory).1 (each old body),
 )
 
 pub served_lacks : (asking : Route) (status : StatusCode) (before after : List ℕ) → unserved_status asking ≡ None
@@ -153,7 +153,7 @@ pub logged_lacks : (old : SiteView) (asking : Route) (m t body : List ℕ) (stat
 logged_lacks old asking m t body status before after line is so e = (
   so.0,
   so.1,
-  subst (λ (r : Route). Replies old (asked r body) status so.0 old) is (so.3 old body),
+  subst (λ (r : Route). Replies old (request_of r body) status so.0 old) is (so.3 old body),
   inr (e, subst (λ (r : Route). IsUndone r status so.0) is so.2),
 )
 
@@ -164,7 +164,7 @@ pub logged_unrouted : (old : SiteView) (m t body : List ℕ) (status : StatusCod
 logged_unrouted old m t body status before after line has e f g = (
   (fault_reply fault.NoMemory).1,
   f,
-  replies_alone old old (asked (route_stated m t) body) status (fault_reply fault.NoMemory).1
+  replies_alone old old (request_of (route_stated m t) body) status (fault_reply fault.NoMemory).1
       (unrouted old (route_stated m t) body status [] (fault_reply fault.NoMemory).1 has e refl),
   inr (g, undone_at (route_stated m t) status has e),
 )
@@ -175,7 +175,7 @@ pub logged_noted : (old new : SiteView) (asking : Route) (m t body : List ℕ) (
 logged_noted old new asking m t body status before after head line is h (told, f, replies, e) = (
   told,
   f,
-  subst (λ (r : Route). Replies old (asked r body) status told new) is replies,
+  subst (λ (r : Route). Replies old (request_of r body) status told new) is replies,
   inl (e ∙ ap (λ (b : List ℕ). b ++ tail_of asking status body told) h
       ∙ ap (λ (r : Route). head_text (text_of m) (text_of t) ++ tail_of r status body told) is),
 )

@@ -18,7 +18,7 @@ use Rattle.site_calls.specs.site_steps.Outcomes.{IsWhole, InputsHaveOneOutcome}
 use Rattle.site_calls.specs.site_steps.Runs.{Step}
 use Rattle.http_routes.specs.Routes.{route_stated}
 use Rattle.site_calls.specs.SiteRequest.{SiteRequest, gives, rejects, unserved}
-use Rattle.http_service.specs.Asked.{asked}
+use Rattle.http_service.specs.Asked.{request_of}
 use Rattle.site_calls.specs.Answers.{Replies}
 use Rattle.site_calls.specs.Reports.{reported}
 use Rattle.http_service.specs.Answered.{IsAlike, answers}
@@ -152,5 +152,5 @@ one_of law (unserved s) old old2 st st2 x x2 new new2 alike h some k some2 =
 
 pub one_reply : HaveOneOutcome → HasOneAnswer (in_memory answers) IsAlike
 one_reply law old old2 m t b st st2 x x2 new new2 alike h k =
-    let one = one_of law (asked (route_stated m t) b) old old2 st st2 x x2 new new2 alike h.0 h.1 k.0 k.1 in
+    let one = one_of law (request_of (route_stated m t) b) old old2 st st2 x x2 new new2 alike h.0 h.1 k.0 k.1 in
     (ap (λ (l : Line). l.0) one.0, ap (λ (l : Line). l.1) one.0, one.1)

@@ -12,16 +12,16 @@ use Rattle.site_calls.specs.site_steps.Inputs.{Input}
 use Rattle.site_calls.specs.site_steps.declared.reply.Reply.{Reply}
 use Rattle.http_routes.specs.Routes.{route_stated}
 use Rattle.site_calls.specs.SiteRequest.{SiteRequest, gives, rejects, unserved}
-use Rattle.http_service.specs.Asked.{asked}
+use Rattle.http_service.specs.Asked.{request_of}
 use Rattle.site_calls.specs.Answers.{Replies}
 use Rattle.http_service.specs.Answered.{answers}
-use Rattle.http_service.specs.Streams.{inputs_of, AskFor, LeavesRun}
+use Rattle.http_service.specs.Streams.{inputs_of, HaveInputs, LeavesRun}
 
 -- the run of some requests, its store not yet told
 pub record Goes (n : ℕ) (old : SiteView) (bytes rest : List ℕ) (new : SiteView) : Type 0 where
   pub inputs : List Input
   pub replies : List Reply
-  pub asks : AskFor n bytes rest inputs
+  pub asks : HaveInputs n bytes rest inputs
   pub run : Run (schema_of old) old.name (store_in old) inputs replies (store_in new)
   pub same : IsSameSite old new
 
@@ -67,7 +67,7 @@ goes_none old bytes = record { inputs = []; replies = []; asks = (refl, refl); r
 goes_more : (n : ℕ) (old mid new : SiteView) (bytes after rest : List ℕ) (last : Bool) (out : List ℕ)
     → Exchanges answers old bytes last out mid after → Goes n mid after rest new → Goes (suc n) old bytes rest new
 goes_more n old mid new bytes after rest last out h g =
-    let a = asked (route_stated h.head.method h.head.target) h.body in
+    let a = request_of (route_stated h.head.method h.head.target) h.body in
     let all = before a old mid new h.status h.text g.inputs g.replies h.answered g.same g.run in
     record {
       inputs = inputs_of a ++ g.inputs;

@@ -12,11 +12,11 @@ use Rattle.site_calls.specs.site_steps.SiteViews.{SiteView}
 use Rattle.site_calls.specs.site_steps.Inputs.{Input}
 use Rattle.http_routes.specs.Routes.{route_stated}
 use Rattle.site_calls.specs.SiteRequest.{SiteRequest, gives, rejects, unserved}
-use Rattle.http_service.specs.Asked.{asked}
+use Rattle.http_service.specs.Asked.{request_of}
 use Rattle.site_calls.specs.Answers.{Replies}
 use Rattle.http_service.specs.Answered.{answers}
-use Rattle.http_service.specs.Streams.{inputs_of, AskFor, LeavesRun}
-use Rattle.http_service.specs.Serving.{Served, unasked, Continues, continues_run, IsServed}
+use Rattle.http_service.specs.Streams.{inputs_of, HaveInputs, LeavesRun}
+use Rattle.http_service.specs.Serving.{Served, before_requests, Continues, continues_run, IsServed}
 use Rattle.http_service.proofs.RunLemmas.{RunsTake, rests_run, ends_run, stops_run}
 
 -- ---- each request is answered by the site
@@ -30,7 +30,7 @@ replied (unserved s) v w status line h = h.0
 one_answer : (v w : Served) (s : SiteView) (m t body : List ℕ) (status : StatusCode) (line : List ℕ) → v.site ≡ s
     → continues_run v m t body status line w → (u : SiteView) × answers s m t body status line u × (w.site ≡ u)
 one_answer v w s m t body status line is h =
-    let a = asked (route_stated m t) body in
+    let a = request_of (route_stated m t) body in
     (w.site, subst (λ (x : SiteView). Replies x a status line w.site) is (replied a v w status line h), refl)
 
 -- ---- the inputs are those that the requests ask for
@@ -40,7 +40,7 @@ record Asks (v : Served) (bytes : List ℕ) (w : Served) : Type 0 where
   pub count : ℕ
   pub rest : List ℕ
   pub inputs : List Input
-  pub asks : AskFor count bytes rest inputs
+  pub asks : HaveInputs count bytes rest inputs
   pub joined : w.inputs ≡ v.inputs ++ inputs
 
 asks_none : (v w : Served) (bytes : List ℕ) → w ≡ v → Asks v bytes w
@@ -61,7 +61,7 @@ handed (unserved s) v w status line h = h.1 ∙ sym (append-nil v.inputs)
 asks_more : (v m w : Served) (bytes after : List ℕ) (last : Bool) (out : List ℕ)
     → Exchanges continues_run v bytes last out m after → Asks m after w → Asks v bytes w
 asks_more v m w bytes after last out h k =
-    let a = asked (route_stated h.head.method h.head.target) h.body in
+    let a = request_of (route_stated h.head.method h.head.target) h.body in
     let took = handed a v m h.status h.text h.answered in
     record {
       count = suc k.count;
@@ -113,7 +113,7 @@ module _ {R W : Type 0} (left : R → Option (List ℕ)) (read_failures : R → 
   site_answers first last before after old new result h =
       let v : Served = record { site = new; inputs = h.inputs; replies = h.replies } in
       let all = answered continues_run answers (λ (x : Served) (s : SiteView). x.site ≡ s) one_answer left read_failures reads
-      read_fails holds write_failures write_fails first last before after (unasked old) v old result refl h.answered
+      read_fails holds write_failures write_fails first last before after (before_requests old) v old result refl h.answered
       in
       subst (λ (s : SiteView). IsAnswered answers left read_failures reads read_fails holds write_failures write_fails first
       last before after old s result) (sym all.2) all.1
@@ -156,8 +156,8 @@ module _ {R W : Type 0} (left : R → Option (List ℕ)) (read_failures : R → 
 
   pub inputs_asked : (first last : R) (before after : W) (old new : SiteView) (result : Result (Unit {0}) StreamFault)
       (h : Called first last before after old new result)
-      → (count : ℕ) × (rest : List ℕ) × AskFor count h.answered.bytes rest h.inputs
+      → (count : ℕ) × (rest : List ℕ) × HaveInputs count h.answered.bytes rest h.inputs
   inputs_asked first last before after old new result h =
       let v : Served = record { site = new; inputs = h.inputs; replies = h.replies } in
-      let all = asks_as first last before after (unasked old) v h.answered.bytes h.answered.out result h.answered.ended in
-      (all.count, all.rest, subst (λ (is : List Input). AskFor all.count h.answered.bytes all.rest is) (sym all.joined) all.asks)
+      let all = asks_as first last before after (before_requests old) v h.answered.bytes h.answered.out result h.answered.ended in
+      (all.count, all.rest, subst (λ (is : List Input). HaveInputs all.count h.answered.bytes all.rest is) (sym all.joined) all.asks)

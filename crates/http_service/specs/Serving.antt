@@ -1,4 +1,4 @@
--- Defines one call that serves a site over a stream: what was read, what was written, and the run between them.
+-- Defines one call that serves a site over a stream: what it reads, what it writes, and the run of the site.
 -- Source: RFC 9112, section 9.3 (replies in the order of the requests).
 -- Rules of this product: each request is at most one step of the site.
 use Rattle.std.specs.Prelude.{◌≡◌, ℕ, List, [], ◌∷◌, ◌++◌, Option, Result}
@@ -12,23 +12,23 @@ use Rattle.site_calls.specs.site_steps.Inputs.{Input}
 use Rattle.site_calls.specs.site_steps.declared.reply.Reply.{Reply}
 use Rattle.http_routes.specs.Routes.{route_stated}
 use Rattle.site_calls.specs.SiteRequest.{SiteRequest, gives, rejects, unserved}
-use Rattle.http_service.specs.Asked.{asked}
+use Rattle.http_service.specs.Asked.{request_of}
 use Rattle.site_calls.specs.Answers.{Replies}
 use Rattle.site_calls.specs.Reports.{reported}
 
--- A `Served` is a site during a stream, with the inputs of the requests so far and its reply to each.
+-- A `Served` is a site during a stream, with the inputs of the requests so far and the site's reply to each.
 pub record Served : Type 0 where
   pub site : SiteView
   pub inputs : List Input
   pub replies : List Reply
 
--- `unasked site` is `site` before the first request.
-abbrev pub unasked : SiteView → Served
-unasked site = record { site = site; inputs = []; replies = [] }
+-- `before_requests site` is `site` before the first request.
+abbrev pub before_requests : SiteView → Served
+before_requests site = record { site = site; inputs = []; replies = [] }
 
--- `Continues old a status line new` holds if the request that asks `a` may be answered by `status` and `line`, from
--- `old` to `new`. An input is one step of the site, whose reply is the next of the run; a request that is rejected
--- before it becomes an input, or asks for no operation, is not part of the run.
+-- `Continues old a status line new` holds if the reply to a request that asks for `a` may be `status` with the body
+-- `line`, and leads from `old` to `new`. If `a` gives an input, that is one step of the site, and `new` adds the input
+-- and its reply. A request that is rejected before it becomes an input, or asks for no operation, adds nothing.
 abbrev pub Continues : Served → SiteRequest → StatusCode → List ℕ → Served → Type 0
 Continues old (gives i) status line new =
     (r : Reply) × Step (schema_of old.site) old.site.name (store_in old.site) i r (store_in new.site)
@@ -42,19 +42,20 @@ Continues old (unserved s) status line new =
 -- `continues_run` is the same relation for a request with a method, a target and a body.
 abbrev pub continues_run : Served → List ℕ → List ℕ → List ℕ → StatusCode → List ℕ → Served → Type 0
 continues_run old method target body status line new =
-    Continues old (asked (route_stated method target) body) status line new
+    Continues old (request_of (route_stated method target) body) status line new
 
 -- `left` to `write_fails` describe the states of a reader and a writer, as in `Serving` of http_streams.
 module _ {R W : Type 0} (left : R → Option (List ℕ)) (read_failures : R → ℕ) (reads : R → ℕ → List ℕ → R → Type 0)
     (read_fails : R → R → Type 0) (holds : W → Option (List ℕ)) (write_failures : W → ℕ)
     (write_fails : W → W → Type 0) where
-  -- `IsServed first last before after old new result` holds if one call served the site `old` and left `new`. It read
-  -- requests, whose inputs are `inputs`, in order, and wrote their replies, among them the site's replies to these
-  -- inputs; the run of the inputs with these replies leads from `old` to `new`. The result says how the stream ended,
-  -- and so which requests are answered: all, or those up to a reply that was sent only in part.
-  -- An example: `PUT /v1/policies/a` and `GET /nowhere` are read, and then the end. The one input is the put of the
-  -- first request's body under `a`, and its reply is a stamp. Written are the reply 200 with the stamp and the reply
-  -- 404. The new store is the join of the updates that the site had and this one.
+  -- `IsServed first last before after old new result` holds if one call served the site `old` and left `new`, the
+  -- reader went from the state `first` to `last`, and the writer from `before` to `after`. The call read requests and
+  -- wrote their replies. `inputs` are the inputs of these requests in order, `replies` the site's replies to them, and
+  -- the run of `inputs` with `replies` leads from `old` to `new`. `result` is how the stream ended, and so which
+  -- requests are answered: all, or those up to a reply that was sent only in part.
+  -- An example: the call reads `PUT /v1/policies/a` and `GET /nowhere`, and then the stream ends. The one input is the
+  -- put of the first request's body under `a`, and the reply to it is a stamp. The call writes the reply 200 with the
+  -- stamp, then the reply 404. The new store is the join of the updates that the site had and this put.
   pub record IsServed (first last : R) (before after : W) (old new : SiteView) (result : Result (Unit {0}) StreamFault)
       : Type 0 where
     pub inputs : List Input
@@ -62,7 +63,7 @@ module _ {R W : Type 0} (left : R → Option (List ℕ)) (read_failures : R → 
     -- request by request, from the first byte read to the last byte written
     pub answered :
         IsAnswered continues_run left read_failures reads read_fails holds write_failures write_fails first last
-        before after (unasked old) (record { site = new; inputs = inputs; replies = replies }) result
+        before after (before_requests old) (record { site = new; inputs = inputs; replies = replies }) result
     -- so the theorems on runs of one site apply
     pub run : Run (schema_of old) old.name (store_in old) inputs replies (store_in new)
     pub store : store_in new ≡ store_of (updates (store_in old) ++ took (schema_of old) inputs replies)

@@ -10,20 +10,21 @@ use Rattle.site_calls.specs.site_steps.Inputs.{Input}
 use Rattle.site_calls.specs.site_steps.declared.reply.Reply.{Reply}
 use Rattle.http_routes.specs.Routes.{route_stated}
 use Rattle.site_calls.specs.SiteRequest.{SiteRequest, gives, rejects, unserved}
-use Rattle.http_service.specs.Asked.{asked}
+use Rattle.http_service.specs.Asked.{request_of}
 
--- `inputs_of a` is the list of the inputs of a request: one, or an empty list.
+-- `inputs_of a` is the list of the inputs of a request that asks for `a`: one, or an empty list.
 abbrev pub inputs_of : SiteRequest → List Input
 inputs_of (gives i) = i ∷ []
 inputs_of (rejects f) = []
 inputs_of (unserved s) = []
 
--- `AskFor n bytes rest is` holds if `bytes` are `n` requests and then `rest`, and `is` are their inputs, in order.
-abbrev pub AskFor : ℕ → List ℕ → List ℕ → List Input → Type 0
-AskFor zero bytes rest is = (bytes ≡ rest) × (is ≡ [])
-AskFor (suc n) bytes rest is =
+-- `HaveInputs n bytes rest is` holds if `bytes` are `n` requests and then `rest`, and `is` are the inputs of the
+-- requests, in order.
+abbrev pub HaveInputs : ℕ → List ℕ → List ℕ → List Input → Type 0
+HaveInputs zero bytes rest is = (bytes ≡ rest) × (is ≡ [])
+HaveInputs (suc n) bytes rest is =
     (head : RequestHead) × (body : List ℕ) × (after : List ℕ) × (more : List Input) × ReadsWhole bytes head body after
-    × (is ≡ inputs_of (asked (route_stated head.method head.target) body) ++ more) × AskFor n after rest more
+    × (is ≡ inputs_of (request_of (route_stated head.method head.target) body) ++ more) × HaveInputs n after rest more
 
 -- `LeavesRun old bytes new` holds if a run of the inputs of the first `count` requests in `bytes` leads from the site
 -- `old` to `new`, and the store of `new` is the join of the updates that `old` had and those that the run applied.
@@ -32,7 +33,7 @@ pub record LeavesRun (old : SiteView) (bytes : List ℕ) (new : SiteView) : Type
   pub rest : List ℕ
   pub inputs : List Input
   pub replies : List Reply
-  pub asks : AskFor count bytes rest inputs
+  pub asks : HaveInputs count bytes rest inputs
   pub run : Run (schema_of old) old.name (store_in old) inputs replies (store_in new)
   pub store : store_in new ≡ store_of (updates (store_in old) ++ took (schema_of old) inputs replies)
   pub same : IsSameSite old new

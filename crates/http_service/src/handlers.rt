@@ -7,7 +7,7 @@ ghost use Rattle.http_streams.specs.declared.TheConstants.{REPLY_ROOM};
 ghost use Rattle.http_routes.specs.Routes.{route_stated};
 ghost use Rattle.site_calls.specs.site_steps.SiteViews.{SiteView};
 ghost use Rattle.site_calls.specs.Answers.{Appends};
-ghost use Rattle.http_service.specs.Asked.{asked};
+ghost use Rattle.http_service.specs.Asked.{request_of};
 ghost use Rattle.http_logs.specs.declared.TheConstants.{TAIL_ROOM, UNREAD_ROOM};
 ghost use Rattle.http_service.specs.inner.Noting.{AnswersWithLine, AnswersWithTail, IsUndoneReply, unserved_status};
 
@@ -24,7 +24,7 @@ use std::alloc::Global;
 
 // ---- routes
 
-/// Answers a request of this route and body.
+/// Answers a request with this route and this body: appends the body of the reply to `text`, and returns the status.
 fn answer_route(
     alloc: Global,
     scratch: &mut Scratch,
@@ -34,7 +34,7 @@ fn answer_route(
     text: &mut Vec<u8>,
 ) -> StatusCode
     requires room { vec_len text.old + REPLY_ROOM ≤ vec_capacity text.old }
-    ensures reply { Appends site.old (asked route.now body.now) result text.old.items text.new.items site.new }
+    ensures reply { Appends site.old (request_of route.now body.now) result text.old.items text.new.items site.new }
     ensures kept { vec_capacity text.old ≤ vec_capacity text.new }
 {
     match route {
@@ -82,7 +82,7 @@ pub(crate) fn answer(
     text: &mut Vec<u8>,
 ) -> StatusCode
     requires room { vec_len text.old + REPLY_ROOM ≤ vec_capacity text.old }
-    ensures reply { Appends site.old (asked (route_stated method.now target.now) body.now) result text.old.items
+    ensures reply { Appends site.old (request_of (route_stated method.now target.now) body.now) result text.old.items
         text.new.items site.new }
     ensures kept { vec_capacity text.old ≤ vec_capacity text.new }
 {
@@ -114,8 +114,8 @@ fn unserved_status(route: &Route) -> Option<StatusCode>
     }
 }
 
-/// Reports that an allocation failed before anything was done. A request for no operation has its own status, also when
-/// out of memory.
+/// Reports that an allocation failed before anything was done. A request for no operation has its own status (404 or
+/// 405), also when out of memory.
 fn report_no_memory(route: &Route, text: &mut Vec<u8>) -> StatusCode
     requires room { vec_len text.old + REPLY_ROOM ≤ vec_capacity text.old }
     ensures reply { IsUndoneReply route.now result text.old.items text.new.items }
@@ -142,7 +142,7 @@ fn report_undecided(text: &mut Vec<u8>, line: &mut Vec<u8>) -> StatusCode
 }
 
 /// Decides the request whose body was parsed as `json`, and ends its line, of which `line` has the beginning. If the
-/// end cannot be allocated, the reply is that error in place of the decision.
+/// end cannot be allocated, the reply is the error 1 (status 503) instead of the decision.
 fn decide_parsed(
     alloc: Global,
     site: &Site,
@@ -169,8 +169,9 @@ fn decide_parsed(
     }
 }
 
-/// Decides a request, and ends its line, of which `line` has the beginning. The body is parsed once, for both.
-fn decide_noted(
+/// Decides a request, and ends its line, of which `line` has the beginning. The body is parsed once, for the decision
+/// and for the line.
+fn decide_logged(
     alloc: Global,
     scratch: &mut Scratch,
     site: &Site,
@@ -192,7 +193,7 @@ fn decide_noted(
 }
 
 /// Answers a request of a route other than that of decisions, and ends its line, of which `line` has the beginning.
-fn answer_undecided(
+fn answer_other_route(
     alloc: Global,
     scratch: &mut Scratch,
     site: &mut Site,
@@ -216,7 +217,7 @@ fn answer_undecided(
 }
 
 /// Answers a request of a route, and ends its line, of which `line` has the beginning.
-fn answer_noted(
+fn answer_logged(
     alloc: Global,
     scratch: &mut Scratch,
     site: &mut Site,
@@ -233,13 +234,13 @@ fn answer_noted(
     ensures line_kept { vec_capacity line.old ≤ vec_capacity line.new }
 {
     match route {
-        Route::Authorize => decide_noted(alloc, scratch, site, body, text, line),
-        _ => answer_undecided(alloc, scratch, site, route, body, text, line),
+        Route::Authorize => decide_logged(alloc, scratch, site, body, text, line),
+        _ => answer_other_route(alloc, scratch, site, route, body, text, line),
     }
 }
 
-/// Answers a request like [`answer`], and puts its line into `line`. If the beginning of the line, with method and
-/// target, cannot be allocated, nothing is done.
+/// Answers a request like [`answer`], and puts the line of the request into `line`. If the route, or the beginning of
+/// the line with method and target, cannot be allocated, nothing is done.
 pub(crate) fn answer_with_line(
     alloc: Global,
     scratch: &mut Scratch,
@@ -264,7 +265,7 @@ pub(crate) fn answer_with_line(
         return status;
     };
     match put_head(alloc, line, method, target) {
-        Ok(()) => answer_noted(alloc, scratch, site, &route, body, text, line),
+        Ok(()) => answer_logged(alloc, scratch, site, &route, body, text, line),
         Err(_) => {
             let status = report_no_memory(&route, text);
             put_unread_line(line, status);

@@ -23,7 +23,7 @@ ghost use Rattle.site_calls.specs.Reports.{reported};
 ghost use Rattle.http_service.specs.Answered.{IsAlike, answers};
 ghost use Rattle.http_service.specs.Lines.{IsChange, stamped_end};
 ghost use Rattle.http_service.specs.Serving.{IsServed};
-ghost use Rattle.http_service.specs.Streams.{AskFor, LeavesRun};
+ghost use Rattle.http_service.specs.Streams.{HaveInputs, LeavesRun};
 
 use crate::site_service::ViewedSite;
 use http_streams::laws::{begins_answer, one_answer};
@@ -32,7 +32,8 @@ use http_streams::{Sink, Source};
 use site_calls::{inputs_have_one_outcome, runs_are_sound, runs_leave_what_they_took};
 
 /// Proves that, however a stream of requests ends, the site afterwards is the result of a run of the inputs that the
-/// requests ask for, in order. So its store is the join of the updates that it had and those that it applied. No-op.
+/// requests ask for, in order. So the store of the site is the join of the updates that the site had and those that the
+/// run applied. No-op.
 pub fn streams_leave_runs()
     ensures rests { (old new : SiteView) (bytes out : List ℕ) → Rests answers old bytes out new
         → LeavesRun old bytes new }
@@ -48,8 +49,8 @@ pub fn streams_leave_runs()
 ///
 /// - `answered`: each request that was read was answered by the site as it was then, the replies were written, and the
 ///   stream ended as the result says.
-/// - `asked`: the inputs of the run are those that the first requests of what was read ask for.
-/// - `run`: so the site's store is the join of the updates that it had and those that it applied.
+/// - `asked`: the inputs of the run are those that the first requests in the bytes read ask for.
+/// - `run`: the site's store is the join of the updates that the site had and those that the run applied.
 pub fn served_streams_are_answered<R: Source, W: Sink>()
     ensures answered { (first last : R) (before after : W) (old new : SiteView) (result : Result (Unit {0}) StreamFault)
         → IsServed R.left R.failed R.reads R.fails W.holds W.failed W.fails first last before after old new result
@@ -57,7 +58,7 @@ pub fn served_streams_are_answered<R: Source, W: Sink>()
         result }
     ensures asked { (first last : R) (before after : W) (old new : SiteView) (result : Result (Unit {0}) StreamFault)
         (h : IsServed R.left R.failed R.reads R.fails W.holds W.failed W.fails first last before after old new result)
-        → (count : ℕ) × (rest : List ℕ) × AskFor count h.answered.bytes rest h.inputs }
+        → (count : ℕ) × (rest : List ℕ) × HaveInputs count h.answered.bytes rest h.inputs }
     ensures run { (first last : R) (before after : W) (old new : SiteView) (result : Result (Unit {0}) StreamFault)
         → IsServed R.left R.failed R.reads R.fails W.holds W.failed W.fails first last before after old new result
         → (bytes : List ℕ) × Consumes (R.left first) (R.left last) bytes × LeavesRun old bytes new }
@@ -77,7 +78,7 @@ pub fn requests_have_one_reply()
 /// store, except when out of memory (503). No-op.
 ///
 /// What is sent before a failed read, write or allocation is a prefix of what is sent without one. One exception to
-/// both: a stream that ends inside a request target that is not UTF-8 may get the reply 400 or nothing.
+/// both statements: a stream that ends inside a request target that is not UTF-8 may get the reply 400 or nothing.
 /// `http_streams::laws::in_memory_or_503` covers the answers with a 503.
 pub fn cuts_make_no_difference()
     ensures whole { (old old2 new new2 : SiteView) (stream out more : List ℕ) → IsAlike old old2
@@ -92,8 +93,8 @@ pub fn cuts_make_no_difference()
     begins_answer::<ViewedSite>();
 }
 
-/// Proves that under a schema that bytes state no reply to an input reports an error of a type, an attribute or an
-/// extension function. No-op.
+/// Proves that under a schema that some bytes describe no reply to an input reports a type error, a missing attribute
+/// or an error of an extension function. No-op.
 ///
 /// The reply is that of one step, in whose answer each error is `EntityDoesNotExist` or `ArithBoundsError`.
 pub fn served_answers_are_sound()
@@ -118,8 +119,8 @@ pub fn change_lines_have_stamps()
         → line ≡ head_text (text_of method) (text_of target) ++ stamped_end reply }
 {}
 
-/// Proves that the log can't be forged through the service: whatever a request is and however a site answers it, its
-/// line has one line feed, its last byte. No-op.
+/// Proves that the log can't be forged through the service: the line of a request has one line feed, its last byte,
+/// whatever the request is and however a site answers it. No-op.
 pub fn served_lines_are_one_line()
     ensures { (old new : SiteView) (method target body : List ℕ) (status : StatusCode) (reply line : List ℕ)
         → answers old method target body status reply new → IsLogLine method target body status reply line

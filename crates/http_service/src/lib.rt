@@ -1,7 +1,7 @@
 //! The HTTP service over a site: a handler for each route, and the answers to streams of requests.
 //!
-//! Nothing here opens a socket. specs/ defines the call that a request asks for; the reply to a call, which makes at
-//! most one step of the site, is defined in `site_calls`.
+//! Nothing here opens a socket. specs/ defines the call that a request asks for; `site_calls` defines the reply to a
+//! call, which makes at most one step of the site.
 #![tactic(auto)]
 
 mod handlers;

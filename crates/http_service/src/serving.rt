@@ -33,9 +33,10 @@ fn serve_borrowed<R: Source, W: Sink>(
 
 /// Answers each whole request of the stream in order, before it reads on.
 ///
-/// A request is at most one step of the site, reported by status and body. The call ends at the end of the input or
-/// after a reply that ends the stream. Less than a whole request changes nothing. The site's errors, and out of memory
-/// for one request, are replies (404, 405, 409, 422, 503), and the stream goes on; schema and name are unchanged.
+/// A request makes at most one step of the site; the status and the body of the reply report the outcome. The call ends
+/// at the end of the input or after a reply that ends the stream. An incomplete request changes nothing. The site's
+/// errors, and out of memory for one request, are replies (404, 405, 409, 422, 503), and the stream goes on; schema and
+/// name are unchanged.
 ///
 /// # Errors
 ///
@@ -43,7 +44,7 @@ fn serve_borrowed<R: Source, W: Sink>(
 /// - [`StreamFault::Read`] (70): the reader failed.
 /// - [`StreamFault::Write`] (71): the writer failed; perhaps a part of the last reply was sent.
 ///
-/// All complete requests before the failed call are answered; their changes remain.
+/// All complete requests before the failure are answered; their changes remain.
 pub fn serve<R: Source, W: Sink>(
     alloc: Global,
     site: &mut Site,
@@ -89,7 +90,7 @@ fn serve_borrowed_logged<R: Source, W: Sink, L: Sink>(
 ///
 /// # Errors
 ///
-/// Those of [`serve`], and before `Write`:
+/// Those of [`serve`] and, checked before `Write`:
 ///
 /// - [`StreamFault::Log`] (76): the line of a reply was not written whole. Nothing of that reply was sent; a change
 ///   that its request made remains.

@@ -27,8 +27,7 @@ impl Answers for SiteService<'_> {
     ghost answers = { answers_over };
 }
 
-/// A site as theorems on streams use it: its states are the views of a site in contracts. No value of this type is
-/// made.
+/// A site as theorems on streams see it: by its view in contracts alone. No value of this type is created.
 #[derive(Drop)]
 pub struct ViewedSite {
     site: Site,
@@ -95,7 +94,7 @@ impl Service for LoggedService<'_> {
 
     ghost refusal_line = { unread_line };
 
-    // `UNREAD_ROOM`, the most bytes of a line without method and target
+    // `UNREAD_ROOM`, an upper bound of the bytes of a line without method and target
     ghost line_room = { 64 };
 
     fn call(

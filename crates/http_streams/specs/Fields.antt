@@ -26,7 +26,8 @@ values_named name ps = flat_map (λ p. if is_named name p then p.1 ∷ [] else [
 abbrev pub is_digits : List ℕ → Bool
 is_digits v = nat_lt 0 (length v) && list_all is_ascii_digit v
 
--- `announced most v` is the length that the value `v` of a Content-Length announces, up to `most`.
+-- `announced most v` is the length that the value `v` of a Content-Length announces: `TooLong` if it is over `most`,
+-- `NoNumber` if `v` is not digits.
 abbrev pub announced : ℕ → List ℕ → Announced
 announced most v =
     if is_digits v then (if nat_le (digits_value 10 v) most then Size (digits_value 10 v) else TooLong) else NoNumber

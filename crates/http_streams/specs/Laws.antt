@@ -1,4 +1,5 @@
--- Defines the theorems that a stream has one answer, however it is split, and what was sent when a device failed.
+-- Defines the theorems that a stream has one answer, however the stream is split into reads, and what was sent when a
+-- device failed.
 -- Source: RFC 9112, section 9.3.
 use Rattle.std.specs.Prelude.{◌≡◌, ◌≢◌, ◌≤◌, ℕ, ◌⊎◌, Bool, List, [], ◌++◌, length, true}
 use Rattle.httparse.specs.Grammar.{EndsInTarget, NeverHasRequest}
@@ -7,15 +8,17 @@ use Rattle.http_streams.specs.Stream.{Answering, Ends, Exchanges, Rests, Serves,
 use Rattle.http_streams.specs.declared.TheConstants.{MAX_HEAD}
 use Rattle.http.specs.declared.status.StatusCode.{StatusCode}
 
--- `EndsInBadTarget rest` holds if the bytes `rest` end inside a target that is not UTF-8: depending on how they are
--- split, they are answered by 400 or not at all.
+-- `EndsInBadTarget rest` holds if the bytes `rest` end inside a request target that is not UTF-8. Depending on how a
+-- stream is split into reads, such bytes at its end get the reply 400 or none.
 pub record EndsInBadTarget (rest : List ℕ) : Type 0 where
   pub target : EndsInTarget rest
   pub never : NeverHasRequest rest
   pub short : length rest ≤ MAX_HEAD
 
+-- `answers` relates the requests of a service to their replies; `old` and `new` are states of the service before and
+-- after.
 module _ {S : Type 0} (answers : Answering S) where
-  -- `in_memory` are the answers other than 503.
+  -- `in_memory` is the relation `answers` without replies of the status 503 (out of memory).
   abbrev pub in_memory : Answering S
   in_memory old m t b status x new = answers old m t b status x new × (status ≢ 503)
 
@@ -26,21 +29,23 @@ module _ {S : Type 0} (answers : Answering S) where
       (old old2 : S) (m t b : List ℕ) (st st2 : StatusCode) (x x2 : List ℕ) (new new2 : S) → same old old2
       → answers old m t b st x new → answers old2 m t b st2 x2 new2 → (st ≡ st2) × (x ≡ x2) × same new new2
 
-  -- `AnswersAll old stream out new` holds if `out` answers the stream, to its end or to a reply that ends it.
+  -- `AnswersAll old stream out new` holds if `out` are the replies to the stream, to its end or to a reply that ends
+  -- it.
   abbrev pub AnswersAll : S → List ℕ → List ℕ → S → Type 0
   AnswersAll old stream out new =
       Rests answers old stream out new
       ⊎ ((front : List ℕ) × (rest : List ℕ) × (stream ≡ front ++ rest) × Ends answers old front out new)
 
-  -- `DiffersInBadTarget old stream out more new` holds if the stream ends inside such a target (`EndsInBadTarget`), and
-  -- `more` is `out` followed by the reply that rejects the rest.
+  -- `DiffersInBadTarget old stream out more new` holds if the stream ends inside a target that is not UTF-8
+  -- (`EndsInBadTarget`), and `more` is `out` followed by the reply 400 to the rest.
   abbrev pub DiffersInBadTarget : S → List ℕ → List ℕ → List ℕ → S → Type 0
   DiffersInBadTarget old stream out more new =
       (n : ℕ) × (rest : List ℕ) × Serves answers n old stream rest out new × EndsInBadTarget rest
       × (more ≡ out ++ reply_text true 400 (error_line 400))
 
-  -- `AgreeOn same old old2 stream out more new new2` holds if two answers to one stream, `out` and `more`, lead to
-  -- states that are the same, and are equal unless the stream ends inside such a target.
+  -- `AgreeOn same old old2 stream out more new new2` holds if two answers to one stream agree: the states afterwards,
+  -- `new` and `new2`, are the same by `same`; and the sent bytes, `out` and `more`, are equal, unless the stream ends
+  -- inside a target that is not UTF-8.
   abbrev pub AgreeOn : (S → S → Type 0) → S → S → List ℕ → List ℕ → List ℕ → S → S → Type 0
   AgreeOn same old old2 stream out more new new2 =
       same new new2
@@ -53,8 +58,8 @@ module _ {S : Type 0} (answers : Answering S) where
       (front : List ℕ) × (rest : List ℕ) × (stream ≡ front ++ rest)
       × (Rests answers old front out new ⊎ Stops answers old front out new)
 
-  -- `BeginsAnswer old stream out more new` holds if `out` is a prefix of `more`, or, if the stream ends inside such a
-  -- target, of `more` followed by the reply that rejects the rest.
+  -- `BeginsAnswer old stream out more new` holds if `out` is a prefix of `more`, or, if the stream ends inside a target
+  -- that is not UTF-8, of `more` followed by the reply 400 to the rest.
   abbrev pub BeginsAnswer : S → List ℕ → List ℕ → List ℕ → S → Type 0
   BeginsAnswer old stream out more new =
       ((back : List ℕ) × (more ≡ out ++ back))
@@ -62,7 +67,7 @@ module _ {S : Type 0} (answers : Answering S) where
       × (back : List ℕ) × (out ++ back ≡ more ++ reply_text true 400 (error_line 400)))
 
 -- `HasFirst503 answers old stream out unsent` holds if `out` are the replies to some requests, none of them 503, then a
--- 503 to the next, without its last bytes `unsent`, then perhaps more.
+-- 503 to the next, without its last bytes `unsent`; if `unsent` is empty, more may follow.
 pub record HasFirst503 {S : Type 0} (answers : Answering S) (old : S) (stream out unsent : List ℕ) : Type 0 where
   pub count : ℕ
   pub mid : S

@@ -3,19 +3,21 @@
 use Rattle.std.specs.Prelude.{◌≡◌, ◌≢◌, ℕ, ◌-◌, ◌^◌, min, max, Option, Some, List, [], ◌∷◌, ◌++◌, length, take}
 use Rattle.http_streams.specs.Devices.{counted}
 
--- A `Planned` is the most bytes that each call moves (the last number applies from then on, 0 counts as 1, an empty
--- list has no limit), the number of the call that fails, from 0, and the number of calls so far.
+-- A `Planned` is the plan of a device and its progress. `pieces` are the most bytes that each call moves: the last
+-- number applies from then on, 0 counts as 1, and an empty list has no limit. `fails_at` is the number of the call that
+-- fails, from 0; `calls` is the number of calls so far.
 pub record Planned : Type 0 where
   pub pieces : List ℕ
   pub fails_at : Option ℕ
   pub calls : ℕ
 
--- `next_piece ns` is the most bytes that the next call moves, at least one.
+-- `next_piece ns` is the most bytes that the next call moves by the numbers `ns`: at least one, and 2^64 - 1 if there
+-- is no limit.
 abbrev pub next_piece : List ℕ → ℕ
 next_piece [] = 2 ^ 64 - 1
 next_piece (n ∷ ns) = max n 1
 
--- `later_pieces ns` is the numbers for the calls after the next.
+-- `later_pieces ns` is the list of the numbers for the calls after the next; the last number stays.
 abbrev pub later_pieces : List ℕ → List ℕ
 later_pieces [] = []
 later_pieces (n ∷ []) = n ∷ []

@@ -4,11 +4,12 @@ use Rattle.std.specs.Prelude.{◌≡◌, ℕ, ◌<◌, ◌≤◌, Option, List, 
 use Rattle.std.specs.Io.KnownBytes.{Consumes}
 use Rattle.http_streams.specs.declared.TheConstants.{MAX_READ}
 
--- `EndsByOneRead old new bytes front` holds if the reader went from `old` to `new` by reading `bytes`: `front` first,
--- and the rest by the last call. The last call had room for a byte, so if it read 0 bytes, the stream is at its end.
--- `left` gives the bytes left to a reader, `reads` relates the states around a call with its buffer's length and its
--- bytes.
+-- `left` gives the bytes left to a reader, if they are known. `reads` relates the state before a call, the length of
+-- its buffer, the bytes that it read, and the state afterwards.
 module _ {R : Type 0} (left : R → Option (List ℕ)) (reads : R → ℕ → List ℕ → R → Type 0) where
+  -- `EndsByOneRead old new bytes front` holds if a reader went from `old` to `new` by reading `bytes`: `front` first,
+  -- and the rest by the last call. The buffer of the last call was not empty, so if this call read 0 bytes, the stream
+  -- is at its end.
   pub record EndsByOneRead (old new : R) (bytes front : List ℕ) : Type 0 where
     pub between : R
     pub room : ℕ

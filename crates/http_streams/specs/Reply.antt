@@ -14,14 +14,15 @@ use Rattle.http_streams.specs.declared.reply_cut.ReplyCut.{ReplyCut}
 use Rattle.http_streams.specs.declared.reply_cut.ReplyCut.TheVariants as Variants
 use Rattle.http_streams.specs.declared.TheConstants.{MAX_HEAD, MAX_FIELDS, MAX_REPLY}
 
--- `length_by vs` is the length that the values `vs` of Content-Length announce: there must be exactly one value.
+-- `length_by vs` is the length that the values `vs` of Content-Length announce; it is `NoNumber` unless there is
+-- exactly one value.
 abbrev pub length_by : List (List ℕ) → Announced
 length_by [] = NoNumber
 length_by (v ∷ []) = announced MAX_REPLY v
 length_by (v ∷ w ∷ vs) = NoNumber
 
--- `reply_length ps` is the length of the body of a reply with the fields `ps`; `NoNumber` if they have a transfer
--- coding, since that would define the length otherwise.
+-- `reply_length ps` is the length of the body of a reply with the fields `ps`; `NoNumber` if there is a field
+-- Transfer-Encoding, which would define the length in another way.
 abbrev pub reply_length : List Field → Announced
 reply_length ps =
     if list_any (is_named (codes "transfer-encoding")) ps then NoNumber
@@ -31,8 +32,8 @@ reply_length ps =
 abbrev pub length_of : ResponseHead → Announced
 length_of h = reply_length (map name_and_value h.fields)
 
--- `AdmitsReply bytes h rest` holds if `bytes` are the head `h` of a reply, which is within the limits, and then
--- `rest`.
+-- `AdmitsReply bytes h rest` holds if `bytes` are the head `h` of a reply and then `rest`, and `h` is within the
+-- limits.
 pub record AdmitsReply (bytes : List ℕ) (h : ResponseHead) (rest : List ℕ) : Type 0 where
   pub reads : ReadsResponse bytes h rest
   pub short : length (print_response h) ≤ MAX_HEAD
@@ -58,7 +59,7 @@ pub record HasNoLength (bytes : List ℕ) : Type 0 where
   pub framed : (length_of head ≡ NoNumber) ⊎ (length_of head ≡ TooLong)
 
 -- `IsTooLargeReply bytes` holds if `bytes` begin with a whole head of too many fields, or are more bytes than a head
--- may have. If they do not begin with an admitted head, they cannot become one.
+-- may have. If such bytes do not begin with an admitted head, neither do they with any bytes after them.
 abbrev pub IsTooLargeReply : List ℕ → Type 0
 IsTooLargeReply bytes =
     ((h : ResponseHead) × (rest : List ℕ) × ReadsResponse bytes h rest × (MAX_FIELDS < length h.fields))
@@ -78,13 +79,14 @@ pub record IsCutOffReply (bytes : List ℕ) : Type 0 where
   pub framed : length_of head ≡ Size size
   pub short : length rest < size
 
--- `IsPartOfReplyHead bytes` holds if `bytes` are less than a head, and may become one.
+-- `IsPartOfReplyHead bytes` holds if `bytes` are less than a head, and may become a head if more bytes follow.
 pub record IsPartOfReplyHead (bytes : List ℕ) : Type 0 where
   pub none : HasNoResponse bytes
   pub short : length bytes ≤ MAX_HEAD
   pub open_still : MayBecomeResponse bytes
 
--- `IsUnfinishedReply bytes` holds if `bytes` are less than a reply.
+-- `IsUnfinishedReply bytes` holds if `bytes` are less than a reply: an admitted head with an incomplete body, or a part
+-- of a head.
 abbrev pub IsUnfinishedReply : List ℕ → Type 0
 IsUnfinishedReply bytes = IsCutOffReply bytes ⊎ IsPartOfReplyHead bytes
 
@@ -93,22 +95,22 @@ pub record IsReplyAt (bytes : List ℕ) (p : ReplyParts) : Type 0 where
   pub ordered : (p.body ≤ p.end) × (p.end ≤ length bytes)
   pub reads : ReadsReply bytes p.code (span_bytes bytes (record { start = p.body; end = p.end })) (drop p.end bytes)
 
--- `StaysUnfinishedReply bytes needed` holds if `bytes` are less than a reply, whatever follows, as long as all are
--- fewer than `needed`.
+-- `StaysUnfinishedReply bytes needed` holds if `bytes`, with any bytes after them, are less than a reply as long as
+-- there are fewer than `needed` bytes in all.
 abbrev pub StaysUnfinishedReply : List ℕ → ℕ → Type 0
 StaysUnfinishedReply bytes needed =
     (more : List ℕ) → length (bytes ++ more) < needed → IsUnfinishedReply (bytes ++ more)
 
--- `IsUnfinishedReplyBelow bytes needed` holds if `bytes` are less than a reply, and stay so below `needed` bytes; if
--- their head is whole, `needed` bytes are enough.
+-- `IsUnfinishedReplyBelow bytes needed` holds if `bytes` are less than a reply, and stay so below `needed` bytes in
+-- all; if their head is whole, `needed` bytes are enough for the reply.
 pub record IsUnfinishedReplyBelow (bytes : List ℕ) (needed : ℕ) : Type 0 where
   pub unfinished : IsUnfinishedReply bytes
   pub below : StaysUnfinishedReply bytes needed
   pub enough :
       (more : List ℕ) → IsCutOffReply bytes → needed ≤ length (bytes ++ more) → IsUnfinishedReply (bytes ++ more) → ⊥
 
--- `IsReplyCut bytes cut` holds if `cut` is right about the front of `bytes`: a reply with its parts, no readable reply,
--- or less than a reply.
+-- `IsReplyCut bytes cut` holds if `cut` describes the front of `bytes` correctly: a reply with its parts, no readable
+-- reply, or less than a reply.
 abbrev pub IsReplyCut : List ℕ → ReplyCut → Type 0
 IsReplyCut bytes (Variants.Whole p) = IsReplyAt bytes p
 IsReplyCut bytes Variants.Bad = IsBadReply bytes

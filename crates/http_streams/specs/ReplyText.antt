@@ -4,8 +4,8 @@ use Rattle.std.specs.Prelude.{ℕ, Bool, List, [], ◌++◌, length, if◌then�
 use Rattle.http.specs.StatusCode.{reason_phrase}
 use Rattle.http.specs.declared.status.StatusCode.{StatusCode}
 
--- `phrase status` is the reason phrase of `status`, empty if it has none; that of 413 is RFC 7231's, and that of 422
--- RFC 4918's.
+-- `phrase status` is the reason phrase of `status`, empty if `status` has none. The phrase of 413 is that of RFC 7231,
+-- and the phrase of 422 that of RFC 4918.
 unfoldable pub phrase : StatusCode → List ℕ
 phrase status = unwrap_or (reason_phrase status) []
 
@@ -17,11 +17,11 @@ status_line status = codes "HTTP/1.1 " ++ decimal status ++ codes " " ++ phrase 
 unfoldable pub length_lines : ℕ → List ℕ
 length_lines size = codes "\r\nContent-Type: application/json\r\nContent-Length: " ++ decimal size
 
--- `ending last` is the end of the head: on the last reply of a stream, with a field that says so.
+-- `ending last` is the end of the head: on the last reply of a stream, with the field `Connection: close`.
 unfoldable pub ending : Bool → List ℕ
 ending last = if last then codes "\r\nConnection: close\r\n\r\n" else codes "\r\n\r\n"
 
--- `reply_text last status body` is a whole reply, where `last` says whether it ends the stream.
+-- `reply_text last status body` is a whole reply, where `last` is whether the reply ends the stream.
 unfoldable pub reply_text : Bool → StatusCode → List ℕ → List ℕ
 reply_text last status body = status_line status ++ length_lines (length body) ++ ending last ++ body
 

@@ -22,7 +22,8 @@ use Rattle.http_streams.specs.declared.TheConstants.{MAX_HEAD, MAX_FIELDS, MAX_B
 abbrev pub needs_length : List ℕ → Bool
 needs_length method = bytes_eq method (codes "PUT") || bytes_eq method (codes "POST")
 
--- `framing_by length` is the framing by one announced length: 413 if it is over the limit, 400 if it is not a number.
+-- `framing_by length` is the framing by one announced length: 413 if the length is over the limit, 400 if it is not a
+-- number.
 abbrev pub framing_by : Announced → Framing
 framing_by (Size n) = Body n
 framing_by TooLong = Refused 413
@@ -35,8 +36,8 @@ framing_by_lengths method [] = if needs_length method then Refused 411 else Body
 framing_by_lengths method (v ∷ []) = framing_by (announced MAX_BODY v)
 framing_by_lengths method (v ∷ w ∷ vs) = Refused 400
 
--- `framing method ps` is the length of the body, or the status with which a head with the fields `ps` is rejected: 501
--- for a transfer coding, else by the announced lengths.
+-- `framing method ps` is the length of the body, or the status with which a head with this method and the fields `ps`
+-- is rejected: 501 if there is a field Transfer-Encoding, else by the announced lengths.
 abbrev pub framing : List ℕ → List Field → Framing
 framing method ps =
     if list_any (is_named (codes "transfer-encoding")) ps then Refused 501
@@ -58,7 +59,7 @@ closes minor ps = (minor == 0) || list_any is_close ps
 abbrev pub closes_of : RequestHead → Bool
 closes_of h = closes h.minor (pairs h)
 
--- `Admits bytes h rest` holds if `bytes` are the head `h`, which is within the limits, and then `rest`.
+-- `Admits bytes h rest` holds if `bytes` are the head `h` of a request and then `rest`, and `h` is within the limits.
 pub record Admits (bytes : List ℕ) (h : RequestHead) (rest : List ℕ) : Type 0 where
   pub reads : ReadsRequest bytes h rest
   pub short : length (print_request h) ≤ MAX_HEAD
@@ -81,7 +82,7 @@ pub record RefusesHead (bytes : List ℕ) (status : StatusCode) : Type 0 where
   pub framed : framing_of head ≡ Refused status
 
 -- `IsTooLarge bytes` holds if `bytes` begin with a whole head of too many fields, or are more bytes than a head may
--- have. If they do not begin with an admitted head, they cannot become one.
+-- have. If such bytes do not begin with an admitted head, neither do they with any bytes after them.
 abbrev pub IsTooLarge : List ℕ → Type 0
 IsTooLarge bytes =
     ((h : RequestHead) × (rest : List ℕ) × ReadsRequest bytes h rest × (MAX_FIELDS < length h.fields))
@@ -104,13 +105,14 @@ pub record IsCutOff (bytes : List ℕ) : Type 0 where
   pub framed : framing_of head ≡ Body size
   pub short : length rest < size
 
--- `IsPartOfHead bytes` holds if `bytes` are less than a head, and may become one.
+-- `IsPartOfHead bytes` holds if `bytes` are less than a head, and may become a head if more bytes follow.
 pub record IsPartOfHead (bytes : List ℕ) : Type 0 where
   pub none : HasNoRequest bytes
   pub short : length bytes ≤ MAX_HEAD
   pub open_still : MayBecomeRequest bytes
 
--- `IsUnfinished bytes` holds if `bytes` are less than a request, and get no reply.
+-- `IsUnfinished bytes` holds if `bytes` are less than a request, and get no reply: an admitted head with an incomplete
+-- body, or a part of a head.
 abbrev pub IsUnfinished : List ℕ → Type 0
 IsUnfinished bytes = IsCutOff bytes ⊎ IsPartOfHead bytes
 
@@ -125,20 +127,20 @@ pub record IsWholeAt (bytes : List ℕ) (p : Parts) : Type 0 where
   pub target : span_bytes bytes p.target ≡ head.target
   pub closes : p.closes ≡ closes_of head
 
--- `StaysUnfinished bytes needed` holds if `bytes` are less than a request, whatever follows, as long as all are fewer
--- than `needed`.
+-- `StaysUnfinished bytes needed` holds if `bytes`, with any bytes after them, are less than a request as long as there
+-- are fewer than `needed` bytes in all.
 abbrev pub StaysUnfinished : List ℕ → ℕ → Type 0
 StaysUnfinished bytes needed = (more : List ℕ) → length (bytes ++ more) < needed → IsUnfinished (bytes ++ more)
 
--- `IsUnfinishedBelow bytes needed` holds if `bytes` are less than a request, and stay so below `needed` bytes; if their
--- head is whole, `needed` bytes are enough.
+-- `IsUnfinishedBelow bytes needed` holds if `bytes` are less than a request, and stay so below `needed` bytes in all;
+-- if their head is whole, `needed` bytes are enough for the request.
 pub record IsUnfinishedBelow (bytes : List ℕ) (needed : ℕ) : Type 0 where
   pub unfinished : IsUnfinished bytes
   pub below : StaysUnfinished bytes needed
   pub enough : (more : List ℕ) → IsCutOff bytes → needed ≤ length (bytes ++ more) → IsUnfinished (bytes ++ more) → ⊥
 
--- `IsCut bytes cut` holds if `cut` is right about the front of `bytes`: a request with its parts, a rejection, or less
--- than a request.
+-- `IsCut bytes cut` holds if `cut` describes the front of `bytes` correctly: a request with its parts, a rejection, or
+-- less than a request.
 abbrev pub IsCut : List ℕ → Cut → Type 0
 IsCut bytes (Cuts.Whole p) = IsWholeAt bytes p
 IsCut bytes (Cuts.Refused status) = IsRefused bytes status

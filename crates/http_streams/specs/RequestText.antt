@@ -4,7 +4,8 @@ use Rattle.std.specs.Prelude.{ℕ, List, [], ◌++◌, Option, Some, None, lengt
 use Rattle.std.specs.Borrow.{Bor}
 use Rattle.http_streams.specs.declared.parts.Ask.{Ask}
 
--- `request_start method path` is the method, the path and the version, and the name of the field Host.
+-- `request_start method path` is the request line, with `method` and `path`, and the next line up to the value of the
+-- field Host.
 unfoldable pub request_start : List ℕ → List ℕ → List ℕ
 request_start method path = method ++ codes " " ++ path ++ codes " HTTP/1.1\r\nHost: "
 

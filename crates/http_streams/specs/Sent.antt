@@ -1,4 +1,4 @@
--- Defines that a sent request is read back: as one request, with the parts of the `Ask`.
+-- Defines that the text of a request to be sent, an `Ask`, is parsed as one request with the parts of the `Ask`.
 -- Source: RFC 9112, sections 2.2, 3 and 6.
 -- Rules of this product: the limits; a PUT or a POST has a body.
 use Rattle.std.specs.Prelude.{◌≡◌, ℕ, ◌+◌, ◌<◌, ◌≤◌, List, [], ◌∷◌, ◌++◌, length, codes, IsTrue, IsSome}
@@ -13,14 +13,15 @@ use Rattle.http_streams.specs.declared.cut.Cut.{Cut}
 use Rattle.http_streams.specs.declared.cut.Cut.TheVariants as Cuts
 use Rattle.http_streams.specs.declared.TheConstants.{MAX_HEAD, MAX_BODY}
 
--- `FitsLimits ask` holds if head and body of `ask` are within the limits, and it has a body if its method needs one.
+-- `FitsLimits ask` holds if the head and the body of `ask` are within the limits, and `ask` has a body if its method
+-- must announce a length.
 pub record FitsLimits (ask : Ask) : Type 0 where
   pub head : length (request_text ask) ≤ MAX_HEAD + length (body_bytes ask.body)
   pub body : length (body_bytes ask.body) ≤ MAX_BODY
   pub announced : IsTrue (needs_length ask.method.now) → IsSome ask.body
 
--- `AreAsked ask p` holds if the parts `p` of the text of `ask` are its method, target and body, the text ends with the
--- body, and the connection closes after it.
+-- `AreAsked ask p` holds if the parts `p` of the text of `ask` are the method, the target and the body of `ask`, the
+-- text ends with the body, and the connection ends after this request.
 pub record AreAsked (ask : Ask) (p : Parts) : Type 0 where
   pub method : span_bytes (request_text ask) p.method ≡ ask.method.now
   pub target : span_bytes (request_text ask) p.target ≡ ask.path.now

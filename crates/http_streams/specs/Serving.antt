@@ -9,14 +9,16 @@ use Rattle.http_streams.specs.Stream.{Answering, Ends, KeepsUp, Rests, Stops}
 use Rattle.http_streams.specs.declared.serve.StreamFault.{StreamFault}
 use Rattle.http_streams.specs.declared.serve.StreamFault.TheVariants as fault
 
--- `answers` are those of the service. Of a reader, `left` gives the bytes left and `read_failures` the number of its
--- failures; `reads` and `read_fails` relate the states around a call, and around a failed one. Of a writer, `holds`
--- gives the accepted bytes, `write_failures` the number of its failures, and `write_fails` relates the states around a
--- failed call.
+-- `answers` relates the requests of the service to their replies. Of a reader, `left` gives the bytes left and
+-- `read_failures` the number of its failures; `reads` and `read_fails` relate the states around a call, and around a
+-- failed one. Of a writer, `holds` gives the accepted bytes, `write_failures` the number of its failures, and
+-- `write_fails` relates the states around a failed call.
 module _ {S R W : Type 0} (answers : Answering S) (left : R → Option (List ℕ)) (read_failures : R → ℕ)
     (reads : R → ℕ → List ℕ → R → Type 0) (read_fails : R → R → Type 0) (holds : W → Option (List ℕ))
     (write_failures : W → ℕ) (write_fails : W → W → Type 0) where
-  -- `EndsAs first last before after old new bytes out result` describes how the call ended, by its result:
+  -- `EndsAs first last before after old new bytes out result` describes how a call ended that read `bytes` and wrote
+  -- `out`. The reader went from `first` to `last`, the writer from `before` to `after`, and the service from `old` to
+  -- `new`. By the result:
   -- - Ok: neither device failed, and all requests in `bytes` are answered. The input is at its end, as the last read
   --   reported, or the last reply ended the stream and nothing was read after it.
   -- - Read: the last read failed, or at least 2^64 - 1 bytes were read; all requests in `bytes` are answered.
@@ -44,8 +46,8 @@ module _ {S R W : Type 0} (answers : Answering S) (left : R → Option (List ℕ
       × (write_failures after ≡ write_failures before) × (read_failures last ≡ read_failures first)
 
   -- `IsAnswered first last before after old new result` holds if a call led from the reader `first`, the writer
-  -- `before` and the state `old` to `last`, `after` and `new`: it read `bytes`, wrote `out`, and ended as `result`
-  -- says.
+  -- `before` and the state `old` to `last`, `after` and `new`: the call read `bytes`, wrote `out`, and ended as
+  -- `result` says.
   pub record IsAnswered (first last : R) (before after : W) (old new : S) (result : Result (Unit {0}) StreamFault)
       : Type 0 where
     pub bytes : List ℕ

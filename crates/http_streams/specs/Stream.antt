@@ -7,14 +7,16 @@ use Rattle.http_streams.specs.ReplyText.{error_line, reply_text}
 use Rattle.http_streams.specs.Request.{ReadsWhole, IsRefused, IsUnfinished, closes_of}
 use Rattle.http.specs.declared.status.StatusCode.{StatusCode}
 
--- `Answering S` are relations between a state, the method, target and body of a request, the status and body of its
+-- An `Answering S` is a relation between a state, the method, target and body of a request, the status and body of its
 -- reply, and the state afterwards.
 abbrev pub Answering : Type 0 → Type 1
 Answering S = S → List ℕ → List ℕ → List ℕ → StatusCode → List ℕ → S → Type 0
 
+-- `answers` relates the requests of a service to their replies; `old` and `new` are the states of the service before
+-- and after.
 module _ {S : Type 0} (answers : Answering S) where
-  -- `Exchanges old bytes last out new rest` holds if `bytes` are a request and then `rest`, and `out` is its reply;
-  -- `last` says whether the request closes the stream.
+  -- `Exchanges old bytes last out new rest` holds if `bytes` are a request and then `rest`, and `out` is the reply to
+  -- the request; `last` is whether the request closes the stream.
   pub record Exchanges (old : S) (bytes : List ℕ) (last : Bool) (out : List ℕ) (new : S) (rest : List ℕ) : Type 0 where
     pub head : RequestHead
     pub body : List ℕ
@@ -39,19 +41,19 @@ module _ {S : Type 0} (answers : Answering S) where
       (status : StatusCode) × IsRefused bytes status
       × (out ≡ reply_text true status (error_line status)) × (new ≡ old)
 
-  -- `Closes old bytes out new` holds if `out` is the reply to a prefix of `bytes`, and ends the stream.
+  -- `Closes old bytes out new` holds if `out` is the reply to a prefix of `bytes`, and this reply ends the stream.
   abbrev pub Closes : S → List ℕ → List ℕ → S → Type 0
   Closes old bytes out new = ((rest : List ℕ) × Exchanges old bytes true out new rest) ⊎ Refuses old bytes out new
 
-  -- `Rests old bytes out new` holds if `out` are the replies to all requests in `bytes`, and what follows them is less
-  -- than a request.
+  -- `Rests old bytes out new` holds if `out` are the replies to all requests in `bytes`, and the bytes after these
+  -- requests are less than a request.
   pub record Rests (old : S) (bytes : List ℕ) (out : List ℕ) (new : S) : Type 0 where
     pub count : ℕ
     pub rest : List ℕ
     pub serves : Serves count old bytes rest out new
     pub unfinished : IsUnfinished rest
 
-  -- `Ends old bytes out new` holds if `out` are the replies to requests in `bytes`, the last of which ends the stream.
+  -- `Ends old bytes out new` holds if `out` are the replies to requests in `bytes`, and the last reply ends the stream.
   pub record Ends (old : S) (bytes : List ℕ) (out : List ℕ) (new : S) : Type 0 where
     pub count : ℕ
     pub mid : S
@@ -80,9 +82,11 @@ module _ {S : Type 0} (answers : Answering S) where
     pub halts : Halts mid rest last new
     pub joined : out ≡ before ++ last
 
+-- Of a reader, `left` gives the bytes left, and `reads` relates the states around a call.
 module _ {S R : Type 0} (answers : Answering S) (left : R → Option (List ℕ)) (reads : R → ℕ → List ℕ → R → Type 0) where
-  -- `KeepsUp old first last bytes out` holds if `out` begins with the replies to all requests that were complete before
-  -- the last read, none of which ended the stream.
+  -- `KeepsUp old first last bytes out` holds if a reader went from the state `first` to `last` by reading `bytes`, and
+  -- `out` begins with the replies to all requests that were complete before the last read. None of these replies ended
+  -- the stream.
   pub record KeepsUp (old : S) (first last : R) (bytes out : List ℕ) : Type 0 where
     pub front : List ℕ
     pub sent : List ℕ

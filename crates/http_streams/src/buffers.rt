@@ -11,14 +11,17 @@ use crate::{MAX_HEAD, MAX_READ, REPLY_ROOM};
 use httparse::spans::{EMPTY_HEADER_SPAN, HeaderSpan};
 use std::alloc::{AllocError, Global};
 
-/// Why no bytes were read.
+/// The reason why no bytes were read.
 #[derive(Clone, Copy)]
 pub(crate) enum FillFault {
+    /// The reader failed.
     Read,
+    /// An allocation failed; nothing was read.
     NoMemory,
 }
 
-/// Returns memory for as many headers as a head has bytes, so that a head with too many fields is parsed whole.
+/// Returns memory for the fields of a head: for one at each byte that a head may have, so that a head with too many
+/// fields is still parsed to its end.
 pub(crate) fn room_for_heads(alloc: Global) -> Result<Vec<HeaderSpan>, AllocError>
     ensures { IfOk result (λ room. MAX_HEAD ≤ vec_len room) }
 {
@@ -56,8 +59,8 @@ pub(crate) fn drop_front(bytes: &mut Vec<u8>, count: usize)
     bytes.truncate(left);
 }
 
-/// Reads once through `chunk`, appends what was read to `buffer`, and returns whether bytes were read; `false` is the
-/// end of the input. Memory for the bytes is allocated before the read, so that none is lost.
+/// Reads once through `chunk`, appends what was read to `buffer`, and returns whether bytes were read; `false` means
+/// the end of the input. Memory for the bytes is allocated before the read, so that no byte is lost.
 pub(crate) fn read_more<R: Source>(
     reader: &mut R,
     chunk: &mut [u8],

@@ -13,14 +13,18 @@ use httparse::spans::{HeaderSpan, RequestSpans, Span, parse_request};
 /// The length of a body, or the status with which its head is rejected.
 #[derive(Clone, Copy)]
 pub enum Framing {
+    /// The body has this many bytes.
     Body(usize),
+    /// The head is rejected with this status.
     Refused(StatusCode),
 }
 
 /// The byte offsets of the parts of a request.
 #[derive(Clone, Copy)]
 pub struct Parts {
+    /// The offsets of the method.
     pub method: Span,
+    /// The offsets of the target.
     pub target: Span,
     /// The offset at which the body begins.
     pub body: usize,
@@ -30,13 +34,15 @@ pub struct Parts {
     pub closes: bool,
 }
 
-/// The result of cutting the front of some bytes.
+/// The result of cutting a request off the front of some bytes.
 #[derive(Clone, Copy)]
 pub enum Cut {
+    /// The bytes begin with a whole request, whose parts these are.
     Whole(Parts),
+    /// The bytes are rejected with this status.
     Refused(StatusCode),
-    /// The bytes are less than a request. Whatever follows, they remain so while there are fewer than this number: the
-    /// length of head and body if the head is whole, else 0.
+    /// The bytes are less than a request, and stay so, whatever follows, while there are fewer bytes than this number:
+    /// the length of head and body if the head is whole, else 0.
     Unfinished(usize),
 }
 

@@ -155,8 +155,8 @@ impl<W: Write> Sink for Counted<W> {
 ///
 /// # Errors
 ///
-/// - `DeviceFailed`: a call failed, the first that did and the last made. Then the writer accepted a proper prefix of
-///   the bytes.
+/// - `DeviceFailed`: a call failed, and no call was made after it. The writer then accepted a proper prefix of the
+///   bytes.
 pub fn write_all<W: Sink>(writer: &mut W, bytes: &[u8]) -> Result<(), DeviceFailed>
     ensures ok { OnOk result (Appends (W.holds writer.old) (W.holds writer.new) bytes.now) }
     ensures err { OnErr result ((front : List ℕ) × (rest : List ℕ) × (0 < length rest) × (bytes.now ≡ front ++ rest)

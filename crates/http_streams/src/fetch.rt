@@ -16,7 +16,7 @@ use httparse::spans::HeaderSpan;
 use std::alloc::{AllocError, Global};
 use thiserror::Error;
 
-/// Why there is no reply.
+/// The reason why there is no reply.
 #[derive(Clone, Copy, Debug, Error)]
 pub enum FetchFault {
     /// The reader failed.
@@ -54,15 +54,16 @@ pub fn fetch<R: Source, W: Sink>(
     writer: &mut W,
     ask: &Ask<'_>,
 ) -> Result<(u16, Vec<u8>), FetchFault>
-    // The request was written, and what was read begins with this reply. No read followed the one that completed it.
+    // The request was written, and the bytes read begin with this reply. No read followed the one that completed the
+    // reply.
     ensures ok { IfOk result (λ reply. (bytes : List ℕ) × (front : List ℕ) × (rest : List ℕ)
         × Consumes (R.left reader.old) (R.left reader.new) bytes
         × Appends (W.holds writer.old) (W.holds writer.new) (request_text ask.now)
         × ReadsReply bytes reply.0 reply.1.items rest
         × IsUnfinishedReply front × EndsByOneRead R.left R.reads reader.old reader.new bytes front) }
 
-    // The request was written, and what was read cannot begin a readable reply. Before the last read, it was less than
-    // a reply.
+    // The request was written, and the bytes read cannot begin a readable reply. Those before the last read were less
+    // than a reply.
     ensures bad { result ≡ Err FetchFault.BadReply → (bytes : List ℕ) × (front : List ℕ)
         × Consumes (R.left reader.old) (R.left reader.new) bytes
         × Appends (W.holds writer.old) (W.holds writer.new) (request_text ask.now)
@@ -113,10 +114,12 @@ pub fn fetch<R: Source, W: Sink>(
     }
 }
 
-/// Why a request was not sent.
+/// The reason why a request was not sent.
 #[derive(Clone, Copy)]
 enum SendFault {
+    /// The writer failed.
     Write,
+    /// An allocation failed; nothing was written.
     NoMemory,
 }
 

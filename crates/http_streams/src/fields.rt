@@ -9,23 +9,29 @@ ghost use Rattle.http_streams.specs.inner.FieldValue.{IsFieldValue, skip_ows_bac
 
 use httparse::spans::HeaderSpan;
 
-/// The values of a field that is expected once.
+/// The value of a field that is expected once.
 #[derive(Clone, Copy)]
 pub(crate) enum FieldValue<'b> {
+    /// No header has the name.
     Absent,
+    /// One header has the name; this is its value.
     Once(&'b [u8]),
+    /// Several headers have the name.
     Many,
 }
 
 /// The length that the value of a Content-Length announces.
 #[derive(Clone, Copy)]
 pub enum Announced {
+    /// This length, which is within the limit.
     Size(usize),
+    /// A length over the limit.
     TooLong,
+    /// No valid length: the value is not decimal digits, or a reply does not have exactly one value.
     NoNumber,
 }
 
-/// Returns whether the header has this name, which is in lower case.
+/// Returns whether the header has this name. `name` must be in lower case.
 pub(crate) fn has_name(buf: &[u8], header: &HeaderSpan, name: &[u8]) -> bool
     requires within { IsHeaderWithin (length buf.now) header.now }
     requires lower { map to_ascii_lowercase name.now ≡ name.now }
@@ -34,7 +40,7 @@ pub(crate) fn has_name(buf: &[u8], header: &HeaderSpan, name: &[u8]) -> bool
     header.name.of(buf).eq_ignore_ascii_case(name)
 }
 
-/// Returns the values of the headers with this name.
+/// Returns the value of the field with this name. `name` must be in lower case.
 pub(crate) fn values_of<'b>(buf: &'b [u8], headers: &[HeaderSpan], name: &[u8]) -> FieldValue<'b>
     requires within { All (IsHeaderWithin (length buf.now)) headers.now }
     requires lower { map to_ascii_lowercase name.now ≡ name.now }
@@ -52,7 +58,7 @@ pub(crate) fn values_of<'b>(buf: &'b [u8], headers: &[HeaderSpan], name: &[u8]) 
     found
 }
 
-/// Returns whether a header has this name.
+/// Returns whether one of the headers has this name. `name` must be in lower case.
 pub(crate) fn has_header(buf: &[u8], headers: &[HeaderSpan], name: &[u8]) -> bool
     requires within { All (IsHeaderWithin (length buf.now)) headers.now }
     requires lower { map to_ascii_lowercase name.now ≡ name.now }
@@ -120,7 +126,7 @@ fn is_close_part(text: &[u8]) -> bool
     skip_back(skip_front(text)).eq_ignore_ascii_case(b"close")
 }
 
-/// Returns whether one of the comma-separated parts is `close`.
+/// Returns whether one of the comma-separated parts of `value` is `close`.
 fn lists_close(value: &[u8]) -> bool
     ensures { result ≡ lists_close value.now }
 {

@@ -6,15 +6,17 @@ ghost use Rattle.http_streams.specs.declared.parts.Ask.{Ask};
 
 use crate::{MAX_BODY, MAX_FIELDS, MAX_HEAD, MAX_REPLY};
 
-/// Proves that the reply of a stream does not depend on how the stream is cut into reads. No-op.
+/// Proves that the reply of a stream does not depend on how the stream is split into reads. No-op.
 ///
-/// A stream has at most one reply. A stream that is rejected, or that ends too early, has none; no stream does both.
+/// A stream has at most one reply. A stream that is rejected, or that is less than a reply, has none; no stream is
+/// both.
 pub fn one_reply()
     ensures { (stream : List ℕ) → HasOneReply stream }
 {}
 
-/// Proves the round trip of requests: the text of an `Ask` within the limits is one request with exactly its method,
-/// target, host and body and nothing left over, as `cut_request` finds; any shorter beginning is unfinished. No-op.
+/// Proves the round trip of requests: `cut_request` finds in the text of an `Ask` within the limits one request with
+/// exactly the method, target, host and body of the `Ask`, and nothing left over. A proper prefix of the text is
+/// unfinished. No-op.
 pub fn requests_read_back()
     ensures { (ask : Ask) → FitsLimits ask → IsReadBack ask }
 {}

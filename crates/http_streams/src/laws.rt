@@ -1,12 +1,12 @@
-//! Theorems on the replies to a stream.
+//! Theorems about the replies to a stream. The functions are no-ops.
 ghost use Rattle.std.specs.Prelude.{ℕ, List, ◌⊎◌, []};
 ghost use Rattle.http_streams.specs.Laws.{AgreeOn, AnswersAll, BeginsAnswer, HasOneAnswer};
 ghost use Rattle.http_streams.specs.Laws.{HasFirst503, StopsIn, in_memory};
 
 use crate::service::Answers;
 
-/// Proves that a stream has one answer, however it is split into reads: equal bytes are sent, and the states afterwards
-/// are the same. No-op.
+/// Proves that a stream has one answer, however the stream is split into reads: equal bytes are sent, and the states
+/// afterwards are the same. No-op.
 ///
 /// The premise is that states that are the same (`S.same`) have one answer to each request, except 503 (out of memory).
 /// One exception: a stream that ends inside a request target that is not UTF-8 may get the reply 400 or nothing.

@@ -7,7 +7,7 @@ use crate::devices::{DeviceFailed, Sink, Source};
 use std::alloc::Global;
 use std::marker::Model;
 
-/// A plan of how many bytes each call moves, and which call fails. It counts the calls.
+/// A plan of how many bytes each call of a device moves, and which call fails. The plan counts the calls.
 #[derive(Drop)]
 pub struct Plan<'a> {
     pieces: &'a [usize],
@@ -38,7 +38,7 @@ impl<'a> Plan<'a> {
         }
     }
 
-    /// Counts a call, and returns the most bytes that it moves, at least one; `None` if it fails.
+    /// Counts a call, and returns the most bytes that the call moves, at least one; `None` if the call fails.
     fn next_call(&mut self) -> Option<usize>
         ensures moves { IfSome result (λ n. (n ≡ next_piece self.old.pieces) × MakesCall self.old self.new) }
         ensures some { IfSome result (λ n. 0 < n) }

@@ -20,18 +20,19 @@ pub struct ReplyParts {
     pub end: usize,
 }
 
-/// The result of cutting the front of some bytes.
+/// The result of cutting a reply off the front of some bytes.
 #[derive(Clone, Copy)]
 pub enum ReplyCut {
+    /// The bytes begin with a whole reply, whose parts these are.
     Whole(ReplyParts),
     /// The bytes do not begin with a reply of one length within the limits.
     Bad,
-    /// The bytes are less than a reply. Whatever follows, they remain so while there are fewer than this number: the
-    /// length of head and body if the head is whole, else 0.
+    /// The bytes are less than a reply, and stay so, whatever follows, while there are fewer bytes than this number:
+    /// the length of head and body if the head is whole, else 0.
     Unfinished(usize),
 }
 
-/// Returns the length of the body of a reply, which must be announced exactly once.
+/// Returns the length of the body of a reply. The length must be announced exactly once.
 fn length_at(buf: &[u8], headers: &[HeaderSpan]) -> Announced
     requires { All (IsHeaderWithin (length buf.now)) headers.now }
     ensures { result ≡ reply_length (map (header_bytes buf.now) headers.now) }

@@ -49,8 +49,8 @@ fn push_body(out: &mut Vec<u8>, body: Option<&[u8]>) -> Result<(), AllocError>
     }
 }
 
-/// Returns the bytes of a request with its body, which asks to close the connection after the reply (RFC 9112,
-/// section 3).
+/// Returns the bytes of a request with its body (RFC 9112, section 3). The request asks to close the connection after
+/// the reply.
 ///
 /// # Errors
 ///

@@ -26,7 +26,7 @@ use httparse::spans::HeaderSpan;
 use std::alloc::{AllocError, Global};
 use thiserror::Error;
 
-/// Why a stream was not answered to its end.
+/// The reason why a stream was not answered to its end.
 #[derive(Clone, Copy, Debug, Error)]
 pub enum StreamFault {
     /// The reader failed, or gave `u64::MAX` bytes or more.
@@ -44,11 +44,11 @@ pub enum StreamFault {
     NoMemory,
 }
 
-/// Answers each whole request of the stream in order, before it reads on, and ends at the end of the input or after a
+/// Answers each whole request of the stream in order, before reading on, and returns at the end of the input or after a
 /// reply that ends the stream.
 ///
-/// However it ends, the written bytes are the replies to what was read, the last perhaps cut off. Memory is allocated
-/// before bytes are read; a reply allocates only what its service allocates.
+/// Whatever the result, the written bytes are the replies to what was read, the last perhaps cut off. Memory is
+/// allocated before bytes are read; a reply allocates only what its service allocates.
 ///
 /// # Errors
 ///
@@ -180,10 +180,11 @@ fn answer_stream<S: Service, R: Source, W: Sink, L: Sink>(
             Err(Broken::Log) => return Err(StreamFault::Log),
         }
     }
+    // each turn read at least one byte, so the reader gave at least `u64::MAX` bytes
     Err(StreamFault::Read)
 }
 
-/// Which device failed before a whole reply was sent.
+/// The device that failed before a whole reply was sent.
 #[derive(Clone, Copy)]
 enum Broken {
     /// The writer, after the reply's line was written.
@@ -274,7 +275,7 @@ fn answer<S: Service, W: Sink, L: Sink>(
     }
 }
 
-/// Answers with an error that ends the stream. Does not allocate.
+/// Rejects the rest of a stream: sends the error reply of `status`, which ends the stream. Does not allocate.
 fn refuse<S: Service, W: Sink, L: Sink>(
     writer: &mut W,
     log: &mut L,

@@ -6,13 +6,13 @@ ghost use Rattle.http.specs.declared.status.StatusCode.{StatusCode};
 
 use http::StatusCode;
 
-/// States that relate requests to their answers, as the theorems on streams use them. The trait has no code.
+/// A state with a relation between requests and their answers, for the theorems about streams. The trait has no code.
 pub trait Answers {
     // Relates a state, a request (method, target, body), its reply (status, body), and the state afterwards.
     ghost answers: { Self → List ℕ → List ℕ → List ℕ → StatusCode → List ℕ → Self → Type 0 };
 
-    // Relates two states that the theorems consider the same. Their premise is that no request distinguishes such
-    // states. By default, equal states.
+    // Relates two states that the theorems consider the same; the theorems have the premise that no request
+    // distinguishes such states. By default, equal states.
     ghost same: { Self → Self → Type 0 } = { λ one other. one ≡ other };
 }
 
@@ -31,8 +31,9 @@ pub trait Service: Answers {
     /// Appends the body of the reply to `text`, puts the line for the log, if there is one, into `line`, and returns
     /// the status.
     ///
-    /// `text` has room for a short reply, which is made without allocating: if a longer one cannot be allocated, a
-    /// short reply can still report that. `line` has room for a short line. `text` keeps its memory for the next reply.
+    /// `text` has room for a short reply (`REPLY_ROOM` bytes), which is made without allocating: if a longer one cannot
+    /// be allocated, a short reply can still report that. `line` has room for a short line (`line_room` bytes). Both
+    /// keep their memory for the next reply.
     /// Each reply announces a body, so no status is 1xx, 204 or 304 (RFC 9112, section 6.3).
     fn call(
         &mut self,

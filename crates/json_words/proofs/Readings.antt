@@ -8,10 +8,10 @@ use Rattle.serde_json.specs.declared.value.Value.{Value}
 use Rattle.json_words.specs.Each.{each, list_of}
 use Rattle.json_words.specs.ReadsAs.{◌>>=◌, or_fault, Fails}
 use Rattle.json_words.proofs.EachLemmas.{each_push, each_refused}
-use Rattle.json_words.specs.declared.array_members.Members.{Members}
+use Rattle.json_words.specs.declared.array_members.ArrayMembers.{ArrayMembers}
 use Rattle.json_words.specs.declared.array_members.Member.{Member}
 use Rattle.json_words.specs.declared.array_members.Member.TheVariants as variant
-use Rattle.json_words.specs.Arrays.{members_in, array_of, to_come, each_of, told, Tells, IsFewer}
+use Rattle.json_words.specs.Arrays.{members_in, array_of, unread_members, each_of, reported_error, IsNextMember, IsFewer}
 
 -- ---- the members of an array, read as its items
 
@@ -27,28 +27,28 @@ items_read none f (Some d) = items_of none f (as_array d)
 
 -- ---- where an array begins
 
-abbrev pub Begins : List ℕ → Option Members → Type 0
-Begins bytes begun = MatchOption begun (array_of bytes ≡ None) (λ members. array_of bytes ≡ to_come members)
+abbrev pub Begins : List ℕ → Option ArrayMembers → Type 0
+Begins bytes begun = MatchOption begun (array_of bytes ≡ None) (λ members. array_of bytes ≡ unread_members members)
 
-pub array_begun : (bytes : List ℕ) (begun : Option Members) (members : Members) → begun ≡ Some members → Begins bytes begun → array_of bytes ≡ to_come members
+pub array_begun : (bytes : List ℕ) (begun : Option ArrayMembers) (members : ArrayMembers) → begun ≡ Some members → Begins bytes begun → array_of bytes ≡ unread_members members
 array_begun bytes begun members is h = subst (Begins bytes) is h
 
-pub none_begun : (bytes : List ℕ) (begun : Option Members) → begun ≡ None → Begins bytes begun → array_of bytes ≡ None
+pub none_begun : (bytes : List ℕ) (begun : Option ArrayMembers) → begun ≡ None → Begins bytes begun → array_of bytes ≡ None
 none_begun bytes begun is h = subst (Begins bytes) is h
 
 -- ---- what is read next
 
-pub value_told : (m : Member) (v : Value) (ahead behind : Option (List Data)) → m ≡ variant.Value v → Tells m ahead behind → ahead ≡ option_map (λ ds. view v ∷ ds) behind
-value_told m v ahead behind is h = subst (λ (x : Member). Tells x ahead behind) is h
+pub value_told : (m : Member) (v : Value) (ahead behind : Option (List Data)) → m ≡ variant.Value v → IsNextMember m ahead behind → ahead ≡ option_map (λ ds. view v ∷ ds) behind
+value_told m v ahead behind is h = subst (λ (x : Member). IsNextMember x ahead behind) is h
 
 pub fewer_left : (m : Member) (v : Value) (ahead behind : ℕ) → m ≡ variant.Value v → IsFewer m ahead behind → behind < ahead
 fewer_left m v ahead behind is h = subst (λ (x : Member). IsFewer x ahead behind) is h
 
-pub end_told : (m : Member) (ahead behind : Option (List Data)) → m ≡ variant.End → Tells m ahead behind → ahead ≡ Some []
-end_told m ahead behind is h = subst (λ (x : Member). Tells x ahead behind) is h
+pub end_told : (m : Member) (ahead behind : Option (List Data)) → m ≡ variant.End → IsNextMember m ahead behind → ahead ≡ Some []
+end_told m ahead behind is h = subst (λ (x : Member). IsNextMember x ahead behind) is h
 
-pub not_json_told : (m : Member) (ahead behind : Option (List Data)) → m ≡ variant.NotJson → Tells m ahead behind → ahead ≡ None
-not_json_told m ahead behind is h = subst (λ (x : Member). Tells x ahead behind) is h
+pub not_json_told : (m : Member) (ahead behind : Option (List Data)) → m ≡ variant.NotJson → IsNextMember m ahead behind → ahead ≡ None
+not_json_told m ahead behind is h = subst (λ (x : Member). IsNextMember x ahead behind) is h
 
 pub is_some-map : {A B : Type 0} (f : A → B) (o : Option A) → is_some (option_map f o) ≡ is_some o
 is_some-map f None = refl
@@ -108,7 +108,7 @@ fails none f all left place ys s lost = ap (each_of none f) (s.cut ∙ ap (optio
 
 told_of : {B F : Type 0} (none memory fault r : F) (f : List Data → ℕ → Data → Result B F) (seen : List Data) (ys : List B) (d : Data) (behind : Option (List Data))
     → ((rest : List Data) → each (f (seen ++ rest)) 0 seen ≡ Ok ys) → ((rest : List Data) → (fault ≡ memory → ⊥) → f (seen ++ d ∷ rest) (0 + length seen) d ≡ Err fault)
-    → r ≡ told none fault behind → (r ≡ memory → ⊥) → each_of none f (option_map (λ ds. seen ++ ds) (option_map (λ ds. d ∷ ds) behind)) ≡ Err r
+    → r ≡ reported_error none fault behind → (r ≡ memory → ⊥) → each_of none f (option_map (λ ds. seen ++ ds) (option_map (λ ds. d ∷ ds) behind)) ≡ Err r
 told_of none memory fault r f seen ys d None read one is other = ap Err (sym is)
 told_of none memory fault r f seen ys d (Some rest) read one is other =
     each_refused (f (seen ++ d ∷ rest)) 0 seen ys d rest fault (read (d ∷ rest)) (one rest (λ e. other (is ∙ e))) ∙ ap Err (sym is)
@@ -116,7 +116,7 @@ told_of none memory fault r f seen ys d (Some rest) read one is other =
 -- one was refused, or memory was
 pub refused : {B F : Type 0} (none memory fault r : F) (f : List Data → ℕ → Data → Result B F) (all before behind : Option (List Data)) (place : ℕ) (ys : List B) (d : Data)
     → (s : SoFar f all before place ys) → before ≡ option_map (λ ds. d ∷ ds) behind → ((rest : List Data) → Fails memory fault (f (s.seen ++ d ∷ rest) place d))
-    → r ≡ told none fault behind → (r ≡ memory → ⊥) → each_of none f all ≡ Err r
+    → r ≡ reported_error none fault behind → (r ≡ memory → ⊥) → each_of none f all ≡ Err r
 refused none memory fault r f all before behind place ys d s next one is other =
     ap (each_of none f) (s.cut ∙ ap (option_map (λ ds. s.seen ++ ds)) next)
     ∙ told_of none memory fault r f s.seen ys d behind s.read (λ rest known. at_place (f (s.seen ++ d ∷ rest)) s.seen place d (Err fault) s.placed (one rest known)) is other

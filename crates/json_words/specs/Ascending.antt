@@ -1,6 +1,6 @@
 -- Defines that the keys of each parsed object ascend strictly by their bytes.
--- Rules of this product: this follows from how JSON is parsed: the members of an object are in the order of the keys,
--- each key once (RFC 8259, section 4, leaves both open).
+-- Rules of this product: JSON is parsed so that the members of an object are in the order of the keys, each key once
+-- (RFC 8259, section 4, leaves both open).
 use Rattle.std.specs.Prelude.{◌≡◌, ⊤, ℕ, List, [], ◌∷◌, Some}
 use Rattle.std.specs.List.Sorted.{IsStrictlySortedBy}
 use Rattle.std.specs.Cmp.Lexicographic.{slice_cmp}
@@ -18,8 +18,8 @@ abbrev pub member_keys : Members → List (List ℕ)
 member_keys no_members = []
 member_keys (member k d ms) = k ∷ member_keys ms
 
--- `DataAscends d` holds if the keys of each object in `d` ascend, at every depth; `ItemsAscend` and `MembersAscend` say
--- so of items and members.
+-- `DataAscends d` holds if the keys of each object in `d` ascend, at every depth; `ItemsAscend ds` and
+-- `MembersAscend ms` hold if this is so of each item of `ds` and of the value of each member of `ms`.
 abbrev mutual
   pub DataAscends : Data → Type 0
   DataAscends null = ⊤

@@ -23,8 +23,8 @@ abbrev pub AreAbove : List ℕ → Members → Type 0
 AreAbove k no_members = ⊤
 AreAbove k (member l e ms) = (slice_cmp nat_cmp k l ≡ Less) × AreAbove k ms
 
--- `IsPlain d` holds if `d` is plain JSON; `ArePlain` and `HasPlain` say so of the items of an array and the members of
--- an object.
+-- `IsPlain d` holds if `d` is plain JSON; `ArePlain ds` if each item of `ds` is; `HasPlain ms` if the keys of the
+-- members `ms` are UTF-8 and ascend, and their values are plain JSON.
 abbrev mutual
   pub IsPlain : Data → Type 0
   IsPlain null = ⊤
@@ -47,7 +47,8 @@ abbrev mutual
 abbrev pub CompactReadsBack : Type 0
 CompactReadsBack = (d : Data) → IsPlain d → depth d ≤ max_depth → read (compact_text d) ≡ Some d
 
--- `CompactIsOne` states that such values with equal compact texts are equal.
+-- `CompactIsOne` states that two values of plain JSON, nested at most `max_depth` deep, are equal if their compact
+-- texts are.
 abbrev pub CompactIsOne : Type 0
 CompactIsOne = (d e : Data) → IsPlain d → IsPlain e → depth d ≤ max_depth → depth e ≤ max_depth
     → compact_text d ≡ compact_text e → d ≡ e

@@ -1,5 +1,5 @@
--- Defines reading as a function that gives a value or the first error, and when the result of code that may run out of
--- memory agrees with such a function.
+-- Defines results of reading, each a value or the first error; and when the result of code that may run out of memory
+-- agrees with one.
 use Rattle.std.specs.Prelude.{◌≡◌, ⊤, Bool, true, false, Option, Some, None, Result, Ok, Err}
 
 -- `r >>= f` is `f` of the value of `r`, or the error of `r`. The notation `do` uses it.
@@ -18,18 +18,20 @@ abbrev pub demand : {F : Type 0} → F → Bool → Result ⊤ F
 demand f true = Ok tt
 demand f false = Err f
 
--- `Fails memory e read` holds if `e` is the error of `read`, or is `memory`, that of a failed allocation.
+-- `Fails memory e read` holds if the error `e` is that of the result `read`, or is `memory`, the error of a failed
+-- allocation.
 abbrev pub Fails : {Y F : Type 0} → F → F → Result Y F → Type 0
 Fails memory e read = (e ≡ memory → ⊥) → read ≡ Err e
 
--- `ReadsAs memory view r read` holds if the result `r` of a function agrees with `read`: `read` has the value of `r`,
--- as `view` shows it, or the error of `r`; or that error is `memory`.
+-- `ReadsAs memory view r read` holds if the result `r` of code agrees with the defined result `read`. If `r` has a
+-- value, `read` has the same value, as `view` shows it. If `r` has an error, `read` has the same error, unless that is
+-- `memory`, the error of a failed allocation.
 abbrev pub ReadsAs : {X Y F : Type 0} → F → (X → Y) → Result X F → Result Y F → Type 0
 ReadsAs memory view (Ok x) read = read ≡ Ok (view x)
 ReadsAs memory view (Err e) read = Fails memory e read
 
--- `AlwaysReadsAs view r read` says the same of a function that does not allocate: `read` has the value of `r`, as
--- `view` shows it, or the error of `r`.
+-- `AlwaysReadsAs view r read` states the same for code that does not allocate: `read` has the value of `r`, as `view`
+-- shows it, or the error of `r`.
 abbrev pub AlwaysReadsAs : {X Y F : Type 0} → (X → Y) → Result X F → Result Y F → Type 0
 AlwaysReadsAs view (Ok x) read = read ≡ Ok (view x)
 AlwaysReadsAs view (Err e) read = read ≡ Err e

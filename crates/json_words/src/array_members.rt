@@ -2,7 +2,7 @@
 ghost use Rattle.std.specs.Prelude.{◌≡◌, ◌<◌, length, is_some, IfOk, IfSome, MatchOption};
 ghost use Rattle.std.specs.Str.{IsUtf8};
 ghost use Rattle.json.specs.Lex.{tokens};
-ghost use Rattle.json_words.specs.Arrays.{array_of, to_come, Tells, IsFewer};
+ghost use Rattle.json_words.specs.Arrays.{array_of, unread_members, IsNextMember, IsFewer};
 
 use crate::reading::{opens_array, value_in};
 use crate::with_scratch::MOST_DEPTH;
@@ -13,14 +13,14 @@ use std::alloc::Global;
 
 /// The remaining members of a JSON array.
 #[derive(Drop)]
-pub struct Members<'a> {
+pub struct ArrayMembers<'a> {
     reader: Reader<'a>,
 }
 
 /// The next member of an array, or its end.
 #[derive(Drop)]
 pub enum Member {
-    /// The next member, if the text is JSON. If a later call finds that it is not, this value means nothing.
+    /// The next member, if the text is JSON. If a later call returns `NotJson`, this value means nothing.
     Value(Value),
     /// The array ends, and the text with it.
     End,
@@ -30,16 +30,16 @@ pub enum Member {
 
 /// Returns the members of the array that `bytes` begin with, or `None` if they are not UTF-8 or begin with no array.
 ///
-/// Whether the bytes are JSON is found out as the members are read: if they are not, the last call of [`Members::next`]
-/// returns [`Member::NotJson`] in place of [`Member::End`]. The last value of a duplicate key counts, and arrays and
-/// objects nest at most 127 deep, including the array itself. The scratch grows to the longest string; its earlier
-/// content does not matter. The only error is `NoMemory`.
+/// Whether the bytes are JSON is found out as the members are read: if they are not, the last call of
+/// [`ArrayMembers::next`] returns [`Member::NotJson`] in place of [`Member::End`]. The last value of a duplicate key
+/// counts, and arrays and objects nest at most 127 deep, including the array itself. The scratch grows to the longest
+/// string; its earlier content does not matter. The only error is `NoMemory`.
 pub fn members_of<'a>(
     scratch: &'a mut Scratch,
     bytes: &'a [u8],
-) -> Result<Option<Members<'a>>, NoMemory>
+) -> Result<Option<ArrayMembers<'a>>, NoMemory>
     ensures begun { IfOk result (λ o. MatchOption o (array_of bytes.now ≡ None)
-        (λ members. array_of bytes.now ≡ to_come members)) }
+        (λ members. array_of bytes.now ≡ unread_members members)) }
     ensures fewer { IfOk result (λ o. IfSome o (λ members. length members.reader < length bytes.now)) }
 {
     match str::from_utf8(bytes) {
@@ -49,10 +49,13 @@ pub fn members_of<'a>(
 }
 
 /// Returns the members of the array that a text begins with, or `None` if it begins with no array.
-fn members_in<'a>(scratch: &'a mut Scratch, text: &'a str) -> Result<Option<Members<'a>>, NoMemory>
+fn members_in<'a>(
+    scratch: &'a mut Scratch,
+    text: &'a str,
+) -> Result<Option<ArrayMembers<'a>>, NoMemory>
     requires { IsUtf8 text.now }
     ensures begun { IfOk result (λ o. MatchOption o (array_of text.now ≡ None)
-        (λ members. array_of text.now ≡ to_come members)) }
+        (λ members. array_of text.now ≡ unread_members members)) }
     ensures fewer { IfOk result (λ o. IfSome o (λ members. length members.reader < length text.now)) }
 {
     let mut reader = Reader::new(text, scratch)?;
@@ -61,18 +64,19 @@ fn members_in<'a>(scratch: &'a mut Scratch, text: &'a str) -> Result<Option<Memb
         None => return Ok(None),
     };
     if opens_array(&token) {
-        Ok(Some(Members { reader }))
+        Ok(Some(ArrayMembers { reader }))
     } else {
         Ok(None)
     }
 }
 
-impl<'a> Members<'a> {
-    /// Returns the next member; or `End`, if the array and the text end; or `NotJson`.
+impl<'a> ArrayMembers<'a> {
+    /// Returns the next member; or `End`, if the array and the text end; or `NotJson`, if the text is found not to be
+    /// JSON.
     ///
     /// The only error is `NoMemory`. After an error, `End` or `NotJson`, the results of further calls mean nothing.
     pub fn next(&mut self, alloc: Global) -> Result<Member, NoMemory>
-        ensures told { IfOk result (λ member. Tells member (to_come self.old) (to_come self.new)) }
+        ensures told { IfOk result (λ member. IsNextMember member (unread_members self.old) (unread_members self.new)) }
         ensures fewer { IfOk result (λ member. IsFewer member (length self.old.reader) (length self.new.reader)) }
     {
         if self.reader.take_end_array() {
@@ -87,12 +91,12 @@ impl<'a> Members<'a> {
         }
     }
 
-    /// Returns whether the rest is JSON, to the end of the text. Each member is dropped as soon as it is read.
+    /// Reads the rest of the text and returns whether it is JSON. Drops each member as soon as it is read.
     ///
     /// A caller that rejects a member calls this first, so that it reports the member's error only for text that is
     /// JSON. The only error is `NoMemory`.
     pub fn rest_is_json(&mut self, alloc: Global) -> Result<bool, NoMemory>
-        ensures { IfOk result (λ b. b ≡ is_some (to_come self.old)) }
+        ensures { IfOk result (λ b. b ≡ is_some (unread_members self.old)) }
     {
         'rest: loop {
             match self.next(alloc)? {

@@ -2,7 +2,8 @@
 //! keys of an object; and the compact text.
 //!
 //! Contracts of readers in other crates state reading as a function that gives a value or the first error, by the
-//! definitions `ReadsAs`, `each`, `demand` and `or_fault` of `specs/`; the lemmas of `proofs/` are for their loops.
+//! definitions `ReadsAs`, `each`, `demand` and `or_fault` of `specs/`; the lemmas of `proofs/` are for the loops of
+//! these readers.
 #![tactic(auto)]
 
 ghost use Rattle.std.specs.Prelude.{◌≡◌, ◌≤◌, Some, false, option_map, IfOk, IfSome, map, string_bytes};
@@ -22,7 +23,7 @@ mod numbers;
 mod reading;
 mod with_scratch;
 
-pub use array_members::{Member, Members, members_of};
+pub use array_members::{ArrayMembers, Member, members_of};
 pub use json::Scratch;
 pub use laws::{compact_texts_read_back, json_keys_ascend};
 use plain::NoMemory;
@@ -81,6 +82,7 @@ pub fn only_keys(value: &Value, allowed: &[&str]) -> bool
     }
 }
 
+/// Returns whether each key of an object is one of `allowed`.
 fn all_among(object: &Map<String, Value>, allowed: &[&str]) -> bool
     ensures { result ≡ list_all (λ k. list_any (λ a. bytes_eq a.now (string_bytes k)) allowed.now) (keys object.now) }
 {

@@ -9,7 +9,8 @@ use serde_json::Number;
 
 /// Returns the number that the text of a JSON number denotes, or `None` if it is too large for a float.
 ///
-/// An integer that fits in 64 bits stays an integer, except `-0`, which is a float like all other numbers.
+/// A number from -2^63 to 2^64 - 1 that is written without a fraction or an exponent is an integer, except `-0`; `-0`
+/// and every other number are floats.
 pub(crate) fn number_in(text: &str) -> Option<Number>
     ensures { option_map number_view result ≡ number_of text.now }
 {
@@ -52,8 +53,8 @@ fn below_zero(digits: &Numeral<'_>) -> Option<Number>
     }
 }
 
-/// Returns the float nearest to the number that a numeral denotes, after a minus if `negative`; `None` if that float is
-/// not finite.
+/// Returns the float nearest to the number that a numeral denotes, after a minus if `negative` is true; `None` if that
+/// float is not finite.
 fn nearest(digits: &Numeral<'_>, negative: bool) -> Option<Number>
     ensures { option_map number_view result ≡ float_of negative digits.now }
 {

@@ -12,7 +12,8 @@ use plain::NoMemory;
 use serde_json::{Map, Value};
 use std::alloc::Global;
 
-/// Returns the next value of the reader, or `None`, also if arrays and objects nest more than `deep` levels.
+/// Returns the next value of the reader, or `None` if no value follows, or if its arrays and objects nest more than
+/// `deep` levels.
 #[cycle(value_in)]
 pub(crate) fn value_in(
     alloc: Global,
@@ -41,19 +42,22 @@ pub(crate) fn value_in(
     scalar_in(alloc, token)
 }
 
+/// Returns whether a token is the opening bracket of an array.
 pub(crate) fn opens_array(token: &Token<'_>) -> bool
     ensures { result ≡ is_array_start (token_of token.now) }
 {
     matches!(token, Token::BeginArray)
 }
 
+/// Returns whether a token is the opening brace of an object.
 fn opens_object(token: &Token<'_>) -> bool
     ensures { result ≡ is_object_start (token_of token.now) }
 {
     matches!(token, Token::BeginObject)
 }
 
-/// Returns the value that a token alone denotes, or `None`.
+/// Returns the value that a token alone denotes, or `None` if it is a bracket, a brace, a key or not a token of JSON,
+/// or a number that is too large for a float.
 fn scalar_in(alloc: Global, token: Token<'_>) -> Result<Option<Value>, NoMemory>
     ensures { IfOk result (λ o. option_map view o ≡ scalar (token_of token.entry)) }
 {

@@ -36,7 +36,7 @@ pub fn read_json_by(
     }
 }
 
-/// Returns the JSON value of a text, or `None`.
+/// Returns the JSON value of a text, or `None` if the text is not JSON, as [`read_json_by`] defines it.
 fn read_text(scratch: &mut Scratch, alloc: Global, text: &str) -> Result<Option<Value>, NoMemory>
     ensures value { IfOk result (λ o. option_map view o ≡ read text.now) }
     ensures nests { IfOk result (λ o. IfSome o (λ v. depth (view v) ≤ max_depth)) }

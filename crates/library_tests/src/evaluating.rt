@@ -43,18 +43,20 @@ fn is_true(given: &Result<BorrowedOrOwned<'_>, EvalFault>) -> bool {
     }
 }
 
-fn is_told(told: &Result<bool, EvalFault>) -> bool {
+// Returns whether a test gave true.
+fn is_true_test(told: &Result<bool, EvalFault>) -> bool {
     match told {
         Ok(truth) => *truth,
         Err(_) => false,
     }
 }
 
+// Fails the test unless an expression evaluates to true by each of the three calls.
 fn evaluates<L: Lookup>(rt: &impl Abort, alloc: Global, expr: &Expr, request: &Request, store: &L) {
     let given = evaluate(alloc, expr, request, store);
     holds(rt, is_true(&given), "a request and a store");
     let told = evaluate_test(alloc, expr, request, store);
-    holds(rt, is_told(&told), "the same as a test");
+    holds(rt, is_true_test(&told), "the same as a test");
     let question = RequestEnv { request, store };
     let given = evaluate_in(alloc, expr, &question);
     holds(rt, is_true(&given), "both as one question");

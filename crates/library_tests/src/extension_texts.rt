@@ -21,7 +21,8 @@ impl Written for IpNet {
     }
 }
 
-// Appends the canonical text. If an allocation fails, the string is unchanged, and a second call appends the text.
+// Appends the canonical text. If an allocation fails, fails the test unless the string is unchanged, and tries once
+// more.
 fn push<T: Written>(rt: &impl Abort, out: &mut String, value: T) -> Result<(), NoMemory> {
     if value.write(out).is_err() {
         holds(rt, out.as_str() == "=", "a refused text stays as it was");
@@ -30,6 +31,7 @@ fn push<T: Written>(rt: &impl Abort, out: &mut String, value: T) -> Result<(), N
     Ok(())
 }
 
+// Returns `=` and the canonical text of a value.
 fn shown<T: Written>(rt: &impl Abort, alloc: Global, value: T) -> Result<String, NoMemory> {
     let mut out = String::from_str(alloc, "=")?;
     let done = push(rt, &mut out, value);
@@ -44,6 +46,7 @@ fn shown_at_last<T: Written>(rt: &impl Abort, alloc: Global, value: T) -> Result
     }
 }
 
+// Fails the test unless a text is the expected one.
 fn is_text(
     rt: &impl Abort,
     shown: Result<String, NoMemory>,

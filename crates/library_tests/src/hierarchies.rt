@@ -5,9 +5,10 @@
 //! - `CHILD in PARENT ..` sets the parents of an entity; a word alone deletes its entity; `new` empties the hierarchy.
 //! - `ID: ANCESTORS | CYCLIC | CYCLE` expects the ancestors of the entity, the cyclic entities, and the least cycle.
 //! - `ID OTHER ..:` expects ` above` if the entity is an ancestor of the first of the others, and ` cycle` if it would
-//!   be cyclic with them as parents.
+//!   be cyclic with the others as parents.
 //! - `: CYCLE` expects the least cycle.
-//! - `touched:COUNT` expects that the last change rewrote so many lists of ancestors, if there is a cache.
+//! - `touched:COUNT` expects that the last change rewrote COUNT lists of ancestors, if the hierarchy has an ancestor
+//!   cache.
 //!
 //! In tests with failed allocations `/` separates steps: `CHANGE; ROW; ROW ..`, a change and the expectations after it.
 use crate::shared::{ended, finished, holds, uid_of};
@@ -18,7 +19,7 @@ use std::process::Abort;
 use values::EntityUid;
 
 // A hierarchy under test.
-trait Tried: Hierarchy + Drop {
+trait TestedHierarchy: Hierarchy + Drop {
     // Creates a hierarchy without edges.
     fn begun(alloc: Global) -> Self;
 
@@ -26,7 +27,7 @@ trait Tried: Hierarchy + Drop {
     fn has_touched(&self, count: usize) -> bool;
 }
 
-impl Tried for Searched {
+impl TestedHierarchy for Searched {
     fn begun(alloc: Global) -> Searched {
         Searched::new(alloc)
     }
@@ -36,7 +37,7 @@ impl Tried for Searched {
     }
 }
 
-impl Tried for Closed {
+impl TestedHierarchy for Closed {
     fn begun(alloc: Global) -> Closed {
         Closed::new(alloc)
     }
@@ -116,6 +117,7 @@ fn are(found: &[&EntityUid], ids: &str) -> bool {
     ids.next().is_none()
 }
 
+// Returns whether a cycle has the entities of these ids, in this order; without a cycle, whether there are no ids.
 fn is_walk(found: &Option<Vec<&EntityUid>>, ids: &str) -> bool {
     match found {
         Some(found) => are(found.as_slice(), ids),
@@ -129,6 +131,7 @@ type Told<'a> = (
     (Vec<&'a EntityUid>, Option<Vec<&'a EntityUid>>),
 );
 
+// Returns the ancestors of an entity, the cyclic entities, and the least cycle.
 fn told<'a, H: Ancestry>(hierarchy: &'a H, uid: &EntityUid) -> Result<Told<'a>, NoMemory> {
     both(
         hierarchy.ancestors(uid),
@@ -136,6 +139,8 @@ fn told<'a, H: Ancestry>(hierarchy: &'a H, uid: &EntityUid) -> Result<Told<'a>, 
     )
 }
 
+// Returns whether `above` are the found ancestors, and `cycles` the found cyclic entities, a bar, and the least
+// cycle.
 fn is_as_expected(told: &Told<'_>, above: &str, cycles: &str) -> bool {
     let Some((cyclic, walk)) = cycles.split_once('|') else {
         return false;
@@ -144,7 +149,7 @@ fn is_as_expected(told: &Told<'_>, above: &str, cycles: &str) -> bool {
 }
 
 // Returns whether `above` are the ancestors of an entity, and `cycles` the cyclic entities, a bar, and the least cycle.
-fn shows<H: Ancestry>(
+fn has_expected_ancestry<H: Ancestry>(
     hierarchy: &H,
     uid: &EntityUid,
     above: &str,
@@ -155,12 +160,14 @@ fn shows<H: Ancestry>(
     Ok(ended(told, truth))
 }
 
-fn walks<H: Ancestry>(hierarchy: &H, expected: &str) -> Result<bool, NoMemory> {
+// Returns whether the least cycle has the expected ids.
+fn has_least_cycle<H: Ancestry>(hierarchy: &H, expected: &str) -> Result<bool, NoMemory> {
     let walk = hierarchy.least_cycle()?;
     let truth = is_walk(&walk, expected);
     Ok(ended(walk, truth))
 }
 
+// Returns whether an entity is an ancestor of the first of some others; false without others.
 fn is_above_the_first<H: Ancestry>(
     hierarchy: &H,
     uid: &EntityUid,
@@ -185,6 +192,7 @@ fn answered<H: Hierarchy>(
     )
 }
 
+// Returns how a row writes an answer of [`answered`].
 fn words_of(answer: (bool, bool)) -> &'static str {
     match answer {
         (true, true) => " above cycle",
@@ -203,12 +211,12 @@ fn meets_expectation_of<H: Hierarchy>(
     expected: &str,
 ) -> Result<bool, NoMemory> {
     match expected.split_once('|') {
-        Some((above, cycles)) => shows(hierarchy, uid, above, cycles),
+        Some((above, cycles)) => has_expected_ancestry(hierarchy, uid, above, cycles),
         None => Ok(words_of(answered(hierarchy, uid, others)?) == expected),
     }
 }
 
-// Returns whether an expectation holds; without an entity, it is the least cycle.
+// Returns whether an expectation holds; without an entity it is on the least cycle.
 fn meets_expectation_of_all<H: Hierarchy>(
     hierarchy: &H,
     asked: &[EntityUid],
@@ -216,11 +224,12 @@ fn meets_expectation_of_all<H: Hierarchy>(
 ) -> Result<bool, NoMemory> {
     match asked.split_first() {
         Some((uid, others)) => meets_expectation_of(hierarchy, uid, others, expected),
-        None => walks(hierarchy, expected),
+        None => has_least_cycle(hierarchy, expected),
     }
 }
 
-fn meets_expectation<H: Tried>(
+// Returns whether an expectation holds: `asked` is what precedes the colon of its row, `expected` what follows it.
+fn meets_expectation<H: TestedHierarchy>(
     alloc: Global,
     hierarchy: &H,
     asked: &str,
@@ -235,7 +244,7 @@ fn meets_expectation<H: Tried>(
 }
 
 // Returns whether the expectation of a row holds; after a failed allocation tries once more.
-fn is_row<H: Tried>(alloc: Global, hierarchy: &H, row: &str) -> Result<bool, NoMemory> {
+fn is_row<H: TestedHierarchy>(alloc: Global, hierarchy: &H, row: &str) -> Result<bool, NoMemory> {
     let (asked, expected) = row.split_once(':').unwrap_or((row, ""));
     match meets_expectation(alloc, hierarchy, asked, expected) {
         Ok(truth) => Ok(truth),
@@ -243,7 +252,8 @@ fn is_row<H: Tried>(alloc: Global, hierarchy: &H, row: &str) -> Result<bool, NoM
     }
 }
 
-fn row_holds<H: Tried>(
+// Fails the test unless the expectation of a row holds.
+fn row_holds<H: TestedHierarchy>(
     rt: &impl Abort,
     alloc: Global,
     hierarchy: &H,
@@ -254,7 +264,11 @@ fn row_holds<H: Tried>(
 }
 
 // Makes a change.
-fn change<H: Tried>(alloc: Global, hierarchy: &mut H, change: &str) -> Result<(), NoMemory> {
+fn change<H: TestedHierarchy>(
+    alloc: Global,
+    hierarchy: &mut H,
+    change: &str,
+) -> Result<(), NoMemory> {
     if change == "new" {
         *hierarchy = H::begun(alloc);
         return Ok(());
@@ -263,7 +277,7 @@ fn change<H: Tried>(alloc: Global, hierarchy: &mut H, change: &str) -> Result<()
 }
 
 // Makes the change of a row, or fails the test unless its expectation holds.
-fn row<H: Tried>(
+fn row<H: TestedHierarchy>(
     rt: &impl Abort,
     alloc: Global,
     hierarchy: &mut H,
@@ -275,7 +289,8 @@ fn row<H: Tried>(
     change(alloc, hierarchy, row)
 }
 
-fn rows_hold<H: Tried>(
+// Executes rows, one after another.
+fn rows_hold<H: TestedHierarchy>(
     rt: &impl Abort,
     alloc: Global,
     hierarchy: &mut H,
@@ -288,12 +303,13 @@ fn rows_hold<H: Tried>(
 }
 
 // Executes rows from an empty hierarchy.
-fn table<H: Tried>(rt: &impl Abort, alloc: Global, rows: &str) -> Result<(), NoMemory> {
+fn table<H: TestedHierarchy>(rt: &impl Abort, alloc: Global, rows: &str) -> Result<(), NoMemory> {
     let mut hierarchy = H::begun(alloc);
     rows_hold(rt, alloc, &mut hierarchy, rows)
 }
 
-fn all_hold<H: Tried>(
+// Fails the test unless each of these expectations holds.
+fn all_hold<H: TestedHierarchy>(
     rt: &impl Abort,
     alloc: Global,
     hierarchy: &H,
@@ -306,7 +322,7 @@ fn all_hold<H: Tried>(
 }
 
 // Makes a change again that failed. Fails the test unless the expectations `before` it still hold.
-fn change_again<H: Tried>(
+fn change_again<H: TestedHierarchy>(
     rt: &impl Abort,
     alloc: Global,
     hierarchy: &mut H,
@@ -317,7 +333,8 @@ fn change_again<H: Tried>(
     apply(alloc, hierarchy, change)
 }
 
-fn change_at_last<H: Tried>(
+// Makes a change; if it fails, makes it again ([`change_again`]).
+fn change_at_last<H: TestedHierarchy>(
     rt: &impl Abort,
     alloc: Global,
     hierarchy: &mut H,
@@ -330,8 +347,8 @@ fn change_at_last<H: Tried>(
     }
 }
 
-// Makes a step: its change, and then its expectations. Returns these rows.
-fn step<'a, H: Tried>(
+// Makes the change of a step. Fails the test unless the step's expectations then hold. Returns these expectations.
+fn step<'a, H: TestedHierarchy>(
     rt: &impl Abort,
     alloc: Global,
     hierarchy: &mut H,
@@ -344,9 +361,9 @@ fn step<'a, H: Tried>(
     Ok(after)
 }
 
-// Makes steps, each from the end of the one before. If a change fails, the rows of the step before still hold, and a
-// second try succeeds.
-fn steps_hold<H: Tried>(
+// Makes steps, each from the end of the one before. If a change fails, the expectations of the step before must still
+// hold, and a second try must succeed.
+fn steps_hold<H: TestedHierarchy>(
     rt: &impl Abort,
     alloc: Global,
     hierarchy: &mut H,
@@ -360,15 +377,15 @@ fn steps_hold<H: Tried>(
 }
 
 // Makes steps from an empty hierarchy.
-fn steps<H: Tried>(rt: &impl Abort, alloc: Global, steps: &str) -> Result<(), NoMemory> {
+fn steps<H: TestedHierarchy>(rt: &impl Abort, alloc: Global, steps: &str) -> Result<(), NoMemory> {
     let mut hierarchy = H::begun(alloc);
     steps_hold(rt, alloc, &mut hierarchy, steps)
 }
 
 // These rows test, in this order: a cycle that is closed and broken; two cycles that share an entity, where entities
 // that lead to a cycle, and those that it leads to, are not cyclic; parents that repeat, or are not stored; from the
-// least cyclic entity, a shortest cycle, and of these the least, item by item; queries on u below g1, g1 below g2;
-// entities with one id and two types, which are different, also if one of the two is deleted or added.
+// least cyclic entity, a shortest cycle, and of these the least, item by item; queries on u, a child of g1, and g1, a
+// child of g2; entities with one id and two types, which are different, also if one of the two is deleted or added.
 const ROWS: &str = "\
     u in g1/u: g1 | |/\
     g1 in g2/u: g1 g2 | |/\
@@ -455,7 +472,8 @@ const SURVIVED: &str = "\
     g3 in; u: | |; v: g2 g3 u | |; g1: g2 g3 u | |; g2: g3 u | |; g3: | |; touched:4/\
     v; v: | |; g1: g2 g3 u | |; g2: g3 u | |; touched:1";
 
-// A change rewrites the lists of its entity and of all descendants, and no other.
+// These rows test that a change rewrites the lists of ancestors of its entity and of all descendants, and no other
+// list.
 const TOUCHED: &str = "\
     u in g1/g1 in g2/g2 in g3/v in g3/touched:1/g2 in/touched:3/\
     new/u in g1/g1 in g2/g2 in g3/v in g3/g2/touched:3/\

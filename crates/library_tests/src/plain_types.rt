@@ -95,14 +95,14 @@ fn one(alloc: Global) -> Result<Items<u8>, NoMemory> {
 #[test]
 fn boxes(rt: HostRuntime) -> Result<(), NoMemory> {
     let boxed = Boxed::<u8>::new(rt.alloc(), 7)?;
-    holds(&rt, *boxed.get() == 7, "a boxed number");
+    holds(&rt, *boxed == 7, "a boxed number");
     let again = Boxed::from_box(boxed.into_box());
     holds(&rt, again.into_inner() == 7, "the same number");
     Ok(())
 }
 
 fn is_seven(rt: &impl Abort, other: Shared<u8>) {
-    holds(rt, *other.get() == 7, "a shared number");
+    holds(rt, *other == 7, "a shared number");
 }
 
 #[test]

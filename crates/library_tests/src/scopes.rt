@@ -1,14 +1,15 @@
 //! The index of policies by their scopes: the candidates of a request, and failed changes.
 //!
-//! A test is a text of rows, which `/` separates. A row is a change or, with a colon, an expectation:
+//! A test is a string of rows, separated by `/`. A row is a change or, with a colon, an expectation:
 //!
-//! - `POLICY == ID` and `POLICY in ID` add a policy that constrains the principal, `POLICY on ID` and `POLICY within
-//!   ID` one that constrains the resource, by `==` and `in`; `POLICY any` adds one that constrains neither.
+//! - `POLICY == ID` and `POLICY in ID` add a policy that constrains the principal by `==` and `in`.
+//!   `POLICY on ID` and `POLICY within ID` add one that constrains the resource by `==` and `in`.
+//!   `POLICY any` adds one that constrains neither. Each replaces the policy of that name, if there is one.
 //! - `POLICY gone` removes a policy; `CHILD below PARENT` sets the parent of an entity.
 //! - `PRINCIPAL: POLICY ..` expects the candidates of a request of this principal on Doc x.
 //!
-//! In the test with failed allocations `/` separates steps: `CHANGE; ROW; ROW ..`, a change and the expectations after
-//! it.
+//! In the test of failed allocations, of which each run makes one fail (tools/faults/refused_tests.py), `/` separates
+//! steps: `CHANGE; ROW; ROW ..`, a change and the expectations after it.
 use crate::shared::{ended, holds, uid_of};
 use ancestor_closure::{Closed, Hierarchy};
 use plain::{NoMemory, Shared, both};
@@ -21,14 +22,14 @@ use values::{EntityUid, Record, Request};
 
 // An index under test, with the edges of its hierarchy.
 #[derive(Drop)]
-struct Tried {
+struct TestedIndex {
     index: ScopeIndex,
     hierarchy: Closed,
 }
 
 // Returns an index without policies, and a hierarchy without edges.
-fn begun(alloc: Global) -> Tried {
-    Tried {
+fn begun(alloc: Global) -> TestedIndex {
+    TestedIndex {
         index: ScopeIndex::new(alloc),
         hierarchy: Closed::new(alloc),
     }
@@ -43,6 +44,7 @@ fn entity(alloc: Global, id: &str) -> Result<EntityUid, NoMemory> {
     }
 }
 
+// Returns the scope with these constraints, for every action.
 fn of_parts(principal: EntityScope, resource: EntityScope) -> Scope {
     Scope {
         principal,
@@ -90,11 +92,12 @@ fn policy_of(alloc: Global, scope: Scope) -> Result<Policy, NoMemory> {
     })
 }
 
+// Returns the policy of a row, given its second word and its id.
 fn policy(alloc: Global, how: &str, id: &str) -> Result<Policy, NoMemory> {
     policy_of(alloc, scope(alloc, how, id)?)
 }
 
-// Returns a policy; after a failed allocation tries once more, so that a failure after that is the index's own.
+// Returns a policy; after a failed allocation tries once more, so that an error of `add` is one of the index itself.
 fn policy_at_last(alloc: Global, how: &str, id: &str) -> Result<Policy, NoMemory> {
     match policy(alloc, how, id) {
         Ok(policy) => Ok(policy),
@@ -102,6 +105,7 @@ fn policy_at_last(alloc: Global, how: &str, id: &str) -> Result<Policy, NoMemory
     }
 }
 
+// Adds the policy of a row to the index.
 fn add(
     alloc: Global,
     index: &mut ScopeIndex,
@@ -114,6 +118,7 @@ fn add(
     ended(policy, done)
 }
 
+// Sets the parent of an entity.
 fn put_below(
     alloc: Global,
     hierarchy: &mut Closed,
@@ -125,7 +130,7 @@ fn put_below(
 }
 
 // Makes the change of a row.
-fn change(alloc: Global, tried: &mut Tried, row: &str) -> Result<(), NoMemory> {
+fn change(alloc: Global, tried: &mut TestedIndex, row: &str) -> Result<(), NoMemory> {
     let mut words = row.split_whitespace();
     let name = words.next().unwrap_or("");
     let how = words.next().unwrap_or("");
@@ -160,14 +165,15 @@ fn are(found: &[(&str, &Policy)], ids: &str, but: &str) -> bool {
     next_but(&mut ids, but).is_none()
 }
 
-fn finds(tried: &Tried, request: &Request, ids: &str, but: &str) -> Result<bool, NoMemory> {
+// Returns whether the candidates of a request are those of these ids, without the policy `but`.
+fn finds(tried: &TestedIndex, request: &Request, ids: &str, but: &str) -> Result<bool, NoMemory> {
     let found = tried.index.candidates(request, &tried.hierarchy)?;
     let truth = are(found.as_slice(), ids, but);
     Ok(ended(found, truth))
 }
 
-// Returns whether the expectation of a row holds, without the policy `but`.
-fn is_offered(alloc: Global, tried: &Tried, row: &str, but: &str) -> Result<bool, NoMemory> {
+// Returns whether the expectation of a row holds, where the policy `but` is left out of the expected ones.
+fn is_offered(alloc: Global, tried: &TestedIndex, row: &str, but: &str) -> Result<bool, NoMemory> {
     let (principal, ids) = row.split_once(':').unwrap_or((row, ""));
     let request = request(alloc, principal)?;
     let truth = finds(tried, &request, ids, but);
@@ -175,17 +181,18 @@ fn is_offered(alloc: Global, tried: &Tried, row: &str, but: &str) -> Result<bool
 }
 
 // Does as [`is_offered`]; after a failed allocation tries once more.
-fn is_row(alloc: Global, tried: &Tried, row: &str, but: &str) -> Result<bool, NoMemory> {
+fn is_row(alloc: Global, tried: &TestedIndex, row: &str, but: &str) -> Result<bool, NoMemory> {
     match is_offered(alloc, tried, row, but) {
         Ok(truth) => Ok(truth),
         Err(_) => is_offered(alloc, tried, row, but),
     }
 }
 
+// Fails the test unless the expectation of a row holds, without the policy `but`.
 fn row_holds(
     rt: &impl Abort,
     alloc: Global,
-    tried: &Tried,
+    tried: &TestedIndex,
     row: &str,
     but: &str,
 ) -> Result<(), NoMemory> {
@@ -194,17 +201,18 @@ fn row_holds(
 }
 
 // Makes the change of a row, or fails the test unless its expectation holds.
-fn row(rt: &impl Abort, alloc: Global, tried: &mut Tried, row: &str) -> Result<(), NoMemory> {
+fn row(rt: &impl Abort, alloc: Global, tried: &mut TestedIndex, row: &str) -> Result<(), NoMemory> {
     if row.contains(':') {
         return row_holds(rt, alloc, tried, row, "");
     }
     change(alloc, tried, row)
 }
 
+// Executes rows.
 fn rows_hold(
     rt: &impl Abort,
     alloc: Global,
-    tried: &mut Tried,
+    tried: &mut TestedIndex,
     rows: &str,
 ) -> Result<(), NoMemory> {
     for one in rows.split('/') {
@@ -213,10 +221,11 @@ fn rows_hold(
     Ok(())
 }
 
+// Fails the test unless each of these expectations holds, without the policy `but`.
 fn all_hold(
     rt: &impl Abort,
     alloc: Global,
-    tried: &Tried,
+    tried: &TestedIndex,
     rows: &str,
     but: &str,
 ) -> Result<(), NoMemory> {
@@ -226,7 +235,8 @@ fn all_hold(
     Ok(())
 }
 
-// Returns the policy that a failed change removes from the index: the one that was to be added.
+// Returns the policy that a failed change removes from the index: the one that was to be added; for a change of the
+// hierarchy an empty string.
 fn lost_by(change: &str) -> &str {
     if change.contains(" below ") {
         return "";
@@ -237,12 +247,12 @@ fn lost_by(change: &str) -> &str {
     }
 }
 
-// Makes a change again that failed. Fails the test unless the expectations `before` it still hold, apart from the
-// removed policy.
+// Makes a change again that failed. Fails the test unless the expectations of the step before (`before`) still hold,
+// apart from the removed policy.
 fn change_again(
     rt: &impl Abort,
     alloc: Global,
-    tried: &mut Tried,
+    tried: &mut TestedIndex,
     refused: &str,
     before: &str,
 ) -> Result<(), NoMemory> {
@@ -250,10 +260,11 @@ fn change_again(
     change(alloc, tried, refused)
 }
 
+// Makes a change; if it fails, makes it again ([`change_again`]).
 fn change_at_last(
     rt: &impl Abort,
     alloc: Global,
-    tried: &mut Tried,
+    tried: &mut TestedIndex,
     asked: &str,
     before: &str,
 ) -> Result<(), NoMemory> {
@@ -263,11 +274,11 @@ fn change_at_last(
     }
 }
 
-// Makes a step: its change, and then its expectations. Returns these rows.
+// Makes the change of a step. Fails the test unless the step's expectations then hold. Returns these expectations.
 fn step<'a>(
     rt: &impl Abort,
     alloc: Global,
-    tried: &mut Tried,
+    tried: &mut TestedIndex,
     step: &'a str,
     before: &str,
 ) -> Result<&'a str, NoMemory> {
@@ -277,10 +288,11 @@ fn step<'a>(
     Ok(after)
 }
 
+// Makes steps, each from the end of the one before.
 fn steps_hold(
     rt: &impl Abort,
     alloc: Global,
-    tried: &mut Tried,
+    tried: &mut TestedIndex,
     steps: &str,
 ) -> Result<(), NoMemory> {
     let mut before = "u:; v:";
@@ -296,9 +308,9 @@ fn table(rt: &impl Abort, alloc: Global, rows: &str) -> Result<(), NoMemory> {
     rows_hold(rt, alloc, &mut tried, rows)
 }
 
-// These rows test, in this order: a principal that is not stored, then one below a group; a policy whose constraint is
-// removed, and one that is removed; policies constrained by the resource, Doc x, where each that names x or an ancestor
-// is a candidate; a new constraint, and a cyclic entity, for which each policy is a candidate once.
+// These rows test, in this order: a principal that is not stored, then is a child of a group; a policy whose constraint
+// is removed, and one that is removed; policies constrained by the resource, Doc x, where each that names x or an
+// ancestor is a candidate; a new constraint, and a cyclic entity, for which each policy is a candidate once.
 const ROWS: &str = "\
     a:/\
     a == a/b == b/c any/d in g/e in a/\
@@ -313,9 +325,9 @@ const ROWS: &str = "\
     f == b/a: d e h i/b: f h i/\
     g below a/a: d e h i";
 
-// Each step begins at the end of the one before. If a change fails, the candidates are those of before, without the
-// policy that was to be added; a second try succeeds. The steps test a new policy, and one whose key changes; changes
-// of the hierarchy; removed policies; then more policies than a node of a map holds.
+// Each step begins at the end of the one before. If a change fails, the candidates must be those of the step before,
+// without the policy that was to be added, and a second try must succeed. The steps test a new policy, and one whose
+// key changes; changes of the hierarchy; removed policies; then more policies than a node of a map holds.
 const SURVIVED: &str = "\
     c any; u: c; v: c/\
     a == u; u: a c; v: c/\

@@ -175,6 +175,7 @@ fn is_joined<K: Named>(merge: Merge<'_>, taken: usize, key: &K, entry: &Entry<us
         && text_of(entry) == PERMIT
 }
 
+// Returns whether each of these entries is as [`is_joined`] demands.
 fn are_joined<K: Named>(
     merge: Merge<'_>,
     taken: usize,
@@ -218,6 +219,7 @@ fn is_joined_up_to(store: &Store, merge: Merge<'_>, taken: usize) -> bool {
         && store.greatest_count() == if taken == 0 { 1 } else { 9 }
 }
 
+// Merges the names `other` into a store.
 fn merge_again(alloc: Global, store: &mut Store, other: &str) -> Result<(), NoMemory> {
     done(store.merge(filled_at_last(alloc, (9, "2", FORBID), other)?))
 }
@@ -261,14 +263,16 @@ fn merge_into(
     Ok(())
 }
 
+// Merges the names `other` into a store of the names `own`. Fails the test as [`merge_into`] does.
 fn merged(rt: &impl Abort, alloc: Global, own: &str, other: &str) -> Result<(), NoMemory> {
     let mut store = filled_at_last(alloc, (1, "1", PERMIT), own)?;
     let came = merge_into(rt, alloc, &mut store, Merge { own, other });
     ended(store, came)
 }
 
-// The merged store has five names. A map allocates with its first name and its sixteenth, so that a merge may fail
-// after three names, before the first, or nowhere; in the last case also after one.
+// The store that is merged into another has five names. A map allocates with its first name and its sixteenth, so the
+// first merge may fail after three names, the second before its first name, the third nowhere, the fourth after one
+// name or three.
 #[test]
 fn a_refused_merge_joins_the_first_names(rt: HostRuntime) -> Result<(), NoMemory> {
     let alloc = rt.alloc();
@@ -278,6 +282,7 @@ fn a_refused_merge_joins_the_first_names(rt: HostRuntime) -> Result<(), NoMemory
     merged(&rt, alloc, "a b c g h i j k l m n o p q", "d e f @x @y")
 }
 
+// Returns whether the calls that look up find what the store of this test holds.
 fn is_looked_up(store: &Store, uid: &EntityUid) -> bool {
     store.greatest_count() == 4
         && store.issue(site("7")) == stamp((5, "7", ""))
@@ -286,7 +291,7 @@ fn is_looked_up(store: &Store, uid: &EntityUid) -> bool {
 }
 
 // Returns whether the entries have these ids, in this order.
-fn stand_at<K: Named>(entries: Iter<'_, K, Entry<usize>>, ids: &str) -> bool {
+fn have_ids<K: Named>(entries: Iter<'_, K, Entry<usize>>, ids: &str) -> bool {
     let mut ids = ids.split(' ');
     for (name, _) in entries {
         if ids.next() != Some(name.id()) {
@@ -297,13 +302,13 @@ fn stand_at<K: Named>(entries: Iter<'_, K, Entry<usize>>, ids: &str) -> bool {
 }
 
 // Returns whether the names of both kinds are in order.
-fn is_gone_over(store: &Store) -> bool {
-    stand_at(store.policies(), "a b") && stand_at(store.entities(), "x y")
+fn is_iterated(store: &Store) -> bool {
+    have_ids(store.policies(), "a b") && have_ids(store.entities(), "x y")
 }
 
 fn is_asked(rt: &impl Abort, store: &Store, uid: &EntityUid) {
     holds(rt, is_looked_up(store, uid), "look-ups");
-    holds(rt, is_gone_over(store), "the names in order");
+    holds(rt, is_iterated(store), "the names in order");
 }
 
 fn stored(alloc: Global, count: u64, text: &str) -> Result<Store, NoMemory> {
@@ -344,6 +349,7 @@ fn single(alloc: Global, key: &str, row: Row<'_>) -> Result<Entries, NoMemory> {
     finished(map, done)
 }
 
+// Returns the number whose decimal digits are the counts of the entries, in order.
 fn counts_of(map: &Entries) -> u64 {
     let mut counts: u64 = 0;
     for (_, entry) in map.iter() {

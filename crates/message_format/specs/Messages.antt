@@ -36,8 +36,8 @@ entry_json u = object (member (codes "body") (body_json u.1.body)
     (member (codes "name") (name_json u.0)
     (member (codes "site") (string u.1.site) no_members))))
 
--- `message_json kind label us` is the JSON of the updates `us` as a message of this kind for the schema with this
--- label.
+-- `message_json kind label us` is the JSON of the updates `us` as a message of the kind `kind` for the schema with the
+-- label `label`.
 abbrev pub message_json : List ℕ → List ℕ → List Update → Data
 message_json kind label us = object (member (codes "entries") (array (items_of (map entry_json us)))
     (member (codes "kind") (string kind)
@@ -68,12 +68,12 @@ text_in d = do
   text ← or_fault BadShape (as_str d)
   Ok (Some text)
 
--- `body_in d` is the body that `d` describes: that of a tombstone for null, else a string.
+-- `body_in d` is the body that `d` describes: that of a tombstone for null, else a string; `BadShape` for other JSON.
 unfoldable pub body_in : Data → Result (Option (List ℕ)) MessageFault
 body_in d = if is_some (as_null d) then Ok None else text_in d
 
--- `entry_by stamped_of entry_of d` is the update that the object `d` describes, before its text is parsed, or its
--- error: `stamped_of` reads its name and stamp, and `entry_of` joins the stamp and the body.
+-- `entry_by stamped_of entry_of d` is the update that the object `d` describes, with its text not yet parsed, or the
+-- error of `d`: `stamped_of` reads its name and stamp, and `entry_of` joins the stamp and the body.
 unfoldable pub entry_by : {S E : Type 0} → (Data → Result (Name × S) MessageFault) → (S → Option (List ℕ) → E) → Data
     → Result (Name × E) MessageFault
 entry_by stamped_of entry_of d = do
@@ -103,12 +103,12 @@ entries_by entry_of d = do
 unfoldable pub entries_in : MessageVersion → Data → Result (List Update) MessageFault
 entries_in version d = entries_by (entry_in version) d
 
--- `is_kind kind` is whether a message of this kind has entries: whether it is a state or a delta.
+-- `is_kind kind` tests whether a message of the kind `kind` has entries: whether it is a state or a delta.
 abbrev pub is_kind : List ℕ → Bool
 is_kind kind = bytes_eq kind (codes "state") || bytes_eq kind (codes "delta")
 
--- `updates_by entries label d` is the list of the updates of the message `d` for the schema with this label, which
--- `entries` reads, or the first error. The whole shape, all entries included, is checked before the label.
+-- `updates_by entries label d` is the list of the updates of the message `d`, as `entries` reads them, for the schema
+-- with the label `label`, or the first error. The whole shape, all entries included, is checked before the label.
 unfoldable pub updates_by : {U : Type 0} → (Data → Result (List U) MessageFault) → List ℕ → Data
     → Result (List U) MessageFault
 updates_by entries label d = do
@@ -120,15 +120,15 @@ updates_by entries label d = do
   same ← demand OtherSchema (bytes_eq schema label)
   Ok us
 
--- `updates_in label d` is the list of the updates of the message `d` for the schema with this label, or the first
--- error. The version is checked before the rest of the shape.
+-- `updates_in label d` is the list of the updates of the message `d` for the schema with the label `label`, or the
+-- first error. The version is checked before the rest of the shape.
 unfoldable pub updates_in : List ℕ → Data → Result (List Update) MessageFault
 updates_in label d = do
   version ← version_in d
   updates_by (entries_in version) label d
 
--- `updates_stated label bytes` is the list of the updates that `bytes` describe for the schema with this label, in
--- order, or the first error of JSON, version, shape or label. Ranges and texts of entries are checked later.
+-- `updates_stated label bytes` is the list of the updates that `bytes` describe for the schema with the label `label`,
+-- in order, or the first error of JSON, version, shape or label. Ranges and texts of entries are checked later.
 unfoldable pub updates_stated : List ℕ → List ℕ → Result (List Update) MessageFault
 updates_stated label bytes = do
   d ← or_fault NotJson (json_of bytes)

@@ -21,8 +21,8 @@ numbered_entry_json n = object (member (codes "body") (body_json n.1.body)
     (member (codes "name") (name_json n.0)
     (member (codes "site") (number (unsigned n.1.site)) no_members))))
 
--- `numbered_message_json kind label ns` is the JSON of the updates `ns` as a message of version 1 and this kind, for
--- the schema with this label.
+-- `numbered_message_json kind label ns` is the JSON of the updates `ns` as a message of version 1 and of the kind
+-- `kind`, for the schema with the label `label`.
 abbrev pub numbered_message_json : List ℕ → List ℕ → List NumberedUpdate → Data
 numbered_message_json kind label ns = object (member (codes "entries") (array (items_of (map numbered_entry_json ns)))
     (member (codes "kind") (string kind)
@@ -31,7 +31,7 @@ numbered_message_json kind label ns = object (member (codes "entries") (array (i
 
 -- ---- read, in any spelling
 
--- `numbered_entry s body` is the entry with the stamp `s` and this body.
+-- `numbered_entry s body` is the entry with the stamp `s` and the body `body`.
 abbrev pub numbered_entry : StampAt ℕ → Option (List ℕ) → EntryAt ℕ
 numbered_entry s body = record { count = s.count; site = s.site; body = body }
 
@@ -43,8 +43,8 @@ numbered_entry_in d = entry_by (stamped_by numbered_in) numbered_entry d
 unfoldable pub numbered_entries_in : Data → Result (List NumberedUpdate) MessageFault
 numbered_entries_in d = entries_by numbered_entry_in d
 
--- `IsVersion1Message label bytes ns` holds if `bytes` are a message of version 1 for the schema with this label, with
--- the updates `ns`, in this order.
+-- `IsVersion1Message label bytes ns` holds if `bytes` are a message of version 1 for the schema with the label `label`,
+-- with the updates `ns`, in this order.
 pub record IsVersion1Message (label bytes : List ℕ) (ns : List NumberedUpdate) : Type 0 where
   pub value : Data
   pub json : json_of bytes ≡ Some value

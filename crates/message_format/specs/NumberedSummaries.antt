@@ -35,7 +35,8 @@ numbered_stamp_json n = object (member (codes "count") (number (unsigned n.1.cou
     (member (codes "name") (name_json n.0)
     (member (codes "site") (number (unsigned n.1.site)) no_members)))
 
--- `numbered_summary_json label ns` is the JSON of the summary `ns` of version 1 under the schema with this label.
+-- `numbered_summary_json label ns` is the JSON of the summary `ns` of version 1 under the schema with the label
+-- `label`.
 abbrev pub numbered_summary_json : List ℕ → List NumberedStamp → Data
 numbered_summary_json label ns = object (member (codes "kind") (string (codes "summary"))
     (member (codes "schema") (string label)

@@ -31,7 +31,7 @@ use Rattle.message_format.specs.declared.fault.MessageFault.{MessageFault}
 use Rattle.message_format.specs.declared.fault.MessageFault.TheVariants.{NotJson, BadShape, OtherSchema, Version}
 use Rattle.message_format.specs.declared.fault.MessageFault.TheVariants.{CountRange, BadEntry}
 
--- `ascend m` is whether the names of `m` ascend strictly.
+-- `ascend m` tests whether the names of `m` ascend strictly.
 abbrev pub ascend : Summary → Bool
 ascend [] = true
 ascend (a ∷ []) = true
@@ -82,14 +82,15 @@ stamp_json u = object (member (codes "count") (number (unsigned u.1.count))
     (member (codes "name") (name_json u.0)
     (member (codes "site") (string u.1.site) no_members)))
 
--- `summary_json label m` is the JSON of the summary `m` under the schema with this label.
+-- `summary_json label m` is the JSON of the summary `m` under the schema with the label `label`.
 abbrev pub summary_json : List ℕ → Summary → Data
 summary_json label m = object (member (codes "kind") (string (codes "summary"))
     (member (codes "schema") (string label)
     (member (codes "stamps") (array (items_of (map stamp_json m)))
     (member (codes "version") (number (unsigned 2)) no_members))))
 
--- `summary_text label m` is the text of the summary `m` under the schema with this label: compact, keys ascending.
+-- `summary_text label m` is the text of the summary `m` under the schema with the label `label`: compact, keys
+-- ascending.
 unfoldable pub summary_text : List ℕ → Summary → List ℕ
 summary_text label m = compact_text (summary_json label m)
 
@@ -146,7 +147,7 @@ named_in d = do
   named ← demand BadShape (is_site_name site)
   Ok site
 
--- `raised_in d` is the five digits of the number of a site at the key `site` of `d`, or `BadShape`.
+-- `raised_in d` are the five digits of the number of a site at the key `site` of `d`, or `BadShape`.
 unfoldable pub raised_in : Data → Result (List ℕ) MessageFault
 raised_in d = do
   site ← numbered_in d
@@ -196,7 +197,7 @@ stamps_in version d = do
   ascending ← demand BadShape (ascend stamps)
   Ok stamps
 
--- `is_name_in_range n` is whether `n` is an entity's uid, or a policy's id of 1 to 256 bytes.
+-- `is_name_in_range n` tests whether `n` is an entity's uid, or a policy's id of 1 to 256 bytes.
 abbrev pub is_name_in_range : Name → Bool
 is_name_in_range (Policy id) = nat_le 1 (length id) && nat_le (length id) 256
 is_name_in_range (Entity uid) = true
@@ -213,8 +214,9 @@ judged place u = do
   named ← demand (BadEntry place bad_id) (is_name_in_range u.0)
   Ok u
 
--- `summary_in label d` is the summary that `d` describes under the schema with this label, or the first error. The
--- version is checked before the rest of the shape, the whole shape before the label, and the label before the ranges.
+-- `summary_in label d` is the summary that `d` describes under the schema with the label `label`, or the first error.
+-- The version is checked before the rest of the shape, the whole shape before the label, and the label before the
+-- ranges.
 unfoldable pub summary_in : List ℕ → Data → Result Summary MessageFault
 summary_in label d = do
   version ← version_in d
@@ -226,8 +228,8 @@ summary_in label d = do
   same ← demand OtherSchema (bytes_eq schema label)
   each judged 0 stamps
 
--- `summary_stated label bytes` is the summary that `bytes` describe under the schema with this label, or the first
--- error.
+-- `summary_stated label bytes` is the summary that `bytes` describe under the schema with the label `label`, or the
+-- first error.
 unfoldable pub summary_stated : List ℕ → List ℕ → Result Summary MessageFault
 summary_stated label bytes = do
   d ← or_fault NotJson (json_of bytes)

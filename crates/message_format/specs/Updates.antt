@@ -75,8 +75,8 @@ module _ {P E : Type 0} (Policies : List ℕ → List ℕ → P → Type 0) (Ent
   abbrev pub AreValid : List PlainUpdate → Type 0
   AreValid us = AllByRecursion IsValid us
 
-  -- `IsMessage label bytes us` holds if `bytes` are a state or delta for the schema with this label, with the updates
-  -- `us`, in this order, each in its ranges and with a value of its text.
+  -- `IsMessage label bytes us` holds if `bytes` are a state or delta for the schema with the label `label`, with the
+  -- updates `us`, in this order, each in its ranges and with a value of its text.
   pub record IsMessage (label bytes : List ℕ) (us : List (Update P E)) : Type 0 where
     pub stated : updates_stated label bytes ≡ Ok (plain_updates us)
     pub in_range : AreInRange (plain_updates us)
@@ -111,8 +111,8 @@ module _ {P E : Type 0} (Policies : List ℕ → List ℕ → P → Type 0) (Ent
   IsFirstFault place (u ∷ us) why = IsFaultAt NoPolicies NoEntities place u why
       ⊎ (IsStamped (stamped u) × IsValid Policies Entities u × IsFirstFault (suc place) us why)
 
-  -- `IsMessageFault label bytes why` holds if `why` is the first error of `bytes` as a message for the schema with this
-  -- label: that of their JSON, version, shape or label or, if they describe updates, the first error of these.
+  -- `IsMessageFault label bytes why` holds if `why` is the first error of `bytes` as a message for the schema with the
+  -- label `label`: that of their JSON, version, shape or label or, if they describe updates, the first error of these.
   abbrev pub IsMessageFault : List ℕ → List ℕ → MessageFault → Type 0
   IsMessageFault label bytes why = MatchResult (updates_stated label bytes) (λ us. IsFirstFault 0 us why)
       (λ first. why ≡ first)

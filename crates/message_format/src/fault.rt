@@ -64,7 +64,7 @@ impl MessageFault {
         }
     }
 
-    /// Returns the code of the inner error, or `None` otherwise.
+    /// Returns the code of the inner error, or `None` if there is no inner error.
     pub fn within(self) -> Option<u8>
         ensures { result ≡ within_of self }
     {

@@ -15,7 +15,7 @@ use plain::NoMemory;
 use std::cmp::Ordering;
 use values::{EntityUid, Name};
 
-/// Writes a member of an object whose value is a string.
+/// Writes a member of an object, with a string as its value.
 ///
 /// # Errors
 ///
@@ -27,7 +27,7 @@ pub fn write_text(out: &mut Writer, key: &str, text: &str) -> Result<(), NoMemor
     out.string(text)
 }
 
-/// Writes a member of an object whose value is a number, in decimal.
+/// Writes a member of an object, with a number in decimal as its value.
 ///
 /// # Errors
 ///
@@ -40,7 +40,7 @@ pub fn write_number(out: &mut Writer, key: &str, value: u64) -> Result<(), NoMem
 }
 
 /// A name borrowed from a store: a policy's id or an entity's uid. It is compared and written like the [`Name`] that it
-/// represents, without creating that.
+/// represents, which is not created.
 pub trait Lent {
     /// The name that this value represents.
     ghost named: { Self → Name };

@@ -17,7 +17,7 @@ use crate::summary_laws::stamps_read_back;
 use crate::summary_reading::judge_stamp;
 use crate::{Bodies, BodyFault, Update};
 use json_words::Scratch;
-use plain::{Text, beside};
+use plain::{Text, pair_with};
 use stamped_store::{Entry, ReadText, Stamp};
 use std::alloc::Global;
 use std::collections::VecDeque;
@@ -142,7 +142,7 @@ fn read_at<P: Drop, E: Drop, B: Bodies<P, E>>(
         (IsFaultAt (B.refuses_policy bodies.now) (B.refuses_entity bodies.now) place (stated_update stated))) }
 {
     let judged = judge_stamp(place, &stated.stamped);
-    let (stated, ()) = beside(stated, judged)?;
+    let (stated, ()) = pair_with(stated, judged)?;
     match read_update(alloc, bodies, scratch, stated) {
         Ok(update) => Ok(update),
         Err(fault) => Err(fault_at(place, fault)),

@@ -11,7 +11,7 @@ use crate::fault::MessageFault;
 use crate::summary_reading::{read_stamped, read_version};
 use crate::version::MessageVersion;
 use json_words::{Scratch, only_keys, read_json_by, text_at};
-use plain::{Text, beside};
+use plain::{Text, pair_with};
 use serde_json::Value;
 use stamped_store::Stamp;
 use std::alloc::Global;
@@ -54,7 +54,7 @@ fn read_entry(
         return Err(MessageFault::BadShape);
     };
     let body = read_body(alloc, found)?;
-    let (body, stamped) = beside(body, read_stamped(alloc, version, value))?;
+    let (body, stamped) = pair_with(body, read_stamped(alloc, version, value))?;
     Ok(ReadEntry { stamped, body })
 }
 

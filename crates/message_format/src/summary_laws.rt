@@ -16,7 +16,7 @@ ghost use Rattle.message_format.specs.Summaries.{name_json, name_in, stamped_in,
 use entity_uids::names_read_back;
 use json_words::compact_texts_read_back;
 use stamped_store::laws::site_names_are_recognized;
-use values::paths_are_told;
+use values::path_tests_are_exact;
 
 /// Proves the round trip of summaries. No-op.
 ///
@@ -39,7 +39,7 @@ pub fn summaries_read_back()
     ensures one_text { (label : List ℕ) (m n : Summary) → IsUtf8 label → IsWritten m → IsWritten n
         → summary_text label m ≡ summary_text label n → m ≡ n }
 {
-    paths_are_told();
+    path_tests_are_exact();
     site_names_are_recognized();
     compact_texts_read_back();
     names_read_back();
@@ -55,7 +55,7 @@ pub fn stamps_read_back()
     ensures sound { (place : ℕ) (version : MessageVersion) (d : Data) (u v : Name × Stamp)
         → stamped_in version d ≡ Ok u → judged place u ≡ Ok v → IsStamped u }
 {
-    paths_are_told();
+    path_tests_are_exact();
     site_names_are_recognized();
     names_read_back();
 }

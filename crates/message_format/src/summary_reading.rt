@@ -21,7 +21,7 @@ use stamped_store::{COUNT_MAX, SiteName, Stamp, is_site_name};
 use std::alloc::Global;
 use values::Name;
 
-/// Returns the integer in unsigned 64 bits that an object has at a key; `BadShape` otherwise. Does not allocate.
+/// Returns the integer in unsigned 64 bits at a key of an object, or `BadShape` if there is none. Does not allocate.
 fn number_at(value: &Value, key: &str) -> Result<u64, MessageFault>
     ensures { AlwaysReadsAs (λ n. n) result (number_of key.now (view value.now)) }
 {
@@ -81,7 +81,7 @@ fn read_name(alloc: Global, value: &Value) -> Result<Name, MessageFault>
 /// # Errors
 ///
 /// - `BadShape` (51): there is no `version` that is an integer in unsigned 64 bits.
-/// - `Version` (53): it is neither 1 nor 2.
+/// - `Version` (53): the version is neither 1 nor 2.
 #[tactic(auto, unfolding(crate::specs::Summaries::version_in))]
 pub fn read_version(value: &Value) -> Result<MessageVersion, MessageFault>
     ensures { AlwaysReadsAs (λ v. v) result (version_in (view value.now)) }
@@ -96,7 +96,7 @@ pub fn read_version(value: &Value) -> Result<MessageVersion, MessageFault>
     Err(MessageFault::Version)
 }
 
-/// Returns the number of a site that an object has, from 1 to 65,535.
+/// Returns the number at an object's key `site`, from 1 to 65,535.
 #[tactic(auto, unfolding(crate::specs::Summaries::numbered_in))]
 fn read_number(value: &Value) -> Result<u16, MessageFault>
     ensures { AlwaysReadsAs (λ n. n) result (numbered_in (view value.now)) }
@@ -108,7 +108,7 @@ fn read_number(value: &Value) -> Result<u16, MessageFault>
     Ok(site as u16)
 }
 
-/// Returns the site whose number an object has: its name is the five digits of the number.
+/// Returns the site whose number is at an object's key `site`; its name is the five digits of the number.
 #[tactic(auto, unfolding(crate::specs::Summaries::raised_in))]
 fn read_numbered(value: &Value) -> Result<SiteName, MessageFault>
     ensures { AlwaysReadsAs (λ n. n) result (raised_in (view value.now)) }
@@ -117,7 +117,7 @@ fn read_numbered(value: &Value) -> Result<SiteName, MessageFault>
     Ok(SiteName::from_number(number))
 }
 
-/// Returns the site whose name an object has.
+/// Returns the site whose name is at an object's key `site`.
 #[tactic(auto, unfolding(crate::specs::Summaries::named_in))]
 fn read_named(value: &Value) -> Result<SiteName, MessageFault>
     ensures { AlwaysReadsAs (λ n. n) result (named_in (view value.now)) }
@@ -131,7 +131,7 @@ fn read_named(value: &Value) -> Result<SiteName, MessageFault>
     Ok(SiteName::new(site))
 }
 
-/// Returns the site that an object has, in the form of the message's version.
+/// Returns the site at an object's key `site`, in the form of the message's version.
 fn read_site(version: MessageVersion, value: &Value) -> Result<SiteName, MessageFault>
     ensures { AlwaysReadsAs (λ n. n) result (site_in version (view value.now)) }
 {
@@ -144,7 +144,7 @@ fn read_site(version: MessageVersion, value: &Value) -> Result<SiteName, Message
 /// Returns the name and the stamp that an object has at its keys `count`, `name` and `site`, and ignores other keys.
 ///
 /// A count is an integer in unsigned 64 bits, a name a policy's id or an entity's uid. In version 1 a site is a number
-/// from 1 to 65,535, whose five digits are the site's name; in version 2 it is its name.
+/// from 1 to 65,535, whose five digits are the site's name; in version 2 a site is its name.
 ///
 /// # Errors
 ///

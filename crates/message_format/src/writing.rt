@@ -53,7 +53,8 @@ fn write_entry<N: Lent, P>(out: &mut Writer, name: &N, entry: &Entry<P>) -> Resu
     out.end_object()
 }
 
-/// Returns the stamps of `known`, whose names ascend, from `name` on, and the stamp of `name` if it has one.
+/// Returns the part of `known` from `name` on, and the stamp that `known` has for `name`, if it has one. The names of
+/// `known` ascend.
 fn from_name<'a, N: Lent>(
     known: &'a [(Name, Stamp)],
     name: &N,
@@ -83,7 +84,8 @@ fn is_unseen<P>(known: Option<Stamp>, entry: &Entry<P>) -> bool
     }
 }
 
-/// Writes an entry if a summary lacks its name or has it with a smaller stamp; `known` is its stamp there.
+/// Writes an entry if a summary lacks its name or has it with a smaller stamp; `known` is the stamp of the name in the
+/// summary.
 fn push_missing<N: Lent, P>(
     out: &mut Writer,
     known: Option<Stamp>,
@@ -99,8 +101,8 @@ fn push_missing<N: Lent, P>(
     write_entry(out, name, entry)
 }
 
-/// Writes those of the entries, whose names ascend, whose names `known` lacks or has with a smaller stamp. Returns the
-/// stamps of `known` from the last name on.
+/// Writes the entries whose names `known` lacks or has with a smaller stamp. The names of `entries` ascend. Returns the
+/// part of `known` from the name of the last entry on.
 fn push_all<'a, N: Lent + Drop, P: Drop>(
     out: &mut Writer,
     entries: Iter<'_, N, Entry<P>>,
@@ -120,8 +122,8 @@ fn push_all<'a, N: Lent + Drop, P: Drop>(
     Ok(left)
 }
 
-/// Writes the entries of a store whose names `known` lacks or has with a smaller stamp as an array, in the order of the
-/// names. Takes one walk over the names of both.
+/// Writes as an array, in the order of the names, the entries of a store whose names `known` lacks or has with a
+/// smaller stamp. Takes one walk over the names of the store and of `known`.
 fn write_entries<P: Drop, E: Drop>(
     out: &mut Writer,
     store: &StampedStore<P, E>,
@@ -201,8 +203,8 @@ pub fn write_state<P: Drop, E: Drop>(
 
 /// Returns a delta of the schema with this label: the entries whose names `since` lacks or has with a smaller stamp.
 ///
-/// The text has the form of [`write_state`]'s, and is parsed likewise. Takes one walk over the names of both. Allocates
-/// only the returned bytes.
+/// The text has the form of [`write_state`]'s, and is parsed likewise. Takes one walk over the names of the store and
+/// of `since`. Allocates only the returned bytes.
 ///
 /// # Errors
 ///

@@ -5,8 +5,9 @@ use crate::NoMemory;
 use std::alloc::Global;
 use std::cmp::Ordering;
 use std::marker::Model;
+use std::ops::Deref;
 
-/// A value in a `Box`, which contracts see as the value itself.
+/// A value in a `Box`. Contracts see the value itself.
 #[derive(Drop)]
 pub struct Boxed<T> {
     owner: Box<T>,
@@ -21,7 +22,7 @@ impl<T> Model for Boxed<T> {
 }
 
 impl<T> Boxed<T> {
-    /// Returns the value of a `Box`. Does not allocate.
+    /// Wraps a `Box`. Does not allocate.
     pub fn from_box(owner: Box<T>) -> Boxed<T>
         ensures { result ≡ owner.value }
     {
@@ -43,11 +44,15 @@ impl<T> Boxed<T> {
         let Boxed { owner } = self;
         Box::into_inner(owner)
     }
+}
 
-    /// Returns the value, borrowed. Does not allocate.
-    pub fn get(&self) -> &T
-        ensures { result.now ≡ self.now }
-    {
+/// A box is borrowed as its value. Does not allocate.
+impl<T> Deref for Boxed<T> {
+    type Target = T;
+
+    ghost deref_gives = { λ b x. x ≡ b };
+
+    fn deref(&self) -> &T {
         &self.owner
     }
 }
@@ -69,7 +74,7 @@ impl<T: PartialEq> PartialEq for Boxed<T> {
     ghost laws = { T.laws };
 
     fn eq(&self, other: &Boxed<T>) -> bool {
-        self.get() == other.get()
+        **self == **other
     }
 }
 
@@ -84,7 +89,7 @@ impl<T: PartialOrd> PartialOrd for Boxed<T> {
     ghost laws = { T.PartialOrd.laws };
 
     fn partial_cmp(&self, other: &Boxed<T>) -> Option<Ordering> {
-        self.get().partial_cmp(other.get())
+        (**self).partial_cmp(other)
     }
 }
 
@@ -98,6 +103,6 @@ impl<T: Ord> Ord for Boxed<T> {
     ghost matches_eq = { λ a b. T.matches_eq a b };
 
     fn cmp(&self, other: &Boxed<T>) -> Ordering {
-        self.get().cmp(other.get())
+        (**self).cmp(other)
     }
 }

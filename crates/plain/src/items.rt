@@ -12,7 +12,7 @@ use std::cmp::Ordering;
 use std::marker::Model;
 use std::slice::Iter;
 
-/// A list, which contracts see as the list of its items.
+/// A list of items in a `Vec`. Contracts see the items in order.
 #[derive(Drop)]
 pub struct Items<T> {
     list: Vec<T>,

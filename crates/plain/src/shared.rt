@@ -5,11 +5,12 @@ use crate::NoMemory;
 use std::alloc::Global;
 use std::cmp::Ordering;
 use std::marker::Model;
+use std::ops::Deref;
 use std::rc::Rc;
 
 /// A reference-counted value. Contracts see the value, however many references there are.
 ///
-/// It is immutable, and is dropped with its last reference.
+/// The value is immutable, and is dropped with its last reference.
 #[derive(Drop)]
 pub struct Shared<T> {
     owner: Rc<T>,
@@ -23,11 +24,13 @@ impl<T> Model for Shared<T> {
     ghost view = { λ s. s.owner.value };
 }
 
-impl<T> Shared<T> {
-    /// Returns the value, borrowed. Does not allocate.
-    pub fn get(&self) -> &T
-        ensures { result.now ≡ self.now }
-    {
+/// A shared value is borrowed as the value itself. Does not allocate.
+impl<T> Deref for Shared<T> {
+    type Target = T;
+
+    ghost deref_gives = { λ s x. x ≡ s };
+
+    fn deref(&self) -> &T {
         self.owner.as_ref()
     }
 }
@@ -61,7 +64,7 @@ impl<T: PartialEq> PartialEq for Shared<T> {
     ghost laws = { T.laws };
 
     fn eq(&self, other: &Shared<T>) -> bool {
-        self.get() == other.get()
+        **self == **other
     }
 }
 
@@ -76,7 +79,7 @@ impl<T: PartialOrd> PartialOrd for Shared<T> {
     ghost laws = { T.PartialOrd.laws };
 
     fn partial_cmp(&self, other: &Shared<T>) -> Option<Ordering> {
-        self.get().partial_cmp(other.get())
+        (**self).partial_cmp(other)
     }
 }
 
@@ -90,6 +93,6 @@ impl<T: Ord> Ord for Shared<T> {
     ghost matches_eq = { λ a b. T.matches_eq a b };
 
     fn cmp(&self, other: &Shared<T>) -> Ordering {
-        self.get().cmp(other.get())
+        (**self).cmp(other)
     }
 }

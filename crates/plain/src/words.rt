@@ -1,5 +1,5 @@
-//! Tests of the bytes of words and numbers of the policy language, and lengths of the runs of such bytes that texts
-//! begin with.
+//! Functions that test whether a byte may be in a word or a number of the policy language, and that count such bytes at
+//! the beginning of a text.
 ghost use Rattle.std.specs.Prelude.{◌≡◌, ◌≤◌, length};
 ghost use Rattle.plain.specs.Words.{is_letter, is_digit, is_word_byte, run};
 
@@ -19,7 +19,7 @@ pub fn digit(byte: u8) -> bool
     matches!(byte, b'0'..=b'9')
 }
 
-// The byte of a word at its own index, and a colon at every other index.
+// At the index of each byte that a word may contain, that byte; at every other index, a colon.
 static WORD_BYTES: [u8; 256] = *b"\
     ::::::::::::::::::::::::::::::::\
     ::::::::::::::::0123456789::::::\
@@ -30,7 +30,8 @@ static WORD_BYTES: [u8; 256] = *b"\
     ::::::::::::::::::::::::::::::::\
     ::::::::::::::::::::::::::::::::";
 
-/// Returns whether a word may contain this byte. This is one look-up in a table, since most bytes of a text are tested.
+/// Returns whether a word may contain this byte. The test is one look-up in a table, because it runs for most bytes of
+/// a policy's text.
 fn word_byte(byte: u8) -> bool
     ensures { result ≡ is_word_byte byte }
 {

@@ -16,7 +16,7 @@ use Rattle.grammar_desugaring.specs.grammar_tokens.declared.fault.SyntaxFault.Th
 use Rattle.grammar_desugaring.specs.grammar_tokens.declared.tree.UidTree.{UidTree}
 use Rattle.grammar_desugaring.specs.grammar_tokens.Kinds.{only}
 use Rattle.grammar_desugaring.specs.grammar_tokens.Lang.{Lang, at_any}
-use Rattle.grammar_desugaring.specs.grammar_tokens.Reads.{IsRefusedWithin, IsAnswerWithin, HasOneAnswer, HasOneAnswerWithin}
+use Rattle.grammar_desugaring.specs.grammar_tokens.ParseResults.{IsRefusedWithin, IsAnswerWithin, HasOneAnswer, HasOneAnswerWithin}
 use Rattle.grammar_policies.specs.grammar_expressions.Expressions.{nesting_limit}
 use Rattle.grammar_policies.specs.Grammar as grammar
 use Rattle.grammar_policies.specs.Grammar.{effects}
@@ -46,8 +46,8 @@ use Rattle.policy_grammar.specs.Conditions.{conditions_of}
 use Rattle.policy_grammar.specs.CoreOf.{IsUidOf, AreUidsOf, IsEntityScopeOf, IsActionScopeOf, effect_word, IsCoreOf}
 use Rattle.policy_grammar.specs.CoreOf.{AreCoresOf, IsValueOf, is_id, IsNameBy, IsNameOf, AreNamesOf}
 use Rattle.policy_grammar.specs.Faults.{of_desugaring}
-use Rattle.grammar_core.specs.Size.{most_height, most_forms}
-use Rattle.policy_grammar.specs.Limits.{Shape, height, forms, shape_of, IsSmallShape, IsSmallTree, IsId, most_id_bytes}
+use Rattle.grammar_core.specs.Size.{most_height, most_nodes}
+use Rattle.policy_grammar.specs.Limits.{Shape, height, node_count, shape_of, IsSmallShape, IsSmallTree, IsId, most_id_bytes}
 use Rattle.policy_grammar.specs.Limits.{most_policy_bytes, most_file_bytes}
 use Rattle.policy_grammar.specs.PolicyText.{Derives, byte_of, IsUnread, IsReportedOf, tree_faults, file_faults}
 use Rattle.policy_grammar.specs.PolicyText.{IsPolicyOf, HasNoPolicy, ArePoliciesOf, HaveNoPolicies, IsUidText}
@@ -146,10 +146,10 @@ module _ (laws : Laws) (text : List ℕ) (ts : List Token) (lexed : IsLexed text
       subst (λ u. IsToken u.kind (spelling_of text u)) here.2 (each here.0 t here.1)
 
   string_of : (t : Token) → WellFormedToken (only k.Text) ts t → (value : List ℕ) × IsStringOf value (spelling_of text t)
-  string_of t stands = laws.values (spelling_of text t) (subst (λ kind. IsToken kind (spelling_of text t)) (text-kind t.kind stands.1) (spelled t stands.0))
+  string_of t is_well_formed = laws.values (spelling_of text t) (subst (λ kind. IsToken kind (spelling_of text t)) (text-kind t.kind is_well_formed.1) (spelled t is_well_formed.0))
 
   uid_of : (tree : UidTree) → WellFormedUid ts tree → (uid : EntityUid) × IsUidOf text tree uid
-  uid_of tree stands = (meaning.uid_of text tree, refl)
+  uid_of tree is_well_formed = (meaning.uid_of text tree, refl)
 
   uids_of : (trees : List UidTree) → AllByRecursion (WellFormedUid ts) trees → (uids : List EntityUid) × AreUidsOf text trees uids
   uids_of [] stand = ([], tt)
@@ -159,24 +159,24 @@ module _ (laws : Laws) (text : List ℕ) (ts : List Token) (lexed : IsLexed text
       (first.0 ∷ more.0, (first.1, more.1))
 
   part_of : (tree : PartTree) → WellFormedPart ts tree → (scope : EntityScope) × IsEntityScopeOf text tree scope
-  part_of part.Any stands = (entity.Any, tt)
-  part_of (part.Equal tree) stands = let uid = uid_of tree stands in (entity.Equal uid.0, uid.1)
-  part_of (part.In tree) stands = let uid = uid_of tree stands in (entity.In uid.0, uid.1)
-  part_of (part.Is path) stands = (entity.Is (path_name text path), refl)
-  part_of (part.IsIn path tree) stands = let uid = uid_of tree stands.1 in (entity.IsIn (path_name text path) uid.0, (refl, uid.1))
+  part_of part.Any is_well_formed = (entity.Any, tt)
+  part_of (part.Equal tree) is_well_formed = let uid = uid_of tree is_well_formed in (entity.Equal uid.0, uid.1)
+  part_of (part.In tree) is_well_formed = let uid = uid_of tree is_well_formed in (entity.In uid.0, uid.1)
+  part_of (part.Is path) is_well_formed = (entity.Is (path_name text path), refl)
+  part_of (part.IsIn path tree) is_well_formed = let uid = uid_of tree is_well_formed.1 in (entity.IsIn (path_name text path) uid.0, (refl, uid.1))
 
   action_of : (tree : ActionTree) → WellFormedAction ts tree → (scope : ActionScope) × IsActionScopeOf text tree scope
-  action_of action.Any stands = (actions.Any, tt)
-  action_of (action.Equal tree) stands = let uid = uid_of tree stands in (actions.Equal uid.0, uid.1)
-  action_of (action.In tree) stands = let uid = uid_of tree stands in (actions.In uid.0, uid.1)
+  action_of action.Any is_well_formed = (actions.Any, tt)
+  action_of (action.Equal tree) is_well_formed = let uid = uid_of tree is_well_formed in (actions.Equal uid.0, uid.1)
+  action_of (action.In tree) is_well_formed = let uid = uid_of tree is_well_formed in (actions.In uid.0, uid.1)
   action_of (action.InList trees) stand = let uids = uids_of trees stand in (actions.InList uids.0, uids.1)
 
   core_of : (tree : PolicyTree) → WellFormedPolicy ts tree → (policy : Policy) × IsCoreOf text tree policy
-  core_of tree stands =
-      let effect = effect_of tree.effect.kind stands.effect.1 in
-      let principal = part_of tree.principal stands.principal in
-      let action' = action_of tree.action stands.action in
-      let resource = part_of tree.resource stands.resource in (
+  core_of tree is_well_formed =
+      let effect = effect_of tree.effect.kind is_well_formed.effect.1 in
+      let principal = part_of tree.principal is_well_formed.principal in
+      let action' = action_of tree.action is_well_formed.action in
+      let resource = part_of tree.resource is_well_formed.resource in (
         record {
           effect = effect.0;
           scope = record { principal = principal.0; action = action'.0; resource = resource.0 };
@@ -193,15 +193,15 @@ module _ (laws : Laws) (text : List ℕ) (ts : List Token) (lexed : IsLexed text
       (first.0 ∷ more.0, (first.1, more.1))
 
   value_of : (token : Option Token) → WellFormedValue ts token → (value : List ℕ) × IsValueOf text token value
-  value_of None stands = ([], refl)
-  value_of (Some token) stands = string_of token stands
+  value_of None is_well_formed = ([], refl)
+  value_of (Some token) is_well_formed = string_of token is_well_formed
 
   name_by : (place : ℕ) (id : Option Annotation) → IfSome id (WellFormedAnnotation ts) → (name : List ℕ) × IsNameBy text place id name
-  name_by place None stands = (_, refl)
-  name_by place (Some annotation) stands = value_of annotation.value stands.2
+  name_by place None is_well_formed = (_, refl)
+  name_by place (Some annotation) is_well_formed = value_of annotation.value is_well_formed.2
 
   name_of : (place : ℕ) (tree : PolicyTree) → WellFormedPolicy ts tree → (name : List ℕ) × IsNameOf text place tree name
-  name_of place tree stands = name_by place (find (is_id text) tree.annotations) (find-all (WellFormedAnnotation ts) (is_id text) tree.annotations stands.annotations)
+  name_of place tree is_well_formed = name_by place (find (is_id text) tree.annotations) (find-all (WellFormedAnnotation ts) (is_id text) tree.annotations is_well_formed.annotations)
 
   names_from : (place : ℕ) (trees : List PolicyTree) → AllByRecursion (WellFormedPolicy ts) trees →
       (names : List (List ℕ)) × AllZip (λ (placed : ℕ × PolicyTree). IsNameOf text placed.0 placed.1) (enumerate_from place trees) names
@@ -221,7 +221,7 @@ sound_or_told none faults = by (least faults) refl
     by (Some first) e = inr (of_desugaring first, record { fault = first; first = e; told = refl })
 
 small_or_not : (shape : Shape) → Or (IsSmallShape shape)
-small_or_not shape = both_or_not (low_or_not (height shape) most_height) (low_or_not (forms shape) most_forms)
+small_or_not shape = both_or_not (low_or_not (height shape) most_height) (low_or_not (node_count shape) most_nodes)
 
 module _ (text : List ℕ) (tree : PolicyTree) (core : (policy : Policy) × IsCoreOf text tree policy) where
   small_or_large : tree_faults text tree ≡ [] → Or (IsSmallTree text tree) → ((policy : Policy) × IsPolicyOf text tree policy) ⊎ ((why : ReadFault) × HasNoPolicy text tree why)
@@ -298,9 +298,9 @@ module _ (laws : Laws) (text : List ℕ) where
   file_read stand (inl read) =
       let trees = read.0 in
       let derives = read.1 in
-      let stands = stand derives.tokens trees derives.derived in
-      let cores = cores_of laws text derives.tokens derives.lexed trees stands in
-      let names = names_from laws text derives.tokens derives.lexed 0 trees stands in
+      let is_well_formed = stand derives.tokens trees derives.derived in
+      let cores = cores_of laws text derives.tokens derives.lexed trees is_well_formed in
+      let names = names_from laws text derives.tokens derives.lexed 0 trees is_well_formed in
       file_by trees names.0 derives names.1 (policies_or_told text trees names.0 names.1 cores (sound_or_told laws.none (file_faults text trees names.0)))
   file_read stand (inr unread') = inr (unread'.0, inl unread'.1)
 

@@ -78,12 +78,12 @@ module _ (text : List ℕ) (cs : List Condition) (i j : ℕ) (c : Condition) (e 
   asks-more below = ap (conditions_of text) (from cs i j c e (omega arith) is) ∙ asks-before text c (drop i cs) (some_over cs i below)
 
 -- a condition stands where all do
-pub stands-at : (text : List ℕ) (cs : List Condition) (i : ℕ) (c : Condition) → IsBuiltFrom text (λ ts. AllByRecursion (WellFormedCondition ts) cs) → i < length cs → c ≡ get_or cs i c →
+pub is_well_formed-at : (text : List ℕ) (cs : List Condition) (i : ℕ) (c : Condition) → IsBuiltFrom text (λ ts. AllByRecursion (WellFormedCondition ts) cs) → i < length cs → c ≡ get_or cs i c →
     IsBuiltFrom text (λ ts. WellFormedCondition ts c)
-stands-at text cs i c all below is = record {
+is_well_formed-at text cs i c all below is = record {
   tokens = all.tokens;
   spelled = all.spelled;
-  stands = subst (WellFormedCondition all.tokens) (sym is) (all-at (WellFormedCondition all.tokens) cs i c all.stands below);
+  is_well_formed = subst (WellFormedCondition all.tokens) (sym is) (all-at (WellFormedCondition all.tokens) cs i c all.is_well_formed below);
 }
 
 -- where there are no faults together, there are none of each

@@ -81,9 +81,9 @@ no_star : (id : List ℕ) → has_star (pieces id) ≡ false
 no_star [] = refl
 no_star (b ∷ id) = no_star id
 
-stands : (id : List ℕ) → id ≡ bytes_of (pieces id)
-stands [] = refl
-stands (b ∷ id) = ap (λ (x : List ℕ). b ∷ x) (stands id)
+is_well_formed : (id : List ℕ) → id ≡ bytes_of (pieces id)
+is_well_formed [] = refl
+is_well_formed (b ∷ id) = ap (λ (x : List ℕ). b ∷ x) (is_well_formed id)
 
 abbrev in_quotes : List ℕ → List ℕ
 in_quotes id = 34 ∷ (id ++ 34 ∷ [])
@@ -200,7 +200,7 @@ abbrev uid : List ℕ → List ℕ → EntityUid
 uid name id = record { type_name = name; id = id }
 
 string_is : (text id : List ℕ) (t : Token) → Plain id → spelling_of text t ≡ in_quotes id → IsStringOf id (spelling_of text t)
-string_is text id t a e = record { pieces = pieces id; body = id; is = plain_body id a; spelled = e; no_star = no_star id; value_is = stands id }
+string_is text id t a e = record { pieces = pieces id; body = id; is = plain_body id a; spelled = e; no_star = no_star id; value_is = is_well_formed id }
 
 plain_by_words : ValueIsValue → (text first : List ℕ) (more : List (List ℕ)) (id : List ℕ) → AreIdents (first ∷ more) → text ≡ first ++ (behind more ++ 58 ∷ 58 ∷ in_quotes id) → Plain id →
     length text ≤ most_policy_bytes → IsUidText text (uid (joined_path first more) id)

@@ -11,7 +11,7 @@ use Rattle.grammar_desugaring.specs.grammar_tokens.declared.fault.SyntaxFault.Th
 use Rattle.grammar_desugaring.specs.grammar_tokens.Lang.{Lang, at_any}
 use Rattle.grammar_policies.specs.grammar_expressions.Expressions.{nesting_limit}
 use Rattle.grammar_policies.specs.Grammar as grammar
-use Rattle.grammar_desugaring.specs.grammar_tokens.Reads.{IsRefusedWithin, HasOneTree, HasOneAnswer, HasOneAnswerWithin}
+use Rattle.grammar_desugaring.specs.grammar_tokens.ParseResults.{IsRefusedWithin, HasOneTree, HasOneAnswer, HasOneAnswerWithin}
 use Rattle.policy_grammar.specs.declared.policy.Policy.{Policy}
 use Rattle.policy_grammar.specs.declared.fault.ReadFault.{ReadFault}
 use Rattle.policy_grammar.specs.declared.fault.ReadFault.TheVariants as fault

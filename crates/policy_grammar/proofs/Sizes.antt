@@ -14,7 +14,7 @@ use Rattle.grammar_core.specs.declared.operator.Binary.TheVariants.{Equal, In}
 use Rattle.grammar_core.specs.declared.expr.Expr.{Expr}
 use Rattle.grammar_core.specs.declared.expr.Expr.TheVariants as core
 use Rattle.grammar_core.specs.Size as size
-use Rattle.grammar_core.specs.Size.{height_step, forms_step, greatest, total, capped}
+use Rattle.grammar_core.specs.Size.{height_step, node_count_step, greatest, total, capped}
 use Rattle.grammar_core.proofs.Forms.{fold_literal, fold_variable, fold_and, fold_unary, fold_binary, fold_set}
 use Rattle.grammar_desugaring.specs.grammar_tokens.declared.tree.UidTree.{UidTree}
 use Rattle.grammar_policies.specs.declared.tree.PartTree.{PartTree}
@@ -30,7 +30,7 @@ use Rattle.policy_grammar.specs.declared.policy.Policy.{Policy}
 use Rattle.policy_grammar.specs.Whole.{entity_literal, entity_part, action_part, expression_of}
 use Rattle.policy_grammar.specs.Conditions.{conditions_of}
 use Rattle.policy_grammar.specs.CoreOf.{IsUidOf, IsEntityScopeOf, IsActionScopeOf, IsCoreOf, AreCoresOf}
-use Rattle.policy_grammar.specs.Limits.{Shape, leaf, over, both, literals, sized, forms, height, part_shape}
+use Rattle.policy_grammar.specs.Limits.{Shape, leaf, over, both, literals, sized, node_count, height, part_shape}
 use Rattle.policy_grammar.specs.Limits.{action_shape, shape_over, shape_of, IsSmallOver, IsSmallTree, IsSmallPolicy}
 use Rattle.policy_grammar.specs.Limits.{ShapesAreSizes, NineFormsMore, HeadsAreLow}
 
@@ -94,11 +94,11 @@ decides tree high many b iff =
     let r = tree.resource in (
       λ yes'. let small = iff.0 yes' in (
         capped_height (height (part_shape p)) (height (action_shape a)) (height (part_shape r)) high small.0,
-        capped_forms (forms (part_shape p)) (forms (action_shape a)) (forms (part_shape r)) many small.1,
+        capped_forms (node_count (part_shape p)) (node_count (action_shape a)) (node_count (part_shape r)) many small.1,
       ),
       λ small. iff.1 (
         height_capped (height (part_shape p)) (height (action_shape a)) (height (part_shape r)) high small.0,
-        forms_capped (forms (part_shape p)) (forms (action_shape a)) (forms (part_shape r)) many small.1,
+        forms_capped (node_count (part_shape p)) (node_count (action_shape a)) (node_count (part_shape r)) many small.1,
       ),
     )
 
@@ -106,30 +106,30 @@ decides tree high many b iff =
 
 record Same (s : Shape) (e : Expr) : Type 0 where
   pub high : height s ≡ size.height e
-  pub many : forms s ≡ size.forms e
+  pub many : node_count s ≡ size.node_count e
 
 of_literal : (l : Literal) → Same leaf (core.Literal l)
-of_literal l = record { high = sym (fold_literal ℕ height_step l); many = sym (fold_literal ℕ forms_step l) }
+of_literal l = record { high = sym (fold_literal ℕ height_step l); many = sym (fold_literal ℕ node_count_step l) }
 
 of_variable : (v : Variable) → Same leaf (core.Variable v)
-of_variable v = record { high = sym (fold_variable ℕ height_step v); many = sym (fold_variable ℕ forms_step v) }
+of_variable v = record { high = sym (fold_variable ℕ height_step v); many = sym (fold_variable ℕ node_count_step v) }
 
 of_unary : (op : Unary) (s : Shape) (e : Expr) → Same s e → Same (over s) (core.Unary op e)
 of_unary op s e same = record {
   high = ap (λ n. n + 1) same.high ∙ sym (fold_unary ℕ height_step op e);
-  many = ap (λ n. n + 1) same.many ∙ sym (fold_unary ℕ forms_step op e);
+  many = ap (λ n. n + 1) same.many ∙ sym (fold_unary ℕ node_count_step op e);
 }
 
 of_and : (s t : Shape) (d e : Expr) → Same s d → Same t e → Same (both s t) (core.And d e)
 of_and s t d e a b = record {
   high = ap (λ n. max n (height t) + 1) a.high ∙ ap (λ n. max (size.height d) n + 1) b.high ∙ sym (fold_and ℕ height_step d e);
-  many = ap (λ n. n + forms t + 1) a.many ∙ ap (λ n. size.forms d + n + 1) b.many ∙ sym (fold_and ℕ forms_step d e);
+  many = ap (λ n. n + node_count t + 1) a.many ∙ ap (λ n. size.node_count d + n + 1) b.many ∙ sym (fold_and ℕ node_count_step d e);
 }
 
 of_binary : (op : Binary) (s t : Shape) (d e : Expr) → Same s d → Same t e → Same (both s t) (core.Binary op d e)
 of_binary op s t d e a b = record {
   high = ap (λ n. max n (height t) + 1) a.high ∙ ap (λ n. max (size.height d) n + 1) b.high ∙ sym (fold_binary ℕ height_step op d e);
-  many = ap (λ n. n + forms t + 1) a.many ∙ ap (λ n. size.forms d + n + 1) b.many ∙ sym (fold_binary ℕ forms_step op d e);
+  many = ap (λ n. n + node_count t + 1) a.many ∙ ap (λ n. size.node_count d + n + 1) b.many ∙ sym (fold_binary ℕ node_count_step op d e);
 }
 
 high_literals : (uid : EntityUid) (uids : List EntityUid) → greatest (map size.height (map entity_literal (uid ∷ uids))) ≡ 1
@@ -139,11 +139,11 @@ high_literals uid (other ∷ uids) =
     let rest : greatest (map size.height (map entity_literal (other ∷ uids))) ≡ 1 = high_literals other uids in
     omega arith
 
-many_literals : (uids : List EntityUid) → total (map size.forms (map entity_literal uids)) ≡ length uids
+many_literals : (uids : List EntityUid) → total (map size.node_count (map entity_literal uids)) ≡ length uids
 many_literals [] = refl
 many_literals (uid ∷ uids) =
-    let one : size.forms (entity_literal uid) ≡ 1 = fold_literal ℕ forms_step (literal.Entity uid) in
-    let rest : total (map size.forms (map entity_literal uids)) ≡ length uids = many_literals uids in
+    let one : size.node_count (entity_literal uid) ≡ 1 = fold_literal ℕ node_count_step (literal.Entity uid) in
+    let rest : total (map size.node_count (map entity_literal uids)) ≡ length uids = many_literals uids in
     omega arith
 
 of_set : (n : ℕ) (uid : EntityUid) (uids : List EntityUid) → length uids ≡ n → Same (literals (suc n)) (core.Set (map entity_literal (uid ∷ uids)))
@@ -151,7 +151,7 @@ of_set n uid uids long =
     let es = map entity_literal (uid ∷ uids) in
     record {
       high = sym (fold_set ℕ height_step es ∙ ap (λ m. m + 1) (high_literals uid uids));
-      many = sym (fold_set ℕ forms_step es ∙ ap (λ m. m + 1) (many_literals (uid ∷ uids) ∙ ap (λ m. suc m) long));
+      many = sym (fold_set ℕ node_count_step es ∙ ap (λ m. m + 1) (many_literals (uid ∷ uids) ∙ ap (λ m. suc m) long));
     }
 
 between : (op : Binary) (x : Variable) (uid : EntityUid) → Same (both leaf leaf) (core.Binary op (core.Variable x) (entity_literal uid))
@@ -192,14 +192,14 @@ of_action text (action.In tree) _ is = absurd is
 of_action text (action.InList trees) (actions.InList uids) is = of_actions text trees uids is
 of_action text (action.InList trees) _ is = absurd is
 
-of_condition : (d e : Expr) → e ≡ d → Same (sized (size.height d) (size.forms d)) e
-of_condition d e is = record { high = ap size.height (sym is); many = ap size.forms (sym is) }
+of_condition : (d e : Expr) → e ≡ d → Same (sized (size.height d) (size.node_count d)) e
+of_condition d e is = record { high = ap size.height (sym is); many = ap size.node_count (sym is) }
 
 whole : (text : List ℕ) (tree : PolicyTree) (policy : Policy) → IsCoreOf text tree policy → Same (shape_of text tree) (expression_of policy)
 whole text tree policy is =
     let scope = policy.scope in
     let d = conditions_of text tree.conditions in
-    let c = sized (size.height d) (size.forms d) in
+    let c = sized (size.height d) (size.node_count d) in
     let resource = of_and (part_shape tree.resource) c (entity_part Resource scope.resource) policy.condition (of_part text Resource tree.resource scope.resource is.resource) (of_condition d policy.condition is.condition) in
     let action' = of_and (action_shape tree.action) (both (part_shape tree.resource) c) (action_part scope.action) (core.And (entity_part Resource scope.resource) policy.condition) (of_action text tree.action scope.action is.action) resource in
     of_and (part_shape tree.principal) (both (action_shape tree.action) (both (part_shape tree.resource) c)) (entity_part Principal scope.principal)
@@ -208,16 +208,16 @@ whole text tree policy is =
 pub shapes_are_sizes : ShapesAreSizes
 shapes_are_sizes text tree policy is = let same = whole text tree policy is in (same.high, same.many)
 
-nine : (text : List ℕ) (cs : List _) → cs ≡ [] → size.forms (conditions_of text cs) ≡ 1
-nine text cs none = ap (λ ds. size.forms (conditions_of text ds)) none ∙ fold_literal ℕ forms_step (literal.Boolean _)
+nine : (text : List ℕ) (cs : List _) → cs ≡ [] → size.node_count (conditions_of text cs) ≡ 1
+nine text cs none = ap (λ ds. size.node_count (conditions_of text ds)) none ∙ fold_literal ℕ node_count_step (literal.Boolean _)
 
 sum : (p a r c n : ℕ) → p ≡ 1 → a ≡ n + 3 → r ≡ 1 → c ≡ 1 → p + (a + (r + c + 1) + 1) + 1 ≡ n + 9
 sum p a r c n hp ha hr hc = omega arith
 
 pub nine_forms_more : NineFormsMore
 nine_forms_more text tree uid uids principal acts resource none =
-    sum (forms (part_shape tree.principal)) (forms (action_shape tree.action)) (forms (part_shape tree.resource)) (size.forms (conditions_of text tree.conditions)) (length (uid ∷ uids))
-    (ap (λ p. forms (part_shape p)) principal) (ap (λ a. forms (action_shape a)) acts ∙ omega arith) (ap (λ p. forms (part_shape p)) resource) (nine text tree.conditions none)
+    sum (node_count (part_shape tree.principal)) (node_count (action_shape tree.action)) (node_count (part_shape tree.resource)) (size.node_count (conditions_of text tree.conditions)) (length (uid ∷ uids))
+    (ap (λ p. node_count (part_shape p)) principal) (ap (λ a. node_count (action_shape a)) acts ∙ omega arith) (ap (λ p. node_count (part_shape p)) resource) (nine text tree.conditions none)
 
 -- ---- so the tree's size is the policy's
 
@@ -228,14 +228,14 @@ pub small_core : (text : List ℕ) (tree : PolicyTree) (policy : Policy) → IsC
 small_core text tree policy is small =
     let same = whole text tree policy is in (
       lower (height (shape_of text tree)) (size.height (expression_of policy)) 1000 same.high small.0,
-      lower (forms (shape_of text tree)) (size.forms (expression_of policy)) 1000000 same.many small.1,
+      lower (node_count (shape_of text tree)) (size.node_count (expression_of policy)) 1000000 same.many small.1,
     )
 
 pub small_tree : (text : List ℕ) (tree : PolicyTree) (policy : Policy) → IsCoreOf text tree policy → IsSmallPolicy policy → IsSmallTree text tree
 small_tree text tree policy is small =
     let same = whole text tree policy is in (
       lower (size.height (expression_of policy)) (height (shape_of text tree)) 1000 (sym same.high) small.0,
-      lower (size.forms (expression_of policy)) (forms (shape_of text tree)) 1000000 (sym same.many) small.1,
+      lower (size.node_count (expression_of policy)) (node_count (shape_of text tree)) 1000000 (sym same.many) small.1,
     )
 
 pub small_cores : (text : List ℕ) (trees : List PolicyTree) (policies : List Policy) → AreCoresOf text trees policies → AllByRecursion (IsSmallTree text) trees →

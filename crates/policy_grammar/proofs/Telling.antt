@@ -22,13 +22,13 @@ use Rattle.policy_grammar.proofs.Sizes.{decides}
 -- of one policy, by its annotations and by the measure of its conditions
 pub told-one : LeastOfBoth → (text : List ℕ) (tree : PolicyTree) (repeat : Option DesugarFault) (j : Measure) (verdict : Verdict) →
     repeat ≡ least (repeat_faults (annotation_keys text tree)) → j ≡ of (conditions_of text tree.conditions) (condition_faults text tree.conditions) →
-    (IsTrue verdict.small ↔ IsSmallOver tree j.height j.forms) → verdict.fault ≡ earlier_of repeat j.fault → ReportsPolicy text tree verdict
+    (IsTrue verdict.small ↔ IsSmallOver tree j.height j.node_count) → verdict.fault ≡ earlier_of repeat j.fault → ReportsPolicy text tree verdict
 told-one both text tree repeat j verdict again is small same =
     let e = conditions_of text tree.conditions in
     record {
       fault = same ∙ ap (λ o. earlier_of o j.fault) again ∙ ap (λ i. earlier_of (least (repeat_faults (annotation_keys text tree))) i.fault) is
           ∙ sym (both (repeat_faults (annotation_keys text tree)) (condition_faults text tree.conditions));
-      small = decides tree (size.height e) (size.forms e) (IsTrue verdict.small) (subst (λ i. IsTrue verdict.small ↔ IsSmallOver tree i.height i.forms) is small);
+      small = decides tree (size.height e) (size.node_count e) (IsTrue verdict.small) (subst (λ i. IsTrue verdict.small ↔ IsSmallOver tree i.height i.node_count) is small);
     }
 
 all-more : {A : Type 0} (P : A → Type 0) (xs : List A) (x : A) → AllByRecursion P xs → P x → AllByRecursion P (xs ++ x ∷ [])

@@ -4,7 +4,7 @@ use Rattle.grammar_desugaring.specs.grammar_tokens.declared.token.Token.{Token}
 use Rattle.grammar_desugaring.specs.grammar_tokens.declared.fault.SyntaxFault.{SyntaxFault}
 use Rattle.grammar_desugaring.specs.grammar_tokens.declared.fault.SyntaxFault.TheVariants as syntax
 use Rattle.grammar_desugaring.specs.grammar_tokens.Lang.{Lang}
-use Rattle.grammar_desugaring.specs.grammar_tokens.Reads.{IsRefusedWithin}
+use Rattle.grammar_desugaring.specs.grammar_tokens.ParseResults.{IsRefusedWithin}
 use Rattle.policy_grammar.specs.declared.fault.ReadFault.TheVariants as fault
 use Rattle.plain.specs.Refused.{OrNoMemory}
 use Rattle.policy_grammar.specs.Texts.{IsUnread}

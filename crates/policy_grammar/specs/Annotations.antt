@@ -1,4 +1,4 @@
--- Defines the keys of a policy's annotations, which must be distinct.
+-- Defines the keys, which must be distinct, of a policy's annotations.
 -- Source: Cedar reference guide 4.0, "Annotations": a key occurs once in a policy.
 use Rattle.std.specs.Prelude.{ℕ, List, map}
 use Rattle.grammar_desugaring.specs.grammar_tokens.Lexing.{spelling_of}

@@ -16,8 +16,8 @@ use Rattle.grammar_desugaring.specs.Core.{core_of}
 use Rattle.grammar_desugaring.specs.Faults.{faults_of}
 use Rattle.policy_grammar.specs.Whole.{truth}
 
--- `asked_by word e` is the expression that the keyword `word` makes of `e`: `e` for `when { e }`, and `!e` for `unless
--- { e }`.
+-- `asked_by word e` is the expression that the keyword `word` makes of `e`: `e` for `when { e }`, and `!e` for
+-- `unless { e }`.
 abbrev pub asked_by : ConditionWord → Expr → Expr
 asked_by word.When e = e
 asked_by word.Unless e = core.Unary Not e

@@ -60,7 +60,7 @@ abbrev pub effect_word : Effect → TokenKind
 effect_word Permit = k.Permit
 effect_word Forbid = k.Forbid
 
--- `IsCoreOf text tree policy` holds if `policy` is the policy of `tree`, whose annotations do not matter.
+-- `IsCoreOf text tree policy` holds if `policy` is the policy of `tree`. The annotations of `tree` do not matter.
 pub record IsCoreOf (text : List ℕ) (tree : PolicyTree) (policy : Policy) : Type 0 where
   pub effect : tree.effect.kind ≡ effect_word policy.effect
   pub principal : IsEntityScopeOf text tree.principal policy.scope.principal

@@ -9,14 +9,14 @@ use Rattle.grammar_policies.specs.declared.tree.ActionTree.{ActionTree}
 use Rattle.grammar_policies.specs.declared.tree.ActionTree.TheVariants as action
 use Rattle.grammar_policies.specs.declared.tree.PolicyTree.{PolicyTree}
 use Rattle.grammar_core.specs.Size as size
-use Rattle.grammar_core.specs.Size.{most_height, most_forms}
+use Rattle.grammar_core.specs.Size.{most_height, most_nodes}
 pub use Rattle.policy_grammar.specs.Texts.{most_policy_bytes, most_file_bytes}
 use Rattle.policy_grammar.specs.declared.policy.Policy.{Policy}
 use Rattle.policy_grammar.specs.Whole.{expression_of}
 use Rattle.policy_grammar.specs.Conditions.{conditions_of}
 use Rattle.policy_grammar.specs.CoreOf.{IsCoreOf}
 
--- A `Shape` is what matters of a core expression for its size: it is a leaf (a literal or a variable), a node over one
+-- A `Shape` is what determines the size of a core expression. It is a leaf (a literal or a variable), a node over one
 -- operand or over two, a set of one or more literals, or any expression of a given height and number of nodes.
 pub data Shape : Type 0 where
   leaf : Shape
@@ -25,13 +25,13 @@ pub data Shape : Type 0 where
   literals : ℕ → Shape
   sized : ℕ → ℕ → Shape
 
--- `forms s` is the number of nodes of the shape `s`; a shared node counts at each occurrence.
-abbrev pub forms : Shape → ℕ
-forms leaf = 1
-forms (over a) = forms a + 1
-forms (both a b) = forms a + forms b + 1
-forms (literals n) = n + 1
-forms (sized high many) = many
+-- `node_count s` is the number of nodes of the shape `s`; a shared node counts at each occurrence.
+abbrev pub node_count : Shape → ℕ
+node_count leaf = 1
+node_count (over a) = node_count a + 1
+node_count (both a b) = node_count a + node_count b + 1
+node_count (literals n) = n + 1
+node_count (sized high many) = many
 
 -- `height s` is the height of the shape `s`; a leaf has height 1.
 abbrev pub height : Shape → ℕ
@@ -50,8 +50,8 @@ part_shape (part.In uid) = both leaf leaf
 part_shape (part.Is name) = over leaf
 part_shape (part.IsIn name uid) = both (over leaf) (both leaf leaf)
 
--- `action_shape action` is the shape of a scope's part on the action: `action in []` is `false`, and `action in [E,
--- ..]` is `action in` that set.
+-- `action_shape action` is the shape of a scope's part on the action: `action in []` is `false`, and
+-- `action in [E, ..]` is `action in` that set.
 abbrev pub action_shape : ActionTree → Shape
 action_shape action.Any = leaf
 action_shape (action.Equal uid) = both leaf leaf
@@ -68,7 +68,7 @@ shape_over tree conditions =
 abbrev pub shape_of : List ℕ → PolicyTree → Shape
 shape_of text tree =
     let e = conditions_of text tree.conditions in
-    shape_over tree (sized (size.height e) (size.forms e))
+    shape_over tree (sized (size.height e) (size.node_count e))
 
 -- `most_id_bytes` is the greatest length of an id, in bytes.
 abbrev pub most_id_bytes : ℕ
@@ -76,7 +76,7 @@ most_id_bytes = 256
 
 -- `IsSmallShape shape` holds if `shape` is within the limits of height and nodes.
 abbrev pub IsSmallShape : Shape → Type 0
-IsSmallShape shape = (height shape ≤ most_height) × (forms shape ≤ most_forms)
+IsSmallShape shape = (height shape ≤ most_height) × (node_count shape ≤ most_nodes)
 
 -- `IsSmallOver tree high many` holds if the policy `tree` is within the limits, where its conditions have the height
 -- `high` and `many` nodes.
@@ -101,16 +101,17 @@ IsId name = (1 ≤ length name) × (length name ≤ most_id_bytes)
 abbrev pub ShapesAreSizes : Type 0
 ShapesAreSizes = (text : List ℕ) (tree : PolicyTree) (policy : Policy) → IsCoreOf text tree policy →
     (height (shape_of text tree) ≡ size.height (expression_of policy))
-    × (forms (shape_of text tree) ≡ size.forms (expression_of policy))
+    × (node_count (shape_of text tree) ≡ size.node_count (expression_of policy))
 
 -- `NineFormsMore`: a policy without conditions, whose only constraint is a list of actions, has nine nodes more than
 -- the list has actions.
 abbrev pub NineFormsMore : Type 0
 NineFormsMore = (text : List ℕ) (tree : PolicyTree) (uid : UidTree) (uids : List UidTree) →
     tree.principal ≡ part.Any → tree.action ≡ action.InList (uid ∷ uids) →
-    tree.resource ≡ part.Any → tree.conditions ≡ [] → forms (shape_of text tree) ≡ length (uid ∷ uids) + 9
+    tree.resource ≡ part.Any → tree.conditions ≡ [] → node_count (shape_of text tree) ≡ length (uid ∷ uids) + 9
 
--- `HeadsAreLow`: a policy is at most three higher than its conditions, or at most 6 high, whichever is greater.
+-- `HeadsAreLow`: the expression of a policy is at most 3 higher than that of its conditions, or at most 6 high,
+-- whichever is greater.
 abbrev pub HeadsAreLow : Type 0
 HeadsAreLow = (tree : PolicyTree) (conditions : Shape) →
     height (shape_over tree conditions) ≤ max 6 (height conditions + 3)

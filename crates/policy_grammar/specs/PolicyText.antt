@@ -1,5 +1,5 @@
--- Defines what a text is parsed as, a uid, a policy or a file of policies, or the error of a rejected text: by its
--- tokens, then the grammar, then the core expression, then the limits.
+-- Defines what a text is parsed as: a uid, a policy, a file of policies, or the error of a rejected text. The tokens of
+-- a text are checked first, then the grammar, then the core expressions, then the limits.
 -- Source: Cedar reference guide 4.0, "Grammar specification for Cedar policy syntax". The errors and their order are
 -- rules of this product.
 use Rattle.std.specs.Prelude.{◌≡◌, ◌⊎◌, ℕ, List, [], Some, All, ◌++◌}
@@ -28,13 +28,12 @@ use Rattle.policy_grammar.specs.Repeats.{annotation_keys, policy_names}
 abbrev pub tree_faults : List ℕ → PolicyTree → List DesugarFault
 tree_faults text tree = repeat_faults (annotation_keys text tree) ++ condition_faults text tree.conditions
 
--- `file_faults text trees names` are the errors of a file's trees with these names: those of repeated names, then those
--- of each tree.
+-- `file_faults text trees names` are the errors of a file's trees with the names `names`: those of repeated names, then
+-- those of each tree.
 abbrev pub file_faults : List ℕ → List PolicyTree → List (List ℕ) → List DesugarFault
 file_faults text trees names = repeat_faults (policy_names names trees) ++ flat_map (tree_faults text) trees
 
--- `IsPolicyOf text tree policy` holds if `policy` is the policy of `tree`, which has no errors and is within the
--- limits.
+-- `IsPolicyOf text tree policy` holds if `tree` has no errors, and `policy` is its policy and within the limits.
 pub record IsPolicyOf (text : List ℕ) (tree : PolicyTree) (policy : Policy) : Type 0 where
   pub sound : tree_faults text tree ≡ []
   pub core : IsCoreOf text tree policy
@@ -68,8 +67,8 @@ pub record IsPolicyFile (text : List ℕ) (names : List (List ℕ)) (policies : 
   pub derives : Derives (grammar.policies nesting_limit) most_file_bytes text trees
   pub are : ArePoliciesOf text trees names policies
 
--- The following definitions have the errors in their order: each is reported only if the text has none of the earlier
--- ones. `NoMemory` is not among them, since it does not depend on the text.
+-- The following definitions have the errors in the order in which they are checked: each is reported only if the text
+-- has none of the earlier ones. `NoMemory` is not among them, since it does not depend on the text.
 
 -- `IsReportedOf faults why` holds if `why` is the error that is reported of `faults`: the first in the list of those at
 -- the least offset.
@@ -84,21 +83,22 @@ abbrev pub IsOverLimit : List ℕ → PolicyTree → ReadFault → Type 0
 IsOverLimit text tree (fault.TooDeep at) = (IsSmallTree text tree → ⊥) × (at ≡ 0)
 IsOverLimit text tree _ = ⊥
 
--- `AreOverLimits text trees names why` holds if some policy of `trees` is over these limits, and `why` is `TooDeep` at
--- byte 0; or none is, some name is not an id, and `why` is `BadId`.
+-- `AreOverLimits text trees names why` holds if some policy of `trees` is over the limits of height and nodes, and
+-- `why` is `TooDeep` at byte 0; or no policy is over these limits, some name is not an id, and `why` is `BadId`.
 abbrev pub AreOverLimits : List ℕ → List PolicyTree → List (List ℕ) → ReadFault → Type 0
 AreOverLimits text trees names (fault.TooDeep at) = (AllByRecursion (IsSmallTree text) trees → ⊥) × (at ≡ 0)
 AreOverLimits text trees names fault.BadId = AllByRecursion (IsSmallTree text) trees × (All IsId names → ⊥)
 AreOverLimits text trees names _ = ⊥
 
--- `HasNoPolicy text tree why` holds if `why` is the reported error of `tree`; or if `tree` has no error, but is over
--- the limits, which `why` reports.
+-- `HasNoPolicy text tree why` holds if `why` is the reported error of `tree`; or if `tree` has no error, but its policy
+-- is over the limits, and `why` reports this.
 abbrev pub HasNoPolicy : List ℕ → PolicyTree → ReadFault → Type 0
 HasNoPolicy text tree why =
     IsReportedOf (tree_faults text tree) why ⊎ ((tree_faults text tree ≡ []) × IsOverLimit text tree why)
 
--- `HaveNoPolicies text trees names why` holds if `why` is the error of a file's trees with these names: the reported
--- error of a tree or of a repeated name; else that of a size; else that of a name that is not an id.
+-- `HaveNoPolicies text trees names why` holds if `why` is the error of a file's trees with the names `names`: the
+-- reported error of a tree or of a repeated name; else that of a policy over the limits; else that of a name that is
+-- not an id.
 abbrev pub HaveNoPolicies : List ℕ → List PolicyTree → List (List ℕ) → ReadFault → Type 0
 HaveNoPolicies text trees names why =
     IsReportedOf (file_faults text trees names) why

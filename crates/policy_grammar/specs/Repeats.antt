@@ -1,4 +1,4 @@
--- Defines the names of the policies in a file, which must be distinct.
+-- Defines the names, which must be distinct, of the policies in a file.
 -- Source: Cedar reference guide 4.0, "Annotations": a key occurs once in a policy.
 -- Rules of this product: a name occurs once in a file.
 use Rattle.std.specs.Prelude.{ℕ, List, [], ◌∷◌, map}
@@ -9,15 +9,15 @@ use Rattle.grammar_policies.specs.declared.tree.PolicyTree.{PolicyTree}
 use Rattle.grammar_desugaring.specs.Repeats.{NameAt}
 pub use Rattle.policy_grammar.specs.Annotations.{key_at, annotation_keys}
 
--- `start_behind annotations effect` is the byte at which a policy with the annotations `annotations` and the effect
+-- `start_after annotations effect` is the byte at which a policy with the annotations `annotations` and the effect
 -- token `effect` starts.
-abbrev pub start_behind : List Annotation → Token → ℕ
-start_behind [] effect = effect.start
-start_behind (annotation ∷ more) effect = annotation.at.start
+abbrev pub start_after : List Annotation → Token → ℕ
+start_after [] effect = effect.start
+start_after (annotation ∷ more) effect = annotation.at.start
 
 -- `start_of tree` is the byte at which the first token of the policy `tree` starts.
 abbrev pub start_of : PolicyTree → ℕ
-start_of tree = start_behind tree.annotations tree.effect
+start_of tree = start_after tree.annotations tree.effect
 
 -- `policy_names names trees` are the names of a file's policies, each with the offset of its policy's first token.
 abbrev pub policy_names : List (List ℕ) → List PolicyTree → List NameAt

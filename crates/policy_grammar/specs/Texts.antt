@@ -8,7 +8,7 @@ use Rattle.grammar_desugaring.specs.grammar_tokens.Lexing.{IsLexed, IsBadAt}
 use Rattle.grammar_desugaring.specs.grammar_tokens.declared.fault.SyntaxFault.{SyntaxFault}
 use Rattle.grammar_desugaring.specs.grammar_tokens.declared.fault.SyntaxFault.TheVariants as syntax
 use Rattle.grammar_desugaring.specs.grammar_tokens.Lang.{Lang}
-use Rattle.grammar_desugaring.specs.grammar_tokens.Reads.{IsRefusedWithin}
+use Rattle.grammar_desugaring.specs.grammar_tokens.ParseResults.{IsRefusedWithin}
 use Rattle.policy_grammar.specs.declared.fault.ReadFault.{ReadFault}
 use Rattle.policy_grammar.specs.declared.fault.ReadFault.TheVariants as fault
 
@@ -27,8 +27,8 @@ pub record Derives {A : Type 0} (L : Lang A) (most : ℕ) (text : List ℕ) (tre
   pub lexed : IsLexed text tokens
   pub derived : L tokens tree
 
--- The following definitions have the errors in their order: each is reported only if the text has none of the earlier
--- ones. `NoMemory` is not among them, since it does not depend on the text.
+-- The following definitions have the errors in the order in which they are checked: each is reported only if the text
+-- has none of the earlier ones. `NoMemory` is not among them, since it does not depend on the text.
 
 -- `byte_of text token` is the byte at which `token` starts, or the text's length if `token` is `None`.
 abbrev pub byte_of : List ℕ → Option Token → ℕ
@@ -36,9 +36,9 @@ byte_of text None = length text
 byte_of text (Some token) = token.start
 
 -- `StopsAt L K most text why at` holds if the tokens of `text` leave the language `L` at the byte `at`, with the error
--- `why`: the tokens before that byte begin something in `L`, and with the token at it (or the text's end) they do not.
--- For example, the tokens of `permit(principal, action);` leave the language of policies at `)`, byte 24. `K` is the
--- language `L` without the limit of 64 levels of nesting.
+-- `why`. The tokens before that byte begin something in `L`. With the token at the byte they begin nothing in `L`; or,
+-- if the byte is the text's end, they derive nothing in `L`. For example, the tokens of `permit(principal, action);`
+-- leave the language of policies at `)`, byte 24. `K` is the language `L` without the limit of 64 levels of nesting.
 pub record StopsAt {A : Type 0} (L K : Lang A) (most : ℕ) (text : List ℕ) (why : ℕ → SyntaxFault) (at : ℕ) :
     Type 0 where
   pub short : length text ≤ most
@@ -48,8 +48,8 @@ pub record StopsAt {A : Type 0} (L K : Lang A) (most : ℕ) (text : List ℕ) (w
   pub refused : IsRefusedWithin L K tokens (why place)
   pub byte : at ≡ byte_of text (slice_get tokens place)
 
--- `IsUnread L K most text why` holds if `why` is the error of `text`, which has no tree in `L`: it is too long; else no
--- token starts at some byte; else a token leaves the language, or nests too deep.
+-- `IsUnread L K most text why` holds if `why` is the error of `text`, which has no tree in `L`: the text is too long;
+-- else no token starts at some byte; else the tokens leave the language, or nest too deep.
 abbrev pub IsUnread : {A : Type 0} → Lang A → Lang A → ℕ → List ℕ → ReadFault → Type 0
 IsUnread L K most text fault.TooLong = most < length text
 IsUnread L K most text (fault.BadToken at) = (length text ≤ most) × IsBadAt text at

@@ -14,7 +14,7 @@ ghost use Rattle.policy_grammar.specs.Whole.{truth};
 use grammar_core::{Expr, Literal, Unary};
 use grammar_desugaring::{Measure, build_expr, measure_expr, measures_add_up};
 use grammar_policies::{Condition, ConditionWord};
-use plain::{NoMemory, Shared, beside};
+use plain::{NoMemory, Shared, pair_with};
 use std::alloc::Global;
 
 /// Returns the measure of a condition: `unless { e }` is `!e`.
@@ -47,7 +47,7 @@ pub(crate) fn judge_conditions(
     if left == 0 {
         return Ok(Measure {
             height: 1,
-            forms: 1,
+            node_count: 1,
             fault: None,
         });
     }
@@ -61,9 +61,9 @@ pub(crate) fn judge_conditions(
     Ok(joined)
 }
 
-/// Builds the core expression of a condition, which has no errors.
+/// Builds the core expression of a condition without errors.
 fn build_condition(alloc: Global, text: &str, condition: &Condition) -> Result<Expr, NoMemory>
-    requires stands { IsBuiltFrom text.now (λ tokens. WellFormedCondition tokens condition.now) }
+    requires is_well_formed { IsBuiltFrom text.now (λ tokens. WellFormedCondition tokens condition.now) }
     requires sound { faults_of text.now condition.now.expression ≡ [] }
     ensures { IfOk result (λ e. e ≡ condition_of text.now condition.now) }
 {
@@ -74,28 +74,28 @@ fn build_condition(alloc: Global, text: &str, condition: &Condition) -> Result<E
     }
 }
 
-/// Joins one more condition in front of those that are joined.
+/// Returns the conjunction of `condition` and `joined`, the conjunction of the conditions after it.
 fn join_before(
     alloc: Global,
     text: &str,
     condition: &Condition,
     joined: Expr,
 ) -> Result<Expr, NoMemory>
-    requires stands { IsBuiltFrom text.now (λ tokens. WellFormedCondition tokens condition.now) }
+    requires is_well_formed { IsBuiltFrom text.now (λ tokens. WellFormedCondition tokens condition.now) }
     requires sound { faults_of text.now condition.now.expression ≡ [] }
     ensures { IfOk result (λ e. e ≡ core.And (condition_of text.now condition.now) joined) }
 {
-    let (joined, first) = beside(joined, build_condition(alloc, text, condition))?;
+    let (joined, first) = pair_with(joined, build_condition(alloc, text, condition))?;
     Expr::and(alloc, first, joined)
 }
 
-/// Builds the core expression of the conditions, which have no errors.
+/// Builds the core expression of conditions without errors.
 pub(crate) fn build_conditions(
     alloc: Global,
     text: &str,
     conditions: &[Condition],
 ) -> Result<Expr, NoMemory>
-    requires stands { IsBuiltFrom text.now (λ tokens. AllByRecursion (WellFormedCondition tokens) conditions.now) }
+    requires is_well_formed { IsBuiltFrom text.now (λ ts. AllByRecursion (WellFormedCondition ts) conditions.now) }
     requires sound { AreSound text.now conditions.now }
     ensures { IfOk result (λ e. e ≡ conditions_of text.now conditions.now) }
 {
@@ -119,25 +119,25 @@ fn is_truth(expr: &Expr) -> bool
     matches!(expr, Expr::Literal(Literal::Boolean(true)))
 }
 
-/// Returns the core expression `true`. Shares `known` if that is it, and then does not allocate.
+/// Returns the core expression `true`. If `known` is `true`, shares it and does not allocate.
 fn shared_truth(alloc: Global, known: Option<&Shared<Expr>>) -> Result<Shared<Expr>, NoMemory>
     ensures { IfOk result (λ e. e ≡ truth) }
 {
     match known {
-        Some(expr) if is_truth(expr.get()) => expr.share(),
+        Some(expr) if is_truth(expr) => expr.share(),
         _ => Shared::new(alloc, Expr::Literal(Literal::Boolean(true))),
     }
 }
 
-/// Returns the core expression of the conditions, which have no errors. Shares `known`, as the previous policy's, if
-/// both are `true`, as without conditions.
+/// Returns the core expression of conditions without errors. Without any conditions the expression is `true`, and is
+/// shared with `known`, such as that of the previous policy, if `known` is `true` too.
 pub(crate) fn conditions_like(
     alloc: Global,
     text: &str,
     conditions: &[Condition],
     known: Option<&Shared<Expr>>,
 ) -> Result<Shared<Expr>, NoMemory>
-    requires stands { IsBuiltFrom text.now (λ tokens. AllByRecursion (WellFormedCondition tokens) conditions.now) }
+    requires is_well_formed { IsBuiltFrom text.now (λ ts. AllByRecursion (WellFormedCondition ts) conditions.now) }
     requires sound { AreSound text.now conditions.now }
     ensures { IfOk result (λ e. e ≡ conditions_of text.now conditions.now) }
 {

@@ -13,12 +13,12 @@ use crate::known_names::{action_in, id_like, type_in, type_name_like, uid_in};
 use crate::policy::{ActionScope, Effect, EntityScope, Policy, Scope};
 use grammar_desugaring::{TokenKind, strings_are_read};
 use grammar_policies::{ActionTree, PartTree, PolicyTree, UidTree};
-use plain::{Items, NoMemory, Shared, beside};
+use plain::{Items, NoMemory, Shared, pair_with};
 use std::alloc::Global;
 use values::EntityUid;
 
-/// Returns the uid of a tree, or `NoMemory`. The uid shares with `known` a type name of one word, and an id without
-/// escapes, that are equal there.
+/// Returns the uid of a tree, or `NoMemory`. The uid shares the string of its type name with `known` if the names are
+/// equal and of one word. It shares that of its id if the ids are equal and the string has no escapes.
 fn uid_like(
     alloc: Global,
     text: &str,
@@ -149,11 +149,11 @@ fn scope_of(
         None => (None, None),
     };
     let principal = entity_scope_of(alloc, text, &tree.principal, known_principal)?;
-    let (principal, action) = beside(
+    let (principal, action) = pair_with(
         principal,
         action_scope_of(alloc, text, &tree.action, action_in(known)),
     )?;
-    let (first, resource) = beside(
+    let (first, resource) = pair_with(
         (principal, action),
         entity_scope_of(alloc, text, &tree.resource, known_resource),
     )?;
@@ -166,24 +166,25 @@ fn scope_of(
 }
 
 /// Returns the policy of a tree, or `NoMemory`. Names of its scope are shared with the scope of `known`, such as the
-/// previous policy, as by `scope_of`, and so is its condition if neither policy has conditions.
+/// previous policy, as by `scope_of`. Its condition is shared if `tree` has no conditions and the condition of `known`
+/// is `true`.
 pub(crate) fn core_like(
     alloc: Global,
     text: &str,
     tree: &PolicyTree,
     known: Option<&Policy>,
 ) -> Result<Policy, NoMemory>
-    requires stands { IsBuiltFrom text.now (λ tokens. WellFormedPolicy tokens tree.now) }
+    requires is_well_formed { IsBuiltFrom text.now (λ tokens. WellFormedPolicy tokens tree.now) }
     requires sound { condition_faults text.now tree.now.conditions ≡ [] }
     ensures { IfOk result (IsCoreOf text.now tree.now) }
 {
     let effect = effect_of(tree.effect.kind);
     let (known_scope, known_condition) = match known {
-        Some(policy) => (Some(policy.scope.get()), Some(&policy.condition)),
+        Some(policy) => (Some(&*policy.scope), Some(&policy.condition)),
         None => (None, None),
     };
     let scope = Shared::new(alloc, scope_of(alloc, text, tree, known_scope)?)?;
-    let (scope, condition) = beside(
+    let (scope, condition) = pair_with(
         scope,
         conditions_like(alloc, text, tree.conditions.as_slice(), known_condition),
     )?;

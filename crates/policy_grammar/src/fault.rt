@@ -17,16 +17,16 @@ pub enum ReadFault {
     /// closed, or has a bad escape.
     #[error("policy 10: invalid token at byte {0}")]
     BadToken(usize),
-    /// The first token that cannot follow those before it, or the text's length if it ends too early.
+    /// The first token that cannot follow those before it, or the text's length if the text ends too early.
     #[error("policy 11: unexpected token at byte {0}")]
     Unexpected(usize),
-    /// A number outside signed 64 bits, at its first digit. A minus before it belongs to it.
+    /// A number outside signed 64 bits, at its first digit. A minus before a number belongs to the number.
     #[error("policy 12: number outside signed 64 bits at byte {0}")]
     NumberRange(usize),
-    /// A call of a name that no function, or no method, has; at the name.
+    /// A call, at its name, where no function or no method has this name.
     #[error("policy 13: unknown function or method at byte {0}")]
     UnknownCall(usize),
-    /// A call of a known function or method with a wrong number of arguments; at the name.
+    /// A call, at its name, of a known function or method with a wrong number of arguments.
     #[error("policy 14: wrong number of arguments at byte {0}")]
     Arity(usize),
     /// A name that occurs earlier: a key of a record, an annotation (at its `@`), or a policy's name in a file (at the

@@ -26,8 +26,8 @@ fn is_written(text: &str, path: &PathTree, name: &TypeName) -> bool
     false
 }
 
-/// Returns the type name that a Path denotes, or `NoMemory`. It shares the string of `known` if the Path is one word,
-/// equal to that name.
+/// Returns the type name that a Path denotes, or `NoMemory`. The name shares the string of `known` if the Path is one
+/// word, equal to `known`.
 pub(crate) fn type_name_like(
     alloc: Global,
     text: &str,
@@ -43,7 +43,8 @@ pub(crate) fn type_name_like(
     }
 }
 
-/// Returns the value of a string, between its quotes, if it has no escapes. Does not allocate.
+/// Returns the value of the string at `token`, the text between its quotes, if the string has no escapes. Does not
+/// allocate.
 fn unescaped(text: &str, token: Token) -> Option<&str>
     requires spelled { IsSpelledIn text.now token }
     requires string { token.kind ≡ k.Text }
@@ -56,7 +57,7 @@ fn unescaped(text: &str, token: Token) -> Option<&str>
     Some(value)
 }
 
-/// Returns an id of this text, or `NoMemory`. It shares the string of `known` if that is equal.
+/// Returns the id `text`, or `NoMemory`. The id shares the string of `known` if that equals `text`.
 fn text_like(alloc: Global, text: &str, known: Option<&SharedText>) -> Result<SharedText, NoMemory>
     ensures { IfOk result (λ id. id ≡ text.now) }
 {
@@ -66,8 +67,8 @@ fn text_like(alloc: Global, text: &str, known: Option<&SharedText>) -> Result<Sh
     }
 }
 
-/// Returns the id that a string states, or `NoMemory`. It shares the string of `known` if that is equal, and the
-/// string has no escapes.
+/// Returns the id that the string at `token` states, or `NoMemory`. The id shares the string of `known` if it is equal
+/// to it, and if the string has no escapes.
 pub(crate) fn id_like(
     alloc: Global,
     text: &str,

@@ -4,8 +4,8 @@
 mod annotations;
 mod conditions;
 mod core_of;
+mod dropping;
 mod fault;
-mod held;
 mod known_names;
 mod laws;
 mod limits;

@@ -3,7 +3,7 @@ ghost use Rattle.std.specs.Prelude.{◌≡◌, ◌↔◌, ◌<◌, ◌^◌, IsTr
 ghost use Rattle.policy_grammar.specs.Limits as spec;
 ghost use Rattle.policy_grammar.specs.Limits.{IsSmallOver, IsId, ShapesAreSizes, NineFormsMore, HeadsAreLow};
 
-use grammar_core::{FORMS_MAX, HEIGHT_MAX};
+use grammar_core::{HEIGHT_MAX, NODES_MAX};
 use grammar_policies::{ActionTree, PartTree, PolicyTree};
 use plain::Text;
 
@@ -12,14 +12,14 @@ use plain::Text;
 const MOST_CONDITION_HEIGHT: u32 = HEIGHT_MAX - 3;
 
 /// The greatest number of nodes of a policy's core expression.
-const MOST_FORMS: usize = FORMS_MAX as usize;
+const MOST_NODES: usize = NODES_MAX as usize;
 
 /// The greatest number of bytes of a policy's id.
 pub const MOST_ID_BYTES: usize = 256;
 
 /// Returns the number of nodes of a scope's part on the principal or the resource.
 fn part_forms(part: &PartTree) -> usize
-    ensures is { result ≡ spec.forms (spec.part_shape part.now) }
+    ensures is { result ≡ spec.node_count (spec.part_shape part.now) }
     ensures few { result < 7 }
 {
     match part {
@@ -32,7 +32,7 @@ fn part_forms(part: &PartTree) -> usize
 
 /// Returns the number of nodes of a scope's part on the action.
 fn action_forms(action: &ActionTree) -> usize
-    ensures is { result ≡ spec.forms (spec.action_shape action.now) }
+    ensures is { result ≡ spec.node_count (spec.action_shape action.now) }
     ensures fits { result < 2 ^ 63 }
 {
     match action {
@@ -46,14 +46,14 @@ fn action_forms(action: &ActionTree) -> usize
 }
 
 /// Returns whether a policy's core expression is within the limits, given the height and the nodes of its conditions.
-pub(crate) fn is_small(tree: &PolicyTree, height: u32, forms: u32) -> bool
-    ensures { IsTrue result ↔ IsSmallOver tree.now height forms }
+pub(crate) fn is_small(tree: &PolicyTree, height: u32, node_count: u32) -> bool
+    ensures { IsTrue result ↔ IsSmallOver tree.now height node_count }
 {
     let head = part_forms(&tree.principal)
         + action_forms(&tree.action)
         + part_forms(&tree.resource)
         + 3;
-    height <= MOST_CONDITION_HEIGHT && head + forms as usize <= MOST_FORMS
+    height <= MOST_CONDITION_HEIGHT && head + node_count as usize <= MOST_NODES
 }
 
 /// Returns whether a string may be a policy's name in a file: 1 to 256 bytes.

@@ -9,7 +9,7 @@ ghost use Rattle.grammar_desugaring.specs.BuiltFrom.{IsBuiltFrom};
 ghost use Rattle.policy_grammar.specs.inner.Parts.{has_id};
 
 use crate::core_of::core_like;
-use crate::held::after;
+use crate::dropping::after;
 use crate::policy::Policy;
 use grammar_desugaring::{decode_string, spelling};
 use grammar_policies::{Annotation, PolicyTree};
@@ -25,7 +25,7 @@ const MOST_PLACED_BYTES: usize = 26;
 fn id_of<'a>(text: &str, annotations: &'a [Annotation]) -> Option<&'a Annotation>
     requires { IsBuiltFrom text.now (λ tokens. AllByRecursion (WellFormedAnnotation tokens) annotations.now) }
     ensures found { option_copied result ≡ find (is_id text.now) annotations.entry.now }
-    ensures stands { IfSome result (λ id. IsBuiltFrom text.now (λ tokens. WellFormedAnnotation tokens id.now)) }
+    ensures is_well_formed { IfSome result (λ id. IsBuiltFrom text.now (λ tokens. WellFormedAnnotation tokens id.now)) }
 {
     for annotation in annotations {
         if spelling(text, annotation.key) == "id" {
@@ -43,7 +43,7 @@ pub(crate) fn has_id(text: &str, tree: &PolicyTree) -> bool
     id_of(text, tree.annotations.as_slice()).is_some()
 }
 
-/// Returns the value of an annotation, which is empty if none is written.
+/// Returns the value of an annotation, or the empty string if the annotation has no string.
 fn value_of(alloc: Global, text: &str, annotation: &Annotation) -> Result<Text, NoMemory>
     requires { IsBuiltFrom text.now (λ tokens. WellFormedAnnotation tokens annotation.now) }
     ensures { IfOk result (IsValueOf text.now annotation.now.value) }
@@ -93,7 +93,7 @@ pub(crate) fn names_of(
     Ok(names)
 }
 
-/// Returns the last of these policies.
+/// Returns the last policy of `named`, if there is one.
 fn last_policy(named: &[(String, Policy)]) -> Option<&Policy> {
     match named {
         [.., (_, policy)] => Some(policy),
@@ -102,7 +102,7 @@ fn last_policy(named: &[(String, Policy)]) -> Option<&Policy> {
 }
 
 /// Returns the policies of a file's trees, each with its name, or `NoMemory`. Each policy shares names of its scope,
-/// and its condition if neither has one, with the policy before it, as by `core_like`.
+/// and its condition, with the policy before it where `core_like` allows.
 ///
 /// Each tree is dropped before the next policy is built, so that the policy may use the tree's memory again.
 pub(crate) fn named_of(
@@ -112,7 +112,7 @@ pub(crate) fn named_of(
     trees: Vec<PolicyTree>,
 ) -> Result<Vec<(String, Policy)>, NoMemory>
     requires same { length names.items ≡ length trees.items }
-    requires stands { IsBuiltFrom text.now (λ tokens. AllByRecursion (WellFormedPolicy tokens) trees.items) }
+    requires is_well_formed { IsBuiltFrom text.now (λ tokens. AllByRecursion (WellFormedPolicy tokens) trees.items) }
     requires sound { AllByRecursion (λ tree. condition_faults text.now tree.conditions ≡ []) trees.items }
     ensures names { IfOk result (λ named. map (λ p. string_bytes p.0) named.items ≡ names.items) }
     ensures cores { IfOk result (λ named. AreCoresOf text.now trees.items (map (λ p. p.1) named.items)) }

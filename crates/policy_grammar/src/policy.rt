@@ -2,7 +2,7 @@
 ghost use Rattle.std.specs.Prelude.{◌≡◌, IfOk};
 
 use grammar_core::Expr;
-use plain::{Items, NoMemory, Shared, beside};
+use plain::{Items, NoMemory, Shared, pair_with};
 use values::{EntityUid, TypeName};
 
 /// The effect of a policy on a request that satisfies it.
@@ -71,7 +71,7 @@ impl Policy {
         ensures { IfOk result (λ policy. policy ≡ self.now) }
     {
         let scope = self.scope.share()?;
-        let (scope, condition) = beside(scope, self.condition.share())?;
+        let (scope, condition) = pair_with(scope, self.condition.share())?;
         Ok(Policy {
             effect: self.effect,
             scope,

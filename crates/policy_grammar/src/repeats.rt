@@ -36,7 +36,7 @@ fn has_index_prefix(text: &str, name: &Text, tree: &PolicyTree) -> bool
 /// Returns whether some `@id` of a file may equal a policy's name by index.
 fn some_index_name(text: &str, names: &[Text], trees: &[PolicyTree]) -> bool
     requires same { length names.now ≡ length trees.now }
-    requires stands { IsBuiltFrom text.now (λ tokens. AllByRecursion (WellFormedPolicy tokens) trees.now) }
+    requires is_well_formed { IsBuiltFrom text.now (λ tokens. AllByRecursion (WellFormedPolicy tokens) trees.now) }
     ensures { result ≡ some_index_name text.now names.now trees.now }
 {
     for (i, tree) in trees.iter().enumerate() {
@@ -47,7 +47,8 @@ fn some_index_name(text: &str, names: &[Text], trees: &[PolicyTree]) -> bool
     false
 }
 
-/// Returns whether the name of a policy may repeat another: if `wide` any may, else that of an `@id`.
+/// Returns whether the name of a policy may repeat another: any name may if `wide` is true, else only the value of an
+/// `@id`.
 fn is_doubtful(text: &str, wide: bool, tree: &PolicyTree) -> bool
     requires { IsBuiltFrom text.now (λ tokens. WellFormedPolicy tokens tree.now) }
     ensures { result ≡ (wide || has_id text.now tree.now) }
@@ -56,7 +57,7 @@ fn is_doubtful(text: &str, wide: bool, tree: &PolicyTree) -> bool
 }
 
 /// Returns the names that may repeat another, each with the offset of its policy's first token: those of an `@id`, or
-/// all if `wide`.
+/// all names if `wide` is true.
 fn names_to_compare<'a>(
     alloc: Global,
     text: &str,
@@ -65,7 +66,7 @@ fn names_to_compare<'a>(
     trees: &[PolicyTree],
 ) -> Result<Vec<NameAt<'a>>, NoMemory>
     requires same { length names.now ≡ length trees.now }
-    requires stands { IsBuiltFrom text.now (λ tokens. AllByRecursion (WellFormedPolicy tokens) trees.now) }
+    requires is_well_formed { IsBuiltFrom text.now (λ tokens. AllByRecursion (WellFormedPolicy tokens) trees.now) }
     ensures { IfOk result
         (λ marks. abstract_names marks.items ≡ names_to_compare text.now wide names.entry.now trees.now) }
 {
@@ -92,7 +93,7 @@ pub(crate) fn repeated_name(
     trees: &[PolicyTree],
 ) -> Result<Option<DesugarFault>, NoMemory>
     requires named { AreNamesOf text.now trees.now names.now }
-    requires stands { IsBuiltFrom text.now (λ tokens. AllByRecursion (WellFormedPolicy tokens) trees.now) }
+    requires is_well_formed { IsBuiltFrom text.now (λ tokens. AllByRecursion (WellFormedPolicy tokens) trees.now) }
     ensures { IfOk result (λ fault. fault ≡ least (repeat_faults (policy_names names.now trees.now))) }
 {
     repeats_are_exact();

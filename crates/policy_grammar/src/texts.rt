@@ -11,8 +11,8 @@ ghost use Rattle.policy_grammar.specs.PolicyText.{IsPolicyRefused, IsFileRefused
 ghost use Rattle.grammar_desugaring.specs.BuiltFrom.{IsBuiltFrom};
 
 use crate::core_of::{core_like, uid_of};
+use crate::dropping::after;
 use crate::fault::ReadFault;
-use crate::held::after;
 use crate::limits::are_ids;
 use crate::names::{named_of, names_of};
 use crate::plain_uids::plain_uid;
@@ -55,7 +55,7 @@ pub fn parse_uid(alloc: Global, text: &str) -> Result<EntityUid, ReadFault>
     }
 }
 
-/// Returns the policy of a tree, or its error, such as that it is over the limits.
+/// Returns the policy of a tree, or the error of the tree, such as that the policy is over the limits.
 fn policy_of(alloc: Global, text: &str, tree: &PolicyTree) -> Result<Policy, ReadFault>
     requires { IsBuiltFrom text.now (λ tokens. WellFormedPolicy tokens tree.now) }
     ensures read { IfOk result (IsPolicyOf text.now tree.now) }
@@ -98,7 +98,8 @@ pub fn parse_policy(alloc: Global, text: &str) -> Result<Policy, ReadFault>
     after(tree, made)
 }
 
-/// Returns the policies of a file's trees, each with its name, or their error, such as that one is over the limits.
+/// Returns the policies of a file's trees, each with its name, or the error of the trees, such as that one policy is
+/// over the limits.
 fn policies_of(
     alloc: Global,
     text: &str,
@@ -106,7 +107,7 @@ fn policies_of(
     names: Vec<Text>,
 ) -> Result<Vec<(String, Policy)>, ReadFault>
     requires named { AreNamesOf text.now trees.items names.items }
-    requires stands { IsBuiltFrom text.now (λ tokens. AllByRecursion (WellFormedPolicy tokens) trees.items) }
+    requires is_well_formed { IsBuiltFrom text.now (λ tokens. AllByRecursion (WellFormedPolicy tokens) trees.items) }
     ensures read { IfOk result
         (λ named. ArePoliciesOf text.now trees.items
         (map (λ p. string_bytes p.0) named.items) (map (λ p. p.1) named.items)) }

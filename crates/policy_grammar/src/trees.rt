@@ -67,7 +67,7 @@ fn refusal(text: &str, tokens: &[Token], fault: SyntaxFault) -> ReadFault
 /// - `NoMemory` (1): an allocation failed; possible at any point.
 pub fn uid_tree(alloc: Global, text: &str) -> Result<UidTree, ReadFault>
     ensures derives { IfOk result (Derives grammar.uid most_policy_bytes text.now) }
-    ensures stands { IfOk result (λ tree. IsBuiltFrom text.now (λ tokens. WellFormedUid tokens tree)) }
+    ensures is_well_formed { IfOk result (λ tree. IsBuiltFrom text.now (λ tokens. WellFormedUid tokens tree)) }
     ensures err { IfErr result
         (OrNoMemory ReadFault.NoMemory (IsUnread grammar.uid grammar.uid most_policy_bytes text.now)) }
 {
@@ -88,7 +88,7 @@ pub fn uid_tree(alloc: Global, text: &str) -> Result<UidTree, ReadFault>
 /// Source: Cedar reference guide 4.0, "Grammar specification for Cedar policy syntax".
 pub fn policy_tree(alloc: Global, text: &str) -> Result<PolicyTree, ReadFault>
     ensures derives { IfOk result (Derives (grammar.policy nesting_limit) most_policy_bytes text.now) }
-    ensures stands { IfOk result (λ tree. IsBuiltFrom text.now (λ tokens. WellFormedPolicy tokens tree)) }
+    ensures is_well_formed { IfOk result (λ tree. IsBuiltFrom text.now (λ tokens. WellFormedPolicy tokens tree)) }
     ensures err { IfErr result
         (OrNoMemory ReadFault.NoMemory
         (IsUnread (grammar.policy nesting_limit) (at_any grammar.policy) most_policy_bytes text.now)) }
@@ -108,7 +108,7 @@ pub fn policy_tree(alloc: Global, text: &str) -> Result<PolicyTree, ReadFault>
 pub fn policy_trees(alloc: Global, text: &str) -> Result<Vec<PolicyTree>, ReadFault>
     ensures derives { IfOk result
         (λ trees. Derives (grammar.policies nesting_limit) most_file_bytes text.now trees.items) }
-    ensures stands { IfOk result
+    ensures is_well_formed { IfOk result
         (λ trees. IsBuiltFrom text.now (λ tokens. AllByRecursion (WellFormedPolicy tokens) trees.items)) }
     ensures err { IfErr result
         (OrNoMemory ReadFault.NoMemory

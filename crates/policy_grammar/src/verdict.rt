@@ -24,7 +24,7 @@ pub(crate) struct Verdict {
     pub(crate) small: bool,
 }
 
-/// Returns the verdict on all policies of two verdicts.
+/// Returns the verdict on the policies of both verdicts together.
 fn both(one: Verdict, other: Verdict) -> Verdict
     ensures fault { result.fault ≡ spec.earlier_of one.fault other.fault }
     ensures small { IsTrue result.small ↔ (IsTrue one.small × IsTrue other.small) }
@@ -47,7 +47,7 @@ pub(crate) fn judge_policy(
     least_fault_is_reported();
     let repeat = repeated_annotation(alloc, text, tree)?;
     let measure = judge_conditions(alloc, text, tree.conditions.as_slice())?;
-    let small = is_small(tree, measure.height, measure.forms);
+    let small = is_small(tree, measure.height, measure.node_count);
     Ok(Verdict {
         fault: earlier_of(repeat, measure.fault),
         small,

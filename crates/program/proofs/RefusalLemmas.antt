@@ -6,7 +6,7 @@ use Rattle.program_drills.specs.http_service.answer_lines.Refusals.{no_memory}
 use Rattle.program.specs.Events.{Event}
 use Rattle.program.specs.Reports.{IsRefusalReported, IsMemoryReported}
 use Rattle.program.specs.Courses.{IsRefusedFor, IsLineOrRefusal}
-use Rattle.program.specs.Explained.{IsRefusalText, IsErrorReported, Explains, IsRefusedAnd, IsLineOrRefusedAnd, IsRefusedWith, IsLineOrRefusedWith}
+use Rattle.program.specs.Explained.{IsRefusalText, IsErrorReported, Explains, IsErrorThenText, IsLineOrErrorThenText, IsErrorExplained, IsLineOrErrorExplained}
 
 one_or : (n : ℕ) → (n ≡ 1) ⊎ (n ≡ 1 → ⊥)
 one_or zero = inr (λ e. absurd cc)
@@ -58,23 +58,23 @@ module _ {L : Type 0} (Refused : Refusal → Type 0) where
   -- and explained behind that, if that is asked for
   refused_and : (wanted : Bool) (Is : ℕ → List ℕ → Type 0) (refusal : Refusal) (end : ℕ) → ((refusal ≡ no_memory → ⊥) → Refused refusal)
       → (events : List (Event L)) → Explains wanted (Is refusal.code) (IsErrorReported refusal) events end
-      → IsRefusedAnd wanted Is Refused events end
+      → IsErrorThenText wanted Is Refused events end
   refused_and false Is refusal end due events told = refused_for refusal end due events told
   refused_and true Is refusal end due events told = (refusal, due_or Refused refusal (is_no_memory refusal) due, told)
 
   pub line_refused_and : (Decided : List ℕ → Type 0) (wanted : Bool) (Is : ℕ → List ℕ → Type 0) (refusal : Refusal) (end : ℕ)
       → ((refusal ≡ no_memory → ⊥) → Refused refusal)
       → (events : List (Event L)) → Explains wanted (Is refusal.code) (IsErrorReported refusal) events end
-      → IsLineOrRefusedAnd wanted Is Decided Refused events end
+      → IsLineOrErrorThenText wanted Is Decided Refused events end
   line_refused_and Decided wanted Is refusal end due events told = inr (refused_and wanted Is refusal end due events told)
 
   pub refused_with : (wanted : Bool) (files : Files) (refusal : Refusal) (end : ℕ) → ((refusal ≡ no_memory → ⊥) → Refused refusal)
       → (events : List (Event L)) → Explains wanted (IsRefusalText files refusal.code) (IsErrorReported refusal) events end
-      → IsRefusedWith wanted files Refused events end
+      → IsErrorExplained wanted files Refused events end
   refused_with wanted files refusal end due events told = refused_and wanted (IsRefusalText files) refusal end due events told
 
   pub line_refused_with : (Decided : List ℕ → Type 0) (wanted : Bool) (files : Files) (refusal : Refusal) (end : ℕ)
       → ((refusal ≡ no_memory → ⊥) → Refused refusal)
       → (events : List (Event L)) → Explains wanted (IsRefusalText files refusal.code) (IsErrorReported refusal) events end
-      → IsLineOrRefusedWith wanted files Decided Refused events end
+      → IsLineOrErrorExplained wanted files Decided Refused events end
   line_refused_with Decided wanted files refusal end due events told = line_refused_and Decided wanted (IsRefusalText files) refusal end due events told

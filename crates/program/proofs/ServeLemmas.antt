@@ -30,7 +30,7 @@ use Rattle.program.specs.declared.device.NetworkFailed.{NetworkFailed}
 use Rattle.program.specs.declared.device.Stream.TheVariants.{Faults}
 use Rattle.program.specs.Events.{Event, accepted, closed, paused, served, wrote, Does, Runs}
 use Rattle.program.specs.Reports.{ended, IsFailureReported}
-use Rattle.program.specs.Beginning.{BeginsWith, IsInitialSite, IsNotBegun, IsStateRefused, site_refusal}
+use Rattle.program.specs.Beginning.{BeginsWith, IsInitialSite, IsInitialSiteRefused, IsStateRefused, site_refusal}
 use Rattle.program.specs.Serving.{failing_line, pause_after, IsFailure, AreFailures, IsGivenUp, IsLoggedOver, IsServedOver}
 use Rattle.program.specs.Serving.{Serving, IsNextServed, AreServed, AreCutShort, AreAllServed}
 use Rattle.program.specs.inner.Begun.{TakesState}
@@ -289,7 +289,7 @@ begun_empty schema name state before after state_is same schema_is name_is store
 
 pub not_begun_over : (schema : List ℕ) (state : Option (List ℕ)) (bytes : List ℕ) (before : SiteView) (r : Result SiteView Refusal) → state ≡ Some bytes
     → IsSchemaOf schema (schema_of before) → IfErr r (λ f. (f ≡ no_memory → ⊥) → IsStateRefused (schema_of before) (Some bytes) f)
-    → IfErr r (λ f. (f ≡ no_memory → ⊥) → IsNotBegun schema state f)
+    → IfErr r (λ f. (f ≡ no_memory → ⊥) → IsInitialSiteRefused schema state f)
 not_begun_over schema state bytes before (Ok site) state_is schema_is refused = tt
 not_begun_over schema state bytes before (Err f) state_is schema_is refused = λ other.
     inr (schema_of before, schema_is, subst (λ (o : Option (List ℕ)). IsStateRefused (schema_of before) o f) (sym state_is) (refused other))

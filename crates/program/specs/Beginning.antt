@@ -30,8 +30,8 @@ BeginsWith s None m = m ≡ store_of []
 BeginsWith s (Some bytes) m = (us : List (SentUpdate Policy Entity)) × IsMessageOf s bytes us
     × (m ≡ store_of (plain_updates us))
 
--- `IsInitialSite schema name state site` holds if `site` has the schema that `schema` states, the name `name`, and the
--- updates of `state`.
+-- `IsInitialSite schema name state site` holds if `site` has the schema that the bytes `schema` describe, the name
+-- `name`, and the updates of the message `state`, if it is present.
 pub record IsInitialSite (schema : List ℕ) (name : List ℕ) (state : Option (List ℕ)) (site : SiteView) : Type 0 where
   pub schema_is : IsSchemaOf schema (schema_of site)
   pub name_is : site.name ≡ name
@@ -43,8 +43,8 @@ IsStateRefused s None r = ⊥
 IsStateRefused s (Some bytes) r =
     (f : MessageFault) × IsNoMessageOf s bytes (Message f) × (r ≡ site_refusal (Message f))
 
--- `IsNotBegun schema state r` holds if `r` is the error of the schema or, if the schema has none, that of the state as
--- a message under it.
-abbrev pub IsNotBegun : List ℕ → Option (List ℕ) → Refusal → Type 0
-IsNotBegun schema state r = IsSchemaRefused schema r
+-- `IsInitialSiteRefused schema state r` holds if `r` is the error of `schema` or, if that has none, the error of
+-- `state` as a message under this schema.
+abbrev pub IsInitialSiteRefused : List ℕ → Option (List ℕ) → Refusal → Type 0
+IsInitialSiteRefused schema state r = IsSchemaRefused schema r
     ⊎ ((s : StatedSchema) × IsSchemaOf schema s × IsStateRefused s state r)

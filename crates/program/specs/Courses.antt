@@ -33,8 +33,8 @@ module _ {L : Type 0} where
   IsLineOrRefusal Decided Refused events end =
       ((line : List ℕ) × Decided line × IsAnswerReported line events end) ⊎ IsRefusedFor Refused events end
 
-  -- `GoesOnWith name goes_on came`: the run goes on with the bytes that the file `name` was read with, by `goes_on`; if
-  -- `came` is an error, it is reported and the run ends.
+  -- `GoesOnWith name goes_on came`: the run goes on by `goes_on` with the bytes `came` of the file `name`; if `came` is
+  -- an error, the error is reported and the run ends.
   abbrev pub GoesOnWith : List ℕ → (List ℕ → Course L) → Result (List ℕ) FileFault → Course L
   GoesOnWith name goes_on (Ok bytes) = goes_on bytes
   GoesOnWith name goes_on (Err fault) = IsFileReported name fault
@@ -72,8 +72,8 @@ module _ {L : Type 0} where
   Stores name bytes goes_on events end = (came : Result (Unit {0}) FileFault) × (rest : List (Event L))
       × (events ≡ stored name bytes came ∷ rest) × GoesOnWritten name goes_on came rest end
 
-  -- `GoesOnConnected address goes_on came`: the run goes on over the connection; without one, this is reported and the
-  -- run ends.
+  -- `GoesOnConnected address goes_on came`: the run goes on over the connection; without one, the address is reported
+  -- and the run ends.
   abbrev pub GoesOnConnected : List ℕ → (L → Course L) → Option L → Course L
   GoesOnConnected address goes_on (Some link) = goes_on link
   GoesOnConnected address goes_on None = IsFailureReported address
@@ -83,7 +83,8 @@ module _ {L : Type 0} where
   Connects address goes_on events end = (came : Option L) × (rest : List (Event L))
       × (events ≡ connected address came ∷ rest) × GoesOnConnected address goes_on came rest end
 
-  -- `GoesOnListening address goes_on done`: the run goes on if it listens; else this is reported and the run ends.
+  -- `GoesOnListening address goes_on done`: the run goes on if it listens; else the address is reported and the run
+  -- ends.
   abbrev pub GoesOnListening : List ℕ → Course L → Bool → Course L
   GoesOnListening address goes_on true = goes_on
   GoesOnListening address goes_on false = IsFailureReported address
@@ -94,8 +95,8 @@ module _ {L : Type 0} where
   Listens address limit goes_on events end = (done : Bool) × (rest : List (Event L))
       × (events ≡ listened address limit done ∷ rest) × GoesOnListening address goes_on done rest end
 
-  -- `GoesOnOpened name goes_on done`: the run goes on with the log if it was opened; else this is reported and the run
-  -- ends.
+  -- `GoesOnOpened name goes_on done`: the run goes on with the log if it was opened; else the name of the log is
+  -- reported and the run ends.
   abbrev pub GoesOnOpened : {G : Type 0} → List ℕ → (Option G → Course L) → Bool → Course L
   GoesOnOpened {G} name goes_on true events end = (log : G) × goes_on (Some log) events end
   GoesOnOpened name goes_on false events end = IsFailureReported name events end
@@ -107,12 +108,13 @@ module _ {L : Type 0} where
   OpensIfNamed (Some name) goes_on events end = (done : Bool) × (rest : List (Event L))
       × (events ≡ opened name done ∷ rest) × GoesOnOpened name goes_on done rest end
 
-  -- `GoesOnAnnounced goes_on done`: the run goes on if the line was written; else it ends with 3.
+  -- `GoesOnAnnounced goes_on done`: the run goes on if the line was written; else it ends with status 3.
   abbrev pub GoesOnAnnounced : Course L → Bool → Course L
   GoesOnAnnounced goes_on true events end = goes_on events end
   GoesOnAnnounced goes_on false events end = (events ≡ []) × (end ≡ 3)
 
-  -- `Announces line goes_on`: a line is written to standard output, and the run goes on; if that fails, it ends with 3.
+  -- `Announces line goes_on`: a line is written to standard output, and the run goes on; if writing fails, the run ends
+  -- with status 3.
   abbrev pub Announces : List ℕ → Course L → Course L
   Announces line goes_on events end = (done : Bool) × (rest : List (Event L))
       × (events ≡ wrote Answers (ended line) done ∷ rest) × GoesOnAnnounced goes_on done rest end

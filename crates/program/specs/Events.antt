@@ -16,9 +16,9 @@ pub data Event (L : Type 0) : Type 0 where
   stored : List ℕ → List ℕ → Result (Unit {0}) FileFault → Event L
   -- the log of this name was opened, or could not be
   opened : List ℕ → Bool → Event L
-  -- these bytes were written to a stream, all of them, or it failed
+  -- all of these bytes were written to a stream, or the stream failed
   wrote : Stream → List ℕ → Bool → Event L
-  -- the text of an error of the command line, or the help, was written to a stream, all of it, or it failed
+  -- all of the text of an error of the command line, or of the help, was written to a stream, or the stream failed
   printed : Stream → LineFault → Bool → Event L
   -- this connection to this address was opened, or none could be
   connected : List ℕ → Option L → Event L
@@ -29,7 +29,7 @@ pub data Event (L : Type 0) : Type 0 where
   accepted : Option L → Event L
   -- a connection was closed in this state
   closed : L → Event L
-  -- how serving the connection that was closed last had ended
+  -- the result of serving the connection that was closed last
   served : Result (Unit {0}) StreamFault → Event L
   -- a pause of this number of milliseconds
   paused : ℕ → Event L
@@ -45,10 +45,11 @@ module _ {L H : Type 0} (does : H → Event L → H → Type 0) where
   Runs old new described = (events : List (Event L)) × Does events old new × described events
 
 -- `Changes held told out err event new_out new_err` holds if `event` may lead the two standard streams from `out` and
--- `err` to `new_out` and `new_err`: a line is written to one, and the other is unchanged. `held` and `told` give the
--- bytes that the streams accepted, if they are known. `Changes` does not constrain the content of a file, the text of
--- an error, how much a stream accepted before it failed, or what is read from a connection; nor the lines of a log on
--- standard output, which has its own writer: they occur among what the first stream got.
+-- `err` to `new_out` and `new_err`: bytes are written to one of them, and the other is unchanged. `held` and `told`
+-- give the bytes that the streams accepted, if they are known. `Changes` does not constrain the content of a file, the
+-- text of an error, how much a stream accepted before it failed, or what is read from a connection; nor the lines of a
+-- log on standard output: the log has its own writer, and its lines occur among the bytes that the first stream
+-- accepted.
 abbrev pub Changes : {L O E : Type 0} → (O → Option (List ℕ)) → (E → Option (List ℕ)) → O → E → Event L → O → E
     → Type 0
 Changes held told out err (read name bytes) new_out new_err = (new_out ≡ out) × (new_err ≡ err)

@@ -1,9 +1,10 @@
 -- Defines a run of `exchange`, which brings two running sites up to date: six calls, three for each site, and two
 -- lines.
 -- Source: docs/operating.md, "Exchange updates between sites".
--- Rules of this product: the schema is checked before anything is sent; each call opens its own connection and sends
--- the body of the previous reply; the count in the reply to a merge is printed as received; the first call that fails
--- ends the run, and its line reports the address, the number and the request of the call, and the cause.
+-- Rules of this product: the schema is checked before anything is sent; each call opens its own connection; the second
+-- and the third call for a site send the body of the reply to the call before; the count in the reply to a merge is
+-- printed as received; the first call that fails ends the run, and a line reports the address, the number and the
+-- request of this call, and the cause.
 use Rattle.std.specs.Prelude.{◌≡◌, ◌≢◌, ◌≤◌, ◌⊎◌, ℕ, ◌+◌, ◌++◌, List, [], ◌∷◌, Option, None, Some, codes}
 use Rattle.std.specs.Prelude.{decimal, if◌then◌else◌, nat_eq}
 use Rattle.std.specs.Borrow.{Bor}
@@ -89,16 +90,16 @@ module _ {L : Type 0} where
 
 module _ {R W : Type 0} (reader : Source R) (writer : Sink W) where
   -- `IsCalled at body link reply left` holds if the request of the call `at` with `body`, of a size that a site
-  -- accepts, was written over `link`, and what was read begins with a reply of status 200 and the body `reply`; no
-  -- device failed. `left` is the connection afterwards.
+  -- accepts, was written over `link`, and what was read begins with a reply of status 200 and the body `reply`; no read
+  -- or write failed. `left` is the connection afterwards.
   abbrev pub IsCalled : RoundCall → List ℕ → Link R W → List ℕ → Link R W → Type 0
   IsCalled at body link reply left =
       IsAsked reader writer (call_request at.call at.address.now body) link reply left
       × NoReadFailed reader writer link left × NoWriteFailed reader writer link left
       × (call_size at.call body ≤ MAX_BODY)
 
-  -- `IsNotCalled at body link fault left` holds if `fault` is why there is no such reply; nothing of the request was
-  -- written, a first part, or all of it.
+  -- `IsNotCalled at body link fault left` holds if `fault` is why the call `at` with `body` got no reply of status 200
+  -- over `link`; nothing of the request was written, a first part, or all of it. `left` is the connection afterwards.
   abbrev pub IsNotCalled : RoundCall → List ℕ → Link R W → PullFault → Link R W → Type 0
   IsNotCalled at body link (Network fault) left =
       IsUnanswered reader.left reader.reads reader.failed reader.fails writer.holds writer.failed writer.fails
@@ -120,7 +121,8 @@ module _ {R W : Type 0} (reader : Source R) (writer : Sink W) where
       ⊎ ((fault : PullFault) × (left : Link R W) × (rest : List (Event (Link R W)))
       × IsNotCalled at body link fault left × (events ≡ closed left ∷ rest) × IsCallErrorReported at fault rest end)
 
-  -- `CallsIfReached at body goes_on came`: the same over the connection `came`; without one, this is reported.
+  -- `CallsIfReached at body goes_on came`: like `CallsOver` over the connection `came`; without one, it is reported
+  -- that there is no connection.
   abbrev pub CallsIfReached : RoundCall → List ℕ → (List ℕ → Course (Link R W)) → Option (Link R W)
       → Course (Link R W)
   CallsIfReached at body goes_on (Some link) = CallsOver at body goes_on link
@@ -148,8 +150,8 @@ module _ {R W : Type 0} (reader : Source R) (writer : Sink W) where
   abbrev pub IsRound : Bor (List ℕ) → Bor (List ℕ) → Course (Link R W)
   IsRound between and = Direction 1 between and (Direction 4 and between IsOver)
 
-  -- `IsExchanged options schema`: a round is made, if `schema` is a schema; else its error is reported, and nothing is
-  -- sent.
+  -- `IsExchanged options schema`: a round is made if the bytes `schema` are a schema; else their error is reported, and
+  -- nothing is sent.
   abbrev pub IsExchanged : ExchangeOptions → List ℕ → Course (Link R W)
   IsExchanged options schema events end =
       ((s : StatedSchema) × IsSchemaOf schema s × IsRound options.between options.and events end)

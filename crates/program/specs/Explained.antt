@@ -18,19 +18,19 @@ use Rattle.program.specs.Reports.{ended, IsAnswerReported, IsRefusalReported, Is
 use Rattle.program.specs.Courses.{Course, IsRefusedFor}
 use Rattle.program.specs.Explaining.{IsWithoutEnd}
 
--- `file_held name text` is a file with its content.
-abbrev pub file_held : List ℕ → List ℕ → File
-file_held name text = record { name = name; text = text }
+-- `file_with_content name text` is a file with its content.
+abbrev pub file_with_content : List ℕ → List ℕ → File
+file_with_content name text = record { name = name; text = text }
 
 -- `policies_of file` is the given file of policies; if it is absent, an empty file with an empty name.
 abbrev pub policies_of : Option File → File
-policies_of file = unwrap_or file (file_held [] [])
+policies_of file = unwrap_or file (file_with_content [] [])
 
--- `schema_files name schema` are the files that a command over messages explains: its schema. An error of a message
--- is explained by the reported code.
+-- `schema_files name schema` are the files that a command over messages explains: the schema alone. An error of a
+-- message is explained by the reported code.
 abbrev pub schema_files : List ℕ → List ℕ → Files
 schema_files name schema = record {
-  schema = Some (file_held name schema);
+  schema = Some (file_with_content name schema);
   policies = policies_of None;
   entities = None;
   request = None;
@@ -56,29 +56,30 @@ IsRefusalText files code text = (first : List ℕ) × IsExplained files first ×
 -- ---- what a run does
 
 module _ {L : Type 0} where
-  -- `IsLineWritten line events` holds if `events` are that a line is written to standard error, whether or not the
-  -- stream accepts it.
+  -- `IsLineWritten line events` holds if `events` are one event, which writes `line` to standard error, whether or not
+  -- the stream accepts it.
   abbrev pub IsLineWritten : List ℕ → List (Event L) → Type 0
   IsLineWritten line events = (done : Bool) × (events ≡ wrote Faults (ended line) done ∷ [])
 
-  -- `AreLinesWritten lines events` holds if `events` are that lines are written there, if there are any.
+  -- `AreLinesWritten lines events` holds if `events` write `lines` to standard error; there is no event if `lines` are
+  -- empty.
   abbrev pub AreLinesWritten : List ℕ → List (Event L) → Type 0
   AreLinesWritten [] events = events ≡ []
   AreLinesWritten (byte ∷ lines) events = IsLineWritten (byte ∷ lines) events
 
-  -- `IsTextWritten text events` holds if `events` are that the lines of a text are written there.
+  -- `IsTextWritten text events` holds if `events` write the lines of `text` to standard error.
   abbrev pub IsTextWritten : List ℕ → List (Event L) → Type 0
   IsTextWritten text events = (lines : List ℕ) × IsWithoutEnd text lines × AreLinesWritten lines events
 
-  -- `IsExplanationWritten Is events` holds if `events` are that a text for which `Is` holds is written there, or that
-  -- it cannot be allocated.
+  -- `IsExplanationWritten Is events` holds if `events` write to standard error a text for which `Is` holds, or the line
+  -- which says that it cannot be allocated.
   abbrev pub IsExplanationWritten : (List ℕ → Type 0) → List (Event L) → Type 0
   IsExplanationWritten Is events =
       ((text : List ℕ) × Is text × IsTextWritten text events)
       ⊎ IsLineWritten (codes "explanation: out of memory") events
 
-  -- `Explains wanted Is course` is `course`, followed, if `wanted`, by a text for which `Is` holds. The status is that
-  -- of `course`.
+  -- `Explains wanted Is course` is `course`, followed, if `wanted`, by a text on standard error for which `Is` holds.
+  -- The status is that of `course`.
   abbrev pub Explains : Bool → (List ℕ → Type 0) → Course L → Course L
   Explains false Is course events end = course events end
   Explains true Is course events end = (first behind : List (Event L)) × course first end
@@ -88,27 +89,27 @@ module _ {L : Type 0} where
   abbrev pub IsErrorReported : Refusal → Course L
   IsErrorReported refusal events end = IsRefusalReported refusal events end ⊎ IsMemoryReported events end
 
-  -- `IsRefusedAnd wanted Is Refused`: an error for which `Refused` holds, or out of memory, is reported and, if
+  -- `IsErrorThenText wanted Is Refused`: an error for which `Refused` holds, or out of memory, is reported and, if
   -- `wanted`, then a text for which `Is` holds with the error's code.
-  abbrev pub IsRefusedAnd : Bool → (ℕ → List ℕ → Type 0) → (Refusal → Type 0) → Course L
-  IsRefusedAnd false Is Refused events end = IsRefusedFor Refused events end
-  IsRefusedAnd true Is Refused events end = (refusal : Refusal) × ((refusal ≡ no_memory) ⊎ Refused refusal)
+  abbrev pub IsErrorThenText : Bool → (ℕ → List ℕ → Type 0) → (Refusal → Type 0) → Course L
+  IsErrorThenText false Is Refused events end = IsRefusedFor Refused events end
+  IsErrorThenText true Is Refused events end = (refusal : Refusal) × ((refusal ≡ no_memory) ⊎ Refused refusal)
       × Explains true (Is refusal.code) (IsErrorReported refusal) events end
 
-  -- `IsLineOrRefusedAnd wanted Is Decided Refused`: a line for which `Decided` holds is printed, or an error is
-  -- reported as by `IsRefusedAnd`.
-  abbrev pub IsLineOrRefusedAnd : Bool → (ℕ → List ℕ → Type 0) → (List ℕ → Type 0) → (Refusal → Type 0) → Course L
-  IsLineOrRefusedAnd wanted Is Decided Refused events end =
+  -- `IsLineOrErrorThenText wanted Is Decided Refused`: a line for which `Decided` holds is printed, or an error is
+  -- reported as by `IsErrorThenText`.
+  abbrev pub IsLineOrErrorThenText : Bool → (ℕ → List ℕ → Type 0) → (List ℕ → Type 0) → (Refusal → Type 0) → Course L
+  IsLineOrErrorThenText wanted Is Decided Refused events end =
       ((line : List ℕ) × Decided line × IsAnswerReported line events end)
-      ⊎ IsRefusedAnd wanted Is Refused events end
+      ⊎ IsErrorThenText wanted Is Refused events end
 
-  -- `IsRefusedWith wanted files Refused`: an error for which `Refused` holds, or out of memory, is reported and, if
+  -- `IsErrorExplained wanted files Refused`: an error for which `Refused` holds, or out of memory, is reported and, if
   -- `wanted`, then what is rejected in `files` is explained, or the code of the error.
-  abbrev pub IsRefusedWith : Bool → Files → (Refusal → Type 0) → Course L
-  IsRefusedWith wanted files Refused = IsRefusedAnd wanted (IsRefusalText files) Refused
+  abbrev pub IsErrorExplained : Bool → Files → (Refusal → Type 0) → Course L
+  IsErrorExplained wanted files Refused = IsErrorThenText wanted (IsRefusalText files) Refused
 
-  -- `IsLineOrRefusedWith wanted files Decided Refused`: a line for which `Decided` holds is printed, or an error is
-  -- reported as by `IsRefusedWith`.
-  abbrev pub IsLineOrRefusedWith : Bool → Files → (List ℕ → Type 0) → (Refusal → Type 0) → Course L
-  IsLineOrRefusedWith wanted files Decided Refused =
-      IsLineOrRefusedAnd wanted (IsRefusalText files) Decided Refused
+  -- `IsLineOrErrorExplained wanted files Decided Refused`: a line for which `Decided` holds is printed, or an error is
+  -- reported as by `IsErrorExplained`.
+  abbrev pub IsLineOrErrorExplained : Bool → Files → (List ℕ → Type 0) → (Refusal → Type 0) → Course L
+  IsLineOrErrorExplained wanted files Decided Refused =
+      IsLineOrErrorThenText wanted (IsRefusalText files) Decided Refused

@@ -1,7 +1,7 @@
 -- Defines a run of `explain`, which explains a code, or what is rejected in files.
 -- Source: docs/operating.md, "Find out why a text is rejected".
 -- Rules of this product: an argument of digits alone is a code; the text goes to standard output, and the run ends with
--- 1 if and only if something is rejected. A number that is not a code is an error of the command line.
+-- 1 if something is rejected, with 0 if nothing is. A number that is not a code is an error of the command line.
 use Rattle.std.specs.Prelude.{◌≡◌, ◌⊎◌, ◌<◌, ◌^◌, ◌==◌, ◌&&◌, not, nat_le, ℕ, Bool, true, false, List, ◌++◌}
 use Rattle.std.specs.Prelude.{length, Option, None, Some, option_map, codes}
 use Rattle.std.specs.List.{list_all}
@@ -31,7 +31,7 @@ is_number word = is_some_text word && list_all is_decimal word
 abbrev pub IsSmallNumeral : List ℕ → Type 0
 IsSmallNumeral word = IsNumeral 10 (without_leading_plus word) × (digits_value 10 (without_leading_plus word) < 2 ^ 16)
 
--- `IsSmallNumber word n` holds if this number is `n`.
+-- `IsSmallNumber word n` holds if `word` is the number `n`, below 2^16, perhaps after a plus.
 abbrev pub IsSmallNumber : List ℕ → ℕ → Type 0
 IsSmallNumber word n = IsSmallNumeral word × (n ≡ digits_value 10 (without_leading_plus word))
 
@@ -49,7 +49,7 @@ file_named (Some name) (Some text) = Some (record { name = name; text = text })
 file_named (Some name) None = None
 file_named None text = None
 
--- `files_named options ..` are the files that the options name, with their contents.
+-- `files_named options schema policies entities request` are the files that `options` name, with these contents.
 abbrev pub files_named : ExplainOptions → Option (List ℕ) → List ℕ → Option (List ℕ) → Option (List ℕ) → Files
 files_named options schema policies entities request = record {
   schema = file_named (option_map (λ s. s.now) options.schema) schema;

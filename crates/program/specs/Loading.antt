@@ -1,22 +1,23 @@
 -- Defines a run of `load`, which puts files of policies and entities into a site.
 -- Source: docs/operating.md.
 -- Rules of this product: all files are read before anything is checked: the schema, then the initial state, the
--- policies and the entities, each if it is named; the initial site is that of `serve`; its state after the puts is
--- printed, unless anything is rejected.
+-- policies and the entities, each if it is named; the initial site is that of `serve`; the state of the site after the
+-- puts is printed, unless anything is rejected.
 use Rattle.std.specs.Prelude.{◌⊎◌, ℕ, List, Option, None, Some, option_map}
 use Rattle.site_loading.specs.site_steps.SiteViews.{SiteView, schema_of, store_in}
 use Rattle.site_loading.specs.Loads as loads
 use Rattle.program_lines.specs.declared.line.LoadOptions.{LoadOptions}
-use Rattle.program.specs.Beginning.{IsInitialSite, IsNotBegun}
+use Rattle.program.specs.Beginning.{IsInitialSite, IsInitialSiteRefused}
 use Rattle.explanations.specs.Files.{Files}
 use Rattle.program.specs.Courses.{Course, Reads, ReadsIfNamed}
-use Rattle.program.specs.Explained.{file_held, policies_of, schema_files, IsRefusedWith, IsLineOrRefusedWith}
+use Rattle.program.specs.Explained.{file_with_content, policies_of, schema_files, IsErrorExplained}
+use Rattle.program.specs.Explained.{IsLineOrErrorExplained}
 use Rattle.program.specs.Explaining.{file_named}
 
--- `load_files ..` are the files that a run explains if its initial site exists, and then a file or a put is rejected.
+-- `load_files ..` are the files that a run explains if a file or a put is rejected after the initial site was created.
 abbrev pub load_files : LoadOptions → List ℕ → Option (List ℕ) → Option (List ℕ) → Files
 load_files options schema policies entities = record {
-  schema = Some (file_held options.schema.now schema);
+  schema = Some (file_with_content options.schema.now schema);
   policies = policies_of (file_named (option_map (λ s. s.now) options.policies) policies);
   entities = file_named (option_map (λ s. s.now) options.entities) entities;
   request = None;
@@ -27,19 +28,21 @@ module _ {L : Type 0} where
   -- of one of the files or of a put is reported and, with `--explain`, explained.
   abbrev pub IsPutOrRefused : LoadOptions → SiteView → List ℕ → Option (List ℕ) → Option (List ℕ) → Course L
   IsPutOrRefused options site schema policies entities =
-      IsLineOrRefusedWith options.explain (load_files options schema policies entities)
+      IsLineOrErrorExplained options.explain (load_files options schema policies entities)
       (loads.IsLoadedState (schema_of site) site.name (store_in site) policies entities)
       (loads.IsRefused (schema_of site) site.name (store_in site) policies entities)
 
-  -- `IsLoadedOrRefused options schema state policies entities`: the files are put into the initial site. Or the error
-  -- of the schema or of the state is reported and, with `--explain`, explained; the files to put are then not parsed.
+  -- `IsLoadedOrRefused options schema state policies entities`: the files are put into the initial site; or the error
+  -- of the schema or of the state is reported and, with `--explain`, explained, and the files to put are not parsed.
   abbrev pub IsLoadedOrRefused : LoadOptions → List ℕ → Option (List ℕ) → Option (List ℕ) → Option (List ℕ) → Course L
   IsLoadedOrRefused options schema state policies entities events end =
       ((site : SiteView) × IsInitialSite schema options.site state site
       × IsPutOrRefused options site schema policies entities events end)
-      ⊎ IsRefusedWith options.explain (schema_files options.schema.now schema) (IsNotBegun schema state) events end
+      ⊎ IsErrorExplained options.explain (schema_files options.schema.now schema) (IsInitialSiteRefused schema state)
+      events end
 
-  -- `IsLoadRun options`: the files are read in this order, and then put.
+  -- `IsLoadRun options`: the schema is read, then the state, the policies and the entities, each if it is named; the
+  -- policies and the entities are then put.
   abbrev pub IsLoadRun : LoadOptions → Course L
   IsLoadRun options =
       Reads options.schema.now (λ schema.

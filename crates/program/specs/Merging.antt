@@ -11,8 +11,8 @@ use Rattle.explanations.specs.Parts.{IsMessageExplained}
 use Rattle.explanations.specs.Explained.{IsExplained}
 use Rattle.program.specs.Explained.{IsThatOr}
 
--- `IsAtFault options schema first name` holds if `name` is the file of the second message, and the first one merges
--- with itself; or `name` is the file of the first one, and it does not.
+-- `IsAtFault options schema first name` holds if the message `first` merges with itself and `name` is the file of the
+-- second message, or `first` does not and `name` is its file.
 abbrev pub IsAtFault : MergeOptions → List ℕ → List ℕ → List ℕ → Type 0
 IsAtFault options schema first name =
     (((text : List ℕ) × IsMerged schema first first text) × (name ≡ options.second.now))

@@ -1,7 +1,7 @@
 -- Defines a run of `pull`, which fetches the updates of another site into a file.
 -- Source: docs/operating.md.
--- Rules of this product: the files are read and the connection is opened before anything is checked; the state's file
--- is written last, unless anything is rejected.
+-- Rules of this product: the files are read and the connection is opened before anything is checked; if nothing is
+-- rejected, the state's file is written, and then the number of updates is printed.
 use Rattle.std.specs.Prelude.{◌≡◌, ◌≢◌, ◌⊎◌, ℕ, List, ◌∷◌, Option, Result, Ok, Err}
 use Rattle.site_loading.specs.schema.Schemas.{StatedSchema}
 use Rattle.program_lines.specs.declared.line.PullOptions.{PullOptions}
@@ -24,9 +24,9 @@ use Rattle.program.specs.Reports.{IsAnswerReported, IsFailureReported, IsMemoryR
 use Rattle.program.specs.Reports.{taken_report_line}
 use Rattle.program.specs.Courses.{Course, Reads, ReadsIfThere, Connects, Stores}
 
--- `IsPullReported options r` is the course after a pull with the result `r`. If it succeeded, the new state is written,
--- and then the number of updates printed. If the network failed, the address is reported. Otherwise the error of a text
--- or of the message is reported. Unless the network failed, out of memory may be reported instead of all this.
+-- `IsPullReported options r` is the course after a pull with the result `r`. If the pull succeeded, the new state is
+-- written, and then the number of updates printed. If the network failed, the address is reported. Otherwise the error
+-- of a text or of the message is reported. Unless the network failed, out of memory may be reported instead.
 abbrev pub IsPullReported : {L : Type 0} → PullOptions → Result Pulled PullFault → Course L
 IsPullReported options (Ok pulled) events end =
     Stores options.state.now pulled.state.items (IsAnswerReported (taken_report_line pulled.taken)) events end
@@ -40,7 +40,7 @@ module _ {R W : Type 0} (reader : Source R) (writer : Sink W) where
   abbrev pub NoReadFailed : Link R W → Link R W → Type 0
   NoReadFailed link left = reader.failed left.reader ≡ reader.failed link.reader
 
-  -- `NoWriteFailed link left` holds if no write failed meanwhile.
+  -- `NoWriteFailed link left` holds likewise if no write failed.
   abbrev pub NoWriteFailed : Link R W → Link R W → Type 0
   NoWriteFailed link left = writer.failed left.writer ≡ writer.failed link.writer
 
@@ -66,8 +66,8 @@ module _ {R W : Type 0} (reader : Source R) (writer : Sink W) where
       × IsAsked (request_for address s m) link body left × IsMessageRefused s body refusal)
 
   -- `IsPull schema state address link r left` holds if `r` is the outcome of a pull over a connection: the request for
-  -- the missing entries was written, and the message in reply joined; or a text or the message is rejected, or an
-  -- allocation failed; or there was no reply of status 200.
+  -- the missing entries was written, and the message in the reply was joined with the state; or a text or the message
+  -- is rejected, or an allocation failed; or there was no reply of status 200.
   abbrev pub IsPull : List ℕ → Option (List ℕ) → List ℕ → Link R W → Result Pulled PullFault → Link R W → Type 0
   IsPull schema state address link (Ok pulled) left = (s : StatedSchema) × (m : Store) × (body : List ℕ)
       × IsReady schema state s m × IsAsked (request_for address s m) link body left
@@ -84,8 +84,8 @@ module _ {R W : Type 0} (reader : Source R) (writer : Sink W) where
       × (fault ≢ network.Read → NoReadFailed link left)
       × (fault ≢ network.Write → NoWriteFailed link left)
 
-  -- `IsPulledOver options schema state link` is the course of a pull over the connection: it is closed, and the outcome
-  -- is reported.
+  -- `IsPulledOver options schema state link` is the course of a pull over the connection `link`: then the connection is
+  -- closed and the outcome reported.
   abbrev pub IsPulledOver : PullOptions → List ℕ → Option (List ℕ) → Link R W → Course (Link R W)
   IsPulledOver options schema state link events end = (came : Result Pulled PullFault) × (left : Link R W)
       × IsPull schema state options.from.now link came left

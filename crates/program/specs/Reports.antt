@@ -30,7 +30,8 @@ abbrev pub no_memory_line : List ℕ
 no_memory_line = codes "{\"error\":{\"code\":1,\"place\":null,\"within\":null}}"
 
 module _ {L : Type 0} where
-  -- `IsReported stream line status`: `line` is written to `stream`, and the run ends with `status`, or with 3.
+  -- `IsReported stream line status`: `line` is written to `stream`, and the run ends with `status`, or with 3 if
+  -- writing fails.
   abbrev pub IsReported : Stream → List ℕ → ℕ → List (Event L) → ℕ → Type 0
   IsReported stream line status events end = (done : Bool)
       × (events ≡ wrote stream (ended line) done ∷ [])
@@ -51,13 +52,13 @@ module _ {L : Type 0} where
   abbrev pub IsRefusalReported : Refusal → List (Event L) → ℕ → Type 0
   IsRefusalReported refusal = IsReported Faults (error_line refusal) 1
 
-  -- `IsMemoryReported`: out of memory is reported by its error line or, if that cannot be allocated, by the constant
-  -- one.
+  -- `IsMemoryReported`: out of memory is reported by the error line of code 1 or, if that cannot be allocated, by the
+  -- constant `no_memory_line`.
   abbrev pub IsMemoryReported : List (Event L) → ℕ → Type 0
   IsMemoryReported events end = IsRefusalReported no_memory events end ⊎ IsReported Faults no_memory_line 1 events end
 
-  -- `IsFailureReported name`: `name`, of a file that cannot be read or written, or the address at which the network
-  -- failed, is written to standard error, and the run ends with 3.
+  -- `IsFailureReported name`: the line `fault: ` with `name` is written to standard error, and the run ends with 3.
+  -- `name` is that of a file that cannot be read or written, or what failed on the network, such as an address.
   abbrev pub IsFailureReported : List ℕ → List (Event L) → ℕ → Type 0
   IsFailureReported name = IsReported Faults (codes "fault: " ++ name) 3
 
@@ -68,7 +69,7 @@ module _ {L : Type 0} where
   IsFileReported name file.NoMemory events end = IsMemoryReported events end
 
   -- `IsPrinted stream fault status`: the text of an error of the command line is written to `stream`, and the run ends
-  -- with `status`, or with 3.
+  -- with `status`, or with 3 if writing fails.
   abbrev pub IsPrinted : Stream → LineFault → ℕ → List (Event L) → ℕ → Type 0
   IsPrinted stream fault status events end = (done : Bool)
       × (events ≡ printed stream fault done ∷ [])

@@ -28,8 +28,8 @@ use Rattle.program.specs.Reports.{AreLinesReported, IsFaultReported}
 use Rattle.program.specs.Courses.{Course, Reads, ReadsIfNamed, IsLineOrRefusal}
 use Rattle.explanations.specs.Files.{Files}
 use Rattle.explanations.specs.Explained.{IsExplained}
-use Rattle.program.specs.Explained.{file_held, schema_files, Explains, IsRefusedWith}
-use Rattle.program.specs.Explained.{IsLineOrRefusedAnd, IsLineOrRefusedWith}
+use Rattle.program.specs.Explained.{file_with_content, schema_files, Explains, IsErrorExplained}
+use Rattle.program.specs.Explained.{IsLineOrErrorThenText, IsLineOrErrorExplained}
 use Rattle.program.specs.Exchanging.{IsExchangeRun}
 use Rattle.program.specs.Explaining.{file_named, IsExplainRun}
 use Rattle.program.specs.Loading.{IsLoadRun}
@@ -52,16 +52,16 @@ IsNotDecided (Some schema) = typed.IsSchemaDecisionRefused schema
 abbrev pub decide_files : DecideOptions → Option (List ℕ) → List ℕ → List ℕ → List ℕ → Files
 decide_files options schema policies entities request = record {
   schema = file_named (option_map (λ s. s.now) options.schema) schema;
-  policies = file_held options.policies.now policies;
-  entities = Some (file_held options.entities.now entities);
-  request = Some (file_held options.request.now request);
+  policies = file_with_content options.policies.now policies;
+  entities = Some (file_with_content options.entities.now entities);
+  request = Some (file_with_content options.request.now request);
 }
 
 -- `check_files ..` are the files that a run of `check` explains.
 abbrev pub check_files : CheckOptions → List ℕ → List ℕ → Files
 check_files options schema policies = record {
-  schema = Some (file_held options.schema.now schema);
-  policies = file_held options.policies.now policies;
+  schema = Some (file_with_content options.schema.now schema);
+  policies = file_with_content options.policies.now policies;
   entities = None;
   request = None;
 }
@@ -70,7 +70,7 @@ module _ {L : Type 0} where
   -- `IsDecidedOrRefused ..`: the answer line is printed, or the error is reported and, with `--explain`, explained.
   abbrev pub IsDecidedOrRefused : DecideOptions → Option (List ℕ) → List ℕ → List ℕ → List ℕ → Course L
   IsDecidedOrRefused options schema policies entities request =
-      IsLineOrRefusedWith options.explain (decide_files options schema policies entities request)
+      IsLineOrErrorExplained options.explain (decide_files options schema policies entities request)
       (IsDecided schema policies entities request) (IsNotDecided schema policies entities request)
 
   -- `AreChecked ..`: the lines of policies under a schema are printed, or the error is reported; with `--explain`, what
@@ -80,13 +80,13 @@ module _ {L : Type 0} where
       ((text : List ℕ) × (some_refused : Bool) × checks.IsChecked schema policies text some_refused
       × Explains (options.explain && some_refused) (IsExplained (check_files options schema policies))
       (AreLinesReported text some_refused) events end)
-      ⊎ IsRefusedWith options.explain (check_files options schema policies) (checks.AreChecksRefused schema policies)
+      ⊎ IsErrorExplained options.explain (check_files options schema policies) (checks.AreChecksRefused schema policies)
       events end
 
   -- `AreMerged ..`: the state with the updates of both messages is printed, or the error is reported and, with
   -- `--explain`, explained, with the name of the message at fault.
   abbrev pub AreMerged : MergeOptions → List ℕ → List ℕ → List ℕ → Course L
-  AreMerged options schema first second = IsLineOrRefusedAnd options.explain
+  AreMerged options schema first second = IsLineOrErrorThenText options.explain
       (IsMergeText (schema_files options.schema.now schema) options schema first)
       (merges.IsMerged schema first second) (merges.AreRefused schema first second)
 

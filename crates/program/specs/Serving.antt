@@ -1,8 +1,9 @@
 -- Defines a run of `serve`, which serves a site.
 -- Source: docs/operating.md.
 -- Rules of this product: schema and state are checked before the network is used; connections are served one after
--- another, each from the site that the previous one left. If accepting one fails, the run warns once, pauses and tries
--- again. With a log no reply is sent before its line; a connection whose line fails ends, and the next is served.
+-- another, each from the site that the previous one left. If accepting one fails, the run warns of the first of
+-- consecutive failures, pauses and tries again. With a log no reply is sent before its line; a connection whose line
+-- fails ends, and the next is served.
 use Rattle.std.specs.Prelude.{◌≡◌, ◌≢◌, ◌⊎◌, ℕ, zero, suc, ◌*◌, ◌<◌, min, Bool, List, [], ◌∷◌, ◌++◌, Option, None, Some}
 use Rattle.std.specs.Prelude.{Result, Err, codes, option_map}
 use Rattle.state_exchanges.specs.http_streams.declared.devices.Source.{Ghosts as Source}
@@ -20,8 +21,8 @@ use Rattle.program.specs.declared.device.Stream.TheVariants.{Faults}
 use Rattle.program.specs.Events.{Event, accepted, closed, paused, served, wrote}
 use Rattle.program.specs.Reports.{ended, IsFailureReported}
 use Rattle.program.specs.Courses.{Course, Reads, ReadsIfNamed, Listens, Announces, OpensIfNamed, WarnsIf}
-use Rattle.program.specs.Explained.{schema_files, IsRefusedWith}
-use Rattle.program.specs.Beginning.{IsInitialSite, IsNotBegun}
+use Rattle.program.specs.Explained.{schema_files, IsErrorExplained}
+use Rattle.program.specs.Beginning.{IsInitialSite, IsInitialSiteRefused}
 
 -- `most_of o` is the given number of connections; without one, more than any run can reach.
 abbrev pub most_of : Option ℕ → ℕ
@@ -55,7 +56,7 @@ module _ {L : Type 0} where
   AreFailures address (suc before) events = (first last : List (Event L)) × AreFailures address before first
       × IsFailure address before last × (events ≡ first ++ last)
 
-  -- `IsGivenUp address events` holds if `events` are 2^64 - 1 failures, after which the run ends: with their pauses
+  -- `IsGivenUp address events` holds if `events` are 2^64 - 1 failures, after which the run ends; their pauses take
   -- more than 10^11 years.
   abbrev pub IsGivenUp : List ℕ → List (Event L) → Type 0
   IsGivenUp address events = (number : ℕ) × (number ≡ 18446744073709551615) × AreFailures address number events
@@ -67,15 +68,15 @@ pub record Serving (G : Type 0) : Type 0 where
 
 module _ {R W G : Type 0} (reader : Source R) (writer : Sink W) (log : Sink G) where
   -- `IsLoggedOver old link end left new` holds if the log, if there is one, got the line of each reply that was sent
-  -- over the connection, before it was sent; without a log serving did not end by `Log`.
+  -- over the connection, before it was sent; without a log serving did not end with the error `Log`.
   abbrev pub IsLoggedOver : Option G → Link R W → Result (Unit {0}) StreamFault → Link R W → Option G → Type 0
   IsLoggedOver None link end left None = end ≢ Err stream_fault.Log
   IsLoggedOver (Some old) link end left (Some new) = IsLogged IsLogLine unread_line log.holds log.failed log.fails
       reader.left writer.holds link.reader left.reader link.writer left.writer old new end
   IsLoggedOver _ link end left _ = ⊥
 
-  -- `IsServedOver old link end left new` holds if the connection was served by the site, from the state `link` to
-  -- `left`, and serving ended as `end` says.
+  -- `IsServedOver old link end left new` holds if the site of `old` served the connection, from the state `link` to
+  -- `left`, serving ended as `end` says, and `new` has the site afterwards.
   abbrev pub IsServedOver : Serving G → Link R W → Result (Unit {0}) StreamFault → Link R W → Serving G → Type 0
   IsServedOver old link end left new = IsServed reader.left reader.failed reader.reads reader.fails writer.holds
       writer.failed writer.fails link.reader left.reader link.writer left.writer old.site new.site end
@@ -96,14 +97,14 @@ module _ {R W G : Type 0} (reader : Source R) (writer : Sink W) (log : Sink G) w
   AreServed address (suc n) old events new = (first rest : List (Event (Link R W))) × (mid : Serving G)
       × IsNextServed address old first mid × AreServed address n mid rest new × (events ≡ first ++ rest)
 
-  -- `AreCutShort address most old events new` holds if fewer than `most` were served, and then accepting one failed as
-  -- often as the run tries (`IsGivenUp`).
+  -- `AreCutShort address most old events new` holds if fewer than `most` connections were served, and then accepting
+  -- one failed as often as the run tries (`IsGivenUp`).
   abbrev pub AreCutShort : List ℕ → ℕ → Serving G → List (Event (Link R W)) → Serving G → Type 0
   AreCutShort address most old events new = (n : ℕ) × (first rest : List (Event (Link R W))) × (n < most)
       × AreServed address n old first new × IsGivenUp address rest × (events ≡ first ++ rest)
 
-  -- `AreAllServed address most site`: `most` connections are served, and the run ends with 0; or fewer are, and the
-  -- failure is reported as one of the network.
+  -- `AreAllServed address most site`: `most` connections are served, and the run ends with 0; or the run gives up
+  -- before (`IsGivenUp`) and reports the address.
   abbrev pub AreAllServed : List ℕ → ℕ → Serving G → Course (Link R W)
   AreAllServed address most site events end =
       (((last : Serving G) × AreServed address most site events last) × (end ≡ 0))
@@ -127,7 +128,8 @@ module _ {R W G : Type 0} (reader : Source R) (writer : Sink W) (log : Sink G) w
   abbrev pub IsServedFrom : ServeOptions → List ℕ → Option (List ℕ) → Course (Link R W)
   IsServedFrom options schema state events end =
       ((site : SiteView) × IsInitialSite schema options.site state site × IsServedAt options site events end)
-      ⊎ IsRefusedWith options.explain (schema_files options.schema.now schema) (IsNotBegun schema state) events end
+      ⊎ IsErrorExplained options.explain (schema_files options.schema.now schema) (IsInitialSiteRefused schema state)
+      events end
 
   -- `IsServeRun options`: the schema is read, then the state, if one is named; then the site is served.
   abbrev pub IsServeRun : ServeOptions → Course (Link R W)

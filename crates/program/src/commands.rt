@@ -68,7 +68,7 @@ fn decide_given<'n, 't>(
 }
 
 /// Decides a request over the contents of files, and reports the answer or the error.
-fn decide_held<H: Host>(
+fn decide_contents<H: Host>(
     alloc: Global,
     host: &mut H,
     options: &DecideOptions<'_>,
@@ -114,7 +114,7 @@ pub(crate) fn run_decide<H: Host>(
         Ok(bytes) => bytes,
         Err(end) => return end,
     };
-    decide_held(
+    decide_contents(
         alloc,
         host,
         options,
@@ -148,7 +148,7 @@ fn check_given<'n, 't>(
 }
 
 /// Checks the contents of files, and reports the lines of the policies or the error.
-fn check_held<H: Host>(
+fn check_contents<H: Host>(
     alloc: Global,
     host: &mut H,
     options: &CheckOptions<'_>,
@@ -183,5 +183,5 @@ pub(crate) fn run_check<H: Host>(
         Ok(bytes) => bytes,
         Err(end) => return end,
     };
-    check_held(alloc, host, options, &schema, &policies)
+    check_contents(alloc, host, options, &schema, &policies)
 }

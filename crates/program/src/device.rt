@@ -7,7 +7,7 @@ use thiserror::Error;
 pub enum Stream {
     /// Standard output, for answers and for help.
     Answers,
-    /// Standard error, for errors.
+    /// Standard error, for errors, warnings, and explanations of errors.
     Faults,
 }
 
@@ -16,13 +16,13 @@ pub enum Stream {
 #[error("stream did not take all that was written")]
 pub struct StreamFailed;
 
-/// Why a file was not read or written.
+/// The reason why a file was not read or written.
 #[derive(Clone, Copy, Debug, Error)]
 pub enum FileFault {
     /// The file does not exist.
     #[error("file does not exist")]
     Missing,
-    /// It can't be read or written.
+    /// The file can't be read or written.
     #[error("file cannot be read or written")]
     Failed,
     /// An allocation failed.

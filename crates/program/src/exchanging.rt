@@ -26,15 +26,15 @@ use std::process::ExitCode;
 /// One of the six calls of a round.
 #[derive(Clone, Copy)]
 pub(crate) struct RoundCall<'a> {
-    /// Its number, 1 to 6.
+    /// The number of the call in the round, 1 to 6.
     pub(crate) number: u8,
-    /// Its method and path.
+    /// The method and the path of the request.
     pub(crate) call: ExchangeCall,
     /// The address of the called site.
     pub(crate) address: &'a str,
 }
 
-/// Why a call of a round failed.
+/// The reason why a call of a round failed.
 #[derive(Clone, Copy)]
 pub(crate) enum CallFault {
     /// No connection could be opened.
@@ -45,7 +45,7 @@ pub(crate) enum CallFault {
     NoCount,
 }
 
-/// The status of a request that is larger than a site accepts.
+/// The status of the reply to a request that is larger than a site accepts.
 const TOO_LARGE: u16 = 413;
 
 /// Returns the method and the path of a call.
@@ -150,7 +150,8 @@ fn reply_or_end<H: Host>(
     }
 }
 
-/// Makes a call over an open connection, and closes it.
+/// Makes a call over an open connection, closes the connection, and returns the body of the reply. Without a reply
+/// reports the error, and returns the status of the run as the error.
 fn call_over<H: Host>(
     alloc: Global,
     host: &mut H,
@@ -197,8 +198,8 @@ fn call_at<H: Host>(
     }
 }
 
-/// Writes the received count. If `line` is not a count, reports that. In this case, and if the stream fails, returns
-/// the status of the run as the error.
+/// Writes `line`, the received count, to standard output. If `line` is not a count, reports that instead. In this case,
+/// and if the stream fails, returns the status of the run as the error.
 fn write_taken<H: Host>(
     alloc: Global,
     host: &mut H,
@@ -219,7 +220,8 @@ fn write_taken<H: Host>(
     }
 }
 
-/// Brings the site at `to` up to date from the one at `from` by three calls, numbered from `first`.
+/// Brings the site at `to` up to date from the one at `from` by three calls, numbered from `first`. If a call fails,
+/// reports the error, and returns the status of the run as the error.
 fn exchange<H: Host>(
     alloc: Global,
     host: &mut H,
@@ -278,7 +280,7 @@ fn exchange_both<H: Host>(alloc: Global, host: &mut H, between: &str, and: &str)
     }
 }
 
-/// Checks the schema, and then exchanges.
+/// Checks the schema, and then brings each of the two sites up to date from the other.
 fn exchange_under<H: Host>(
     alloc: Global,
     host: &mut H,

@@ -88,7 +88,7 @@ pub(crate) fn source_of<'n, 't>(
 
 /// The contents of the files that are explained.
 #[derive(Clone, Copy)]
-struct Held<'t> {
+struct FileContents<'t> {
     schema: Option<&'t [u8]>,
     policies: &'t [u8],
     entities: Option<&'t [u8]>,
@@ -96,7 +96,7 @@ struct Held<'t> {
 }
 
 /// Returns the files that the options name, with their contents.
-fn given_of<'n, 't>(options: &ExplainOptions<'n>, held: Held<'t>) -> Given<'n, 't>
+fn given_of<'n, 't>(options: &ExplainOptions<'n>, held: FileContents<'t>) -> Given<'n, 't>
     ensures { files_of result ≡ files_named options.now (option_map (λ s. s.now) held.entry.schema)
         held.entry.policies.now
         (option_map (λ s. s.now) held.entry.entities) (option_map (λ s. s.now) held.entry.request) }
@@ -143,7 +143,7 @@ fn explain_files<H: Host>(alloc: Global, host: &mut H, options: &ExplainOptions<
         Ok(found) => found,
         Err(end) => return end,
     };
-    let held = Held {
+    let held = FileContents {
         schema: lent(&schema),
         policies: &policies,
         entities: lent(&entities),

@@ -23,7 +23,7 @@ pub trait Host {
     /// A log, which gets a line for each reply.
     type Log: Sink + Drop;
 
-    // `does old event new`: the event may happen in the state `old`, and leads to `new`.
+    // `does old event new` holds if `event` may happen in the state `old` and lead to `new`.
     ghost does: { Self → Event (Link Self.Reader Self.Writer) → Self → Type 0 };
 
     /// Returns the bytes of a file.
@@ -31,7 +31,7 @@ pub trait Host {
     /// # Errors
     ///
     /// - `FileFault::Missing`: the file does not exist.
-    /// - `FileFault::Failed`: it cannot be read.
+    /// - `FileFault::Failed`: the file cannot be read.
     /// - `FileFault::NoMemory`: an allocation failed.
     fn read(&mut self, name: &str) -> Result<Vec<u8>, FileFault>
         ensures { MatchResult result (λ bytes. does self.old (read name.now (Ok bytes.items)) self.new)

@@ -1,13 +1,13 @@
 //! The commands of the program, with its files, streams and connections, over any machine.
 #![tactic(auto)]
 
-mod begin;
 mod commands;
 mod device;
 mod drills;
 mod exchanging;
 mod explaining;
 mod host;
+mod initial_site;
 mod loads;
 mod reading;
 mod rejecting;

@@ -5,9 +5,9 @@ ghost use Rattle.program.specs.Events.{Runs};
 ghost use Rattle.explanations.specs.Files.{files_of};
 ghost use Rattle.program.specs.Loading.{IsPutOrRefused, IsLoadRun, IsLoadedOrRefused, load_files};
 
-use crate::begin::begin;
 use crate::explaining::source_of;
 use crate::host::Host;
+use crate::initial_site::initial_site;
 use crate::reading::{lent, read_file, read_if_named};
 use crate::rejecting::{policies_of, report_rejected, schema_given};
 use crate::report::report_answer;
@@ -39,8 +39,8 @@ fn load_given<'n, 't>(
     }
 }
 
-/// Puts the policies and entities of files into an initial site, and reports its state or the first error.
-fn put_held<H: Host>(
+/// Puts the policies and entities of files into an initial site, and reports the site's state or the first error.
+fn put_contents<H: Host>(
     alloc: Global,
     host: &mut H,
     options: &LoadOptions<'_>,
@@ -62,8 +62,9 @@ fn put_held<H: Host>(
     }
 }
 
-/// Creates the initial site and puts the policies and entities of files into it; reports its state or the first error.
-fn load_held<H: Host>(
+/// Creates the initial site and puts the policies and entities of files into it; reports the site's state or the first
+/// error.
+fn load_contents<H: Host>(
     alloc: Global,
     host: &mut H,
     options: &LoadOptions<'_>,
@@ -76,8 +77,8 @@ fn load_held<H: Host>(
         (option_map (λ s. s.now) state.entry) (option_map (λ p. p.now) policies.entry)
         (option_map (λ e. e.now) entities.entry) events (exit_status result)) }
 {
-    match begin(alloc, schema, options.site, state) {
-        Ok(site) => put_held(alloc, host, options, site, schema, policies, entities),
+    match initial_site(alloc, schema, options.site, state) {
+        Ok(site) => put_contents(alloc, host, options, site, schema, policies, entities),
         Err(refusal) => {
             let given = schema_given(options.schema, schema);
             report_rejected(alloc, host, refusal, options.explain, &given)
@@ -86,7 +87,7 @@ fn load_held<H: Host>(
 }
 
 /// Reads the schema, then the initial state, the policies and the entities, each if it is named; then puts the policies
-/// and the entities into the site of this name, and prints its state.
+/// and the entities into the site of this name, and prints the site's state.
 pub(crate) fn run_load<H: Host>(alloc: Global, host: &mut H, options: &LoadOptions<'_>) -> ExitCode
     ensures { Runs H.does host.old host.new (λ events. IsLoadRun options.now events (exit_status result)) }
 {
@@ -106,7 +107,7 @@ pub(crate) fn run_load<H: Host>(alloc: Global, host: &mut H, options: &LoadOptio
         Ok(found) => found,
         Err(end) => return end,
     };
-    load_held(
+    load_contents(
         alloc,
         host,
         options,

@@ -20,7 +20,7 @@ pub(crate) fn read_file<H: Host>(host: &mut H, name: &str) -> Result<Vec<u8>, Ex
     }
 }
 
-/// Like [`read_file`], for a file whose name may be absent.
+/// Reads a file like [`read_file`] if a name is given; else returns `None`.
 pub(crate) fn read_if_named<H: Host>(
     host: &mut H,
     name: Option<&str>,
@@ -40,7 +40,7 @@ pub(crate) fn read_if_named<H: Host>(
     }
 }
 
-/// Like [`read_file`], for a file that may be missing.
+/// Reads a file like [`read_file`], but returns `None` if the file is missing.
 pub(crate) fn read_if_there<H: Host>(host: &mut H, name: &str) -> Result<Option<Vec<u8>>, ExitCode>
     ensures { MatchResult result
         (λ found. H.does host.old (read name.now (found_as (option_map (λ bytes. bytes.items) found))) host.new)

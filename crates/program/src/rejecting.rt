@@ -35,7 +35,7 @@ pub(crate) fn policies_of<'n, 't>(source: Option<NamedText<'n, 't>>) -> NamedTex
     }
 }
 
-/// Returns the files of a command over messages, for an explanation: its schema.
+/// Returns the files of a command over messages, for an explanation: the schema alone.
 pub(crate) fn schema_given<'n, 't>(name: &'n str, schema: &'t [u8]) -> Given<'n, 't>
     ensures { files_of result ≡ schema_files name.entry.now schema.entry.now }
 {
@@ -80,7 +80,8 @@ fn text_on(alloc: Global, code: u8) -> Result<String, NoMemory>
     }
 }
 
-/// Returns the text that explains what is rejected in texts; if nothing is, the text on the code of the error.
+/// Returns the text that explains what is rejected in the given files; if nothing is, the text on the code of the
+/// error.
 fn refusal_text(alloc: Global, given: &Given<'_, '_>, code: u8) -> Result<String, NoMemory>
     ensures { IfOk result (λ text. IsRefusalText (files_of given.now) code (string_bytes text)) }
 {
@@ -99,7 +100,7 @@ fn explain_refusal<H: Host>(alloc: Global, host: &mut H, given: &Given<'_, '_>, 
     write_explanation(host, refusal_text(alloc, given, code))
 }
 
-/// Explains on standard error what is rejected in texts.
+/// Explains on standard error what is rejected in the given files.
 fn explain_given<H: Host>(alloc: Global, host: &mut H, given: &Given<'_, '_>)
     ensures { Runs H.does host.old host.new
         (λ events. IsExplanationWritten (IsExplained (files_of given.now)) events) }
@@ -107,8 +108,8 @@ fn explain_given<H: Host>(alloc: Global, host: &mut H, given: &Given<'_, '_>)
     write_explanation(host, explain_texts(alloc, given))
 }
 
-/// Reports an error and then, if that is requested, explains it: what is rejected in the texts or, if nothing is by
-/// itself, the code.
+/// Reports an error and then, if that is requested, explains it: what is rejected in the given files or, if nothing is,
+/// the code.
 pub(crate) fn report_rejected<H: Host>(
     alloc: Global,
     host: &mut H,
@@ -128,15 +129,15 @@ pub(crate) fn report_rejected<H: Host>(
     end
 }
 
-/// Returns whether the policies of a check are explained: if that is requested and one is rejected.
+/// Returns whether the policies of a check are explained: if explanations are requested and a policy is rejected.
 fn is_explained(explain: bool, some_refused: bool) -> bool
     ensures { result ≡ explain && some_refused }
 {
     explain && some_refused
 }
 
-/// Reports the lines of policies and then, if one is rejected and that is requested, explains what is rejected in the
-/// texts.
+/// Reports the lines of policies and then, if one is rejected and explanations are requested, explains what is rejected
+/// in the given files.
 pub(crate) fn report_checked<H: Host>(
     alloc: Global,
     host: &mut H,

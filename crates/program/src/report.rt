@@ -43,8 +43,14 @@ fn status_of(written: Result<(), StreamFailed>, status: u8) -> ExitCode
     }
 }
 
-/// Writes the last line of a run.
-fn tell<H: Host>(host: &mut H, stream: Stream, label: &str, line: &[u8], status: u8) -> ExitCode
+/// Writes the last line of a run, and returns the status of the run: `status`, or 3 if writing fails.
+fn report_last_line<H: Host>(
+    host: &mut H,
+    stream: Stream,
+    label: &str,
+    line: &[u8],
+    status: u8,
+) -> ExitCode
     ensures { Runs H.does host.old host.new
         (λ events. IsReported stream (label.now ++ line.now) status events (exit_status result)) }
 {
@@ -56,7 +62,7 @@ fn tell<H: Host>(host: &mut H, stream: Stream, label: &str, line: &[u8], status:
 pub(crate) fn report_answer<H: Host>(host: &mut H, line: &[u8]) -> ExitCode
     ensures { Runs H.does host.old host.new (λ events. IsAnswerReported line.now events (exit_status result)) }
 {
-    tell(host, Stream::Answers, "", line, ANSWERED)
+    report_last_line(host, Stream::Answers, "", line, ANSWERED)
 }
 
 /// Writes the lines of policies, if there are any.
@@ -68,10 +74,10 @@ pub(crate) fn report_lines<H: Host>(host: &mut H, lines: &[u8], some_refused: bo
     if lines.is_empty() {
         return ExitCode::from(status);
     }
-    tell(host, Stream::Answers, "", lines, status)
+    report_last_line(host, Stream::Answers, "", lines, status)
 }
 
-/// Returns a text without the line feed at its end.
+/// Returns a text without the line feed at its end, if there is one.
 pub(crate) fn without_end(text: &str) -> &str
     ensures { IsWithoutEnd text.now result.now }
 {
@@ -81,7 +87,7 @@ pub(crate) fn without_end(text: &str) -> &str
     }
 }
 
-/// Writes what is rejected in texts, if anything is.
+/// Writes the explanation `text`, if it is not empty.
 pub(crate) fn report_explained<H: Host>(host: &mut H, text: &str) -> ExitCode
     ensures { Runs H.does host.old host.new (λ events. (line : List ℕ) × IsWithoutEnd text.now line
         × AreLinesReported line (is_some_text text.now) events (exit_status result)) }
@@ -95,7 +101,7 @@ pub(crate) fn report_no_code<H: Host>(host: &mut H, word: &str) -> ExitCode
     ensures { Runs H.does host.old host.new (λ events.
         IsReported Faults (codes "error: no code is " ++ word.now) 2 events (exit_status result)) }
 {
-    tell(
+    report_last_line(
         host,
         Stream::Faults,
         "error: no code is ",
@@ -108,7 +114,7 @@ pub(crate) fn report_no_code<H: Host>(host: &mut H, word: &str) -> ExitCode
 pub(crate) fn report_memory<H: Host>(host: &mut H) -> ExitCode
     ensures { Runs H.does host.old host.new (λ events. IsMemoryReported events (exit_status result)) }
 {
-    tell(host, Stream::Faults, "", NO_MEMORY_LINE, REFUSED)
+    report_last_line(host, Stream::Faults, "", NO_MEMORY_LINE, REFUSED)
 }
 
 /// Writes the line of an error or, if that cannot be allocated, the line of out of memory.
@@ -118,16 +124,16 @@ pub(crate) fn report_refusal<H: Host>(alloc: Global, host: &mut H, refusal: Refu
         ⊎ IsMemoryReported events (exit_status result)) }
 {
     match error_line(alloc, refusal) {
-        Ok(line) => tell(host, Stream::Faults, "", &line, REFUSED),
+        Ok(line) => report_last_line(host, Stream::Faults, "", &line, REFUSED),
         Err(_) => report_memory(host),
     }
 }
 
-/// Writes the name of the file or the address that failed.
+/// Writes `fault: ` and `name`: that of a file, an address, or the report of a failed call.
 pub(crate) fn report_failure<H: Host>(host: &mut H, name: &str) -> ExitCode
     ensures { Runs H.does host.old host.new (λ events. IsFailureReported name.now events (exit_status result)) }
 {
-    tell(host, Stream::Faults, "fault: ", name.as_bytes(), FAILED)
+    report_last_line(host, Stream::Faults, "fault: ", name.as_bytes(), FAILED)
 }
 
 /// Writes why a file was not read or written.

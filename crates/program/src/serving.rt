@@ -10,9 +10,9 @@ ghost use Rattle.program.specs.Serving.{own_stamps_line, pause_after};
 ghost use Rattle.program.specs.inner.Served.{AreServedOrFewer, IsAwaited, IsFailureNoted, IsNextOrNone};
 ghost use Rattle.program.specs.inner.Served.{IsTried, IsWarned};
 
-use crate::begin::begin;
 use crate::device::{Link, NetworkFailed, Stream, StreamFailed};
 use crate::host::Host;
+use crate::initial_site::initial_site;
 use crate::reading::{lent, read_file, read_if_named};
 use crate::rejecting::{report_rejected, schema_given};
 use crate::report::{ANSWERED, FAILED, report_failure};
@@ -36,7 +36,7 @@ const LONGEST_PAUSE: u64 = 1000;
 /// The most consecutive failures to accept a connection. No run reaches it.
 const MOST_FAILURES: u64 = u64::MAX;
 
-/// Returns the pause after the next failure: twice as long, up to the longest.
+/// Returns the pause that follows a pause: twice as long, up to the longest.
 fn longer(pause: u64) -> u64
     ensures { result ≡ min (2 * pause) 1000 }
 {
@@ -56,7 +56,7 @@ fn note_failure<H: Host>(host: &mut H, address: &str, before: u64, pause: u64)
     host.pause(pause);
 }
 
-/// Waits for a connection. If accepting it fails, directly after `before` other failures, warns of the first failure
+/// Waits for a connection. If accepting one fails, warns if this is the first of consecutive failures (`before` is 0),
 /// and pauses.
 fn try_accept<H: Host>(
     host: &mut H,
@@ -77,7 +77,7 @@ fn try_accept<H: Host>(
     }
 }
 
-/// Waits until a connection is accepted, however often that fails before.
+/// Waits until a connection is accepted. Fails only after 2^64 - 1 consecutive failures to accept one.
 fn next_link<H: Host>(
     host: &mut H,
     listener: &H::Listener,
@@ -97,7 +97,7 @@ fn next_link<H: Host>(
     Err(NetworkFailed)
 }
 
-/// Answers the requests of a connection; if there is a log, each reply after its line.
+/// Answers the requests of a connection; if there is a log, writes the line of each reply before it sends the reply.
 fn serve_link<H: Host>(
     alloc: Global,
     link: &mut Link<H::Reader, H::Writer>,
@@ -181,9 +181,9 @@ fn warn_of_own_stamps<H: Host>(host: &mut H, site: &Site, name: SiteName)
     let _ = host.write_line(Stream::Faults, OWN_STAMPS, name.as_bytes());
 }
 
-/// Serves the initial site: warns if it has stamps of its own name, opens its log, if one is named, and then listens
-/// and serves.
-fn serve_begun<H: Host>(
+/// Serves the initial site: warns if the site has stamps of its own name, opens the log, if one is named, and then
+/// listens and serves.
+fn serve_initial_site<H: Host>(
     alloc: Global,
     host: &mut H,
     options: &ServeOptions<'_>,
@@ -231,7 +231,7 @@ fn serve_listening<H: Host>(
 }
 
 /// Creates the initial site from the contents of files and serves it, or reports the error.
-fn serve_held<H: Host>(
+fn serve_contents<H: Host>(
     alloc: Global,
     host: &mut H,
     options: &ServeOptions<'_>,
@@ -242,8 +242,8 @@ fn serve_held<H: Host>(
         IsServedFrom H.Reader.Source H.Writer.Sink H.Log.Sink options.now schema.now
         (option_map (λ s. s.now) state.entry) events (exit_status result)) }
 {
-    match begin(alloc, schema, options.site, state) {
-        Ok(site) => serve_begun(alloc, host, options, site),
+    match initial_site(alloc, schema, options.site, state) {
+        Ok(site) => serve_initial_site(alloc, host, options, site),
         Err(refusal) => {
             let given = schema_given(options.schema, schema);
             report_rejected(alloc, host, refusal, options.explain, &given)
@@ -268,5 +268,5 @@ pub(crate) fn run_serve<H: Host>(
         Ok(found) => found,
         Err(end) => return end,
     };
-    serve_held(alloc, host, options, &schema, lent(&state))
+    serve_contents(alloc, host, options, &schema, lent(&state))
 }

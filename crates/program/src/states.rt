@@ -58,8 +58,8 @@ fn message_at_fault<'n>(
     }
 }
 
-/// Returns the text that explains what is rejected in texts; if nothing is, that of this code for the message in the
-/// file `name`.
+/// Returns the text that explains what is rejected in the given files; if nothing is, the text that explains the error
+/// with this code of the message in the file `name`.
 fn message_text(
     alloc: Global,
     given: &Given<'_, '_>,
@@ -132,7 +132,7 @@ fn report_unmerged<H: Host>(
 }
 
 /// Merges the contents of files, and reports the state or the error.
-fn merge_held<H: Host>(
+fn merge_contents<H: Host>(
     alloc: Global,
     host: &mut H,
     options: &MergeOptions<'_>,
@@ -172,7 +172,7 @@ pub(crate) fn run_merge<H: Host>(
         Ok(bytes) => bytes,
         Err(end) => return end,
     };
-    merge_held(alloc, host, options, &schema, &first, &second)
+    merge_contents(alloc, host, options, &schema, &first, &second)
 }
 
 /// Returns the line with the number of applied updates.
@@ -183,9 +183,9 @@ fn taken_line(alloc: Global, count: usize) -> Result<String, NoMemory>
     format!(in alloc; "{{\"taken\":{count}}}")
 }
 
-/// Writes the new state, and then prints how many updates were received. Writes nothing if the line cannot be
-/// allocated.
-fn keep<H: Host>(alloc: Global, host: &mut H, name: &str, pulled: &Pulled) -> ExitCode
+/// Writes the new state, and then prints how many updates were received. If that line cannot be allocated, reports out
+/// of memory and does not write the state.
+fn write_pulled_state<H: Host>(alloc: Global, host: &mut H, name: &str, pulled: &Pulled) -> ExitCode
     ensures { Runs H.does host.old host.new (λ events.
         Stores name.now pulled.now.state.items (IsAnswerReported (taken_report_line pulled.now.taken)) events
         (exit_status result)
@@ -210,7 +210,7 @@ fn report_pull<H: Host>(
     ensures { Runs H.does host.old host.new (λ events. IsPullReported options.now came events (exit_status result)) }
 {
     match came {
-        Ok(pulled) => keep(alloc, host, options.state, &pulled),
+        Ok(pulled) => write_pulled_state(alloc, host, options.state, &pulled),
         Err(PullFault::Network(_)) => report_failure(host, options.from),
         Err(PullFault::Refused(refusal)) => report_refusal(alloc, host, refusal),
     }

@@ -54,8 +54,8 @@ pub struct LogLines<D> {
     device: D,
     /// Whether the last accepted byte does not end a line.
     open: bool,
-    /// Whether the next write first ends the open line: a write failed since, or the run began with a line that was cut
-    /// off.
+    /// Whether the next write first ends the open line, since a write of that line failed, or the file ended in a line
+    /// that was cut off when the run began.
     torn: bool,
 }
 
@@ -145,7 +145,7 @@ fn append_to<R: Files>(files: &R, name: &str) -> io::Result<R::File> {
     options.open(files, name)
 }
 
-/// Returns the last byte of a file, or a line feed if it is not a regular one. Fails for an empty file.
+/// Returns the last byte of a file, or a line feed if it is not a regular file. Fails for an empty file.
 fn last_byte<R: Files>(files: &R, name: &str) -> io::Result<u8> {
     let mut last = [b'\n'];
     if fs::metadata(files, name)?.is_file() {

@@ -9,20 +9,20 @@ use Rattle.schema_decisions.specs.answer_lines.Refusals.{bad_shape}
 use Rattle.http_service.specs.site.declared.event.Operation.{Operation}
 use Rattle.http_service.specs.site.declared.event.Operation.TheVariants as operation
 use Rattle.http_service.specs.site.declared.event.Event.{Event}
-use Rattle.program_drills.specs.declared.made.Made.{Made}
+use Rattle.program_drills.specs.declared.made.MadeCounts.{MadeCounts}
 use Rattle.program_drills.specs.Lines.{lines}
-use Rattle.program_drills.specs.ScriptLines.{ScriptOperation, plain, put_entity, authorize, ScriptLine, script_line_of, after_operation, after_asked}
+use Rattle.program_drills.specs.ScriptLines.{ScriptOperation, plain, put_entity, authorize, ScriptLine, script_line_of, after_operation, after_script_operation}
 use Rattle.program_drills.specs.ScriptLines.{IsOperationOf, IsEventOf}
 use Rattle.program_drills.specs.Scripts.{script_lines_from, none_made, script_of, AreEventsOf, IsScriptRefused}
 use Rattle.program_drills.specs.inner.Reading.{IsLineRead, onto, IsReadUpTo}
 
 -- what is made once an operation is done is what is made once it is asked for
-after_same : (made : Made) (asked : ScriptOperation) (d : Operation) → IsOperationOf asked d → after_operation made d ≡ after_asked made asked
+after_same : (made : MadeCounts) (asked : ScriptOperation) (d : Operation) → IsOperationOf asked d → after_operation made d ≡ after_script_operation made asked
 after_same made (plain asked) d is = ap (after_operation made) is
 after_same made (put_entity json) d is = ap (after_operation made) is.1
 after_same made (authorize json) d is = ap (after_operation made) is.1
 
-messages_after : (made : Made) (d : Operation) → (after_operation made d).messages ≤ made.messages + 1
+messages_after : (made : MadeCounts) (d : Operation) → (after_operation made d).messages ≤ made.messages + 1
 messages_after made (operation.PutPolicy id text) = omega arith
 messages_after made (operation.DeletePolicy id) = omega arith
 messages_after made (operation.PutEntity bytes) = omega arith
@@ -33,7 +33,7 @@ messages_after made operation.Offer = omega arith
 messages_after made (operation.OfferDelta k) = omega arith
 messages_after made (operation.Deliver k) = omega arith
 
-summaries_after : (made : Made) (d : Operation) → (after_operation made d).summaries ≤ made.summaries + 1
+summaries_after : (made : MadeCounts) (d : Operation) → (after_operation made d).summaries ≤ made.summaries + 1
 summaries_after made (operation.PutPolicy id text) = omega arith
 summaries_after made (operation.DeletePolicy id) = omega arith
 summaries_after made (operation.PutEntity bytes) = omega arith
@@ -71,17 +71,17 @@ none_read n script = record {
 }
 
 -- what the line says, then what those behind it say
-said_next : (n : ℕ) (made : Made) (k : ℕ) (line : List ℕ) (ls : List (List ℕ)) (s : ScriptLine) → script_line_of n made line ≡ Some s
-    → script_lines_from n made k (line ∷ ls) ≡ (script_lines_from n (after_asked made s.asked) (suc k) ls >>= λ more. Ok (s ∷ more))
+said_next : (n : ℕ) (made : MadeCounts) (k : ℕ) (line : List ℕ) (ls : List (List ℕ)) (s : ScriptLine) → script_line_of n made line ≡ Some s
+    → script_lines_from n made k (line ∷ ls) ≡ (script_lines_from n (after_script_operation made s.script_operation) (suc k) ls >>= λ more. Ok (s ∷ more))
 unfolding script_lines_from
 said_next n made k line ls s is = rw is refl
 
-said_never : (n : ℕ) (made : Made) (k : ℕ) (line : List ℕ) (ls : List (List ℕ)) → script_line_of n made line ≡ None
+said_never : (n : ℕ) (made : MadeCounts) (k : ℕ) (line : List ℕ) (ls : List (List ℕ)) → script_line_of n made line ≡ None
     → script_lines_from n made k (line ∷ ls) ≡ Err k
 unfolding script_lines_from
 said_never n made k line ls is = rw is refl
 
-said_end : (n : ℕ) (made : Made) (k : ℕ) → script_lines_from n made k (lines []) ≡ Ok []
+said_end : (n : ℕ) (made : MadeCounts) (k : ℕ) → script_lines_from n made k (lines []) ≡ Ok []
 unfolding script_lines_from
 said_end n made k = refl
 
@@ -94,13 +94,13 @@ read_never None is = refl
 read_never (Some s) is = absurd is
 
 -- one line more
-pub read_more : (n : ℕ) (script : List ℕ) (made : Made) (rest line behind : List ℕ) (events : List Event) (e : Event) (now : Made)
+pub read_more : (n : ℕ) (script : List ℕ) (made : MadeCounts) (rest line behind : List ℕ) (events : List Event) (e : Event) (now : MadeCounts)
     → IsReadUpTo n script made rest events → lines rest ≡ line ∷ lines behind → IsLineRead (script_line_of n made line) (Some e)
     → now ≡ after_operation made e.operation → IsReadUpTo n script now behind (events ++ e ∷ [])
 read_more n script made rest line behind events e now was parts read is =
     let found = read_said (script_line_of n made line) e read in
     let s : ScriptLine = found.0 in
-    let after : after_asked made s.asked ≡ now = sym (after_same made s.asked e.operation found.2.1) ∙ sym is in
+    let after : after_script_operation made s.script_operation ≡ now = sym (after_same made s.script_operation e.operation found.2.1) ∙ sym is in
     let count : length (events ++ e ∷ []) ≡ suc (length events) = length-append events (e ∷ []) ∙ omega arith in
     let more = messages_after made e.operation in
     let sums = summaries_after made e.operation in
@@ -111,8 +111,8 @@ read_more n script made rest line behind events e now was parts read is =
       is =
           was.is ∙ ap (λ (ls : List (List ℕ)). onto was.said (script_lines_from n made (length events) ls)) parts
           ∙ ap (onto was.said) (said_next n made (length events) line (lines behind) s found.1)
-          ∙ onto_more was.said s (script_lines_from n (after_asked made s.asked) (suc (length events)) (lines behind))
-          ∙ ap (λ (m : Made). onto (was.said ++ s ∷ []) (script_lines_from n m (suc (length events)) (lines behind))) after
+          ∙ onto_more was.said s (script_lines_from n (after_script_operation made s.script_operation) (suc (length events)) (lines behind))
+          ∙ ap (λ (m : MadeCounts). onto (was.said ++ s ∷ []) (script_lines_from n m (suc (length events)) (lines behind))) after
           ∙ ap (λ (k : ℕ). onto (was.said ++ s ∷ []) (script_lines_from n now k (lines behind))) (sym count);
       each = zip_more IsEventOf was.said events s e was.each found.2;
       messages = rw (count, is) (omega (arith, more, was_messages));
@@ -124,7 +124,7 @@ nothing_left [] none = refl
 nothing_left (b ∷ bs) none = absurd (omega (arith, none))
 
 -- all lines are read
-pub all_read : (n : ℕ) (script : List ℕ) (made : Made) (rest : List ℕ) (events : List Event) → IsReadUpTo n script made rest events
+pub all_read : (n : ℕ) (script : List ℕ) (made : MadeCounts) (rest : List ℕ) (events : List Event) → IsReadUpTo n script made rest events
     → length rest ≡ 0 → AreEventsOf n script events
 all_read n script made rest events was none = record {
   said = was.said;
@@ -135,7 +135,7 @@ all_read n script made rest events was none = record {
 }
 
 -- or the next one says nothing
-pub next_refused : (n : ℕ) (script : List ℕ) (made : Made) (rest line behind : List ℕ) (events : List Event) (r : Refusal)
+pub next_refused : (n : ℕ) (script : List ℕ) (made : MadeCounts) (rest line behind : List ℕ) (events : List Event) (r : Refusal)
     → IsReadUpTo n script made rest events → lines rest ≡ line ∷ lines behind → IsLineRead (script_line_of n made line) None
     → r ≡ bad_shape (Some (length events)) → IsScriptRefused n script r
 next_refused n script made rest line behind events r was parts read told = record {

@@ -1,7 +1,7 @@
 -- Defines the output of the command `drill`: for a schema and a script at n sites.
 -- Source: docs/formats.md, "Scripts of `drill`".
--- Rules of this product: the schema is checked first, then the whole script, and only then is an event executed; there
--- is a line for each event, in order, then one for each site, joined by line feeds.
+-- Rules of this product: the schema is checked first, then the whole script; only then are events executed. The output
+-- has a line for each event, in order, then one for each site, joined by line feeds.
 use Rattle.std.specs.Prelude.{◌≡◌, ◌⊎◌, ℕ, List, ◌++◌, map, Some}
 use Rattle.std.specs.List.{AllZip, join_with_byte}
 use Rattle.schema_decisions.specs.answer_lines.declared.refusal.Refusal.{Refusal}
@@ -32,8 +32,8 @@ pub record IsOutputOf (schema : StatedSchema) (n : ℕ) (events : List Event) (t
   pub each : AllZip IsEventLine answers lines
   pub text_is : text ≡ join_with_byte line_end (lines ++ map state_line sites)
 
--- `IsDrilled n schema script text` holds if `schema` states a schema, `script` states events for `n` sites, and `text`
--- is the output of executing them.
+-- `IsDrilled n schema script text` holds if `schema` describes a schema, `script` describes events for `n` sites, and
+-- `text` is the output of executing the events.
 pub record IsDrilled (n : ℕ) (schema script text : List ℕ) : Type 0 where
   pub stated : StatedSchema
   pub schema_is : IsSchemaOf schema stated

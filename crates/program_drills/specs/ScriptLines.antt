@@ -1,4 +1,4 @@
--- Defines what a line of a script states.
+-- Defines the event that a line of a script describes.
 -- Source: docs/formats.md, "Scripts of `drill`".
 -- Rules of this product: a line is a JSON object, with the number of a site at `site`, an operation at `do`, and its
 -- arguments at further keys. Other keys are ignored.
@@ -13,13 +13,13 @@ use Rattle.values.specs.declared.entity_uid.EntityUid.{EntityUid}
 use Rattle.http_service.specs.site.declared.event.Operation.{Operation}
 use Rattle.http_service.specs.site.declared.event.Operation.TheVariants as operation
 use Rattle.http_service.specs.site.declared.event.Event.{Event}
-use Rattle.program_drills.specs.declared.made.Made.{Made}
+use Rattle.program_drills.specs.declared.made.MadeCounts.{MadeCounts}
 
 -- ---- what operations make
 
--- `after_operation made d` counts the messages and summaries after the operation `d`: an offer makes a message, a state
--- or a delta.
-abbrev pub after_operation : Made → Operation → Made
+-- `after_operation made d` counts the messages and summaries after the operation `d`, where `made` counts those before
+-- it: an offer makes a message, which is a state or a delta.
+abbrev pub after_operation : MadeCounts → Operation → MadeCounts
 after_operation made operation.Offer = record { messages = made.messages + 1; summaries = made.summaries }
 after_operation made (operation.OfferDelta k) = record { messages = made.messages + 1; summaries = made.summaries }
 after_operation made operation.Summary = record { messages = made.messages; summaries = made.summaries + 1 }
@@ -27,25 +27,26 @@ after_operation made _ = made
 
 -- ---- the operation that a line asks for
 
--- A `ScriptOperation` is what a line asks for: an operation; or the JSON of an entity to put or of a request, which an
--- operation has as bytes.
+-- A `ScriptOperation` is what a line asks for: an operation; or the JSON of an entity to put, or that of a request to
+-- decide, of which an operation has the bytes.
 pub data ScriptOperation : Type 0 where
   plain : Operation → ScriptOperation
   put_entity : Data → ScriptOperation
   authorize : Data → ScriptOperation
 
--- `after_asked made a` counts the messages and summaries after the operation that a line asks for by `a`.
-abbrev pub after_asked : Made → ScriptOperation → Made
-after_asked made (plain d) = after_operation made d
-after_asked made _ = made
+-- `after_script_operation made a` counts the messages and summaries after the operation `a` of a line, where `made`
+-- counts those before it.
+abbrev pub after_script_operation : MadeCounts → ScriptOperation → MadeCounts
+after_script_operation made (plain d) = after_operation made d
+after_script_operation made _ = made
 
 -- `within least most o` is the number `o`, if it is at least `least` and below `most`.
 abbrev pub within : ℕ → ℕ → Option ℕ → Option ℕ
 within least most None = None
 within least most (Some k) = if nat_le least k && nat_lt k most then Some k else None
 
--- `number_in key least most d` is the number at `key` in the object `d`, if it is at least `least` and below `most`: an
--- integer from 0 to 2^64 - 1, written without a point.
+-- `number_in key least most d` is the number at `key` in the object `d`, if it is an integer from 0 to 2^64 - 1,
+-- written without a point, at least `least` and below `most`.
 abbrev pub number_in : List ℕ → ℕ → ℕ → Data → Option ℕ
 number_in key least most d = within least most (option_and_then as_u64 (option_and_then as_number (get key d)))
 
@@ -73,10 +74,10 @@ delta_offered k = plain (operation.OfferDelta k)
 abbrev pub delivered : ℕ → ScriptOperation
 delivered k = plain (operation.Deliver k)
 
--- `asked_by made word d` is what the operation `word` asks with the other members of the line `d`, where `made` counts
--- the messages and summaries made before.
-unfoldable pub asked_by : Made → List ℕ → Data → Option ScriptOperation
-asked_by made word d =
+-- `operation_named made word d` is the operation that `word` names, with its arguments from the other members of the
+-- line `d`, if they are valid; `made` counts the messages and summaries of earlier lines.
+unfoldable pub operation_named : MadeCounts → List ℕ → Data → Option ScriptOperation
+operation_named made word d =
     if bytes_eq word (codes "put_policy") then policy_put (text_at (codes "id") d) (text_at (codes "text") d)
     else if bytes_eq word (codes "delete_policy") then option_map policy_deleted (text_at (codes "id") d)
     else if bytes_eq word (codes "put_entity") then option_map put_entity (get (codes "entity") d)
@@ -96,22 +97,22 @@ asked_by made word d =
 -- A `ScriptLine` is what a line asks for, and the number of the site.
 pub record ScriptLine : Type 0 where
   pub site : ℕ
-  pub asked : ScriptOperation
+  pub script_operation : ScriptOperation
 
 -- `script_line_by site asked` is the line with this site and this operation, if both are present.
 abbrev pub script_line_by : Option ℕ → Option ScriptOperation → Option ScriptLine
 script_line_by None asked = None
 script_line_by (Some site) None = None
-script_line_by (Some site) (Some asked) = Some (record { site = site; asked = asked })
+script_line_by (Some site) (Some asked) = Some (record { site = site; script_operation = asked })
 
--- `script_line_in n made d` is what the JSON `d` states for one of `n` sites, if it states an event; `made` counts the
--- messages and summaries that earlier lines make.
-unfoldable pub script_line_in : ℕ → Made → Data → Option ScriptLine
+-- `script_line_in n made d` is the event that the JSON `d` describes for one of `n` sites, if it describes one; `made`
+-- counts the messages and summaries that earlier lines make.
+unfoldable pub script_line_in : ℕ → MadeCounts → Data → Option ScriptLine
 script_line_in n made d = script_line_by (number_in (codes "site") 1 (n + 1) d)
-    (option_and_then (λ word. asked_by made word d) (text_at (codes "do") d))
+    (option_and_then (λ word. operation_named made word d) (text_at (codes "do") d))
 
--- `script_line_of n made line` is what the bytes `line` state, if they are JSON that states an event.
-abbrev pub script_line_of : ℕ → Made → List ℕ → Option ScriptLine
+-- `script_line_of n made line` is the event that the bytes `line` describe, if they are JSON of an event.
+abbrev pub script_line_of : ℕ → MadeCounts → List ℕ → Option ScriptLine
 script_line_of n made line = option_and_then (script_line_in n made) (json_of line)
 
 -- ---- as events
@@ -123,6 +124,6 @@ IsOperationOf (plain asked) d = d ≡ asked
 IsOperationOf (put_entity json) d = (bytes : List ℕ) × (d ≡ operation.PutEntity bytes) × (json_of bytes ≡ Some json)
 IsOperationOf (authorize json) d = (bytes : List ℕ) × (d ≡ operation.Authorize bytes) × (json_of bytes ≡ Some json)
 
--- `IsEventOf said e` holds if the event `e` is what a line states.
+-- `IsEventOf said e` holds if `e` is the event that the line `said` describes.
 abbrev pub IsEventOf : ScriptLine → Event → Type 0
-IsEventOf said e = (e.site ≡ said.site) × IsOperationOf said.asked e.operation
+IsEventOf said e = (e.site ≡ said.site) × IsOperationOf said.script_operation e.operation

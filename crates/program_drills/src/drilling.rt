@@ -13,7 +13,7 @@ use plain::{NoMemory, Shared};
 use schema_decisions::{Refusal, Schema, schema_in};
 use std::alloc::Global;
 
-/// Executes events at `count` sites, and returns their lines.
+/// Executes events at `count` sites, and returns the lines of the events and of the sites.
 fn play(
     alloc: Global,
     schema: &Shared<Schema>,
@@ -50,15 +50,15 @@ fn drill_under(
 /// `delete_entity` (`uid`), `authorize` (`request`), `summary`, `offer`, `offer_delta` (`summary`, a number), `deliver`
 /// (`message`, a number).
 ///
-/// The line of an event is the body of the service's reply, or the error line. The line of an event that makes a
-/// message or a summary has the number of this, from 0.
+/// The line of an event is the body of the service's reply, or the error line. If an event makes a message or a
+/// summary, its line has the number of that message or summary, from 0.
 ///
 /// # Errors
 ///
 /// In the order checked:
 ///
 /// - 20 to 25, without a place: the schema is rejected.
-/// - 30: a line of the script states no event, or names a message or a summary that no earlier line makes; the place is
+/// - 30: a line of the script is not an event, or names a message or a summary that no earlier line makes; the place is
 ///   the index of the first such line, from 0. No event is executed.
 /// - 1, at any point: out of memory.
 pub fn drill_text(

@@ -6,23 +6,23 @@ use http_service::Operation;
 
 /// The number of messages and of summaries made so far.
 #[derive(Clone, Copy)]
-pub(crate) struct Made {
+pub(crate) struct MadeCounts {
     pub(crate) messages: usize,
     pub(crate) summaries: usize,
 }
 
 /// Returns the numbers of messages and summaries after an operation.
-pub(crate) fn after_operation(made: Made, operation: &Operation) -> Made
+pub(crate) fn after_operation(made: MadeCounts, operation: &Operation) -> MadeCounts
     requires messages { made.messages < 2 ^ 63 }
     requires summaries { made.summaries < 2 ^ 63 }
     ensures { result ≡ after_operation made operation.now }
 {
     match operation {
-        Operation::Offer | Operation::OfferDelta(_) => Made {
+        Operation::Offer | Operation::OfferDelta(_) => MadeCounts {
             messages: made.messages + 1,
             summaries: made.summaries,
         },
-        Operation::Summary => Made {
+        Operation::Summary => MadeCounts {
             messages: made.messages,
             summaries: made.summaries + 1,
         },

@@ -6,13 +6,13 @@ ghost use Rattle.serde_json.specs.Read.{max_depth};
 ghost use Rattle.serde_json.specs.View.{view};
 ghost use Rattle.json_words.specs.Json.{json_of, text_at};
 ghost use Rattle.schema_decisions.specs.entity_uids.Uids.{uid_in};
-ghost use Rattle.program_drills.specs.ScriptLines.{asked_by, authorize, delivered, delta_offered};
+ghost use Rattle.program_drills.specs.ScriptLines.{operation_named, authorize, delivered, delta_offered};
 ghost use Rattle.program_drills.specs.ScriptLines.{entity_deleted, number_in};
 ghost use Rattle.program_drills.specs.ScriptLines.{policy_deleted, policy_put, put_entity, script_line_in};
 ghost use Rattle.program_drills.specs.ScriptLines.{script_line_of, within};
 ghost use Rattle.program_drills.specs.inner.Reading.{IsReadAs, IsLineRead, AreBytesOf};
 
-use crate::made::Made;
+use crate::made::MadeCounts;
 use http_service::{Event, Operation};
 use json_words::{read_json, text_at, write_json};
 use plain::{Items, NoMemory, Text};
@@ -108,7 +108,7 @@ fn entity_deleted(alloc: Global, value: &Value) -> Result<Option<Operation>, NoM
     }
 }
 
-/// Returns a decision, if its request is present.
+/// Returns the decision of a request, if the request is present.
 fn authorized(alloc: Global, value: &Value) -> Result<Option<Operation>, NoMemory>
     requires { depth (view value.now) ≤ max_depth }
     ensures { IfOk result (IsReadAs (option_map authorize (get (codes "request") (view value.now)))) }
@@ -120,7 +120,7 @@ fn authorized(alloc: Global, value: &Value) -> Result<Option<Operation>, NoMemor
 }
 
 /// Returns the offer of a delta against a summary, if the line has the number of a summary that was made.
-fn delta_offered(value: &Value, made: Made) -> Option<Operation>
+fn delta_offered(value: &Value, made: MadeCounts) -> Option<Operation>
     ensures { IsReadAs (option_map delta_offered (number_in (codes "summary") 0 made.summaries (view value.now)))
         result }
 {
@@ -131,7 +131,7 @@ fn delta_offered(value: &Value, made: Made) -> Option<Operation>
 }
 
 /// Returns the delivery of a message, if the line has the number of a message that was made.
-fn delivered(value: &Value, made: Made) -> Option<Operation>
+fn delivered(value: &Value, made: MadeCounts) -> Option<Operation>
     ensures { IsReadAs (option_map delivered (number_in (codes "message") 0 made.messages (view value.now))) result }
 {
     match number_in(value, "message", 0, made.messages) {
@@ -141,15 +141,15 @@ fn delivered(value: &Value, made: Made) -> Option<Operation>
 }
 
 /// Returns the operation that `word` names, with the other members of the line as its arguments.
-#[tactic(auto, unfolding(crate::specs::ScriptLines::asked_by))]
-fn asked_by(
+#[tactic(auto, unfolding(crate::specs::ScriptLines::operation_named))]
+fn operation_named(
     alloc: Global,
-    made: Made,
+    made: MadeCounts,
     word: &str,
     value: &Value,
 ) -> Result<Option<Operation>, NoMemory>
     requires { depth (view value.now) ≤ max_depth }
-    ensures { IfOk result (IsReadAs (asked_by made word.now (view value.now))) }
+    ensures { IfOk result (IsReadAs (operation_named made word.now (view value.now))) }
 {
     if word == "put_policy" {
         return policy_put(alloc, value);
@@ -181,12 +181,12 @@ fn asked_by(
     Ok(None)
 }
 
-/// Returns the event that a JSON value states for one of `count` sites, if it states one.
+/// Returns the event that a JSON value describes for one of `count` sites, if it describes one.
 #[tactic(auto, unfolding(crate::specs::ScriptLines::script_line_in))]
 fn script_line_in(
     alloc: Global,
     count: u16,
-    made: Made,
+    made: MadeCounts,
     value: &Value,
 ) -> Result<Option<Event>, NoMemory>
     requires { depth (view value.now) ≤ max_depth }
@@ -198,14 +198,14 @@ fn script_line_in(
     let Some(word) = text_at(value, "do") else {
         return Ok(None);
     };
-    match asked_by(alloc, made, word, value)? {
+    match operation_named(alloc, made, word, value)? {
         Some(operation) => Ok(Some(Event { site, operation })),
         None => Ok(None),
     }
 }
 
-/// Returns the event that a line states for one of `count` sites, or `None` if it states none. `made` is what the lines
-/// before it make.
+/// Returns the event that a line describes for one of `count` sites, or `None` if it is not an event. `made` counts the
+/// messages and summaries that earlier lines make.
 ///
 /// # Errors
 ///
@@ -213,7 +213,7 @@ fn script_line_in(
 pub(crate) fn script_line_of(
     alloc: Global,
     count: u16,
-    made: Made,
+    made: MadeCounts,
     line: &[u8],
 ) -> Result<Option<Event>, NoMemory>
     ensures { IfOk result (IsLineRead (script_line_of count made line.now)) }

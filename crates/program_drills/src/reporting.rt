@@ -95,7 +95,7 @@ fn summary_value(alloc: Global, number: u64) -> Result<Value, NoMemory>
     json!(in alloc; {"summary": number})
 }
 
-/// Returns the number of a message that was made: `{"message":0}`.
+/// Returns the line with the number of a message that was made: `{"message":0}`.
 fn message_line(alloc: Global, number: usize) -> Result<Vec<u8>, NoMemory>
     ensures { IfOk result (λ b. b.items ≡ message_line number) }
 {
@@ -111,7 +111,7 @@ fn append_message(alloc: Global, text: &mut Vec<u8>, number: usize) -> Result<()
     text.extend_from_slice(line.as_slice())
 }
 
-/// Returns the number of a summary that was made: `{"summary":0}`.
+/// Returns the line with the number of a summary that was made: `{"summary":0}`.
 fn summary_line(alloc: Global, number: usize) -> Result<Vec<u8>, NoMemory>
     ensures { IfOk result (λ b. b.items ≡ summary_line number) }
 {
@@ -127,7 +127,7 @@ fn append_summary(alloc: Global, text: &mut Vec<u8>, number: usize) -> Result<()
     text.extend_from_slice(line.as_slice())
 }
 
-/// Appends the line of a site's reply. An event has no reply `Found` or `Written`.
+/// Appends the line of a site's reply. No event has a reply `Found` or `Written`: these give `NoMemory`.
 fn append_reply(alloc: Global, text: &mut Vec<u8>, reply: &Reply) -> Result<(), NoMemory>
     ensures { OnOk result ((line : List ℕ) × (reply_line reply.now ≡ Some line)
         × (text.new.items ≡ text.old.items ++ line)) }

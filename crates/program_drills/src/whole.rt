@@ -3,7 +3,7 @@ ghost use Rattle.std.specs.Prelude.{◌≡◌, IfOk, IfErr, Some};
 ghost use Rattle.schema_decisions.specs.answer_lines.Refusals.{bad_shape, no_memory};
 ghost use Rattle.program_drills.specs.Scripts.{AreEventsOf, IsScriptRefused};
 
-use crate::made::{Made, after_operation};
+use crate::made::{MadeCounts, after_operation};
 use crate::one_line::script_line_of;
 use crate::split::first_line;
 use http_service::Event;
@@ -25,7 +25,7 @@ fn unread_line(place: usize) -> Refusal
 ///
 /// # Errors
 ///
-/// - 30: a line states no event: it is not a JSON object, lacks a required member, or has the number of a site, a
+/// - 30: a line is not an event: it is not a JSON object, lacks a required member, or has the number of a site, a
 ///   message or a summary that does not exist at that point. The place is the index of the first such line, from 0.
 /// - 1, at any point: out of memory.
 pub(crate) fn read_script(alloc: Global, count: u16, script: &[u8]) -> Result<Vec<Event>, Refusal>
@@ -33,7 +33,7 @@ pub(crate) fn read_script(alloc: Global, count: u16, script: &[u8]) -> Result<Ve
     ensures refused { IfErr result (λ r. (r ≡ no_memory → ⊥) → IsScriptRefused count script.now r) }
 {
     let mut events = Vec::new(alloc);
-    let mut made = Made {
+    let mut made = MadeCounts {
         messages: 0,
         summaries: 0,
     };

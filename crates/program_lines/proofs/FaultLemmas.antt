@@ -9,7 +9,7 @@ use Rattle.program_lines.specs.declared.fault.LineFault.{LineFault}
 use Rattle.program_lines.specs.declared.fault.LineFault.TheVariants.{Help, Words, Site, Incomplete, NotText, NoMemory}
 use Rattle.program_lines.specs.Apps.{site_app}
 use Rattle.program_lines.specs.Faults.{IsFaultOf, is_help, is_memory}
-use Rattle.program_lines.specs.inner.ClapErrors.{IsWhyIncomplete, sorted}
+use Rattle.program_lines.specs.inner.ClapErrors.{IsWhyIncomplete, line_fault_of}
 
 no_help : {k : ErrorKind} → k ≡ OutOfMemory → is_help k ≡ true → ⊥
 no_help e f = let bad : false ≡ true = sym (ap is_help e) ∙ f in absurd cc
@@ -26,7 +26,7 @@ sorted_by words error false false h m (inl oom) = absurd (other_than_memory oom 
 sorted_by words error false false h m (inr among) = (h, among)
 
 -- an error of clap's is told as what it is
-pub sorted_fault : (words : List Text) (error : Error) → HasKind (fault_of site_app words) error → IsFaultOf words (sorted error)
+pub sorted_fault : (words : List Text) (error : Error) → HasKind (fault_of site_app words) error → IsFaultOf words (line_fault_of error)
 sorted_fault words error has = sorted_by words error (is_help (kind_of error)) (is_memory (kind_of error)) refl refl has
 
 -- what a command lacks, where no line was made of it

@@ -1,4 +1,4 @@
--- From what clap's getters say to the command line: the command that was met, its site and its numbers.
+-- From what clap's getters say to the command line: the command that was found, its site and its numbers.
 use Rattle.std.proofs.Common.{◌≡◌, ◌<◌, ◌≤◌, ◌∙◌, ◌⊎◌, inl, inr, ℕ, Option, Some, None, option_map, refl, List, sym, ap, arith, [], ◌∷◌, codes, subst}
 use Rattle.stamped_store.specs.SiteNames.{IsSiteName}
 use Rattle.clap.specs.Words.{Row, Text, first_of, subcommand_rows_of, subcommand_name_of}
@@ -22,7 +22,7 @@ same_pairs (Some p) (Some q) e f =
     let y : p.1 ≡ q.1 = cc in
     λ i. Some (x i, y i)
 
--- the name and the rows of the subcommand that was met
+-- the name and the rows of the subcommand that was found
 pub met_is : {X : Type 0} (m : ArgMatches) (name : X → Text) (rows : X → List Row) (result : Option X)
     → option_map name result ≡ subcommand_name_of m
     → option_map rows result ≡ option_map (λ p. p.1) (subcommand_rows_of m)
@@ -31,7 +31,7 @@ met_is m name rows result e f =
     same_pairs _ _ (sym (fuse (λ x. (name x, rows x)) (λ p. p.0) result) ∙ e ∙ fuse _ (λ p. p.0) (out-ArgMatches m).subcommand)
     (sym (fuse (λ x. (name x, rows x)) (λ p. p.1) result) ∙ f)
 
--- ---- the command that was met
+-- ---- the command that was found
 
 -- of another word there is no command
 pub unknown_word : (word : Text) (rows : List Row) → ¬ (word ≡ codes "check") → ¬ (word ≡ codes "decide")

@@ -1,5 +1,5 @@
--- Defines the commands and their options, as a value of clap. Of such a value, clap's `subcommand_of` and `fault_of`
--- give the command, or the errors, of some arguments.
+-- Defines the commands and their options, as a value of clap. For such a value and some arguments, clap's
+-- `subcommand_of` gives the command, and `fault_of` the errors.
 -- Source: the contracts of the crate clap.
 -- Rules of this product: which commands and options exist.
 use Rattle.std.specs.Prelude.{ℕ, true, Some, codes}
@@ -15,7 +15,7 @@ value_option name = record (new_rule name) { long = Some name; value_names = 1; 
 abbrev pub number_option : Text → ℕ → ℕ → Rule
 number_option name least most = record (value_option name) { parser = Some (Unsigned least most) }
 
--- `value_word name` is an argument without a name, by its position.
+-- `value_word name` is the argument `name`, which is given by its position, without an option's name.
 abbrev pub value_word : Text → Rule
 value_word name = record (new_rule name) { value_names = 1; action = Some Set }
 

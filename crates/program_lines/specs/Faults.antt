@@ -27,7 +27,7 @@ is_memory _ = false
 abbrev pub IsFirstFault : List Text → Error → Type 0
 IsFirstFault words error = IsAmong (kind_of error) (fault_of site_app words)
 
--- `IsFaultOf words f` holds if `f` is why `words` are not a command.
+-- `IsFaultOf words f` holds if `f` says why `words` are not a command. `NoMemory` is possible for any arguments.
 abbrev pub IsFaultOf : List Text → LineFault → Type 0
 IsFaultOf words (Help error) = (is_help (kind_of error) ≡ true) × IsFirstFault words error
 IsFaultOf words (Words error) = (is_help (kind_of error) ≡ false) × IsFirstFault words error

@@ -122,7 +122,7 @@ abbrev pub IsNamed : Line → Option (Text × List Row) → Type 0
 IsNamed line None = ⊥
 IsNamed line (Some named) = IsLineOf named.0 named.1 line
 
--- `IsNoLine named` holds if clap found no command with all required options.
+-- `IsNoLine named` holds if clap found no command that has all required options with valid values.
 abbrev pub IsNoLine : Option (Text × List Row) → Type 0
 IsNoLine named = (line : Line) → IsNamed line named → ⊥
 

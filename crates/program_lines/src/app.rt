@@ -10,7 +10,7 @@ ghost use Rattle.program_lines.specs.inner.Known.{IsApp};
 
 use clap::builder::ValueParser;
 use clap::{Arg, ArgAction, Command};
-use plain::{NoMemory, beside, both};
+use plain::{NoMemory, both, pair_with};
 use std::alloc::Global;
 
 /// The greatest value of `--connections`.
@@ -23,7 +23,7 @@ pub(crate) const MOST_IDLE: u64 = 86_400;
 pub(crate) const MOST_SITES: u64 = 64;
 
 /// Returns a command with no options yet, whose help ends with an example.
-fn bare<'a>(
+fn new_command<'a>(
     alloc: Global,
     name: &'a str,
     about: &'a str,
@@ -40,7 +40,7 @@ fn with<'a>(command: Result<Command<'a>, NoMemory>, arg: Arg<'a>) -> Result<Comm
     ensures { (app : App) → (rule : Rule) → (rule_of arg.entry ≡ rule) → IfOk command.entry (IsApp app)
         → IfOk result (IsApp (with_rule app rule)) }
 {
-    let (arg, command) = beside(arg, command)?;
+    let (arg, command) = pair_with(arg, command)?;
     command.arg(arg)
 }
 
@@ -56,7 +56,7 @@ fn with_command<'a>(
     command.subcommand(below)
 }
 
-/// Returns an option with a value.
+/// Returns the option `--name` with a value, which the help shows as `value`.
 fn value_option<'a>(alloc: Global, name: &'a str, value: &'a str, help: &'a str) -> Arg<'a>
     ensures rule { rule_of result ≡ value_option name.entry.now }
     ensures local { result.global ≡ false }
@@ -68,7 +68,7 @@ fn value_option<'a>(alloc: Global, name: &'a str, value: &'a str, help: &'a str)
         .action(ArgAction::Set)
 }
 
-/// Returns an option with a number within bounds, whose value has this name in the help.
+/// Returns the option `--name` with a number from `least` to `most`, which the help shows as `value`.
 fn number_option<'a>(
     alloc: Global,
     name: &'a str,
@@ -159,7 +159,7 @@ fn check_command<'a>(alloc: Global) -> Result<Command<'a>, NoMemory>
 {
     let about = "Reports whether each policy of a file is accepted under a schema";
     let example = "Example:\n  cedar_site check --schema schema.json policies.cedar";
-    let command = bare(alloc, "check", about, example);
+    let command = new_command(alloc, "check", about, example);
     let command = with_schema(alloc, command);
     let policies = "The policies, as text";
     let command = with_word(alloc, command, "policies", "POLICIES", policies);
@@ -177,7 +177,7 @@ fn decide_command<'a>(alloc: Global) -> Result<Command<'a>, NoMemory>
     let example =
         "Example:\n  cedar_site decide --schema schema.json --policies policies.cedar \\\n      \
          --entities entities.json --request ben_reads.json";
-    let command = bare(alloc, "decide", about, example);
+    let command = new_command(alloc, "decide", about, example);
     let command = with(command, schema);
     let command = with_needed(alloc, command, "policies", "FILE", "The policies, as text");
     let command = with_needed(alloc, command, "entities", "FILE", entities);
@@ -196,7 +196,7 @@ fn load_command<'a>(alloc: Global) -> Result<Command<'a>, NoMemory>
     let policies = "The policies, as text, each put under its name";
     let entities = "The entities, a JSON array, put in their order";
     let begin = "The initial state or delta; the file is never written";
-    let command = bare(alloc, "load", about, example);
+    let command = new_command(alloc, "load", about, example);
     let command = with_schema(alloc, command);
     let command = with_site(alloc, command, name);
     let policies = value_option(alloc, "policies", "FILE", policies);
@@ -223,7 +223,7 @@ fn serve_command<'a>(alloc: Global) -> Result<Command<'a>, NoMemory>
     let example =
         "Example:\n  cedar_site serve --schema schema.json --site east --state east.json \\\n      \
          --listen 127.0.0.1:7000";
-    let command = bare(alloc, "serve", about, example);
+    let command = new_command(alloc, "serve", about, example);
     let command = with_schema(alloc, command);
     let command = with_site(alloc, command, name);
     let command = with_needed(alloc, command, "listen", "ADDRESS", address);
@@ -246,7 +246,7 @@ fn pull_command<'a>(alloc: Global) -> Result<Command<'a>, NoMemory>
     let name = "A site's name; any name will do, since a pull issues no stamps";
     let example =
         "Example:\n  cedar_site pull --schema schema.json --site west --from 127.0.0.1:7000 --state west.json";
-    let command = bare(alloc, "pull", about, example);
+    let command = new_command(alloc, "pull", about, example);
     let command = with_schema(alloc, command);
     let command = with_site(alloc, command, name);
     let from = "The address of the other site";
@@ -261,7 +261,7 @@ fn exchange_command<'a>(alloc: Global) -> Result<Command<'a>, NoMemory>
     let about = "Brings two running sites up to date with each other";
     let example =
         "Example:\n  cedar_site exchange --schema schema.json --between 127.0.0.1:7000 --and 127.0.0.1:7001";
-    let command = bare(alloc, "exchange", about, example);
+    let command = new_command(alloc, "exchange", about, example);
     let command = with_schema(alloc, command);
     let first = "The address of the site that is brought up to date first";
     let command = with_needed(alloc, command, "between", "ADDRESS", first);
@@ -280,7 +280,7 @@ fn merge_command<'a>(alloc: Global) -> Result<Command<'a>, NoMemory>
 {
     let about = "Prints the join of two states";
     let example = "Example:\n  cedar_site merge --schema schema.json east.json west.json";
-    let command = bare(alloc, "merge", about, example);
+    let command = new_command(alloc, "merge", about, example);
     let command = with_schema(alloc, command);
     let command = with_word(alloc, command, "first", "FIRST", "A state or a delta");
     let command = with_word(alloc, command, "second", "SECOND", "Another state or delta");
@@ -296,7 +296,7 @@ fn drill_command<'a>(alloc: Global) -> Result<Command<'a>, NoMemory>
     let count = "The number of sites, 1 to 64; the script names them by number, from 1";
     let script = "The script: one event on each line, a JSON object";
     let example = "Example:\n  cedar_site drill --schema schema.json --sites 2 lost_and_late.jsonl";
-    let command = bare(alloc, "drill", about, example);
+    let command = new_command(alloc, "drill", about, example);
     let command = with_schema(alloc, command);
     let sites = number_option(alloc, "sites", "NUMBER", 1, MOST_SITES, count).required(true);
     let command = with(command, sites);
@@ -315,7 +315,7 @@ fn explain_command<'a>(alloc: Global) -> Result<Command<'a>, NoMemory>
     let schema = value_option(alloc, "schema", "FILE", "The schema, as JSON");
     let example = "Examples:\n  cedar_site explain 44\n  \
          cedar_site explain --schema schema.json policies.cedar";
-    let command = bare(alloc, "explain", about, example);
+    let command = new_command(alloc, "explain", about, example);
     let command = with(command, schema);
     let command = with(command, entities);
     let command = with(command, request);

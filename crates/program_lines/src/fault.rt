@@ -1,13 +1,13 @@
 //! Errors of the command line.
 ghost use Rattle.std.specs.Prelude.{◌≡◌};
 ghost use Rattle.program_lines.specs.Faults.{is_help, is_memory};
-ghost use Rattle.program_lines.specs.inner.ClapErrors.{sorted};
+ghost use Rattle.program_lines.specs.inner.ClapErrors.{line_fault_of};
 
 use clap::error::ErrorKind;
 use plain::NoMemory;
 use thiserror::Error;
 
-/// Why arguments are not a command. Its `Display` is the text to print.
+/// The reason why arguments are not a command. Its `Display` is the text to print.
 #[derive(Drop, Debug, Error)]
 pub enum LineFault {
     /// Help, or the version, is requested.
@@ -56,8 +56,8 @@ fn is_memory(kind: ErrorKind) -> bool
 }
 
 /// Returns what an error of clap means: a request for help, out of memory, or an error of the arguments.
-pub(crate) fn sorted(error: clap::Error) -> LineFault
-    ensures { result ≡ sorted error }
+pub(crate) fn line_fault_of(error: clap::Error) -> LineFault
+    ensures { result ≡ line_fault_of error }
 {
     let kind = error.kind();
     if is_help(kind) {

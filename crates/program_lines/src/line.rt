@@ -9,7 +9,7 @@ ghost use Rattle.program_lines.specs.inner.NoSuchValue.{IsNone};
 ghost use Rattle.program_lines.specs.inner.ClapErrors.{IsWhyIncomplete};
 
 use crate::app::command;
-use crate::fault::{LineFault, sorted};
+use crate::fault::{LineFault, line_fault_of};
 use crate::options::{
     connections_in, flag_in, idle_in, is_given_invalid_site, option_text, site_in, sites_in,
 };
@@ -26,8 +26,8 @@ pub struct CheckOptions<'a> {
     pub explain: bool,
 }
 
-/// The options of `decide`: the names of three files, perhaps of a schema's file, and whether what is rejected is
-/// explained.
+/// The options of `decide`: the names of the files with policies, with entities and with a request, perhaps that of a
+/// schema's file, and whether what is rejected is explained.
 #[derive(Clone, Copy)]
 pub struct DecideOptions<'a> {
     pub schema: Option<&'a str>,
@@ -110,14 +110,14 @@ pub struct ExplainOptions<'a> {
     pub request: Option<&'a str>,
 }
 
-/// A command, with each required option as a field.
+/// A command with its options.
 #[derive(Clone, Copy)]
 pub enum Line<'a> {
     /// Validates each policy of a file under a schema.
     Check(CheckOptions<'a>),
     /// Decides one request.
     Decide(DecideOptions<'a>),
-    /// Puts files into a site and prints its state.
+    /// Puts the contents of files into a site and prints the site's state.
     Load(LoadOptions<'a>),
     /// Serves a site at an address.
     Serve(ServeOptions<'a>),
@@ -134,7 +134,7 @@ pub enum Line<'a> {
 }
 
 /// Returns the name of the command that clap found, and its options.
-fn met<'m, 'a>(matches: &'m ArgMatches<'a>) -> Option<(&'a str, &'m ArgMatches<'a>)>
+fn found_command<'m, 'a>(matches: &'m ArgMatches<'a>) -> Option<(&'a str, &'m ArgMatches<'a>)>
     ensures { option_map (λ p. (p.0.now, rows_of (found_of p.1.now))) result ≡ subcommand_rows_of matches.now }
 {
     matches.subcommand()
@@ -269,7 +269,7 @@ fn pull_in<'a>(options: &ArgMatches<'a>) -> Option<Line<'a>>
     }))
 }
 
-/// Returns `exchange`, if it has its schema and both addresses.
+/// Returns `exchange`, if it has the schema and both addresses.
 fn exchange_in<'a>(options: &ArgMatches<'a>) -> Option<Line<'a>>
     ensures { MatchOption result (IsNone (IsLineOf (codes "exchange") (rows_of (found_of options.now))))
         (IsLineOf (codes "exchange") (rows_of (found_of options.now))) }
@@ -353,7 +353,7 @@ fn explain_in<'a>(options: &ArgMatches<'a>) -> Option<Line<'a>>
     }))
 }
 
-/// Returns the command of this name, if it has all of its options.
+/// Returns the command of this name, if it has all required options with valid values.
 fn named_line<'a>(name: &str, options: &ArgMatches<'a>) -> Option<Line<'a>>
     ensures { MatchOption result (IsNone (IsLineOf name.now (rows_of (found_of options.now))))
         (IsLineOf name.now (rows_of (found_of options.now))) }
@@ -388,12 +388,12 @@ fn named_line<'a>(name: &str, options: &ArgMatches<'a>) -> Option<Line<'a>>
     None
 }
 
-/// Returns the command that clap found, if it has all required options.
+/// Returns the command that clap found, if it has all required options with valid values.
 fn line_in<'a>(matches: &ArgMatches<'a>) -> Option<Line<'a>>
     ensures { MatchOption result (IsNoLine (subcommand_rows_of matches.now))
         (λ line. IsNamed line (subcommand_rows_of matches.now)) }
 {
-    match met(matches) {
+    match found_command(matches) {
         Some((name, options)) => named_line(name, options),
         None => None,
     }
@@ -403,7 +403,7 @@ fn line_in<'a>(matches: &ArgMatches<'a>) -> Option<Line<'a>>
 fn has_invalid_site(matches: &ArgMatches<'_>) -> bool
     ensures { IsTrue result ↔ HasInvalidSite (subcommand_rows_of matches.now) }
 {
-    match met(matches) {
+    match found_command(matches) {
         Some((_name, options)) => is_given_invalid_site(options),
         None => false,
     }
@@ -422,8 +422,9 @@ fn why_incomplete(matches: &ArgMatches<'_>) -> LineFault
 
 /// Returns the command of the arguments, the first of which is the program's name.
 ///
-/// It has every required option: `--site` with a site name (1 to 32 bytes, each an ASCII letter, a digit, `-`, `_` or
-/// `.`), `--sites` from 1 to 64, and, if given, `--connections` from 0 to 4,294,967,295 and `--idle` from 1 to 86,400.
+/// The command has every required option: `--site` with a site name (1 to 32 bytes, each an ASCII letter, a digit, `-`,
+/// `_` or `.`), `--sites` from 1 to 64, and, if given, `--connections` from 0 to 4,294,967,295 and `--idle` from 1 to
+/// 86,400.
 ///
 /// # Errors
 ///
@@ -439,7 +440,7 @@ pub fn line_of<'a>(alloc: Global, words: &'a [String]) -> Result<Line<'a>, LineF
 {
     let matches = match command(alloc)?.try_get_matches_from(words) {
         Ok(matches) => matches,
-        Err(error) => return Err(sorted(error)),
+        Err(error) => return Err(line_fault_of(error)),
     };
     match line_in(&matches) {
         Some(line) => Ok(line),

@@ -27,7 +27,7 @@ pub(crate) fn flag_in(options: &ArgMatches<'_>, name: &str) -> bool
     text == "true"
 }
 
-/// Returns the number that a text is in decimal digits, perhaps after a plus, if it is within bounds.
+/// Returns the number that a text spells in decimal digits, perhaps after a plus, if it is within bounds.
 fn number_in(text: &str, least: u64, most: u64) -> Option<u64>
     ensures { MatchOption result (IsNone (IsNumberIn least most text.now)) (IsNumberIn least most text.now) }
 {
@@ -37,7 +37,7 @@ fn number_in(text: &str, least: u64, most: u64) -> Option<u64>
     }
 }
 
-/// Returns the name of the site.
+/// Returns the value of `--site`, if it is a site name.
 pub(crate) fn site_in(options: &ArgMatches<'_>) -> Option<SiteName>
     ensures { MatchOption result (IsNone (IsGivenSite (rows_of (found_of options.now))))
         (IsGivenSite (rows_of (found_of options.now))) }
@@ -58,7 +58,8 @@ pub(crate) fn is_given_invalid_site(options: &ArgMatches<'_>) -> bool
     !is_site_name(text)
 }
 
-/// Returns the number of connections, if given; `None` if the value is not a number within the bounds.
+/// Returns the number of connections, or `Some(None)` if it is not given; `None` if the value is not a number within
+/// the bounds.
 pub(crate) fn connections_in(options: &ArgMatches<'_>) -> Option<Option<u32>>
     ensures { MatchOption result
         (IsNone (MayBeGivenNumber (rows_of (found_of options.now)) (codes "connections") 0 4294967295))
@@ -73,7 +74,8 @@ pub(crate) fn connections_in(options: &ArgMatches<'_>) -> Option<Option<u32>>
     }
 }
 
-/// Returns the seconds that a connection may be idle, if given; `None` if the value is not a number within the bounds.
+/// Returns the seconds that a connection may be idle, or `Some(None)` if they are not given; `None` if the value is not
+/// a number within the bounds.
 pub(crate) fn idle_in(options: &ArgMatches<'_>) -> Option<Option<u32>>
     ensures { MatchOption result
         (IsNone (MayBeGivenNumber (rows_of (found_of options.now)) (codes "idle") 1 86400))

@@ -1,4 +1,4 @@
--- Defines the answers of the service with which this program tests streams: a `Counter`.
+-- Defines the answers of a `Counter`, the service with which this program tests streams.
 use Rattle.std.specs.Prelude.{◌≡◌, ℕ, ◌+◌, ◌-◌, ◌^◌, ◌⊎◌, min, List, [], ◌∷◌}
 use Rattle.rows.specs.declared.streams.Counter.{Counter}
 use Rattle.http.specs.declared.status.StatusCode.{StatusCode}
@@ -8,8 +8,9 @@ abbrev pub said : List ℕ → List ℕ → List ℕ
 said target [] = target
 said target (b ∷ body) = b ∷ body
 
--- `counts old method target body status reply new` holds if `reply` is `said target body` with the status 200, or the
--- status is 503; `new` counts one more request and, for 503, one more failure, each up to `2^64 - 1`.
+-- `counts old method target body status reply new` holds if the counter `old` may answer a request with `status` and
+-- `reply`, and then is `new`. The status is 200, and `reply` is `said target body`, or it is 503 (a failed allocation).
+-- `new` counts one more request and, for 503, one more failure, each up to `2^64 - 1`.
 abbrev pub counts : Counter → List ℕ → List ℕ → List ℕ → StatusCode → List ℕ → Counter → Type 0
 counts old method target body status reply new =
     (new.requests ≡ min (old.requests + 1) (2 ^ 64 - 1))

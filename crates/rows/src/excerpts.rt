@@ -25,7 +25,7 @@ fn in_one_line(alloc: Global, lines: &str) -> Result<String, NoMemory> {
 }
 
 /// Returns the excerpt of a text that shows the part after its first `from` and before its last `behind` bytes. The
-/// name of its file has a control character (U+009B).
+/// excerpt names a file whose name has a control character (U+009B).
 fn excerpt(alloc: Global, text: &str, from: usize, behind: usize) -> Result<String, NoMemory> {
     let start = place_of(text, from);
     let end = place_of(text, text.len().saturating_sub(behind));
@@ -54,7 +54,8 @@ pub(crate) fn marked(alloc: Global, text: &str) -> Result<String, NoMemory> {
     ended(whole, told)
 }
 
-/// Returns the place of a byte of a text, and the first byte of its character; the byte's number precedes the text.
+/// Returns the line and the column of a byte of a text, and the first byte of its character; in the row the number of
+/// the byte precedes the text.
 pub(crate) fn placed(alloc: Global, row: &str) -> Result<String, NoMemory> {
     let (number, text) = row.split_once(' ').unwrap_or((row, ""));
     let Ok(at) = number.parse::<usize>() else {

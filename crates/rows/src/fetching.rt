@@ -1,5 +1,5 @@
 //! Cases of fetched replies.
-use crate::ways::{PLAIN, SEVENS, SLOW, Way, by_reads, reader_of, writer_of};
+use crate::ways::{IN_SEVENS, PLAIN, SLOW, StreamSplit, by_reads, reader_of, writer_of};
 use crate::written::shown;
 use http::Method;
 use http_streams::devices::Source;
@@ -31,7 +31,7 @@ fn apart(
 }
 
 /// Fetches from a peer that sends these bytes, split in this way.
-fn run(alloc: Global, bytes: &[u8], way: Way<'_>) -> Fetched {
+fn run(alloc: Global, bytes: &[u8], way: StreamSplit<'_>) -> Fetched {
     let mut reader = reader_of(way, bytes);
     let mut writer = writer_of(way, alloc);
     let get = Ask {
@@ -62,7 +62,7 @@ fn status_and_body(alloc: Global, status: u16, body: &[u8]) -> Result<String, No
 }
 
 /// Returns the status and the body, or the error. A write fails here only if out of memory.
-fn told(alloc: Global, fetched: &Fetched) -> Result<String, NoMemory> {
+fn outcome_text(alloc: Global, fetched: &Fetched) -> Result<String, NoMemory> {
     match fetched.status {
         Ok(status) => status_and_body(alloc, status, fetched.body.as_slice()),
         Err(fault) => String::from_str(alloc, fault_word(fault)),
@@ -70,22 +70,27 @@ fn told(alloc: Global, fetched: &Fetched) -> Result<String, NoMemory> {
 }
 
 /// Returns the outcome for the bytes, split in this way.
-fn told_in(alloc: Global, bytes: &[u8], way: Way<'_>) -> Result<String, NoMemory> {
+fn outcome_in(alloc: Global, bytes: &[u8], way: StreamSplit<'_>) -> Result<String, NoMemory> {
     let fetched = run(alloc, bytes, way);
-    told(alloc, &fetched)
+    outcome_text(alloc, &fetched)
 }
 
 /// Returns whether the outcome for the bytes, split in this way, is `said`.
-fn is_told_in(alloc: Global, bytes: &[u8], said: &str, way: Way<'_>) -> Result<bool, NoMemory> {
-    let found = told_in(alloc, bytes, way)?;
+fn is_outcome_in(
+    alloc: Global,
+    bytes: &[u8],
+    said: &str,
+    way: StreamSplit<'_>,
+) -> Result<bool, NoMemory> {
+    let found = outcome_in(alloc, bytes, way)?;
     Ok(found.as_str() == said)
 }
 
 /// Returns whether the outcome is `said`, however the reply is split in two.
-fn is_told(alloc: Global, bytes: &[u8], said: &str) -> Result<bool, NoMemory> {
+fn is_outcome(alloc: Global, bytes: &[u8], said: &str) -> Result<bool, NoMemory> {
     for at in 0..bytes.len() {
         let reads = [at, usize::MAX];
-        if !is_told_in(alloc, bytes, said, by_reads(&reads))? {
+        if !is_outcome_in(alloc, bytes, said, by_reads(&reads))? {
             return Ok(false);
         }
     }
@@ -94,24 +99,25 @@ fn is_told(alloc: Global, bytes: &[u8], said: &str) -> Result<bool, NoMemory> {
 
 /// Returns the number of unread bytes of a reply that is read in pieces of 7 bytes.
 fn left(alloc: Global, bytes: &[u8]) -> usize {
-    let fetched = run(alloc, bytes, SEVENS);
+    let fetched = run(alloc, bytes, IN_SEVENS);
     fetched.left
 }
 
-/// Returns the outcome `said` with the number of unread bytes, if it is the same however the reply is split in two.
-fn told_and_left(alloc: Global, bytes: &[u8], said: &str) -> Result<String, NoMemory> {
-    if !is_told(alloc, bytes, said)? {
+/// Returns the outcome `said` with the number of unread bytes, if it is the same however the reply is split in two;
+/// else `differs`.
+fn outcome_and_left(alloc: Global, bytes: &[u8], said: &str) -> Result<String, NoMemory> {
+    if !is_outcome(alloc, bytes, said)? {
         return String::from_str(alloc, "differs");
     }
     let left = left(alloc, bytes);
     format!(in alloc; "{said}, {left} left")
 }
 
-/// Returns the outcome for a reply, if it is the same however the reply is split, and the number of unread bytes in
-/// pieces.
+/// Returns the outcome for a reply, and the number of unread bytes if the reply is read in pieces of 7 bytes; `differs`
+/// if the outcome depends on how the reply is split.
 fn fetched_all(alloc: Global, bytes: &[u8]) -> Result<String, NoMemory> {
-    let said = told_in(alloc, bytes, SLOW)?;
-    told_and_left(alloc, bytes, said.as_str())
+    let said = outcome_in(alloc, bytes, SLOW)?;
+    outcome_and_left(alloc, bytes, said.as_str())
 }
 
 /// Returns the outcome of fetching a long reply.

@@ -23,11 +23,12 @@
 //!
 //! Fetched replies (`fetching`):
 //!
-//! - `fetch`: the outcome of fetching the text as the reply, however it is split, and the number of unread bytes if
+//! - `fetch`: the outcome of fetching the text as the reply, however it is split, and the number of unread bytes if it
+//!   is read in pieces of 7 bytes.
 //! - `far`: the outcome for a reply that is not split: its status and the size of its body; `refused` if out of memory.
 //!
 //! In a text `\r`, `\n`, `\t` and `\\` have their usual meaning, `\v` is the byte 11, `\p` 12 and `\f` 255, `\d`
-//! is U+202E, `\k` 1,024 letters and `\h` a field.
+//! is U+202E, `\k` 1,024 letters and `\h` a header field with its line end.
 #![tactic(auto)]
 
 mod excerpts;
@@ -58,7 +59,7 @@ fn row_outcome(alloc: Global, word: &str, text: &str) -> Result<String, NoMemory
 }
 
 /// Returns the line that is printed for a line of input.
-fn told(alloc: Global, line: &str) -> Result<String, NoMemory> {
+fn outcome_text(alloc: Global, line: &str) -> Result<String, NoMemory> {
     if line.is_empty() || line.starts_with('#') {
         return String::from_str(alloc, line);
     }
@@ -69,7 +70,7 @@ fn told(alloc: Global, line: &str) -> Result<String, NoMemory> {
 
 /// Prints the line for a line of input.
 fn print_line(rt: &HostRuntime, line: &str) -> io::Result<()> {
-    let told = told(rt.alloc(), line)?;
+    let told = outcome_text(rt.alloc(), line)?;
     println!(rt; "{told}")
 }
 

@@ -28,8 +28,8 @@ fn span_by(
     span_of(alloc, text, path)
 }
 
-/// Returns the text of a span, or a word otherwise.
-fn told(alloc: Global, text: &str, span: Option<Span>) -> Result<String, NoMemory> {
+/// Returns the text of a span; `none` without a span, `outside` if the span does not lie in the text.
+fn outcome_text(alloc: Global, text: &str, span: Option<Span>) -> Result<String, NoMemory> {
     match span {
         Some(at) => match text.as_bytes().get(at.start..at.end) {
             Some(bytes) => shown(alloc, bytes),
@@ -44,7 +44,7 @@ fn spanned(alloc: Global, word: &str, row: &str) -> Result<String, NoMemory> {
     let (digits, text) = row.split_once(' ').unwrap_or((row, ""));
     let path = path_of(alloc, digits)?;
     let span = span_by(alloc, word, text, path.as_slice())?;
-    told(alloc, text, span)
+    outcome_text(alloc, text, span)
 }
 
 /// Returns the outcome of a row.

@@ -4,7 +4,7 @@ ghost use Rattle.http_streams.specs.Laws.{AgreeOn, AnswersAll, HasOneAnswer, in_
 ghost use Rattle.rows.specs.Counts.{asked_alike, counts};
 
 use crate::pieces::Line;
-use crate::ways::{PLAIN, SLOW, Way, by_reads, reader_of, writer_of};
+use crate::ways::{PLAIN, SLOW, StreamSplit, by_reads, reader_of, writer_of};
 use crate::written::shown;
 use http::StatusCode;
 use http_streams::laws::one_answer;
@@ -97,7 +97,7 @@ impl Outcome {
 }
 
 /// Serves the bytes, split in this way.
-fn run(alloc: Global, bytes: &[u8], way: Way<'_>) -> Result<Outcome, NoMemory> {
+fn run(alloc: Global, bytes: &[u8], way: StreamSplit<'_>) -> Result<Outcome, NoMemory> {
     let mut counter = Counter::new();
     let mut reader = reader_of(way, bytes);
     let mut writer = writer_of(way, alloc);
@@ -111,7 +111,12 @@ fn run(alloc: Global, bytes: &[u8], way: Way<'_>) -> Result<Outcome, NoMemory> {
 }
 
 /// Returns whether the bytes, split in this way, have the same outcome.
-fn is_same(alloc: Global, bytes: &[u8], whole: &Outcome, way: Way<'_>) -> Result<bool, NoMemory> {
+fn is_same(
+    alloc: Global,
+    bytes: &[u8],
+    whole: &Outcome,
+    way: StreamSplit<'_>,
+) -> Result<bool, NoMemory> {
     let found = run(alloc, bytes, way)?;
     Ok(found.is_as(whole))
 }
@@ -143,13 +148,13 @@ fn answered(alloc: Global, part: &[u8], whole: &Outcome) -> Result<Option<usize>
     }
 }
 
-/// Returns a place after a blank.
+/// Returns a blank and a place.
 fn place_told(alloc: Global, place: usize) -> Result<String, NoMemory> {
     format!(in alloc; " {place}")
 }
 
-/// Appends the places at which bytes that end there get more of a reply; returns `false` if a place gets less, or an
-/// error.
+/// Appends each place for which the bytes up to it get more of the replies than those up to the place before; returns
+/// `false` if some get less, or an error.
 fn push_steps(
     alloc: Global,
     bytes: &[u8],
@@ -206,8 +211,7 @@ fn asked_told(alloc: Global, asked: u64) -> Result<String, NoMemory> {
     format!(in alloc; " ({asked}) at")
 }
 
-/// Appends the statuses, the number of calls of the service, and the places; returns `false` if a place gets less, or
-/// an error.
+/// Appends the statuses, the number of calls of the service, and the places of [`push_steps`], whose result it returns.
 fn push_served(
     alloc: Global,
     bytes: &[u8],
@@ -219,8 +223,8 @@ fn push_served(
     push_steps(alloc, bytes, whole, told)
 }
 
-/// Returns the statuses, the number of calls, and the places; `differs` if a place gets less, or an error.
-fn told_of_steps(alloc: Global, bytes: &[u8], whole: &Outcome) -> Result<String, NoMemory> {
+/// Returns the statuses, the number of calls, and the places of [`push_steps`]; `differs` if that returns `false`.
+fn outcome_of_steps(alloc: Global, bytes: &[u8], whole: &Outcome) -> Result<String, NoMemory> {
     let mut told = Line::new(alloc);
     if push_served(alloc, bytes, whole, &mut told)? {
         return told.ended();
@@ -231,13 +235,13 @@ fn told_of_steps(alloc: Global, bytes: &[u8], whole: &Outcome) -> Result<String,
 /// Returns the outcome of a case `serve`; `differs` if it depends on how the stream is split.
 fn served(alloc: Global, bytes: &[u8], whole: &Outcome) -> Result<String, NoMemory> {
     if is_one_answer(alloc, bytes, whole)? {
-        return told_of_steps(alloc, bytes, whole);
+        return outcome_of_steps(alloc, bytes, whole);
     }
     String::from_str(alloc, "differs")
 }
 
 /// Returns how the stream of a row is split.
-fn way_of(word: &str) -> Way<'static> {
+fn way_of(word: &str) -> StreamSplit<'static> {
     match word {
         "slow" => SLOW,
         _ => PLAIN,
@@ -245,7 +249,12 @@ fn way_of(word: &str) -> Way<'static> {
 }
 
 /// Returns the line for the outcome of a stream.
-fn told(alloc: Global, word: &str, bytes: &[u8], found: &Outcome) -> Result<String, NoMemory> {
+fn outcome_text(
+    alloc: Global,
+    word: &str,
+    bytes: &[u8],
+    found: &Outcome,
+) -> Result<String, NoMemory> {
     match word {
         "serve" => served(alloc, bytes, found),
         "reply" => shown(alloc, found.out.as_slice()),
@@ -256,5 +265,5 @@ fn told(alloc: Global, word: &str, bytes: &[u8], found: &Outcome) -> Result<Stri
 /// Returns the outcome of a row.
 pub(crate) fn row_outcome(alloc: Global, word: &str, bytes: &[u8]) -> Result<String, NoMemory> {
     let found = run(alloc, bytes, way_of(word))?;
-    told(alloc, word, bytes, &found)
+    outcome_text(alloc, word, bytes, &found)
 }

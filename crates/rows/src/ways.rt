@@ -4,40 +4,40 @@ use std::alloc::Global;
 
 /// How a stream is split: the sizes of the reads and of the writes.
 #[derive(Clone, Copy)]
-pub(crate) struct Way<'a> {
+pub(crate) struct StreamSplit<'a> {
     pub(crate) reads: &'a [usize],
     pub(crate) writes: &'a [usize],
 }
 
 /// The stream is read and written at once.
-pub(crate) const PLAIN: Way<'static> = Way {
+pub(crate) const PLAIN: StreamSplit<'static> = StreamSplit {
     reads: &[],
     writes: &[],
 };
 
 /// The stream is read byte by byte, and written in pieces of 3 bytes.
-pub(crate) const SLOW: Way<'static> = Way {
+pub(crate) const SLOW: StreamSplit<'static> = StreamSplit {
     reads: &[1],
     writes: &[3],
 };
 
 /// The stream is read in pieces of 7 bytes.
-pub(crate) const SEVENS: Way<'static> = Way {
+pub(crate) const IN_SEVENS: StreamSplit<'static> = StreamSplit {
     reads: &[7],
     writes: &[],
 };
 
 /// Returns the way in which the stream is read in these pieces.
-pub(crate) fn by_reads(reads: &[usize]) -> Way<'_> {
-    Way { reads, writes: &[] }
+pub(crate) fn by_reads(reads: &[usize]) -> StreamSplit<'_> {
+    StreamSplit { reads, writes: &[] }
 }
 
 /// Returns a reader of the bytes, split in this way.
-pub(crate) fn reader_of<'a>(way: Way<'a>, bytes: &'a [u8]) -> Fed<'a> {
+pub(crate) fn reader_of<'a>(way: StreamSplit<'a>, bytes: &'a [u8]) -> Fed<'a> {
     Fed::new(bytes, Plan::new(way.reads, None))
 }
 
 /// Returns a writer, split in this way.
-pub(crate) fn writer_of<'a>(way: Way<'a>, alloc: Global) -> Kept<'a> {
+pub(crate) fn writer_of<'a>(way: StreamSplit<'a>, alloc: Global) -> Kept<'a> {
     Kept::new(alloc, Plan::new(way.writes, None))
 }

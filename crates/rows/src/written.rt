@@ -67,7 +67,7 @@ pub(crate) fn shown(alloc: Global, bytes: &[u8]) -> Result<String, NoMemory> {
     told.ended()
 }
 
-/// Returns the text of some bytes.
+/// Returns bytes as text, or `no UTF-8`.
 pub(crate) fn text_of(alloc: Global, bytes: &[u8]) -> Result<String, NoMemory> {
     match std::str::from_utf8(bytes) {
         Ok(text) => String::from_str(alloc, text),

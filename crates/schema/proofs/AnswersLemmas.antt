@@ -13,7 +13,7 @@ use Rattle.schema_types.specs.Cedar.{Cedar}
 use Rattle.schema_types.specs.CedarViews.{cedar_view}
 use Rattle.schema_types.specs.declared.cedar.CedarType.{CedarType}
 use Rattle.schema_names.specs.Qualifying.{ResolvedEntityType, ResolvedSchema}
-use Rattle.schema.specs.declared.parts.Place.{Place}
+use Rattle.schema.specs.declared.parts.EnvironmentKey.{EnvironmentKey}
 use Rattle.schema.specs.declared.parts.Environment.{Environment}
 use Rattle.schema.specs.declared.parts.EntityDecl.{EntityDecl}
 use Rattle.schema.specs.declared.reading.Types.{Types}
@@ -22,7 +22,7 @@ use Rattle.sha2.specs.Sha256.{sha256}
 use Rattle.hex.specs.Hex.{encode_lower}
 use Rattle.schema_names.specs.Naming.{DescribesFile}
 use Rattle.schema_names.specs.Laws.{IsEntityType, NamesItsEntityTypes}
-use Rattle.schema.specs.Schemas.{EnvironmentOf, Answers, IsSound, IsShape, IsAction, IsEnvironment, IsPlace}
+use Rattle.schema.specs.Schemas.{EnvironmentOf, Answers, IsSound, IsShape, IsAction, IsEnvironment, IsEnvironmentKey}
 use Rattle.schema.specs.Schemas.{IsRecordOf, action_parents, type_parents, type_uid, place_cmp}
 use Rattle.schema.specs.SchemaEntries.{kept}
 use Rattle.schema.specs.Places.{environment_of}
@@ -167,12 +167,12 @@ module _ (s : ResolvedSchema) (own : NamesItsEntityTypes s) (t : TypeNumbers) (a
 
 -- ---- environments
 
-places_are : (es : List (Place × CedarType)) → map (λ e. e.place) (map environment_view (map environment_of es)) ≡ keys_of es
+places_are : (es : List (EnvironmentKey × CedarType)) → map (λ e. e.place) (map environment_view (map environment_of es)) ≡ keys_of es
 places_are [] = refl
-places_are (e ∷ es) = ap (λ (ps : List Place). e.0 ∷ ps) (places_are es)
+places_are (e ∷ es) = ap (λ (ps : List EnvironmentKey). e.0 ∷ ps) (places_are es)
 
 module _ (s : ResolvedSchema) (places : Places) (are : ArePlaces s.commons s.actions places) (ordered : IsOrdered place_cmp places) where
-  environment_at : (p : Place) (c : CedarType) → get place_cmp places p ≡ Some c → IsEnvironment s (environment_view (environment_of (p, c)))
+  environment_at : (p : EnvironmentKey) (c : CedarType) → get place_cmp places p ≡ Some c → IsEnvironment s (environment_view (environment_of (p, c)))
   environment_at p c e = elim (are.sound p c e) [
     | inl m ↦
         let (u, applies, may) = m.2 in
@@ -187,14 +187,14 @@ module _ (s : ResolvedSchema) (places : Places) (are : ArePlaces s.commons s.act
       let at = (btree_map_get_iff place_cmp-IsTotalOrder place_cmp-IsAntisymmetric places ordered made.0.0 made.0.1).1 made.1 in
       subst (λ (x : EnvironmentOf). IsEnvironment s x) (ap environment_view made.2 ∙ seen.2) (environment_at made.0.0 made.0.1 at)
 
-  pub all_environments : (p : Place) → IsPlace s p → Contains (map (λ e. e.place) (map environment_view (map environment_of places.entries))) p
+  pub all_environments : (p : EnvironmentKey) → IsEnvironmentKey s p → Contains (map (λ e. e.place) (map environment_view (map environment_of places.entries))) p
   all_environments p (u, a) =
-      subst (λ (ps : List Place). Contains ps p) (sym (places_are places.entries))
+      subst (λ (ps : List EnvironmentKey). Contains ps p) (sym (places_are places.entries))
       ((btree_map_contains_key_iff place_cmp-IsTotalOrder place_cmp-IsAntisymmetric places p).0
       (are.all p (a.action, a.declared, (u, a.applies, (a.is, a.principal, a.resource)))))
 
   pub environments_ascend : IsStrictlySortedBy place_cmp (map (λ e. e.place) (map environment_view (map environment_of places.entries)))
-  environments_ascend = subst (λ (ps : List Place). IsStrictlySortedBy place_cmp ps) (sym (places_are places.entries)) ordered
+  environments_ascend = subst (λ (ps : List EnvironmentKey). IsStrictlySortedBy place_cmp ps) (sym (places_are places.entries)) ordered
 
 -- ---- all together
 
@@ -211,7 +211,7 @@ made_answers s own called label t h types hierarchies = record {
   all_ancestors = ancestors_there s called h hierarchies;
   parents = parents_are s own h.types hierarchies.types;
   environments = subst (λ (es : List Environment). (e : EnvironmentOf) → Contains (map environment_view es) e → IsEnvironment s e) (sym types.environments) (environments_are s types.places types.are types.ordered);
-  all_environments = subst (λ (es : List Environment). (p : Place) → IsPlace s p → Contains (map (λ e. e.place) (map environment_view es)) p) (sym types.environments) (all_environments s types.places types.are types.ordered);
+  all_environments = subst (λ (es : List Environment). (p : EnvironmentKey) → IsEnvironmentKey s p → Contains (map (λ e. e.place) (map environment_view es)) p) (sym types.environments) (all_environments s types.places types.are types.ordered);
   environments_ascend = subst (λ (es : List Environment). IsStrictlySortedBy place_cmp (map (λ e. e.place) (map environment_view es))) (sym types.environments) (environments_ascend s types.places types.are types.ordered);
 }
 

@@ -24,9 +24,9 @@ use Rattle.schema_types.specs.declared.fault.SchemaFault.{SchemaFault}
 use Rattle.schema_names.specs.Qualifying.{ResolvedEntityType, ResolvedUse, ResolvedAction, ResolvedSchema}
 use Rattle.schema_names.specs.Naming.{DescribesFile}
 use Rattle.schema_names.specs.Laws as names
-use Rattle.schema.specs.declared.parts.Place.{Place}
+use Rattle.schema.specs.declared.parts.EnvironmentKey.{EnvironmentKey}
 use Rattle.schema.specs.Schemas as schemas
-use Rattle.schema.specs.Schemas.{EnvironmentOf, StatedSchema, Answers, IsAction, IsEnvironment, IsPlace, IsRecordOf}
+use Rattle.schema.specs.Schemas.{EnvironmentOf, StatedSchema, Answers, IsAction, IsEnvironment, IsEnvironmentKey, IsRecordOf}
 use Rattle.schema.specs.Schemas.{IsSound, action_parents, type_parents, type_uid, place_cmp}
 use Rattle.schema.specs.inner.ByNaming as parsed
 use Rattle.schema.specs.inner.ByNaming.{IsUnsound, IsParsedAs, ParsedOrNot, SomeParsed}
@@ -265,11 +265,11 @@ module _ (s : ResolvedSchema) (sound : IsSound s) where
       may_have_parent = λ child parent. reaches (type_parents s) (map (λ e. type_uid e.name) s.entity_types) (type_uid parent) (type_uid child);
     }
 
-    place_there : (p : Place) → IsPlace s p → Contains (map (λ e. e.place) environments_in_order) p
+    place_there : (p : EnvironmentKey) → IsEnvironmentKey s p → Contains (map (λ e. e.place) environments_in_order) p
     place_there p (u, a) =
         let x = made_environments.2 a.action a.declared u a.applies p.principal p.resource a.principal a.resource in
         let same : x.0.place ≡ p = x.2 ∙ ap (λ (w : EntityUid). place_of w p.principal p.resource) a.is in
-        subst (λ (q : Place). Contains (map (λ e. e.place) environments_in_order) q) same
+        subst (λ (q : EnvironmentKey). Contains (map (λ e. e.place) environments_in_order) q) same
         (all_in_order place_cmp (λ e. e.place) place_cmp-IsTotalOrder place_cmp-IsAntisymmetric made_environments.0 x.0 x.1)
 
     built_answers : (bytes : List ℕ) → Answers s (built bytes)

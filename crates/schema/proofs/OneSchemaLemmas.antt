@@ -18,8 +18,8 @@ use Rattle.schema_names.specs.schema_file.Once.{AreApart}
 use Rattle.schema_names.specs.Qualifying.{ResolvedEntityType, ResolvedUse, ResolvedAction, ResolvedSchema}
 use Rattle.schema_names.specs.Laws as names
 use Rattle.schema_names.specs.Laws.{DeclaresOnce}
-use Rattle.schema.specs.declared.parts.Place.{Place}
-use Rattle.schema.specs.Schemas.{StatedSchema, EnvironmentOf, Answers, Applies, IsRecordOf, IsEnvironment, IsPlace}
+use Rattle.schema.specs.declared.parts.EnvironmentKey.{EnvironmentKey}
+use Rattle.schema.specs.Schemas.{StatedSchema, EnvironmentOf, Answers, Applies, IsRecordOf, IsEnvironment, IsEnvironmentKey}
 use Rattle.schema.specs.Schemas.{place_cmp}
 use Rattle.schema.specs.inner.ByNaming.{OneParsed}
 use Rattle.schema.proofs.PlaceLemmas.{place_cmp-IsTotalOrder}
@@ -121,7 +121,7 @@ environment_cmp e f = place_cmp e.place f.place
 environment_cmp-IsTotalOrder : IsTotalOrder environment_cmp
 environment_cmp-IsTotalOrder = on_total (λ e. e.place) place_cmp-IsTotalOrder
 
-all_below : (p : Place) (es : List EnvironmentOf) → AllByRecursion (λ q. place_cmp p q ≡ Less) (map (λ e. e.place) es) → AllByRecursion (λ e. place_cmp p e.place ≡ Less) es
+all_below : (p : EnvironmentKey) (es : List EnvironmentOf) → AllByRecursion (λ q. place_cmp p q ≡ Less) (map (λ e. e.place) es) → AllByRecursion (λ e. place_cmp p e.place ≡ Less) es
 all_below p [] h = h
 all_below p (e ∷ es) h = (h.0, all_below p es h.1)
 
@@ -135,25 +135,25 @@ module _ (one : OneWritten) (lists : AscendingListsAreOne) (s : ResolvedSchema) 
   record_same None t u a b = a ∙ sym b
   record_same (Some r) t u a b = one s.commons once.commons r t u a b
 
-  use_same : (p : Place) (x y : ResolvedUse) → Applies s p x → Applies s p y → x ≡ y
+  use_same : (p : EnvironmentKey) (x y : ResolvedUse) → Applies s p x → Applies s p y → x ≡ y
   use_same p x y a b =
       let action = apart_same (λ (z : ResolvedAction). z.uid) s.actions once.actions a.action b.action a.declared b.declared (a.is ∙ sym b.is) in
       some_same x y (sym a.applies ∙ ap (λ (z : ResolvedAction). z.applies_to) action ∙ b.applies)
 
   environment_same : (e f : EnvironmentOf) → e.place ≡ f.place → IsEnvironment s e → IsEnvironment s f → e ≡ f
   environment_same e f at (x, a, is) (y, b, is') =
-      let uses = use_same f.place x y (subst (λ (p : Place). Applies s p x) at a) b in
+      let uses = use_same f.place x y (subst (λ (p : EnvironmentKey). Applies s p x) at a) b in
       let contexts = record_same y.context e.context f.context (subst (λ (z : ResolvedUse). IsRecordOf s.commons z.context e.context) uses is) is' in
       λ i. record { place = at i; context = contexts i }
 
-  there : (fs : List EnvironmentOf) → ((e : EnvironmentOf) → Contains fs e → IsEnvironment s e) → ((p : Place) → IsPlace s p → Contains (map (λ e. e.place) fs) p)
+  there : (fs : List EnvironmentOf) → ((e : EnvironmentOf) → Contains fs e → IsEnvironment s e) → ((p : EnvironmentKey) → IsEnvironmentKey s p → Contains (map (λ e. e.place) fs) p)
       → (e : EnvironmentOf) → IsEnvironment s e → Contains fs e
   there fs are all e is =
       let at = contains_map (λ (x : EnvironmentOf). x.place) fs e.place (all e.place (is.0, is.1)) in
       subst (λ (x : EnvironmentOf). Contains fs x) (environment_same at.0 e at.2 (are at.0 at.1) is) at.1
 
   one_list : (es fs : List EnvironmentOf) → ((e : EnvironmentOf) → Contains es e → IsEnvironment s e) → ((e : EnvironmentOf) → Contains fs e → IsEnvironment s e)
-      → ((p : Place) → IsPlace s p → Contains (map (λ e. e.place) es) p) → ((p : Place) → IsPlace s p → Contains (map (λ e. e.place) fs) p)
+      → ((p : EnvironmentKey) → IsEnvironmentKey s p → Contains (map (λ e. e.place) es) p) → ((p : EnvironmentKey) → IsEnvironmentKey s p → Contains (map (λ e. e.place) fs) p)
       → IsStrictlySortedBy place_cmp (map (λ e. e.place) es) → IsStrictlySortedBy place_cmp (map (λ e. e.place) fs) → es ≡ fs
   one_list es fs are are' all all' ordered ordered' =
       lists_are_one environment_cmp-IsTotalOrder es fs (in_order es ordered) (in_order fs ordered')

@@ -7,7 +7,7 @@ use Rattle.schema_types.specs.CedarViews.{cedar_view}
 use Rattle.schema_types.specs.Expansions.{Declarations}
 use Rattle.schema_types.specs.declared.cedar.CedarType.{CedarType}
 use Rattle.schema_names.specs.Qualifying.{ResolvedUse, ResolvedAction}
-use Rattle.schema.specs.declared.parts.Place.{Place}
+use Rattle.schema.specs.declared.parts.EnvironmentKey.{EnvironmentKey}
 use Rattle.schema.specs.Schemas.{place_cmp, IsRecordOf}
 use Rattle.schema.specs.inner.Filling.{SomeMay, SomeMust, HoldsForEach}
 use Rattle.schema.specs.Places.{place_of}
@@ -27,18 +27,18 @@ uses_as commons a u is old new h =
     h
 
 module _ (commons : Declarations) (action : EntityUid) (u : ResolvedUse) (context : CedarType) (is : IsRecordOf commons u.context (cedar_view context)) where
-  may_use : (p : Place) (c : CedarType) → SomeMay (λ q. SomeMay (PlaceMay action context q) u.resources) u.principals p c → UseMay commons action u p c
+  may_use : (p : EnvironmentKey) (c : CedarType) → SomeMay (λ q. SomeMay (PlaceMay action context q) u.resources) u.principals p c → UseMay commons action u p c
   may_use p c (q, in_principals, rest) =
       let at = rest.2.0 in (
         (
-          ap (λ (x : Place). x.action) at,
-          subst (λ (x : Place). Contains u.principals x.principal) at in_principals,
-          subst (λ (x : Place). Contains u.resources x.resource) at rest.1,
+          ap (λ (x : EnvironmentKey). x.action) at,
+          subst (λ (x : EnvironmentKey). Contains u.principals x.principal) at in_principals,
+          subst (λ (x : EnvironmentKey). Contains u.resources x.resource) at rest.1,
         ),
         subst (λ (x : CedarType). IsRecordOf commons u.context (cedar_view x)) (sym rest.2.1) is,
       )
 
-  must_use : (p : Place) → UseMust action u p → SomeMust (λ q. SomeMust (PlaceMust action q) u.resources) u.principals p
+  must_use : (p : EnvironmentKey) → UseMust action u p → SomeMust (λ q. SomeMust (PlaceMust action q) u.resources) u.principals p
   must_use p (at, in_principals, in_resources) = (p.principal, in_principals, (p.resource, in_resources, ap (λ (x : EntityUid). place_of x p.principal p.resource) at))
 
   pub used_as : IsWrittenAt commons u.context → (old new : Places) → AddsPrincipals action context u.resources u.principals old new → AddsUse commons action u old new

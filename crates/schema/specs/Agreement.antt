@@ -1,7 +1,8 @@
 -- Defines that a parsing function gives exactly what JSON states, and that JSON has one outcome.
 use Rattle.std.specs.Prelude.{◌≡◌, ◌↔◌, ◌⊎◌, Result, Ok, Err}
 
--- `Gives r States Refuses` holds if `r` is the value of which `States` holds, or the error of which `Refuses` holds.
+-- `Gives r States Refuses` holds if `r` is `Ok a` exactly for the value `a` of which `States` holds, and `Err f`
+-- exactly for the error `f` of which `Refuses` holds.
 pub record Gives {A F : Type 0} (r : Result A F) (States : A → Type 0) (Refuses : F → Type 0) : Type 0 where
   pub value : (a : A) → (r ≡ Ok a) ↔ States a
   pub fault : (f : F) → (r ≡ Err f) ↔ Refuses f

@@ -2,9 +2,11 @@
 -- nothing.
 -- Source: Cedar reference guide 4.0, "Schema JSON format": namespaces, `EntityOrCommon`, `memberOfTypes`, `memberOf`,
 -- `appliesTo`.
--- Rules of this product: a name without `::` is looked up in its own namespace, then in the empty one; a common type
--- goes before an entity type, and that before a primitive; an action of the empty namespace has the type `Action`, one
--- of another `NS::Action`; a member of `memberOf` without a type is of the same namespace; the error is 22.
+-- Rules of this product: a name without `::` is looked up in the namespace that uses it, then in the empty one; a
+-- common type of either takes precedence over an entity type, and an entity type over a primitive or an extension type;
+-- an action of the empty namespace has the type `Action`, one of a namespace NS the type `NS::Action`; a member of
+-- `memberOf` without a type means an action of the same namespace; a name that means nothing is the error `UnknownName`
+-- (code 22).
 use Prim.Native.Char.{code}
 use Rattle.std.specs.Prelude.{◌≡◌, ℕ, List, Bool, Option, Some, None, Contains, codes}
 use Rattle.std.specs.List.{AllZip}
@@ -23,7 +25,8 @@ use Rattle.schema_names.specs.Qualifying.{ResolvedEntityType, ResolvedUse, Resol
 
 -- ---- declarations
 
--- `IsCommon ns q` holds if one of the namespaces `ns` declares a common type with the full name `q`.
+-- `IsCommon ns q` holds if one of the namespaces `ns` declares a common type with the full name `q`. In this file `ns`
+-- are all namespaces of a schema, and `own` is the name of one of them, `None` for the empty one.
 abbrev pub IsCommon : List NamespaceOf → List ℕ → Type 0
 IsCommon ns q =
     (n : NamespaceOf) × Contains ns n × ((c : List ℕ × Raw) × Contains n.commons c × (full_name n.name c.0 ≡ q))
@@ -46,7 +49,8 @@ abbrev pub HasNamespace : List ℕ → Type 0
 HasNamespace w = Contains w (code ":")
 
 -- `Means IsDeclared own w q` holds if the name `w`, used in the namespace `own`, means the full name `q`, which is
--- declared: `w` itself if it contains a namespace; otherwise `w` in `own` if that is declared, else in the empty one.
+-- declared (`IsDeclared`): `w` itself if it contains a namespace; otherwise the full name of `w` in `own` if that is
+-- declared, else `w` in the empty namespace.
 pub data Means (IsDeclared : List ℕ → Type 0) (own : Option (List ℕ)) (w : List ℕ) : List ℕ → Type 0 where
   whole : HasNamespace w → IsDeclared w → Means IsDeclared own w w
   in_own : (HasNamespace w → ⊥) → IsDeclared (full_name own w) → Means IsDeclared own w (full_name own w)
@@ -64,7 +68,7 @@ pub data MeansAction (ns : List NamespaceOf) (own : Option (List ℕ)) (p : Stat
   typed : (w t : List ℕ) → p.type_name ≡ Some w → Means (λ name. IsAction ns (action_uid name p.id)) own w t
       → MeansAction ns own p (action_uid t p.id)
 
--- `IsPrimitive w t` holds if `w` is the primitive or the extension type `t`.
+-- `IsPrimitive w t` holds if the word `w` names the primitive or extension type `t`.
 pub data IsPrimitive : List ℕ → Qualified → Type 0 where
   of_string : IsPrimitive (codes "String") qualified.text
   of_long : IsPrimitive (codes "Long") qualified.long
@@ -73,8 +77,8 @@ pub data IsPrimitive : List ℕ → Qualified → Type 0 where
   of_ipaddr : IsPrimitive (codes "ipaddr") qualified.ipaddr
   of_decimal : IsPrimitive (codes "decimal") qualified.decimal
 
--- `MeansEither ns own w t` holds if the name `w` of an `EntityOrCommon` is the type `t`: a common type, else an entity
--- type, else a primitive or an extension type.
+-- `MeansEither ns own w t` holds if the name `w` of an `EntityOrCommon` means the type `t`: a common type, else an
+-- entity type, else a primitive or an extension type.
 pub data MeansEither (ns : List NamespaceOf) (own : Option (List ℕ)) (w : List ℕ) : Qualified → Type 0 where
   common : (q : List ℕ) → Means (IsCommon ns) own w q → MeansEither ns own w (qualified.common q)
   entity : (q : List ℕ) → MeansNone (IsCommon ns) own w → Means (IsEntityType ns) own w q
@@ -200,6 +204,6 @@ pub data NamespaceHasUnknown (ns : List NamespaceOf) (n : NamespaceOf) : Type 0 
 abbrev pub FileHasUnknown : List NamespaceOf → Type 0
 FileHasUnknown ns = (n : NamespaceOf) × Contains ns n × NamespaceHasUnknown ns n
 
--- `RefusesNames ns fault` holds if a name in `ns` means nothing; the error is `UnknownName`.
+-- `RefusesNames ns fault` holds if a name in one of the namespaces `ns` means nothing, and `fault` is `UnknownName`.
 abbrev pub RefusesNames : List NamespaceOf → SchemaFault → Type 0
 RefusesNames ns fault = (fault ≡ UnknownName) × FileHasUnknown ns

@@ -1,5 +1,5 @@
 -- Defines what the value at a key, the items of an array and the members of an object state, and when they state
--- nothing. `States` says what a single value states, and `IsNone` that it states nothing.
+-- nothing. For a single value, `States` holds of the value and what it states, and `IsNone` if it states nothing.
 -- Source: RFC 8259, sections 4 and 5.
 -- Rules of this product: null at an optional key counts as missing.
 use Rattle.std.specs.Prelude.{◌≡◌, ℕ, List, [], ◌∷◌, Option, Some, None, Contains}
@@ -66,7 +66,7 @@ pub data StateEach {A : Type 0} (States : List ℕ → Data → A → Type 0) : 
   next_member : (key : List ℕ) (d : Data) (ms : Members) (x : A) (xs : List A) → States key d x → StateEach States ms xs
       → StateEach States (member key d ms) (x ∷ xs)
 
--- `HasMember ms key d` holds if one of `ms` is `d`, under `key`.
+-- `HasMember ms key d` holds if one of the members `ms` has the key `key` and the value `d`.
 pub data HasMember : Members → List ℕ → Data → Type 0 where
   first_member : (key : List ℕ) (d : Data) (ms : Members) → HasMember (member key d ms) key d
   later_member : (other : List ℕ) (e : Data) (ms : Members) (key : List ℕ) (d : Data) → HasMember ms key d

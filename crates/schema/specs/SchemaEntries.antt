@@ -17,11 +17,11 @@ pub record SchemaEntries : Type 0 where
   pub member_of : List (EntityUid × List EntityUid)
   -- the number of each action
   pub action_numbers : List (EntityUid × ℕ)
-  -- at the index of each action's number, the spans of its ancestors' numbers
+  -- at the index that is an action's number, the spans of the numbers of the action's ancestors
   pub action_ancestor_spans : List (List NumberSpan)
   -- the number of each entity type
   pub type_numbers : List (List ℕ × ℕ)
-  -- at the index of each type's number, the spans of its ancestors' numbers
+  -- at the index that is a type's number, the spans of the numbers of the type's ancestors
   pub type_ancestor_spans : List (List NumberSpan)
 
 -- `kept label environments ..` collects these parts of a schema, with each map as the list of its entries.

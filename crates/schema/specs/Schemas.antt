@@ -1,6 +1,6 @@
 -- Defines the schema that bytes state, and the error of bytes that state none, by its cause.
 -- Source: Cedar reference guide 4.0, "Schema JSON format": `shape`, `memberOfTypes`, `memberOf`, `appliesTo`.
--- Rules of this product: the limits on types (10,000 parts, 64 deep); no action is its own ancestor; the order of the
+-- Rules of this product: the limits on types (10,000 nodes, 64 deep); no action is its own ancestor; the order of the
 -- errors: not JSON (20), then the form of the whole file (21), unknown names (22), cycles of common types (23), cycles
 -- of actions (24), types that are too large (25); the label of a schema is SHA-256 (FIPS 180-4) of its bytes.
 use Rattle.std.specs.Prelude.{◌≡◌, ◌↔◌, ℕ, List, [], ◌∷◌, map, Contains, IsTrue, IsSome, Bool, Option, Some, None}
@@ -23,7 +23,7 @@ use Rattle.schema_types.specs.declared.fault.SchemaFault.TheVariants.{ActionCycl
 use Rattle.schema_names.specs.schema_file.FileForm.{NamespaceOf}
 use Rattle.schema_names.specs.Qualifying.{ResolvedEntityType, ResolvedUse, ResolvedAction, ResolvedSchema}
 use Rattle.schema_names.specs.Laws.{IsShapeOrContext}
-use Rattle.schema.specs.declared.parts.Place.{Place}
+use Rattle.schema.specs.declared.parts.EnvironmentKey.{EnvironmentKey}
 use Rattle.schema.specs.StatedFiles.{StatesFile, IsNoFile}
 use Rattle.schema.specs.NamesResolved.{ResolvesFile, FileHasUnknown}
 use Rattle.schema.specs.NoRecords.{SomeIsNotRecord}
@@ -34,7 +34,7 @@ pub use Rattle.schema.specs.Places.{place_cmp}
 -- An `EnvironmentOf` is an environment: its place (an action with the types of principal and resource), and the type of
 -- the action's context.
 pub record EnvironmentOf : Type 0 where
-  pub place : Place
+  pub place : EnvironmentKey
   pub context : Cedar
 
 -- A `StatedSchema` has the label and the look-ups of a schema.
@@ -87,7 +87,8 @@ SomeActionIsOnCycle s = (u : EntityUid) × IsOnCycle (action_parents s) u
 
 -- ---- expanded types
 
--- `IsRecordOf commons r t` holds if `t` is the expansion of a shape or a context; without one it has no attributes.
+-- `IsRecordOf commons r t` holds if `t` is the expansion of the shape or context in `r`, or the record without
+-- attributes if `r` is `None`.
 abbrev pub IsRecordOf : Declarations → Option Qualified → Cedar → Type 0
 IsRecordOf commons None t = t ≡ record_of no_fields
 IsRecordOf commons (Some r) t = IsExpansion commons r t
@@ -101,7 +102,7 @@ pub data IsSchemaType (s : ResolvedSchema) : Qualified → Type 0 where
 abbrev pub IsWritten : Declarations → Qualified → Type 0
 IsWritten commons r = (t : Cedar) × IsExpansion commons r t × (IsTooLarge t → ⊥)
 
--- `SomeTypeIsTooLarge s` holds if the expansion of some type is too large.
+-- `SomeTypeIsTooLarge s` holds if the expansion of some type of the schema `s` is too large.
 pub record SomeTypeIsTooLarge (s : ResolvedSchema) : Type 0 where
   pub type : Qualified
   pub whole : Cedar
@@ -120,7 +121,7 @@ abbrev pub IsShape : ResolvedSchema → List ℕ → Cedar → Type 0
 IsShape s n t = (e : ResolvedEntityType) × Contains s.entity_types e × (e.name ≡ n) × IsRecordOf s.commons e.shape t
 
 -- `Applies s p applied` holds if `applied` is the `appliesTo` of the action of `p`, and lists the types of `p`.
-pub record Applies (s : ResolvedSchema) (p : Place) (applied : ResolvedUse) : Type 0 where
+pub record Applies (s : ResolvedSchema) (p : EnvironmentKey) (applied : ResolvedUse) : Type 0 where
   pub action : ResolvedAction
   pub declared : Contains s.actions action
   pub is : action.uid ≡ p.action
@@ -128,13 +129,14 @@ pub record Applies (s : ResolvedSchema) (p : Place) (applied : ResolvedUse) : Ty
   pub principal : Contains applied.principals p.principal
   pub resource : Contains applied.resources p.resource
 
--- `IsEnvironment s e` holds if `e` is an environment of `s`: its action applies to its types, and has its context.
+-- `IsEnvironment s e` holds if `e` is an environment of `s`: the action of `e` applies to the types of `e`, and has the
+-- context of `e`.
 abbrev pub IsEnvironment : ResolvedSchema → EnvironmentOf → Type 0
 IsEnvironment s e = (applied : ResolvedUse) × Applies s e.place applied × IsRecordOf s.commons applied.context e.context
 
--- `IsPlace s p` holds if the action of `p` applies to the types of `p`.
-abbrev pub IsPlace : ResolvedSchema → Place → Type 0
-IsPlace s p = (applied : ResolvedUse) × Applies s p applied
+-- `IsEnvironmentKey s p` holds if the action of `p` applies to the types of `p`.
+abbrev pub IsEnvironmentKey : ResolvedSchema → EnvironmentKey → Type 0
+IsEnvironmentKey s p = (applied : ResolvedUse) × Applies s p applied
 
 -- `Answers s v` holds if each look-up of `v` finds exactly what `s` declares. The actions, the ancestors of each action
 -- and the environments ascend, without duplicates; the parents of an action are in the order of its `memberOf`.
@@ -152,7 +154,7 @@ pub record Answers (s : ResolvedSchema) (v : StatedSchema) : Type 0 where
   pub parents : (child above : List ℕ)
       → IsTrue (v.may_have_parent child above) ↔ IsAncestor (type_parents s) (type_uid above) (type_uid child)
   pub environments : (e : EnvironmentOf) → Contains v.environments e → IsEnvironment s e
-  pub all_environments : (p : Place) → IsPlace s p → Contains (map (λ e. e.place) v.environments) p
+  pub all_environments : (p : EnvironmentKey) → IsEnvironmentKey s p → Contains (map (λ e. e.place) v.environments) p
   pub environments_ascend : IsStrictlySortedBy place_cmp (map (λ e. e.place) v.environments)
 
 -- ---- the schema of bytes
@@ -176,9 +178,10 @@ pub record HasDeclarations (bytes : List ℕ) (s : ResolvedSchema) : Type 0 wher
   pub records : SomeIsNotRecord namespaces → ⊥
   pub resolved : ResolvesFile namespaces s
 
--- `IsSchemaOf bytes v` holds if `bytes` state the schema `v`: no action is its own ancestor, each type has an
--- expansion within the limits, and each look-up of `v` finds what is declared. Nothing is declared twice, since the
--- keys of a parsed object are distinct: a theorem of `schema_names`.
+-- `IsSchemaOf bytes v` holds if `bytes` state the schema `v`: they state a file (`HasDeclarations`) in which no action
+-- is its own ancestor and each type has an expansion within the limits, `v` has their label, and each look-up of `v`
+-- finds what the file declares. Nothing is declared twice, since the keys of a parsed object are distinct: a theorem of
+-- `schema_names`.
 pub record IsSchemaOf (bytes : List ℕ) (v : StatedSchema) : Type 0 where
   pub named : ResolvedSchema
   pub states : HasDeclarations bytes named

@@ -84,12 +84,12 @@ pub record StatesUse (d : Data) (u : UseOf) : Type 0 where
   pub resources : GivenAt (IsArrayOf IsName) (codes "resourceTypes") d u.resources
   pub context : MaybeAt (StatesType false) (codes "context") d u.context
 
--- `HasNoAttributes d` holds if `d` has no `attributes`, or an object without members.
+-- `HasNoAttributes d` holds if the key `attributes` of `d` is absent, or has an object without members.
 pub data HasNoAttributes (d : Data) : Type 0 where
   key_absent : IsAbsent (codes "attributes") d → HasNoAttributes d
   key_given_empty : get (codes "attributes") d ≡ Some (object no_members) → HasNoAttributes d
 
--- `StatesAction key d a` holds if `d` states under `key`, which is its id, the action `a`.
+-- `StatesAction key d a` holds if `d` states the action `a` under `key`, which is the action's id.
 pub record StatesAction (key : List ℕ) (d : Data) (a : ActionOf) : Type 0 where
   pub id : a.id ≡ key
   pub only : HasOnly action_keys d
@@ -105,7 +105,7 @@ pub record StatesNamespace (key : List ℕ) (d : Data) (n : NamespaceOf) : Type 
   pub entity_types : ListAt (IsObjectOf StatesEntityType) (codes "entityTypes") d n.entity_types
   pub actions : ListAt (IsObjectOf StatesAction) (codes "actions") d n.actions
 
--- `StatesFile d ns` holds if `d` is an object of the namespaces `ns`.
+-- `StatesFile d ns` holds if `d` is an object whose members state the namespaces `ns`.
 abbrev pub StatesFile : Data → List NamespaceOf → Type 0
 StatesFile d ns = IsObjectOf StatesNamespace d ns
 

@@ -75,8 +75,8 @@ pub data IsClosed (d : Data) : Type 0 where
   key_absent : IsAbsent (codes "additionalAttributes") d → IsClosed d
   key_given : get (codes "additionalAttributes") d ≡ Some (json.boolean false) → IsClosed d
 
--- `IsRequired d required` holds if `required` is the boolean `required` of the attribute `d`, or true if that is
--- absent.
+-- `IsRequired d required` holds if `required` is the boolean that the attribute `d` has at the key `required`, or true
+-- if that key is absent.
 pub data IsRequired (d : Data) : Bool → Type 0 where
   key_absent : IsAbsent (codes "required") d → IsRequired d true
   key_given : (required : Bool) → get (codes "required") d ≡ Some (json.boolean required) → IsRequired d required
@@ -84,8 +84,8 @@ pub data IsRequired (d : Data) : Bool → Type 0 where
 -- ---- types
 
 mutual
-  -- `StatesType is_attribute d t` holds if `d` states the type `t`, by one case for each form; `is_attribute` says
-  -- whether `d` is an attribute of a record, which may have the key `required`.
+  -- `StatesType is_attribute d t` holds if `d` states the type `t`, by one case for each form. If `is_attribute` is
+  -- true, `d` is an attribute of a record, and may have the key `required`.
   pub data StatesType : Bool → Data → Raw → Type 0 where
     text : (a : Bool) (d : Data) → HasForm a (codes "String") d → StatesType a d raw.text
     long : (a : Bool) (d : Data) → HasForm a (codes "Long") d → StatesType a d raw.long
@@ -105,7 +105,8 @@ mutual
     common : (a : Bool) (d : Data) (word : List ℕ) → HasForm a word d → (Contains form_words word → ⊥) → IsPath word
         → StatesType a d (raw.common word)
 
-  -- `StatesFields ms fields` holds if the members of `attributes` state `fields`: each is a type under its key.
+  -- `StatesFields ms fields` holds if `ms`, the members of `attributes`, state `fields`: each a key, its type, and
+  -- whether it is required.
   pub data StatesFields : Members → RawFields → Type 0 where
     no_attribute : StatesFields no_members raw.no_fields
     next_attribute : (key : List ℕ) (d : Data) (ms : Members) (t : Raw) (required : Bool) (fields : RawFields)
@@ -140,7 +141,7 @@ mutual
     no_common : (a : Bool) (d : Data) (word : List ℕ) → text_at (codes "type") d ≡ Some word
         → (Contains form_words word → ⊥) → (IsPath word → ⊥) → IsNoType a d
 
-  -- `SomeIsNoAttribute ms` holds if one of `ms` states no type, or has something else than a boolean at `required`.
+  -- `SomeIsNoAttribute ms` holds if one of `ms` states no type, or has at `required` neither a boolean nor null.
   pub data SomeIsNoAttribute : Members → Type 0 where
     bad_type : (key : List ℕ) (d : Data) (ms : Members) → IsNoType true d → SomeIsNoAttribute (member key d ms)
     bad_required : (key : List ℕ) (d : Data) (ms : Members) → ((required : Bool) → IsRequired d required → ⊥)

@@ -17,7 +17,7 @@ use Rattle.schema.specs.Schemas.{EnvironmentOf, StatedSchema, IsSchemaOf}
 abbrev pub environment_view : Environment → EnvironmentOf
 environment_view e = record { place = e.place; context = cedar_view e.context }
 
--- `shape_at types n` is the shape of the entity type `n`, if it is declared.
+-- `shape_at types n` is the shape of the entity type `n` in `types`, if `types` has an entry for it.
 abbrev pub shape_at : List (List ℕ × EntityDecl) → List ℕ → Option Cedar
 shape_at types n = option_map (λ d. cedar_view d.shape) (lookup (is_at (text_cmp n)) types)
 

@@ -17,8 +17,8 @@ pub record AreAttributes (t : Cedar) : Type 0 where
   pub ascend : KeysAscend t
   pub small : IsTooLarge t → ⊥
 
--- `IsActionType name` holds if `name` is the type of the actions of a namespace, which may be the empty one: its last
--- word is `Action`.
+-- `IsActionType name` holds if `name` is the type of the actions of a namespace, which may be the empty one: the last
+-- word of `name` is `Action`.
 abbrev pub IsActionType : List ℕ → Type 0
 IsActionType name = (namespace : Option (List ℕ)) × (name ≡ action_type namespace)
 

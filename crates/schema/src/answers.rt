@@ -12,8 +12,8 @@ use values::{EntityUid, TypeName};
 /// A schema: entity types with their shapes, actions, and environments.
 ///
 /// Look-ups do not allocate and take logarithmic time. A test for an ancestor also takes time linear in the number of
-/// spans of the ancestors' numbers: one in a chain or in layers. Contracts see the entries of a schema, which are plain
-/// data, and state properties of `schema_view`. Each schema is stated by some bytes: [`Schema::is_stated`].
+/// spans that contain the ancestors' numbers: one span in a chain or in layers. Contracts see the entries of a schema,
+/// which are plain data, and state properties of `schema_view`. Some bytes state each schema: [`Schema::is_stated`].
 #[derive(Drop)]
 pub struct Schema {
     pub(crate) label: Text,
@@ -24,11 +24,11 @@ pub struct Schema {
     pub(crate) member_of: BTreeMap<EntityUid, Items<EntityUid>>,
     /// The number of each action.
     pub(crate) action_numbers: BTreeMap<EntityUid, usize>,
-    /// At each action's number, the spans of the numbers of its ancestors.
+    /// At each action's number, the spans of the numbers of the action's ancestors.
     pub(crate) action_ancestor_spans: Items<Items<NumberSpan>>,
     /// The number of each entity type.
     pub(crate) type_numbers: BTreeMap<TypeName, usize>,
-    /// At each type's number, the spans of the numbers of its ancestors.
+    /// At each type's number, the spans of the numbers of the type's ancestors.
     pub(crate) type_ancestor_spans: Items<Items<NumberSpan>>,
 }
 

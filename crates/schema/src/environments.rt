@@ -1,5 +1,5 @@
 //! The environments of a schema (each an action with the types of principal and resource), with their contexts. A
-//! `Place` is an environment without its context. In contracts `commons` are the common types of the schema.
+//! `EnvironmentKey` is an environment without its context. In contracts `commons` are the common types of the schema.
 ghost use Rattle.std.specs.Prelude.{◌≢◌, OnOk, MatchResult, map, option_map};
 ghost use Rattle.schema_types.specs.QualifiedViews.{qualified_view};
 ghost use Rattle.schema_types.specs.Expansions.{Declarations};
@@ -13,7 +13,7 @@ ghost use Rattle.schema.specs.inner.Making.{AreContextsClosed, SomeContextIsRefu
 
 use crate::listed_environments::make_place;
 use crate::maps::put;
-use crate::parts::Place;
+use crate::parts::EnvironmentKey;
 use crate::shapes::make_record;
 use plain::{NoMemory, Shared};
 use schema_names::{ResolvedAction, ResolvedUse};
@@ -29,7 +29,7 @@ fn add_place(
     principal: &TypeName,
     resource: &TypeName,
     context: &Shared<CedarType>,
-    places: &mut BTreeMap<Place, Shared<CedarType>>,
+    places: &mut BTreeMap<EnvironmentKey, Shared<CedarType>>,
 ) -> Result<(), NoMemory>
     ensures { OnOk result (AddsPlace action.now context.now principal.now resource.now places.old places.new) }
 {
@@ -45,7 +45,7 @@ fn add_resources(
     principal: &TypeName,
     resources: &[TypeName],
     context: &Shared<CedarType>,
-    places: &mut BTreeMap<Place, Shared<CedarType>>,
+    places: &mut BTreeMap<EnvironmentKey, Shared<CedarType>>,
 ) -> Result<(), NoMemory>
     ensures { OnOk result (AddsResources action.now context.now resources.now principal.now places.old places.new) }
 {
@@ -61,7 +61,7 @@ fn add_principals(
     principals: &[TypeName],
     resources: &[TypeName],
     context: &Shared<CedarType>,
-    places: &mut BTreeMap<Place, Shared<CedarType>>,
+    places: &mut BTreeMap<EnvironmentKey, Shared<CedarType>>,
 ) -> Result<(), NoMemory>
     ensures { OnOk result (AddsPrincipals action.now context.now resources.now principals.now places.old places.new) }
 {
@@ -71,7 +71,7 @@ fn add_principals(
     Ok(())
 }
 
-/// Adds the environments to which an action applies.
+/// Adds the environments of an action, given what it applies to.
 ///
 /// # Errors
 ///
@@ -82,7 +82,7 @@ fn add_use(
     action: &EntityUid,
     applied: &ResolvedUse,
     table: &Table,
-    places: &mut BTreeMap<Place, Shared<CedarType>>,
+    places: &mut BTreeMap<EnvironmentKey, Shared<CedarType>>,
 ) -> Result<(), SchemaFault>
     ghost commons: { Declarations }
     requires table { AreWritten commons (type_table table.now) }
@@ -103,7 +103,7 @@ fn add_action(
     alloc: Global,
     action: &ResolvedAction,
     table: &Table,
-    places: &mut BTreeMap<Place, Shared<CedarType>>,
+    places: &mut BTreeMap<EnvironmentKey, Shared<CedarType>>,
 ) -> Result<(), SchemaFault>
     ghost commons: { Declarations }
     requires table { AreWritten commons (type_table table.now) }
@@ -127,7 +127,7 @@ pub(crate) fn make_places(
     alloc: Global,
     actions: &[ResolvedAction],
     table: &Table,
-) -> Result<BTreeMap<Place, Shared<CedarType>>, SchemaFault>
+) -> Result<BTreeMap<EnvironmentKey, Shared<CedarType>>, SchemaFault>
     ghost commons: { Declarations }
     requires table { AreWritten commons (type_table table.now) }
     requires closed { AreContextsClosed commons (map found_action_view actions.now) }

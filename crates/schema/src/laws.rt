@@ -14,7 +14,7 @@ use schema_types::{
     cycles_have_no_expansion, keys_ascend, one_written, types_expand_or_some_common_does_not,
     what_has_no_expansion_leads_back, written_entities_are_named,
 };
-use values::paths_are_told;
+use values::path_tests_are_exact;
 
 /// Proves that parsing a type gives the type that JSON states, or the error if it states none. No-op.
 ///
@@ -23,7 +23,7 @@ pub fn types_are_read_as_stated()
     ensures read { TypesAreRead }
     ensures one { TypesHaveOneOutcome }
 {
-    paths_are_told();
+    path_tests_are_exact();
 }
 
 /// Proves that parsing a file gives the namespaces that JSON states, or the error if it states none. No-op.
@@ -33,11 +33,11 @@ pub fn files_are_read_as_stated()
     ensures read { FilesAreRead }
     ensures one { FilesHaveOneOutcome }
 {
-    paths_are_told();
+    path_tests_are_exact();
 }
 
-/// Proves that resolving the names of a file gives the declarations that they mean, or the error if a name means none.
-/// No-op.
+/// Proves that resolving the names of a file gives the file's declarations with each name resolved, or the error if a
+/// name means no declaration. No-op.
 ///
 /// The names of a file have exactly one meaning or are rejected with exactly one error, never both.
 pub fn names_are_resolved_as_stated()
@@ -49,7 +49,7 @@ pub fn names_are_resolved_as_stated()
 pub fn declarations_are_read_as_stated()
     ensures { DeclarationsAreRead }
 {
-    paths_are_told();
+    path_tests_are_exact();
     cycles_have_no_expansion();
     what_has_no_expansion_leads_back();
     files_name_their_own();
@@ -60,7 +60,7 @@ pub fn declarations_are_read_as_stated()
 pub(crate) fn schemas_are_read_as_stated()
     ensures { SchemasAreRead }
 {
-    paths_are_told();
+    path_tests_are_exact();
     cycles_have_no_expansion();
     what_has_no_expansion_leads_back();
     files_name_their_own();

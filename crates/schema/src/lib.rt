@@ -1,5 +1,5 @@
-//! The schema that bytes state: its entity types and actions, their shapes, their hierarchies, and the environments
-//! of requests; and its look-ups.
+//! The schema that bytes state: its entity types with their shapes, its actions, the hierarchies of both, and the
+//! environments of requests; and the look-ups in a schema.
 #![tactic(auto)]
 
 mod answers;
@@ -27,7 +27,7 @@ pub use laws::{
 };
 pub use listed_environments::{environments_in_order, make_place};
 pub use lookups::{action_has_ancestor, may_have_parent, parents_at};
-pub use parts::{EntityDecl, Environment, Place};
+pub use parts::{EntityDecl, Environment, EnvironmentKey};
 pub use reading::read_schema;
 pub use schema_types::{CedarType, SchemaFault};
 pub use spans::{NumberSpan, has_number, joined};

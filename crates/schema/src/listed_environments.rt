@@ -3,7 +3,7 @@ ghost use Rattle.std.specs.Prelude.{◌≡◌, IfOk, map};
 ghost use Rattle.std.specs.BTreeMap.{IsOrdered};
 ghost use Rattle.schema.specs.Places.{place_cmp, place_of, environment_of};
 
-use crate::parts::{Environment, Place};
+use crate::parts::{Environment, EnvironmentKey};
 use plain::{Items, NoMemory, Shared};
 use schema_types::CedarType;
 use std::alloc::Global;
@@ -15,13 +15,13 @@ pub fn make_place(
     action: &EntityUid,
     principal: &TypeName,
     resource: &TypeName,
-) -> Result<Place, NoMemory>
+) -> Result<EnvironmentKey, NoMemory>
     ensures { IfOk result (λ p. p ≡ place_of action.now principal.now resource.now) }
 {
     let action = action.copy()?;
     let principal = principal.copy()?;
     let resource = resource.copy()?;
-    Ok(Place {
+    Ok(EnvironmentKey {
         action,
         principal,
         resource,
@@ -31,7 +31,7 @@ pub fn make_place(
 /// Returns the entries of a map as environments, ascending by place, without duplicates. The only error is `NoMemory`.
 pub fn environments_in_order(
     alloc: Global,
-    places: BTreeMap<Place, Shared<CedarType>>,
+    places: BTreeMap<EnvironmentKey, Shared<CedarType>>,
 ) -> Result<Items<Environment>, NoMemory>
     ensures items { IfOk result (λ es. es ≡ map environment_of places.entries) }
     ensures ordered { IsOrdered place_cmp places }

@@ -1,5 +1,5 @@
 //! Look-ups in the parts of a schema. They do not allocate, and take logarithmic time. A test for an ancestor also
-//! takes time linear in the number of spans of the ancestors' numbers, which are few in layers.
+//! takes time linear in the number of spans that contain the ancestors' numbers; these spans are few in layers.
 ghost use Rattle.std.specs.Prelude.{◌≡◌, option_map};
 ghost use Rattle.std.specs.List.{slice_get};
 ghost use Rattle.std.specs.BTreeMap.{get};
@@ -50,7 +50,7 @@ fn is_numbered_at(
 }
 
 /// Returns whether the type `parent` is an ancestor of `child`. At the number of each type, `spans` has the spans of
-/// the numbers of its ancestors.
+/// the numbers of the type's ancestors.
 pub fn may_have_parent(
     numbers: &BTreeMap<TypeName, usize>,
     spans: &[Items<NumberSpan>],
@@ -81,7 +81,7 @@ fn is_action_numbered_at(
 }
 
 /// Returns whether the action `above` is an ancestor of `action`. At the number of each action, `spans` has the spans
-/// of the numbers of its ancestors.
+/// of the numbers of the action's ancestors.
 pub fn action_has_ancestor(
     numbers: &BTreeMap<EntityUid, usize>,
     spans: &[Items<NumberSpan>],

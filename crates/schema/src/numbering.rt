@@ -1,8 +1,8 @@
 //! The ancestors of each entity, as numbers.
 //!
 //! Entities are numbered, each after its ancestors unless these lead back to it. So the numbers of the ancestors of one
-//! entity are mostly consecutive, and few spans contain them: one span for each entity in a chain, in layers, and if
-//! each entity is a member of several before it.
+//! entity are mostly consecutive, and few spans contain them: one span for each entity in a chain, in layers, and where
+//! each entity is a member of several entities before it.
 ghost use Rattle.std.specs.Prelude.{◌≡◌, ◌++◌, ◌∷◌, ⊤, [], Contains, Some, None, true, IfOk, OnOk, MatchOption};
 ghost use Rattle.std.specs.Prelude.{option_map};
 ghost use Rattle.std.specs.List.{slice_get};
@@ -31,7 +31,7 @@ pub(crate) struct Numbered<'e> {
     listed: Vec<&'e EntityUid>,
 }
 
-/// The numbers of entities, and for each number the numbers of its ancestors.
+/// The numbers of entities, and at the index of each number the spans of the numbers of that entity's ancestors.
 #[derive(Drop)]
 pub(crate) struct NumberedAncestors {
     pub(crate) numbers: BTreeMap<EntityUid, usize>,
@@ -104,7 +104,7 @@ fn append_all<'e>(uids: &'e [EntityUid], found: &mut Vec<&'e EntityUid>) -> Resu
 }
 
 /// Returns the uids of the list, first in an order in which each follows its parents unless these lead back to it, and
-/// then all again in the order of the list. Ancestors are found in any order, and fastest in this one.
+/// then all again in the order of the list. The ancestors of the uids are found in any order, and fastest in this one.
 fn in_order<'e>(
     alloc: Global,
     edges: &Searched,
@@ -155,7 +155,7 @@ fn number_all<'e>(alloc: Global, uids: &[&'e EntityUid]) -> Result<Numbered<'e>,
     Ok(numbered)
 }
 
-/// Returns the spans that were found at a number.
+/// Returns the spans that `reached` has at a number, or `None` past its end.
 fn reached_at(reached: &[Items<NumberSpan>], number: usize) -> Option<&[NumberSpan]>
     ensures { option_map (λ s. s.now) result ≡ slice_get reached.now number }
 {

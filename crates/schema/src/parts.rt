@@ -6,7 +6,7 @@ use values::{EntityUid, TypeName};
 
 /// The place of an environment: an action with the types of principal and resource.
 #[derive(PartialEq, Eq, PartialOrd, Ord, Drop)]
-pub struct Place {
+pub struct EnvironmentKey {
     pub action: EntityUid,
     /// The type of the principal.
     pub principal: TypeName,
@@ -17,8 +17,8 @@ pub struct Place {
 /// An environment: an action with the types of principal, resource and context.
 #[derive(Drop)]
 pub struct Environment {
-    pub place: Place,
-    /// A record, shared by all environments of an action.
+    pub place: EnvironmentKey,
+    /// The type of the context: a record, shared by all environments of an action.
     pub context: Shared<CedarType>,
 }
 

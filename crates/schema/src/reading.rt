@@ -150,7 +150,7 @@ fn make_schema(
 ///
 /// - `TypeCycle` (23): a common type refers to itself.
 /// - `ActionCycle` (24): an action is its own ancestor.
-/// - `TypeTooLarge` (25): a type, expanded, has over 10,000 parts or is over 64 deep.
+/// - `TypeTooLarge` (25): a type, expanded, has over 10,000 nodes or is over 64 deep.
 /// - `NoMemory` (1): an allocation failed; possible at any point.
 fn sound_schema(alloc: Global, bytes: &[u8], found: &ResolvedFile) -> Result<Schema, SchemaFault>
     requires states { DescribesFile bytes.now (found_view found.now) }
@@ -172,11 +172,11 @@ fn sound_schema(alloc: Global, bytes: &[u8], found: &ResolvedFile) -> Result<Sch
 /// The first of these:
 ///
 /// - `NotJson` (20): the bytes are not JSON.
-/// - `BadShape` (21): the JSON does not have the form of a schema.
+/// - `BadShape` (21): the JSON does not have the form of a schema; then, a shape or a context is not a record.
 /// - `UnknownName` (22): a name is not declared.
 /// - `TypeCycle` (23): a common type refers to itself.
 /// - `ActionCycle` (24): an action is its own ancestor.
-/// - `TypeTooLarge` (25): a type, expanded, has over 10,000 parts or is over 64 deep.
+/// - `TypeTooLarge` (25): a type, expanded, has over 10,000 nodes or is over 64 deep.
 /// - `NoMemory` (1): an allocation failed; possible at any point.
 pub fn read_schema(alloc: Global, bytes: &[u8]) -> Result<Schema, SchemaFault>
     ensures { MatchResult result (λ s. IsSchemaOf bytes.now (schema_view s))

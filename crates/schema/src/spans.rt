@@ -31,7 +31,7 @@ pub fn has_number(spans: &[NumberSpan], number: usize) -> bool
     false
 }
 
-/// Returns the span of the numbers of both, if the second is not empty and begins in the first or directly after it.
+/// Returns the span of the numbers of both spans, if `next` is not empty and begins in `span` or directly after it.
 fn over(span: NumberSpan, next: NumberSpan) -> Option<NumberSpan>
     ensures { MatchOption result ⊤ (λ whole. (n : ℕ) → in_span n whole ≡ (in_span n span || in_span n next)) }
 {

@@ -37,7 +37,7 @@ fn put_name(
     Ok(())
 }
 
-/// Sets the number of the type of `uid` to that of `uid`, if it has one.
+/// Sets the number of the type of `uid` to the number of `uid`, if `uid` has one.
 fn add_name(
     numbers: &BTreeMap<EntityUid, usize>,
     uid: &EntityUid,

@@ -69,7 +69,7 @@ pub record AreNextRefused (schema policies : List ℕ) (refusal : Refusal) : Typ
   pub schema_is : IsSchemaOf schema stated
   pub refused : ArePoliciesRefused policies refusal
 
--- `AreChecksRefused schema policies refusal` holds if `refusal` is the error of `schema` or, if that describes a
+-- `AreChecksRefused schema policies refusal` holds if `refusal` is the error of `schema` or, if `schema` describes a
 -- schema, the error of `policies`.
 abbrev pub AreChecksRefused : List ℕ → List ℕ → Refusal → Type 0
 AreChecksRefused schema policies refusal = IsSchemaRefused schema refusal ⊎ AreNextRefused schema policies refusal

@@ -33,7 +33,7 @@ verdict_json id (refused fault) = refused_json id (code_of fault)
 unfoldable pub verdict_line : List ℕ → CheckResult → List ℕ
 verdict_line id outcome = compact_text (verdict_json id outcome)
 
--- `is_refusal outcome` is whether `outcome` is a rejection.
+-- `is_refusal outcome` tests whether `outcome` is a rejection.
 abbrev pub is_refusal : CheckResult → Bool
 is_refusal (passes impossible) = false
 is_refusal (refused fault) = true

@@ -1,4 +1,4 @@
--- Defines how texts are parsed under a schema: policies, which must pass validation, entities and requests.
+-- Defines how texts are parsed under a schema: entities, requests, and policies, which must pass validation.
 -- Source: Cedar reference guide 4.0, "Policy validation".
 -- Rules of this product: a request is decided only if each policy passes validation; the schema's actions are added
 -- to the entities, each with the parents that its `memberOf` names.
@@ -21,7 +21,7 @@ pub record IsRequestFault (s : StatedSchema) (d : Data) (refusal : Refusal) : Ty
   pub due : RequestRefused s d fault
   pub is : refusal ≡ entity_refusal fault
 
--- `reading_under s` is the way in which texts are parsed and checked under the schema `s`.
+-- `reading_under s` is the setting of the schema `s`: how texts are parsed and checked under `s`.
 abbrev pub reading_under : StatedSchema → Reading
 reading_under s = record {
   admits = All (Passes s);

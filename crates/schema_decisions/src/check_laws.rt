@@ -1,4 +1,4 @@
-//! Theorems about checks of policies under a schema. The function is a no-op.
+//! The theorem about checks of policies under a schema. The function is a no-op.
 ghost use Rattle.schema_decisions.specs.CheckOutcomes.{TextsHaveOneOutcome};
 
 use decision_texts::texts_have_one_reading;

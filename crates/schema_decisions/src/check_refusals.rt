@@ -6,7 +6,7 @@ ghost use Rattle.schema_decisions.specs.CheckRefusals.{schema_refusal, check_ref
 use decision_texts::Refusal;
 use validator::{SchemaFault, TypeFault};
 
-/// Converts an error of the schema (20 to 25, or 1) to a [`Refusal`] without a place.
+/// Converts an error of the schema (20 to 25, or 1 for `NoMemory`) to a [`Refusal`] without a place.
 pub fn schema_refusal(fault: SchemaFault) -> Refusal
     ensures { result ≡ schema_refusal fault }
 {

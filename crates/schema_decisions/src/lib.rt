@@ -17,8 +17,8 @@ pub use check_refusals::{check_refusal, schema_refusal};
 pub use checking::check_texts;
 pub use deciding::decide_under;
 pub use decision_texts::{
-    Answer, Member, Members, Policy, Refusal, Scratch, answer_line, check_entities, decide_texts,
-    members_of, policies_of_file, read_uid,
+    Answer, ArrayMembers, Member, Policy, Refusal, Scratch, answer_line, check_entities,
+    decide_texts, members_of, policies_of_file, read_uid,
 };
 pub use laws::texts_have_one_outcome;
 pub use reading::schema_in;

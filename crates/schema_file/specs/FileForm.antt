@@ -50,7 +50,7 @@ pub record NamespaceOf : Type 0 where
 
 -- ---- parsing
 
--- `members_in o` are the members of the object in `o`; none if `o` is `None`, and `BadShape` if it is no object.
+-- `members_in o` are the members of the object in `o`; none if `o` is `None`, and `BadShape` for another value.
 abbrev pub members_in : Option Data → Result Members SchemaFault
 members_in None = Ok no_members
 members_in (Some d) = or_fault BadShape (as_object d)
@@ -171,7 +171,7 @@ use_of d = do
   context ← type_in (optional (codes "context") d)
   Ok (record { principals = principals; resources = resources; context = context })
 
--- `use_in o` is what an action applies to, by an optional value; `None` if `o` is `None`.
+-- `use_in o` is what an action applies to, as the value in `o` describes it; `None` if `o` is `None`.
 abbrev pub use_in : Option Data → Result (Option UseOf) SchemaFault
 use_in None = Ok None
 use_in (Some d) = do

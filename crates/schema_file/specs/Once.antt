@@ -17,7 +17,8 @@ pub record StatesOnce (n : NamespaceOf) : Type 0 where
   pub entity_types : AreApart (map (λ e. e.name) n.entity_types)
   pub actions : AreApart (map (λ a. a.id) n.actions)
 
--- `HaveDistinctNames ns` holds if this is so for each of the namespaces `ns`, and no two of these have the same name.
+-- `HaveDistinctNames ns` holds if `StatesOnce` holds for each of the namespaces `ns`, and no two of these have the same
+-- name.
 pub record HaveDistinctNames (ns : List NamespaceOf) : Type 0 where
   pub namespaces : AreApart (map (λ n. n.name) ns)
   pub names : AllByRecursion StatesOnce ns

@@ -99,7 +99,7 @@ fn is_empty(found: Option<&Value>) -> bool
     }
 }
 
-/// Returns the action that a value describes at a key, which is its id.
+/// Returns the action with the id `key` that a value describes.
 #[tactic(auto, unfolding(crate::specs::FileForm::action_of))]
 pub(crate) fn read_action(
     alloc: Global,

@@ -37,7 +37,7 @@ fn is_common(form: Form) -> bool
     matches!(form, Form::Common)
 }
 
-/// Returns the common type that a value describes at a key, which is its name.
+/// Returns the common type with the name `key` that a value describes.
 #[tactic(auto, unfolding(crate::specs::FileForm::common_of))]
 pub(crate) fn read_common(
     alloc: Global,
@@ -66,7 +66,7 @@ fn read_entity_type_name(alloc: Global, key: &str) -> Result<TypeName, SchemaFau
     Ok(name)
 }
 
-/// Returns the entity type that a value describes at a key, which is its name.
+/// Returns the entity type with the name `key` that a value describes.
 #[tactic(auto, unfolding(crate::specs::FileForm::entity_type_of))]
 pub(crate) fn read_entity_type(
     alloc: Global,

@@ -15,9 +15,9 @@ pub struct StatedCommon {
 #[derive(Drop)]
 pub struct StatedEntityType {
     pub name: TypeName,
-    /// The names of the types that its entities may have as parents.
+    /// The names of the types that the parents of its entities may have.
     pub parents: Items<TypeName>,
-    /// The type of its attributes' record, if there is one.
+    /// The type of the record of its entities' attributes, if the file has one.
     pub shape: Option<RawType>,
 }
 

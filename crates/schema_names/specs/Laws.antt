@@ -1,5 +1,5 @@
 -- Defines the theorems that bytes describe one schema file or are rejected with one error, and that a file declares
--- what it names.
+-- each type that it mentions.
 use Rattle.std.specs.Prelude.{◌≡◌, ◌⊎◌, ℕ, List, Contains, map, Some}
 use Rattle.schema_types.specs.Qualified.{Qualified}
 use Rattle.schema_types.specs.Cedar.{Cedar, CedarFields, record_of}
@@ -13,8 +13,8 @@ use Rattle.schema_file.specs.Once.{AreApart}
 use Rattle.schema_names.specs.Qualifying.{ResolvedEntityType, ResolvedUse, ResolvedAction, ResolvedSchema}
 use Rattle.schema_names.specs.Naming.{DescribesFile, IsNamingError}
 
--- `DeclaresOnce s` holds if no two common types, no two entity types and no two actions of the file `s` have the same
--- name.
+-- `DeclaresOnce s` holds if no common type of the file `s` has two definitions, and no two entity types and no two
+-- actions of the file have the same name.
 pub record DeclaresOnce (s : ResolvedSchema) : Type 0 where
   pub commons : AreOnce s.commons
   pub entity_types : AreApart (map (λ e. e.name) s.entity_types)
@@ -57,8 +57,8 @@ pub record NamesItsEntityTypes (s : ResolvedSchema) : Type 0 where
 abbrev pub FilesNameTheirEntityTypes : Type 0
 FilesNameTheirEntityTypes = (bytes : List ℕ) (s : ResolvedSchema) → DescribesFile bytes s → NamesItsEntityTypes s
 
--- `FilesDeclareOnce`: in each file that bytes describe, the declared names are distinct, since the keys of a parsed
--- object are.
+-- `FilesDeclareOnce`: in each file that bytes describe, nothing is declared twice (`DeclaresOnce`), since the keys of a
+-- parsed object are distinct.
 abbrev pub FilesDeclareOnce : Type 0
 FilesDeclareOnce = (bytes : List ℕ) (s : ResolvedSchema) → DescribesFile bytes s → DeclaresOnce s
 
@@ -71,7 +71,7 @@ pub record TypesAscend (s : ResolvedSchema) : Type 0 where
 abbrev pub FilesTypesAscend : Type 0
 FilesTypesAscend = (bytes : List ℕ) (s : ResolvedSchema) → DescribesFile bytes s → TypesAscend s
 
--- `ShapesAreRecords`: if a shape or a context has an expansion, it is a record.
+-- `ShapesAreRecords`: if a shape or a context has an expansion, the expansion is a record.
 abbrev pub ShapesAreRecords : Type 0
 ShapesAreRecords =
     (bytes : List ℕ) (s : ResolvedSchema) → DescribesFile bytes s → (r : Qualified) → IsShapeOrContext s r → (t : Cedar)

@@ -136,7 +136,8 @@ qualified_entity_type s own e = do
   shape ← type_named s own e.shape
   Ok (record { name = full_name own e.name; parents = parents; shape = shape })
 
--- `qualified_use s own u` is what an action applies to, `u`, with resolved names, or the first error.
+-- `qualified_use s own u` is `u`, what an action of the namespace `own` applies to, with resolved names, or the first
+-- error.
 unfoldable pub qualified_use : Scope → Option (List ℕ) → UseOf → Result ResolvedUse SchemaFault
 qualified_use s own u = do
   principals ← entity_types_named s own u.principals
@@ -144,7 +145,7 @@ qualified_use s own u = do
   context ← type_named s own u.context
   Ok (record { principals = principals; resources = resources; context = context })
 
--- `use_named s own o` is what an action applies to, if `o` has it, with resolved names, or the first error.
+-- `use_named s own o` is the same for an action that applies to `o`; `None` if it applies to nothing.
 abbrev pub use_named : Scope → Option (List ℕ) → Option UseOf → Result (Option ResolvedUse) SchemaFault
 use_named s own None = Ok None
 use_named s own (Some u) = do

@@ -8,8 +8,8 @@ use Rattle.schema_types.specs.Names.{Scope, found, or_entity, built_in}
 use Rattle.schema_file.specs.FileForm.{EntityTypeOf, UseOf, ActionOf, NamespaceOf}
 use Rattle.schema_names.specs.Qualifying.{CommonOf, commons_declared, scope_in}
 
--- `common_meant s own r` is the declared common type that the type `r`, written in the namespace `own`, is a name of,
--- if it is one.
+-- `common_meant s own r` is the declared common type that `r`, a type written in the namespace `own`, names; `None` if
+-- `r` does not name one.
 abbrev pub common_meant : Scope → Option (List ℕ) → Raw → Option (List ℕ)
 common_meant s own raw.text = None
 common_meant s own raw.long = None
@@ -22,7 +22,7 @@ common_meant s own (raw.entity w) = None
 common_meant s own (raw.common w) = found s.commons own w
 common_meant s own (raw.entity_or_common w) = found s.commons own w
 
--- `is_no_record s own r` tests whether a type that is not a name of a declared common type is of a form other than a
+-- `is_no_record s own r` tests whether `r`, a type that does not name a declared common type, is of a form other than a
 -- record. It is false for an undeclared name, which is another error.
 abbrev pub is_no_record : Scope → Option (List ℕ) → Raw → Bool
 is_no_record s own raw.text = true

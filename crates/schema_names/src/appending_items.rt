@@ -4,7 +4,7 @@ ghost use Rattle.std.specs.Prelude.{◌≡◌, ◌≢◌, ◌++◌, ◌∷◌, [
 use plain::Items;
 use schema_types::SchemaFault;
 
-/// Returns the items with the parsed item appended, or its error, or `NoMemory` (1).
+/// Returns the items with the parsed item appended, or the error of parsing that item, or `NoMemory` (1).
 pub(crate) fn followed_by<T: Drop>(
     items: Items<T>,
     read: Result<T, SchemaFault>,

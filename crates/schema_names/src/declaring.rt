@@ -45,7 +45,7 @@ fn add_name(
     Ok(())
 }
 
-/// Adds the common types of a namespace.
+/// Adds the full names of the common types of a namespace.
 fn add_commons(
     alloc: Global,
     declared: &mut BTreeSet<String>,
@@ -61,7 +61,7 @@ fn add_commons(
     Ok(())
 }
 
-/// Adds the entity types of a namespace.
+/// Adds the full names of the entity types of a namespace.
 fn add_entity_types(
     alloc: Global,
     declared: &mut BTreeSet<String>,
@@ -77,7 +77,7 @@ fn add_entity_types(
     Ok(())
 }
 
-/// Adds an action of a namespace.
+/// Adds the uid of an action of a namespace.
 fn add_action(
     alloc: Global,
     declared: &mut BTreeSet<EntityUid>,
@@ -92,7 +92,7 @@ fn add_action(
     Ok(())
 }
 
-/// Adds the actions of a namespace.
+/// Adds the uids of the actions of a namespace.
 fn add_actions(
     alloc: Global,
     declared: &mut BTreeSet<EntityUid>,
@@ -109,7 +109,7 @@ fn add_actions(
     Ok(())
 }
 
-/// Adds the declarations of a namespace.
+/// Adds the names and uids of the declarations of a namespace.
 fn add_namespace(
     alloc: Global,
     names: &mut Names,

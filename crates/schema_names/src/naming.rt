@@ -20,7 +20,7 @@ use schema_types::SchemaFault;
 use serde_json::Value;
 use std::alloc::Global;
 
-/// Returns the JSON value of bytes. Its errors are `NotJson` (20) and `NoMemory` (1).
+/// Returns the JSON value of bytes. The errors are `NotJson` (20) and `NoMemory` (1).
 fn read_value(alloc: Global, bytes: &[u8]) -> Result<Value, SchemaFault>
     ensures { ReadsAs SchemaFault.NoMemory view result (or_fault SchemaFault.NotJson (json_of bytes.now)) }
 {
@@ -48,7 +48,7 @@ fn name_all(alloc: Global, stated: &[StatedNamespace]) -> Result<Items<ResolvedF
     qualify_namespaces(alloc, &names, stated)
 }
 
-/// Returns the namespaces that bytes describe, with resolved names. Its errors are those of [`read_named`].
+/// Returns the namespaces that bytes describe, with resolved names. The errors are those of [`read_named`].
 fn read_parts(alloc: Global, bytes: &[u8]) -> Result<Items<ResolvedFile>, SchemaFault>
     ensures { MatchResult result (λ ps. DescribesFile bytes.now (together (map found_view ps)))
         (λ f. f ≢ SchemaFault.NoMemory → IsNamingError bytes.now f) }

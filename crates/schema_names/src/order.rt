@@ -1,5 +1,5 @@
 //! The common types of a file, in an order in which one round finds all that are not records: a common type whose
-//! definition is only a name of another comes after that one.
+//! definition is only the name of another comes after that other.
 ghost use Rattle.std.specs.Prelude.{◌≡◌, ◌++◌, ℕ, List, IfOk, OnOk, map};
 ghost use Rattle.std.specs.BTreeMap.{get_by_text};
 ghost use Rattle.schema_written_types.specs.Orders.{graph_of, IsSuccessorsFirst};
@@ -81,7 +81,7 @@ fn place_at(name: &str, places: &BTreeMap<String, usize>) -> Option<usize>
     places.get(name).copied()
 }
 
-/// Returns the index of the common type that a type is a name of, if it is one.
+/// Returns the index of the common type that a type names, if it names one.
 fn place_meant(
     alloc: Global,
     names: &Names,
@@ -109,8 +109,8 @@ fn in_list(alloc: Global, place: Option<usize>) -> Result<Vec<usize>, NoMemory>
     Ok(places)
 }
 
-/// Returns the index of the common type that the definition of a common type is a name of, as a list; an empty list if
-/// it is not such a name.
+/// Returns a list of one index, that of the common type whose name is the definition of `listed`; an empty list if the
+/// definition is not such a name.
 fn use_of(
     alloc: Global,
     names: &Names,
@@ -124,7 +124,7 @@ fn use_of(
     in_list(alloc, place)
 }
 
-/// Returns for each common type the index of the one that its definition is a name of, if there is one.
+/// Returns for each common type the index of the common type that its definition names, if it names one.
 fn uses_of(
     alloc: Global,
     names: &Names,
@@ -143,8 +143,9 @@ fn uses_of(
     Ok(edges)
 }
 
-/// Returns the indices of the common types, without duplicates, each after that of the common type that its definition
-/// is a name of, unless that one leads back to it. In this order one round finds each that is not a record.
+/// Returns the indices of the common types, without duplicates. A common type whose definition is only the name of
+/// another comes after that other, unless the other leads back to it. In this order one round finds each common type
+/// that is not a record.
 pub(crate) fn order_of(
     alloc: Global,
     names: &Names,

@@ -16,7 +16,7 @@ ghost use Rattle.schema_names.specs.Qualifying.{qualified_actions, qualified_nam
 ghost use Rattle.schema_types.specs.declared.fault.SchemaFault.TheVariants as SchemaFault;
 
 use crate::appending_items::followed_by;
-use plain::{Items, NoMemory, Text, beside};
+use plain::{Items, NoMemory, Text, pair_with};
 use schema_file::{
     Names, StatedAction, StatedCommon, StatedEntityType, StatedNamespace, StatedParent, StatedUse,
     action_type, declared_action, find, find_action_of_type, full_name, resolve,
@@ -117,7 +117,7 @@ fn qualify_common(
         (qualified_common (scope_of names.now) own.now (common_view common.now)) }
 {
     let name = full_name(alloc, own, &common.name)?;
-    let (name, ty) = beside(name, resolve(alloc, names, own, &common.ty))?;
+    let (name, ty) = pair_with(name, resolve(alloc, names, own, &common.ty))?;
     Ok(ResolvedCommon { name, ty })
 }
 
@@ -134,9 +134,9 @@ fn qualify_entity_type(
 {
     let name = full_name(alloc, own, &entity_type.name)?;
     let parents = qualify_names(alloc, names, own, entity_type.parents.as_slice());
-    let (name, parents) = beside(name, parents)?;
+    let (name, parents) = pair_with(name, parents)?;
     let shape = qualify_optional(alloc, names, own, &entity_type.shape);
-    let ((name, parents), shape) = beside((name, parents), shape)?;
+    let ((name, parents), shape) = pair_with((name, parents), shape)?;
     Ok(ResolvedEntityType {
         name,
         parents,
@@ -157,9 +157,9 @@ fn qualify_use(
 {
     let principals = qualify_names(alloc, names, own, stated.principals.as_slice())?;
     let resources = qualify_names(alloc, names, own, stated.resources.as_slice());
-    let (principals, resources) = beside(principals, resources)?;
+    let (principals, resources) = pair_with(principals, resources)?;
     let context = qualify_optional(alloc, names, own, &stated.context);
-    let ((principals, resources), context) = beside((principals, resources), context)?;
+    let ((principals, resources), context) = pair_with((principals, resources), context)?;
     Ok(ResolvedUse {
         principals,
         resources,
@@ -240,7 +240,7 @@ pub(crate) fn uid_of(
     ensures { IfOk result (λ u. u ≡ action_uid (action_type own.now) id.now) }
 {
     let type_name = action_type(alloc, own)?;
-    let (type_name, id) = beside(type_name, SharedText::from_str(alloc, id.as_str()))?;
+    let (type_name, id) = pair_with(type_name, SharedText::from_str(alloc, id.as_str()))?;
     Ok(EntityUid { type_name, id })
 }
 
@@ -257,9 +257,9 @@ fn qualify_action(
 {
     let uid = uid_of(alloc, own, &action.id)?;
     let parents = qualify_parents(alloc, names, own, action.parents.as_slice());
-    let (uid, parents) = beside(uid, parents)?;
+    let (uid, parents) = pair_with(uid, parents)?;
     let applies_to = qualify_optional_use(alloc, names, own, &action.applies_to);
-    let ((uid, parents), applies_to) = beside((uid, parents), applies_to)?;
+    let ((uid, parents), applies_to) = pair_with((uid, parents), applies_to)?;
     Ok(ResolvedAction {
         uid,
         parents,
@@ -331,9 +331,9 @@ pub(crate) fn qualify_namespace(
     let own = &namespace.name;
     let commons = qualify_commons(alloc, names, own, namespace.commons.as_slice())?;
     let entity_types = qualify_entity_types(alloc, names, own, namespace.entity_types.as_slice());
-    let (commons, entity_types) = beside(commons, entity_types)?;
+    let (commons, entity_types) = pair_with(commons, entity_types)?;
     let actions = qualify_actions(alloc, names, own, namespace.actions.as_slice());
-    let ((commons, entity_types), actions) = beside((commons, entity_types), actions)?;
+    let ((commons, entity_types), actions) = pair_with((commons, entity_types), actions)?;
     Ok(ResolvedFile {
         commons,
         entity_types,

@@ -26,7 +26,7 @@ use std::alloc::Global;
 use std::collections::BTreeSet;
 use values::TypeName;
 
-/// Returns the declared common type that a type is a name of, if it is one.
+/// Returns the declared common type that a type names, if it names one.
 pub(crate) fn find_common(
     alloc: Global,
     names: &Names,
@@ -49,7 +49,7 @@ pub(crate) fn find_common(
     }
 }
 
-/// Returns whether a type that is not a name of a declared common type is of a form other than a record; `false` for an
+/// Returns whether a type that does not name a declared common type is of a form other than a record; `false` for an
 /// undeclared name, which is another error.
 fn is_no_record(
     alloc: Global,
@@ -188,7 +188,7 @@ fn spread_at(
     Ok(())
 }
 
-/// Adds those common types, tested in this order, that by `known` are not records.
+/// Tests the common types at the indices `order`, one after another, and adds each that, by `known`, is not a record.
 fn spread_in_order(
     alloc: Global,
     names: &Names,
@@ -229,7 +229,7 @@ fn no_records(
     Ok(known)
 }
 
-/// Returns whether a type, if there is one, is not found to be other than a record.
+/// Returns `false` if a type is, by `known`, not a record; `true` otherwise, also if there is no type.
 fn is_record(
     alloc: Global,
     names: &Names,
@@ -246,7 +246,8 @@ fn is_record(
     }
 }
 
-/// Returns whether the context of an action, if it has one, is not found to be other than a record.
+/// Returns `false` if the context of an action is, by `known`, not a record; `true` otherwise, also if there is no
+/// context.
 fn is_context(
     alloc: Global,
     names: &Names,
@@ -263,7 +264,7 @@ fn is_context(
     }
 }
 
-/// Returns whether no shape of the entity types is found to be other than a record.
+/// Returns `false` if some shape of the entity types is, by `known`, not a record; `true` otherwise.
 fn are_shapes(
     alloc: Global,
     names: &Names,
@@ -283,7 +284,7 @@ fn are_shapes(
     Ok(true)
 }
 
-/// Returns whether no context of the actions is found to be other than a record.
+/// Returns `false` if some context of the actions is, by `known`, not a record; `true` otherwise.
 fn are_contexts(
     alloc: Global,
     names: &Names,
@@ -303,7 +304,7 @@ fn are_contexts(
     Ok(true)
 }
 
-/// Returns whether no shape and no context of a namespace is found to be other than a record.
+/// Returns `false` if some shape or context of a namespace is, by `known`, not a record; `true` otherwise.
 fn are_records_of(
     alloc: Global,
     names: &Names,
@@ -320,7 +321,7 @@ fn are_records_of(
     are_contexts(alloc, names, known, own, namespace.actions.as_slice())
 }
 
-/// Returns whether no shape and no context of the file is found to be other than a record.
+/// Returns `false` if some shape or context of the file is, by `known`, not a record; `true` otherwise.
 fn are_records(
     alloc: Global,
     names: &Names,

@@ -1,4 +1,4 @@
--- Defines which action is meant by a type and an id.
+-- Defines which action a written type and an id mean.
 -- Source: Cedar reference guide, "Schema JSON format": action types, `memberOf`.
 -- Rules of this product: an action of the empty namespace has the type `Action`, one of a namespace NS the type
 -- `NS::Action`; an unqualified type is resolved in the namespace that uses it, then in the empty one.

@@ -16,7 +16,7 @@ abbrev pub StatedTypesAscend : Type 0
 StatedTypesAscend =
     (is_attribute : Bool) (d : Data) (r : Raw) → type_of is_attribute d ≡ Ok r → DataAscends d → RawAscends r
 
--- `FoundTypesAscend`: if the keys in a type ascend, they ascend after its names are resolved.
+-- `FoundTypesAscend`: if the keys in a type ascend, they still ascend after the names in the type are resolved.
 abbrev pub FoundTypesAscend : Type 0
 FoundTypesAscend =
     (s : Scope) (own : Option (List ℕ)) (r : Raw) (n : Qualified) → qualified_of s own r ≡ Ok n → RawAscends r
@@ -26,7 +26,8 @@ FoundTypesAscend =
 abbrev pub AllAscend : Declarations → Type 0
 AllAscend commons = (q : List ℕ) (r : Qualified) → Declares commons q r → QualifiedAscends r
 
--- `WrittenTypesAscend`: if the keys in a type and in each declared common type ascend, so do those in its expansion.
+-- `WrittenTypesAscend`: if the keys in a type and in each declared common type ascend, so do the keys in the type's
+-- expansion.
 abbrev pub WrittenTypesAscend : Type 0
 WrittenTypesAscend =
     (commons : Declarations) → AllAscend commons → (r : Qualified) (t : Cedar) → IsExpansion commons r t

@@ -5,7 +5,7 @@ use Rattle.schema_types.specs.Cedar.{no_fields, field}
 use Rattle.schema_types.specs.declared.cedar.CedarType.{CedarType, fold-CedarType}
 use Rattle.schema_types.specs.declared.cedar.CedarType.TheOpen.{CedarType-F}
 
--- `fields_of fs` are the fields of a record type that the list `fs` has.
+-- `fields_of fs` are the fields in the list `fs`, as the fields of a record type.
 abbrev pub fields_of : List (List ℕ × Cedar × Bool) → CedarFields
 fields_of [] = no_fields
 fields_of (f ∷ fs) = field (f.0) f.1 f.2 (fields_of fs)

@@ -1,4 +1,5 @@
--- Defines the theorems that a type has at most one expansion, and on when it has none.
+-- Defines the theorems on the expansion of a type (there is at most one, and when there is none), and on the names that
+-- a type mentions (they are declared).
 -- Source: Cedar reference guide 4.0, "Schema JSON format".
 use Rattle.std.specs.Prelude.{◌≡◌, ◌⊎◌, ℕ, List, true, Option, Ok}
 use Rattle.schema_types.specs.Raw.{Raw}

@@ -23,7 +23,8 @@ pub record Scope : Type 0 where
 abbrev pub is_qualified : List ℕ → Bool
 is_qualified w = list_any (λ b. b == code ":") w
 
--- `full_name own w` is the full name of `w` in the namespace `own`, a Path; `None` is the empty namespace.
+-- `full_name own w` is the full name of `w` in the namespace `own`: `own`, `::` and `w`, or `w` alone in the empty
+-- namespace (`None`).
 abbrev pub full_name : Option (List ℕ) → List ℕ → List ℕ
 full_name None w = w
 full_name (Some namespace) w = namespace ++ codes "::" ++ w

@@ -1,6 +1,6 @@
 -- Defines the reading of keys that may be missing, where null counts as missing.
 -- Source: Cedar reference guide 4.0, "Schema JSON format".
--- Rules of this product: null.
+-- Rules of this product: null counts as missing.
 use Rattle.std.specs.Prelude.{⊤, Bool, true, false, ℕ, List, Option, Some, None, Result, Ok}
 use Rattle.serde_json.specs.Data.{Data, null, boolean, number, string, array, object}
 use Rattle.serde_json.specs.Find.{get, as_bool, as_str}
@@ -26,7 +26,7 @@ present (Some d) = unless_null d
 abbrev pub optional : List ℕ → Data → Option Data
 optional k d = present (get k d)
 
--- `required_text k d` is the string of `d` at the key `k`, or `BadShape` otherwise.
+-- `required_text k d` is the string of `d` at the key `k`, or `BadShape` if `d` has no string there.
 abbrev pub required_text : List ℕ → Data → Result (List ℕ) SchemaFault
 required_text k d = do
   found ← or_fault BadShape (get k d)
@@ -42,8 +42,8 @@ abbrev pub is_false : Bool → Bool
 is_false true = false
 is_false false = true
 
--- `closed_in o` checks that a record allows no further attributes: `o`, its value of `additionalAttributes`, is absent
--- or false.
+-- `closed_in o` checks that a record allows no further attributes: `o`, the record's value at `additionalAttributes`,
+-- is absent or false.
 abbrev pub closed_in : Option Data → Result ⊤ SchemaFault
 closed_in o = do
   more ← truth_or false o

@@ -34,7 +34,7 @@ pub record IsLarge (commons : Declarations) (r : Qualified) : Type 0 where
 
 -- ---- errors
 
--- `CommonsRefused commons f` holds if `f` is the error of expanding the common types: some of them has no expansion.
+-- `CommonsRefused commons f` holds if `f` is the error of expanding the common types: one of them has no expansion.
 pub data CommonsRefused (commons : Declarations) : SchemaFault → Type 0 where
   cycle : SomeHasNoExpansion commons → CommonsRefused commons TypeCycle
 

@@ -7,7 +7,7 @@ use Rattle.schema_types.specs.declared.qualified.QualifiedType.{QualifiedType, f
 use Rattle.schema_types.specs.declared.qualified.ResolvedCommon.{ResolvedCommon}
 use Rattle.schema_types.specs.declared.qualified.QualifiedType.TheOpen.{QualifiedType-F}
 
--- `fields_of fs` are the fields of a record type that the list `fs` has.
+-- `fields_of fs` are the fields in the list `fs`, as the fields of a record type.
 abbrev pub fields_of : List (String Global × Qualified × Bool) → QualifiedFields
 fields_of [] = no_fields
 fields_of (f ∷ fs) = field (string_bytes f.0) f.1 f.2 (fields_of fs)

@@ -65,8 +65,8 @@ there None = Err BadShape
 there (Some read) = read
 
 -- `by_form form w d element fields` is the type that `d` describes, or the first error, where `form` is its form and
--- `w` its word at `type`. The types within `d` are already read: `element` at that key, and `fields` at the key
--- `attributes`.
+-- `w` its word at `type`. The types within `d` are already read: `element` is the result at the key `element`, and
+-- `fields` that at the key `attributes`; each is `None` if the key is missing.
 abbrev pub by_form : Form → List ℕ → Data → Option (Result Raw SchemaFault) → Option (Result RawFields SchemaFault)
     → Result Raw SchemaFault
 by_form Text w d element fields = Ok raw.text
@@ -117,7 +117,8 @@ unfoldable mutual
   type_of is_attribute (object ms) =
       formed is_attribute (object ms) (type_at (codes "element") ms) (fields_at (codes "attributes") ms)
 
-  -- the type, and the attributes, at the key `k` of an object, if it has this key
+  -- `type_at k ms` and `fields_at k ms` are the results for the type and for the attributes at the key `k` of the
+  -- members `ms`; `None` if there is no such key.
   pub type_at : List ℕ → Members → Option (Result Raw SchemaFault)
   type_at k no_members = None
   type_at k (member l d ms) = if bytes_eq k l then Some (type_of false d) else type_at k ms
@@ -126,7 +127,7 @@ unfoldable mutual
   fields_at k no_members = None
   fields_at k (member l d ms) = if bytes_eq k l then Some (attributes_of d) else fields_at k ms
 
-  -- the fields that the object at the key `attributes` describes
+  -- `attributes_of d` are the fields that `d`, the value at the key `attributes`, describes, or the first error.
   pub attributes_of : Data → Result RawFields SchemaFault
   attributes_of null = Err BadShape
   attributes_of (boolean b) = Err BadShape
@@ -135,7 +136,8 @@ unfoldable mutual
   attributes_of (array ds) = Err BadShape
   attributes_of (object ms) = fields_in ms
 
-  -- each attribute is a type, with an optional `required`
+  -- `fields_in ms` are the fields that the members `ms` describe, or the first error: each value is a type, with an
+  -- optional key `required`.
   pub fields_in : Members → Result RawFields SchemaFault
   fields_in no_members = Ok raw.no_fields
   fields_in (member k d ms) = do

@@ -6,7 +6,7 @@ use Rattle.schema_types.specs.Raw.{entity_or_common, RawFields, no_fields, field
 use Rattle.schema_types.specs.declared.raw.RawType.{RawType, fold-RawType}
 use Rattle.schema_types.specs.declared.raw.RawType.TheOpen.{RawType-F}
 
--- `fields_of fs` are the fields of a record type that the list `fs` has.
+-- `fields_of fs` are the fields in the list `fs`, as the fields of a record type.
 abbrev pub fields_of : List (String Global × Raw × Bool) → RawFields
 fields_of [] = no_fields
 fields_of (f ∷ fs) = field (string_bytes f.0) f.1 f.2 (fields_of fs)

@@ -1,4 +1,4 @@
-//! The action that is meant by a type and an id.
+//! The action that a written type and an id mean.
 ghost use Rattle.std.specs.Prelude.{◌≡◌, IfOk};
 ghost use Rattle.schema_types.specs.Actions.{action_type, action_uid, declared_action, action_of_type};
 ghost use Rattle.schema_types.specs.NamesViews.{is_action_of};

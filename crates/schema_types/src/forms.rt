@@ -30,7 +30,8 @@ pub enum Form {
     Common,
 }
 
-/// Returns the form that a word selects; [`Form::Common`], the name of a common type, for any other word.
+/// Returns the form that a word selects. A word that selects no other form is the name of a common type,
+/// [`Form::Common`].
 #[tactic(auto, unfolding(crate::specs::Forms::form_named))]
 pub fn form_named(word: &str) -> Form
     ensures { result ≡ form_of word.now }

@@ -19,7 +19,7 @@ pub fn optional<'v>(value: &'v Value, key: &str) -> Option<&'v Value>
     }
 }
 
-/// Returns the string at a key, or `BadShape` (21) otherwise.
+/// Returns the string at a key, or `BadShape` (21) if there is no string at the key.
 pub fn required_text<'v>(value: &'v Value, key: &str) -> Result<&'v str, SchemaFault>
     ensures { AlwaysReadsAs (λ s. s.now) result (text_of key.now (view value.now)) }
 {
@@ -32,7 +32,7 @@ pub fn required_text<'v>(value: &'v Value, key: &str) -> Result<&'v str, SchemaF
     }
 }
 
-/// Returns the boolean `value`, `missing` if it is `None`, or `BadShape` (21) if it is not a boolean.
+/// Returns the boolean in `value`, `missing` if `value` is `None`, or `BadShape` (21) if the value is not a boolean.
 pub(crate) fn truth_or(missing: bool, value: Option<&Value>) -> Result<bool, SchemaFault>
     ensures { AlwaysReadsAs (λ b. b) result (truth_of missing (option_map (λ v. view v.now) value.entry)) }
 {

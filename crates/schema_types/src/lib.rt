@@ -1,5 +1,6 @@
-//! Types of a schema, in three stages: as JSON writes them, with resolved names (the declaration that each name means
-//! in its namespace, and which action), and expanded; with the theorems about all three.
+//! Types of a schema, in three stages: as JSON writes them, with resolved names, and expanded; with the theorems about
+//! all three. Names are resolved here: which declaration a name means in its namespace, and which action a type and an
+//! id mean.
 #![tactic(auto)]
 
 mod actions;

@@ -62,8 +62,8 @@ fn as_declared(declared: &BTreeSet<String>, word: &TypeName) -> Result<Option<Ty
     Ok(None)
 }
 
-/// Returns the full name of the declaration that a name in the namespace `own` means, if there is one. The only error
-/// is `NoMemory`.
+/// Returns the full name of the declaration that a name, used in the namespace `own`, means, if there is one. The only
+/// error is `NoMemory`.
 #[tactic(auto, unfolding(crate::specs::Names::found))]
 pub fn find(
     alloc: Global,
@@ -83,7 +83,7 @@ pub fn find(
     as_declared(declared, word)
 }
 
-/// Returns the built-in type of a name, if there is one.
+/// Returns the primitive or extension type of this name, if there is one.
 #[tactic(auto, unfolding(crate::specs::Names::built_in))]
 pub fn built_in(word: &str) -> Option<QualifiedType>
     ensures { option_map qualified_view result ≡ built_in_of word.now }
@@ -105,8 +105,8 @@ pub fn built_in(word: &str) -> Option<QualifiedType>
     }
 }
 
-/// Returns whether a name means an entity type, a primitive or an extension type, common types aside. The only error is
-/// `NoMemory`.
+/// Returns whether a name, common types aside, means an entity type, a primitive type or an extension type. The only
+/// error is `NoMemory`.
 pub fn is_other(
     alloc: Global,
     names: &Names,
@@ -123,7 +123,8 @@ pub fn is_other(
     }
 }
 
-/// Returns the type that a name means, if there is one: a common type, else an entity type, else a built-in one.
+/// Returns the type that a name means, if there is one: a common type, else an entity type, else a primitive or
+/// extension type.
 #[tactic(auto, unfolding(crate::specs::Names::any_named))]
 fn find_any(
     alloc: Global,

@@ -14,13 +14,13 @@ use crate::keys::{demand_closed, optional, required_text, truth_or};
 use crate::{Form, RawType, SchemaFault};
 use serde_json::{Map, Value};
 use std::alloc::Global;
-use values::{TypeName, paths_are_told};
+use values::{TypeName, path_tests_are_exact};
 
 /// Returns the type name of a string, or `BadShape` (21) if it is not a Path.
 pub fn read_type_name(alloc: Global, word: &str) -> Result<TypeName, SchemaFault>
     ensures { ReadsAs SchemaFault.NoMemory (λ t. t) result (type_name word.now) }
 {
-    paths_are_told();
+    path_tests_are_exact();
     match TypeName::parse(alloc, word)? {
         Some(name) => Ok(name),
         None => Err(SchemaFault::BadShape),
@@ -85,7 +85,8 @@ fn extension_named(word: &str) -> Option<RawType>
     None
 }
 
-/// Returns whether an attribute is required, as it is by default; `BadShape` (21) if its `required` is not a boolean.
+/// Returns whether an attribute is required: the boolean at its key `required`, `true` if that is missing or null, or
+/// `BadShape` (21) for another value.
 fn is_required(value: &Value) -> Result<bool, SchemaFault>
     ensures { AlwaysReadsAs (λ b. b) result (required_in (view value.now)) }
 {

@@ -5,7 +5,7 @@ use Rattle.schema_types.specs.Qualified.{Qualified, QualifiedFields}
 use Rattle.schema_types.specs.Expansions.{Declarations}
 use Rattle.schema_types.specs.Mentions.{Mentions, FieldsMention, IsClosed}
 use Rattle.schema_written_types.specs.TypeTables.{Extent, TableEntry, TypeTable, AreWritten}
-use Rattle.schema_written_types.specs.inner.Table.{leaf_size, no_size, above, beside, size_in, sizes_in, HasSize}
+use Rattle.schema_written_types.specs.inner.Table.{leaf_size, no_size, above, side_by_side, size_in, sizes_in, HasSize}
 
 mutual
   unfolding size_in
@@ -25,7 +25,7 @@ mutual
   fields_sized known total qualified.no_fields h = (total, refl)
   fields_sized known total (qualified.field k r b rs) h =
       let p = sized known r (λ q m. h q (inl m)) in
-      let t = fields_sized known (beside total p.0) rs (λ q m. h q (inr m)) in (t.0, rw p.1 t.1)
+      let t = fields_sized known (side_by_side total p.0) rs (λ q m. h q (inr m)) in (t.0, rw p.1 t.1)
 
 pub closed_sized : (commons : Declarations) (known : TypeTable) → AreWritten commons known → (r : Qualified) → IsClosed commons r → HasSize known r
 closed_sized commons known w r closed =

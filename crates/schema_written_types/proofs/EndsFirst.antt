@@ -3,7 +3,7 @@ use Rattle.std.proofs.Common.{◌≡◌, ◌∙◌, ℕ, ◌+◌, ◌-◌, ◌<�
 use Rattle.std.specs.Prelude.{◌⊎◌, Contains, slice_index_or, slice_index}
 use Rattle.std.proofs.lemmas.List.{length-set, length-replicate}
 use Rattle.schema_written_types.specs.declared.place_order.Step.{Step}
-use Rattle.schema_written_types.specs.Orders.{Graph, graph_of, ends_of, Leads, edge, edges, one_if_same, times, IsBehind, ComeAfterSuccessors, IsSuccessorsFirst}
+use Rattle.schema_written_types.specs.Orders.{Graph, graph_of, ends_of, Leads, edge, edges, one_if_same, times, ComesAfterTargets, ComeAfterSuccessors, IsSuccessorsFirst}
 use Rattle.schema_written_types.specs.inner.Ordering.{is_new, one_if_seen, times_on, entered, AreFollowed, IsEdgeTo, IsPath, IsWalk, KeepsSeen, unseen_effort, path_effort, effort, WalksOn}
 
 -- ---- numbers and lists
@@ -174,13 +174,13 @@ path_listed g order p (s ∷ path) h = (
   path_longer g order p (Some s.place) path h.2,
 )
 
-behind_push : (g : Graph) (before order : List ℕ) (p : ℕ) → ComeAfterSuccessors g before order → IsBehind g (before ++ order) p
+behind_push : (g : Graph) (before order : List ℕ) (p : ℕ) → ComeAfterSuccessors g before order → ComesAfterTargets g (before ++ order) p
     → ComeAfterSuccessors g before (order ++ p ∷ [])
-behind_push g before [] p h here = (subst (λ (xs : List ℕ). IsBehind g xs p) (append-nil before) here, tt)
+behind_push g before [] p h here = (subst (λ (xs : List ℕ). ComesAfterTargets g xs p) (append-nil before) here, tt)
 behind_push g before (x ∷ order) p h here = (
   h.0,
   behind_push g (before ++ x ∷ []) order p h.1
-      (subst (λ (xs : List ℕ). IsBehind g xs p) (sym (append_assoc before (x ∷ []) order)) here),
+      (subst (λ (xs : List ℕ). ComesAfterTargets g xs p) (sym (append_assoc before (x ∷ []) order)) here),
 )
 
 -- ---- steps

@@ -7,7 +7,7 @@ use Rattle.schema_types.specs.Cedar.{Cedar, CedarFields}
 use Rattle.schema_types.specs.Expansions as written
 use Rattle.schema_types.specs.Expansions.{Declarations, Declares, IsExpansion, AreFieldExpansions}
 use Rattle.schema_written_types.specs.TypeTables.{Extent, size_of, TableEntry, TypeTable, IsTable}
-use Rattle.schema_written_types.specs.inner.Table.{IsWithin, leaf_size, no_size, above, beside, size_in, sizes_in, written_in, fields_in, AreSettled}
+use Rattle.schema_written_types.specs.inner.Table.{IsWithin, leaf_size, no_size, above, side_by_side, size_in, sizes_in, written_in, fields_in, AreSettled}
 use Rattle.schema_written_types.proofs.Sizes.{not_large}
 
 -- ---- nothing that a settled table lacks has an end
@@ -51,7 +51,7 @@ mutual
   have_sizes commons known h total _ _ written.no_fields = (total, refl)
   have_sizes commons known h total _ _ (written.field k r t b rs ts w ws) =
       let p = has_size commons known h r t w in
-      let q = have_sizes commons known h (beside total p.0) rs ts ws in (q.0, rw p.1 q.1)
+      let q = have_sizes commons known h (side_by_side total p.0) rs ts ws in (q.0, rw p.1 q.1)
 
 -- ---- what a table gives is so
 
@@ -141,11 +141,11 @@ mutual
     at_hand = λ w. refl;
   }
   sound_fields commons known h total (qualified.field k r b rs) s capped e =
-      let p = chained_some (λ x. sizes_in known (beside total x) rs) (size_in known r) s e in
+      let p = chained_some (λ x. sizes_in known (side_by_side total x) rs) (size_in known r) s e in
       let f = sound commons known h r p.0 p.1 in
       let one_parts = ap (λ (x : Extent). x.parts) (f.size_is) in
       let one_depth = ap (λ (x : Extent). x.deep) (f.size_is) in
-      let g = sound_fields commons known h (beside total p.0) rs s (record { parts = omega arith; deep = omega (arith, one_depth, capped.deep) }) p.2 in record {
+      let g = sound_fields commons known h (side_by_side total p.0) rs s (record { parts = omega arith; deep = omega (arith, one_depth, capped.deep) }) p.2 in record {
         types = cedar.field k f.type b g.types;
         are_written = written.field k r f.type b rs g.types f.is_written g.are_written;
         parts_are = omega (arith, one_parts, g.parts_are);

@@ -37,16 +37,16 @@ abbrev pub times : ℕ → List ℕ → ℕ
 times a [] = 0
 times a (b ∷ bs) = one_if_same a b + times a bs
 
--- `IsBehind g before a` holds if each edge from `a` leads to a node of `before`, to a node that leads back to `a`, or
--- out of the graph `g`.
-abbrev pub IsBehind : Graph → List ℕ → ℕ → Type 0
-IsBehind g before a = (b : ℕ) → Contains (ends_of g a) b → b < length g → Contains before b ⊎ Leads g b a
+-- `ComesAfterTargets g before a` holds if each edge from `a` leads to a node of `before`, to a node that leads back to
+-- `a`, or out of the graph `g`.
+abbrev pub ComesAfterTargets : Graph → List ℕ → ℕ → Type 0
+ComesAfterTargets g before a = (b : ℕ) → Contains (ends_of g a) b → b < length g → Contains before b ⊎ Leads g b a
 
--- `ComeAfterSuccessors g before rest` holds if each node of `rest` satisfies `IsBehind` for `before` with the nodes of
--- `rest` that precede it.
+-- `ComeAfterSuccessors g before rest` holds if each node of `rest` satisfies `ComesAfterTargets` for `before` with the
+-- nodes of `rest` that precede it.
 abbrev pub ComeAfterSuccessors : Graph → List ℕ → List ℕ → Type 0
 ComeAfterSuccessors g before [] = ⊤
-ComeAfterSuccessors g before (a ∷ rest) = IsBehind g before a × ComeAfterSuccessors g (before ++ a ∷ []) rest
+ComeAfterSuccessors g before (a ∷ rest) = ComesAfterTargets g before a × ComeAfterSuccessors g (before ++ a ∷ []) rest
 
 -- `IsSuccessorsFirst g order` holds if `order` has exactly the nodes of the graph `g`, without duplicates, each after
 -- its successors except those that lead back to it.

@@ -26,8 +26,8 @@ pub record TableEntry : Type 0 where
 abbrev pub TypeTable : Type 0
 TypeTable = List ℕ → Option TableEntry
 
--- `IsKnown commons q k` holds if the common type `q` has an expansion, and the entry `k` has its size, and the
--- expansion itself if and only if it is not too large.
+-- `IsKnown commons q k` holds if the common type `q` has an expansion, and the entry `k` has the size of the expansion,
+-- and the expansion itself if and only if it is not too large.
 pub record IsKnown (commons : Declarations) (q : List ℕ) (k : TableEntry) : Type 0 where
   pub type : Cedar
   pub is_written : IsExpansion commons (common q) type
@@ -44,8 +44,8 @@ pub record AreWritten (commons : Declarations) (known : TypeTable) : Type 0 wher
   pub table : IsTable commons known
   pub all : (q : List ℕ) (r : Qualified) → Declares commons q r → (k : TableEntry) × (known q ≡ Some k)
 
--- `AreWhole commons known` holds if each entry of the table `known` for a declared common type has its expansion, and
--- none of these is too large.
+-- `AreWhole commons known` holds if each entry of the table `known` for a declared common type has the expansion of the
+-- type, and none of these expansions is too large.
 abbrev pub AreWhole : Declarations → TypeTable → Type 0
 AreWhole commons known = (q : List ℕ) (r : Qualified) → Declares commons q r → (k : TableEntry) → known q ≡ Some k
     → (t : Cedar) × IsExpansion commons (common q) t × (k.whole ≡ Some t) × (IsTooLarge t → ⊥)

@@ -21,7 +21,7 @@ use schema_types::{CedarType, QualifiedType, ResolvedCommon, SchemaFault};
 use std::alloc::Global;
 use std::collections::BTreeMap;
 
-/// Returns the expansion of a type of the size `size`, or `None` if it is too large; then nothing is built.
+/// Returns the expansion of a type, given its size. If it is too large, returns `None` and builds nothing.
 #[tactic(auto, using(crate::proofs::Sizes::counted))]
 fn write_within(
     alloc: Global,
@@ -39,7 +39,7 @@ fn write_within(
     write(alloc, ty, table)
 }
 
-/// Adds an entry for a common type, if it has none and each name in it has one.
+/// Adds an entry for a common type if it is ready: it has no entry, and each common type that it mentions has one.
 fn add_if_ready(
     alloc: Global,
     name: &str,
@@ -156,7 +156,7 @@ pub fn write_commons(alloc: Global, commons: &[ResolvedCommon]) -> Result<Table,
     Ok(table)
 }
 
-/// Returns whether the expansion of a name, if it has an entry, is not too large.
+/// Returns whether the expansion of a name is not too large; `true` if the name has no entry.
 fn is_small(name: &str, table: &Table) -> bool
     ensures { result ≡ is_small_at (type_table table.now name.now) }
 {

@@ -49,8 +49,8 @@ fn enter(place: usize, path: &mut VecDeque<Step>, seen: &mut Vec<bool>) -> Resul
     Ok(())
 }
 
-/// Follows the next edge of the step `step`, which was removed from the end of the path, or appends its node to the
-/// order if no edge is left.
+/// Follows the next edge of `step`, the step that was removed from the end of the path, or appends the step's node to
+/// the order if no edge is left.
 fn go_on(
     edges: &[Vec<usize>],
     step: Step,
@@ -107,7 +107,8 @@ fn none_seen(alloc: Global, places: usize) -> Result<Vec<bool>, NoMemory>
 
 /// Returns the nodes of a graph, without duplicates, each after its successors except those that lead back to it.
 ///
-/// An edge past the end is ignored. Takes time linear in nodes and edges. The only error is `NoMemory`.
+/// An edge to an index past the last node is ignored. Takes time linear in nodes and edges. The only error is
+/// `NoMemory`.
 pub fn successors_first(alloc: Global, edges: &[Vec<usize>]) -> Result<Vec<usize>, NoMemory>
     ensures { IfOk result (λ order. IsSuccessorsFirst (graph_of edges.now) order.items) }
 {

@@ -1,7 +1,7 @@
 //! The size of an expanded type, up to one more than the limits of 10,000 nodes and a depth of 64.
 ghost use Rattle.std.specs.Prelude.{◌≡◌, option_map};
 ghost use Rattle.schema_written_types.specs.inner.Table.{leaf_size, no_size as none_of, above as above_of};
-ghost use Rattle.schema_written_types.specs.inner.Table.{beside as beside_of};
+ghost use Rattle.schema_written_types.specs.inner.Table.{side_by_side as side_by_side_of};
 ghost use Rattle.schema_written_types.specs.inner.Table.{fits, size_in, sizes_in};
 ghost use Rattle.schema_written_types.specs.TableViews.{size_view, type_table};
 ghost use Rattle.schema_types.specs.QualifiedViews.{qualified_view, qualified_fields_view};
@@ -16,7 +16,7 @@ pub(crate) fn is_within(size: Size) -> bool
     size.parts <= 10000 && size.deep <= 64
 }
 
-/// Returns the size of a type without parts.
+/// Returns the size of a type without parts: one node.
 fn leaf() -> Size
     ensures { size_view result ≡ leaf_size }
 {
@@ -41,8 +41,8 @@ fn above(size: Size) -> Size
 }
 
 /// Returns the size of two parts together.
-fn beside(size: Size, other: Size) -> Size
-    ensures { size_view result ≡ beside_of (size_view size) (size_view other) }
+fn side_by_side(size: Size, other: Size) -> Size
+    ensures { size_view result ≡ side_by_side_of (size_view size) (size_view other) }
 {
     Size {
         parts: size.parts.saturating_add(other.parts).min(10001),
@@ -95,7 +95,7 @@ fn size_of_fields(fields: &Vec<(String, QualifiedType, bool)>, table: &Table) ->
     let mut total = nothing();
     for field in fields {
         match size_of(&field.1, table) {
-            Some(size) => total = beside(total, size),
+            Some(size) => total = side_by_side(total, size),
             None => return None,
         }
     }

@@ -17,7 +17,7 @@ use Rattle.std.specs.declared.string.String.{String}
 use Rattle.policy_grammar.specs.declared.policy.Policy.{Policy}
 use Rattle.scope_index.specs.declared.buckets.Buckets.{Buckets}
 use Rattle.scope_index.specs.Keys.{IndexKey, Always, Principal, Resource, index_key, Kept, kept_at}
-use Rattle.scope_index.specs.Buckets.{Bucket, Named, Under, policy_in_bucket, policy_of_entity_id, policy_of_uid, bucket_of, is_text, is_key, in_bucket}
+use Rattle.scope_index.specs.Buckets.{Bucket, TypeBuckets, EntityBuckets, policy_in_bucket, policy_of_entity_id, policy_of_uid, bucket_of, is_text, is_key, in_bucket}
 use Rattle.scope_index.specs.Buckets.{IsSetAtUid, IsSetAtId, IsSetAtKey, IsSameUnder, IsSameNamed, AreSame, AreEmpty, policy_with_key, AreFiled}
 
 -- ---- the policies under one entity of a type
@@ -25,7 +25,7 @@ use Rattle.scope_index.specs.Buckets.{IsSetAtUid, IsSetAtId, IsSetAtKey, IsSameU
 same_text : (a b : List ℕ) → is_text a b ≡ true → a ≡ b
 same_text a b h = tells_apart text_cmp-IsAntisymmetric a b h
 
-pub turned : (entity id : List ℕ) (there : Option Policy) (m n : Named) (w : Bucket)
+pub turned : (entity id : List ℕ) (there : Option Policy) (m n : TypeBuckets) (w : Bucket)
     → ((e : List ℕ) → get text_cmp n e ≡ cond (is_text entity e) (Some w) (get text_cmp m e))
     → ((q : List ℕ) → kept_at w.entries q ≡ cond (bytes_eq id q) there (policy_of_entity_id m entity q))
     → IsSetAtId entity id there m n
@@ -37,7 +37,7 @@ turned entity id there m n w at has e q =
       | false ↦ λ apart is. ap (λ o. policy_in_bucket o q) is
     ] refl (at e)
 
-pub emptied : (entity : List ℕ) (m n : Named)
+pub emptied : (entity : List ℕ) (m n : TypeBuckets)
     → ((e : List ℕ) → get text_cmp n e ≡ cond (is_text entity e) None (get text_cmp m e))
     → ((q : List ℕ) → policy_of_entity_id m entity q ≡ None) → IsSameNamed m n
 emptied entity m n at none e q =
@@ -48,7 +48,7 @@ emptied entity m n at none e q =
     ] refl (at e)
 
 -- what is written under an entity is what was there
-pub same_written : (entity : List ℕ) (m n : Named) (w : Bucket)
+pub same_written : (entity : List ℕ) (m n : TypeBuckets) (w : Bucket)
     → ((e : List ℕ) → get text_cmp n e ≡ cond (is_text entity e) (Some w) (get text_cmp m e))
     → ((q : List ℕ) → kept_at w.entries q ≡ policy_of_entity_id m entity q) → IsSameNamed m n
 same_written entity m n w at has e q =
@@ -59,7 +59,7 @@ same_written entity m n w at has e q =
     ] refl (at e)
 
 -- nothing is under the entity
-pub nothing_there : (entity id : List ℕ) (m : Named) → get text_cmp m entity ≡ None → IsSetAtId entity id None m m
+pub nothing_there : (entity id : List ℕ) (m : TypeBuckets) → get text_cmp m entity ≡ None → IsSetAtId entity id None m m
 nothing_there entity id m none e q =
     elim (is_text entity e) as (λ b. is_text entity e ≡ b → policy_of_entity_id m e q ≡ cond (b && bytes_eq id q) None (policy_of_entity_id m e q)) [
       | true ↦ λ same.
@@ -70,7 +70,7 @@ nothing_there entity id m none e q =
 
 -- ---- the policies under one entity
 
-pub turned_type : (uid : EntityUid) (id : List ℕ) (there : Option Policy) (m n : Under) (w : Named)
+pub turned_type : (uid : EntityUid) (id : List ℕ) (there : Option Policy) (m n : EntityBuckets) (w : TypeBuckets)
     → ((t : List ℕ) → get text_cmp n t ≡ cond (is_text uid.type_name t) (Some w) (get text_cmp m t))
     → ((e q : List ℕ) → policy_of_entity_id w e q
     ≡ cond (is_text uid.id e && bytes_eq id q) there (policy_in_bucket (bucket_of (get text_cmp m uid.type_name) e) q))
@@ -86,7 +86,7 @@ turned_type uid id there m n w at has u q =
       | Greater ↦ λ apart e. ap (λ o. policy_in_bucket (bucket_of o u.id) q) e
     ] refl (at u.type_name)
 
-pub emptied_type : (uid : EntityUid) (m n : Under)
+pub emptied_type : (uid : EntityUid) (m n : EntityBuckets)
     → ((t : List ℕ) → get text_cmp n t ≡ cond (is_text uid.type_name t) None (get text_cmp m t))
     → ((u : EntityUid) (q : List ℕ) → IsTrue (is_text uid.type_name u.type_name) → policy_of_uid m u q ≡ None) → IsSameUnder m n
 emptied_type uid m n at none u q =
@@ -97,7 +97,7 @@ emptied_type uid m n at none u q =
     ] refl (at u.type_name)
 
 -- what is written under a type is what was there
-pub same_type_written : (uid : EntityUid) (m n : Under) (w : Named)
+pub same_type_written : (uid : EntityUid) (m n : EntityBuckets) (w : TypeBuckets)
     → ((t : List ℕ) → get text_cmp n t ≡ cond (is_text uid.type_name t) (Some w) (get text_cmp m t))
     → ((e q : List ℕ) → policy_of_entity_id w e q ≡ policy_in_bucket (bucket_of (get text_cmp m uid.type_name) e) q) → IsSameUnder m n
 same_type_written uid m n w at has u q =
@@ -109,7 +109,7 @@ same_type_written uid m n w at has u q =
     ] refl (at u.type_name)
 
 -- nothing is under the type
-pub nothing_of_type : (uid : EntityUid) (id : List ℕ) (m : Under) → get text_cmp m uid.type_name ≡ None → IsSetAtUid uid id None m m
+pub nothing_of_type : (uid : EntityUid) (id : List ℕ) (m : EntityBuckets) → get text_cmp m uid.type_name ≡ None → IsSetAtUid uid id None m m
 nothing_of_type uid id m none u q =
     elim (text_cmp uid.type_name u.type_name) as (λ o. text_cmp uid.type_name u.type_name ≡ o
     → policy_of_uid m u q ≡ cond (is_eq (ordering_then o (text_cmp uid.id u.id)) && bytes_eq id q) None (policy_of_uid m u q)) [
@@ -247,7 +247,7 @@ of_err (Ok x) P is h = absurd (cc (is))
 of_err (Err e) P is h = h
 
 -- what a call on the buckets of a type says, said of all types
-module _ {E : Type 0} (r : Result (Unit {0}) E) (uid : EntityUid) (m n : Under) (was w : Named)
+module _ {E : Type 0} (r : Result (Unit {0}) E) (uid : EntityUid) (m n : EntityBuckets) (was w : TypeBuckets)
     (held : get text_cmp m uid.type_name ≡ Some was)
     (at : (t : List ℕ) → get text_cmp n t ≡ cond (is_text uid.type_name t) (Some w) (get text_cmp m t)) where
   before : (e q : List ℕ) → policy_of_entity_id was e q ≡ policy_in_bucket (bucket_of (get text_cmp m uid.type_name) e) q
@@ -279,7 +279,7 @@ module _ (b : Buckets) (key : IndexKey) (id : List ℕ) (there : Option Policy) 
       by_kind (Principal u) q = refl
       by_kind (Resource u) q = refl
 
-  pub principals_turned : (m : Under) (uid : EntityUid)
+  pub principals_turned : (m : EntityBuckets) (uid : EntityUid)
       → Principal uid ≡ key → IsSetAtUid uid id there b.principals m
       → IsSetAtKey key id there b (record { always = b.always; principals = m; resources = b.resources })
   principals_turned m uid is turns =
@@ -290,7 +290,7 @@ module _ (b : Buckets) (key : IndexKey) (id : List ℕ) (there : Option Policy) 
       by_kind (Principal u) q = turns u q
       by_kind (Resource u) q = refl
 
-  pub resources_turned : (m : Under) (uid : EntityUid)
+  pub resources_turned : (m : EntityBuckets) (uid : EntityUid)
       → Resource uid ≡ key → IsSetAtUid uid id there b.resources m
       → IsSetAtKey key id there b (record { always = b.always; principals = b.principals; resources = m })
   resources_turned m uid is turns =
@@ -302,7 +302,7 @@ module _ (b : Buckets) (key : IndexKey) (id : List ℕ) (there : Option Policy) 
       by_kind (Resource u) q = turns u q
 
 -- where a call on one kind of bucket fails, all are as they were
-pub principals_same : {E : Type 0} (r : Result (Unit {0}) E) (b : Buckets) (m : Under) → OnErr r (IsSameUnder b.principals m)
+pub principals_same : {E : Type 0} (r : Result (Unit {0}) E) (b : Buckets) (m : EntityBuckets) → OnErr r (IsSameUnder b.principals m)
     → OnErr r (AreSame b (record { always = b.always; principals = m; resources = b.resources }))
 principals_same (Ok u) b m h = tt
 principals_same (Err e) b m h = by_kind
@@ -312,7 +312,7 @@ principals_same (Err e) b m h = by_kind
     by_kind (Principal u) q = h u q
     by_kind (Resource u) q = refl
 
-pub resources_same : {E : Type 0} (r : Result (Unit {0}) E) (b : Buckets) (m : Under) → OnErr r (IsSameUnder b.resources m)
+pub resources_same : {E : Type 0} (r : Result (Unit {0}) E) (b : Buckets) (m : EntityBuckets) → OnErr r (IsSameUnder b.resources m)
     → OnErr r (AreSame b (record { always = b.always; principals = b.principals; resources = m }))
 resources_same (Ok u) b m h = tt
 resources_same (Err e) b m h = by_kind

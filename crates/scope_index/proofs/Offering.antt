@@ -22,15 +22,15 @@ use Rattle.ancestor_search.proofs.Members.{names-push}
 use Rattle.values.specs.declared.request.Request.{Request}
 use Rattle.policy_grammar.specs.declared.policy.Policy.{Policy}
 use Rattle.scope_index.specs.declared.buckets.Buckets.{Buckets}
-use Rattle.scope_index.specs.Keys.{IndexKey, Always, Principal, Resource, index_key, IsMet, Kept, kept_at, Offer, ids, lent, IsOffered}
+use Rattle.scope_index.specs.Keys.{IndexKey, Always, Principal, Resource, index_key, IsMet, Kept, kept_at, Candidate, ids, lent, IsCandidate}
 use Rattle.scope_index.specs.Scopes.{IsScopeTrue}
 use Rattle.scope_index.specs.Buckets.{Bucket, policy_in_bucket, is_key, in_bucket, policy_with_key, AreFiled, HaveOnePolicy, AreOneAmong, AreOneAtEach, IsUnder}
 use Rattle.scope_index.proofs.Filing.{key_self, key_same}
 use Rattle.scope_index.proofs.Meeting.{scope_meets}
 
 -- after holds what before holds, and what P says
-abbrev pub Offers : (Offer → Type 0) → List Offer → List Offer → Type 0
-Offers P before after = (o : Offer) → Contains after o ↔ Contains before o ⊎ P o
+abbrev pub Offers : (Candidate → Type 0) → List Candidate → List Candidate → Type 0
+Offers P before after = (o : Candidate) → Contains after o ↔ Contains before o ⊎ P o
 
 pub Contains-pushed : {A : Type 0} (xs : List A) (x y : A) → Contains (xs ++ x ∷ []) y ↔ Contains xs y ⊎ (x ≡ y)
 Contains-pushed xs x y = (
@@ -45,7 +45,7 @@ Contains-pushed xs x y = (
 abbrev pub Lent : Type 0
 Lent = Bor (List ℕ) × Bor Policy
 
-abbrev pub behind : Lent → Offer
+abbrev pub behind : Lent → Candidate
 behind x = (x.0.now, x.1.now)
 
 pub lent-push : (xs : List Lent) (x : Lent) → lent (xs ++ x ∷ []) ≡ lent xs ++ behind x ∷ []
@@ -53,7 +53,7 @@ lent-push [] x = refl
 lent-push (y ∷ ys) x = ap (λ r. behind y ∷ r) (lent-push ys x)
 
 -- one policy more
-pub one_more : (P : Offer → Type 0) (before : List Offer) (xs xs' : List Lent) (x : Lent)
+pub one_more : (P : Candidate → Type 0) (before : List Candidate) (xs xs' : List Lent) (x : Lent)
     → xs' ≡ xs ++ x ∷ [] → Offers P before (lent xs)
     → Offers (λ o. P o ⊎ (behind x ≡ o)) before (lent xs')
 one_more P before xs xs' x is so_far o =
@@ -73,22 +73,22 @@ one_more P before xs xs' x is so_far o =
     )
 
 -- the same policies said otherwise
-pub said_as : (P Q : Offer → Type 0) (before after : List Offer) → ((o : Offer) → P o ↔ Q o) → Offers P before after
+pub said_as : (P Q : Candidate → Type 0) (before after : List Candidate) → ((o : Candidate) → P o ↔ Q o) → Offers P before after
     → Offers Q before after
 said_as P Q before after same h o = (
   (λ m. elim ((h o).0 m) [ inl b ↦ inl b | inr p ↦ inr ((same o).0 p) ]),
   (λ s. elim s [ inl b ↦ (h o).1 (inl b) | inr p ↦ (h o).1 (inr ((same o).1 p)) ]),
 )
 
-pub nothing_more : (P : Offer → Type 0) (xs : List Offer) → ((o : Offer) → P o → ⊥) → Offers P xs xs
+pub nothing_more : (P : Candidate → Type 0) (xs : List Candidate) → ((o : Candidate) → P o → ⊥) → Offers P xs xs
 nothing_more P xs none o = ((λ h. inl h), (λ s. elim s [ inl b ↦ b | inr p ↦ absurd (none o p) ]))
 
 -- nothing more, where there is only more room
-pub nothing_yet : (P : Offer → Type 0) (xs ys : List Lent) → ys ≡ xs → ((o : Offer) → P o → ⊥) → Offers P (lent xs) (lent ys)
+pub nothing_yet : (P : Candidate → Type 0) (xs ys : List Lent) → ys ≡ xs → ((o : Candidate) → P o → ⊥) → Offers P (lent xs) (lent ys)
 nothing_yet P xs ys same none = subst (λ zs. Offers P (lent xs) (lent zs)) (sym same) (nothing_more P (lent xs) none)
 
 -- two in turn
-pub in_turn : (P Q : Offer → Type 0) (xs ys zs : List Offer) → Offers P xs ys → Offers Q ys zs → Offers (λ o. P o ⊎ Q o) xs zs
+pub in_turn : (P Q : Candidate → Type 0) (xs ys zs : List Candidate) → Offers P xs ys → Offers Q ys zs → Offers (λ o. P o ⊎ Q o) xs zs
 in_turn P Q xs ys zs h k o = (
   (λ m. elim ((k o).0 m) [
     | inl b ↦ elim ((h o).0 b) [ inl b ↦ inl b | inr p ↦ inr (inl p) ]
@@ -106,10 +106,10 @@ abbrev pub Pair : Type 0
 Pair = Bor (String Global) × Bor Policy
 
 -- entries by the bytes of their ids, and the same of references
-abbrev pub offers_of : Kept → List Offer
+abbrev pub offers_of : Kept → List Candidate
 offers_of es = map (λ e. (string_bytes e.0, e.1)) es
 
-abbrev pub offers_lent : List Pair → List Offer
+abbrev pub offers_lent : List Pair → List Candidate
 offers_lent xs = map (λ x. (string_bytes x.0.now, x.1.now)) xs
 
 pub offers_lent-push : (xs : List Pair) (x : Pair) → offers_lent (xs ++ x ∷ []) ≡ offers_lent xs ++ (string_bytes x.0.now, x.1.now) ∷ []
@@ -126,19 +126,19 @@ equal_of Equal h = refl
 equal_of Greater h = absurd (cc)
 
 -- an entry is found
-found_entry : (w : Bucket) (es : Kept) → All (λ e. get string_cmp w e.0 ≡ Some e.1) es → (o : Offer) → Contains (offers_of es) o
+found_entry : (w : Bucket) (es : Kept) → All (λ e. get string_cmp w e.0 ≡ Some e.1) es → (o : Candidate) → Contains (offers_of es) o
     → kept_at w.entries o.0 ≡ Some o.1
 found_entry w [] all o h = Contains-none o h
 found_entry w (e ∷ es) all o h = elim (Contains-cases (string_bytes e.0, e.1) (offers_of es) o h) [
-  | inl same ↦ subst (λ (x : Offer). kept_at w.entries x.0 ≡ Some x.1) same (All-head (λ (x : String Global × Policy). get string_cmp w x.0 ≡ Some x.1) e es all)
+  | inl same ↦ subst (λ (x : Candidate). kept_at w.entries x.0 ≡ Some x.1) same (All-head (λ (x : String Global × Policy). get string_cmp w x.0 ≡ Some x.1) e es all)
   | inr t ↦ found_entry w es (All-tail (λ (x : String Global × Policy). get string_cmp w x.0 ≡ Some x.1) e es all) o t
 ]
 
-same_offer : (x o : Offer) → x.0 ≡ o.0 → x.1 ≡ o.1 → x ≡ o
+same_offer : (x o : Candidate) → x.0 ≡ o.0 → x.1 ≡ o.1 → x ≡ o
 same_offer x o id policy = λ i. (id i, policy i)
 
 -- what is found is an entry
-entry_found : (es : Kept) (o : Offer) → kept_at es o.0 ≡ Some o.1 → Contains (offers_of es) o
+entry_found : (es : Kept) (o : Candidate) → kept_at es o.0 ≡ Some o.1 → Contains (offers_of es) o
 entry_found [] o h = absurd (cc (h))
 entry_found (e ∷ es) o h =
     elim (is_eq (text_cmp o.0 (string_bytes e.0))) as (λ t. is_eq (text_cmp o.0 (string_bytes e.0)) ≡ t
@@ -146,12 +146,12 @@ entry_found (e ∷ es) o h =
       | true ↦ λ is f.
           let id : o.0 ≡ string_bytes e.0 = text_cmp-IsAntisymmetric o.0 (string_bytes e.0) (equal_of _ is) in
           let policy : e.1 ≡ o.1 = cc (f) in
-          subst (λ (x : Offer). Contains (offers_of (e ∷ es)) x) (same_offer (string_bytes e.0, e.1) o (sym id) policy) (Contains-here (string_bytes e.0, e.1) (offers_of es))
+          subst (λ (x : Candidate). Contains (offers_of (e ∷ es)) x) (same_offer (string_bytes e.0, e.1) o (sym id) policy) (Contains-here (string_bytes e.0, e.1) (offers_of es))
       | false ↦ λ apart f. Contains-there (string_bytes e.0, e.1) (offers_of es) o (entry_found es o f)
     ] refl h
 
 pub pushed_pair : (xs : List Pair) (x : Pair) (k : Bor (List ℕ)) → k.now ≡ string_bytes x.0.now
-    → (o : Offer) → (Contains (offers_lent xs) o ⊎ (behind (k, x.1) ≡ o)) ↔ Contains (offers_lent (xs ++ x ∷ [])) o
+    → (o : Candidate) → (Contains (offers_lent xs) o ⊎ (behind (k, x.1) ≡ o)) ↔ Contains (offers_lent (xs ++ x ∷ [])) o
 pushed_pair xs x k is o =
     let here : behind (k, x.1) ≡ (string_bytes x.0.now, x.1.now) = ap (λ (b : List ℕ). (b, x.1.now)) is in
     let pushed = Contains-pushed (offers_lent xs) (string_bytes x.0.now, x.1.now) o in
@@ -162,7 +162,7 @@ pushed_pair xs x k is o =
 
 pub all_lent : (w : Bucket) (xs : List Pair) → map deref_pair xs ≡ w.entries
     → All (λ e. get string_cmp w e.0 ≡ Some e.1) w.entries
-    → (o : Offer) → Contains (offers_lent xs) o ↔ (kept_at w.entries o.0 ≡ Some o.1)
+    → (o : Candidate) → Contains (offers_lent xs) o ↔ (kept_at w.entries o.0 ≡ Some o.1)
 all_lent w xs whole all o =
     let shown : offers_lent xs ≡ offers_of w.entries = lent-is xs ∙ ap offers_of whole in (
       (λ h. found_entry w w.entries all o (subst (λ l. Contains l o) shown h)),
@@ -188,7 +188,7 @@ lent_ascend w xs whole s =
 -- ---- the turns of the loops
 
 -- has says of each entity which policies are under it
-pub one_entity_more : (Has : EntityUid → Offer → Type 0) (xs : List (Bor EntityUid)) (x : Bor EntityUid) (o : Offer)
+pub one_entity_more : (Has : EntityUid → Candidate → Type 0) (xs : List (Bor EntityUid)) (x : Bor EntityUid) (o : Candidate)
     → (((e : EntityUid) × Contains (names xs) e × Has e o) ⊎ Has x.now o)
     ↔ ((e : EntityUid) × Contains (names (xs ++ x ∷ [])) e × Has e o)
 one_entity_more Has xs x o =
@@ -204,8 +204,8 @@ one_entity_more Has xs x o =
     )
 
 -- an entity and those above it
-pub it_and_above : (parents : Parents) (Has : EntityUid → Offer → Type 0) (uid : EntityUid) (above : List EntityUid)
-    → AreAllAncestorsOf parents uid above → (o : Offer)
+pub it_and_above : (parents : Parents) (Has : EntityUid → Candidate → Type 0) (uid : EntityUid) (above : List EntityUid)
+    → AreAllAncestorsOf parents uid above → (o : Candidate)
     → (Has uid o ⊎ ((e : EntityUid) × Contains above e × Has e o)) ↔ ((e : EntityUid) × IsIn parents uid e × Has e o)
 it_and_above parents Has uid above all o = (
   (λ s. elim s [ inl t ↦ (uid, inl refl, t) | inr f ↦ (f.0, inr ((all f.0).0 f.1), f.2) ]),
@@ -217,20 +217,20 @@ it_and_above parents Has uid above all o = (
 
 -- ---- the calls
 
-pub offered_under : {E : Type 0} (r : Result (Unit {0}) E) (held : Option Bucket) (w : Bucket) → held ≡ Some w → (before after : List Offer)
+pub offered_under : {E : Type 0} (r : Result (Unit {0}) E) (held : Option Bucket) (w : Bucket) → held ≡ Some w → (before after : List Candidate)
     → OnOk r (Offers (λ o. kept_at w.entries o.0 ≡ Some o.1) before after) → OnOk r (Offers (λ o. policy_in_bucket held o.0 ≡ Some o.1) before after)
 offered_under (Ok u) held w is before after h = subst (λ x. Offers (λ o. policy_in_bucket x o.0 ≡ Some o.1) before after) (sym is) h
 offered_under (Err e) held w is before after h = tt
 
-pub none_under : (held : Option Bucket) → held ≡ None → (before : List Offer) → Offers (λ o. policy_in_bucket held o.0 ≡ Some o.1) before before
+pub none_under : (held : Option Bucket) → held ≡ None → (before : List Candidate) → Offers (λ o. policy_in_bucket held o.0 ≡ Some o.1) before before
 none_under held none before = nothing_more (λ o. policy_in_bucket held o.0 ≡ Some o.1) before
     (λ o e. let both : None ≡ Some o.1 = sym (ap (λ h. policy_in_bucket h o.0) none) ∙ e in cc (both))
 
 -- what is under the keys that a request finds
-abbrev pub IsFound : Parents → Request → Buckets → Offer → Type 0
+abbrev pub IsFound : Parents → Request → Buckets → Candidate → Type 0
 IsFound parents q b o = (k : IndexKey) × IsMet parents q k × (in_bucket b k o.0 ≡ Some o.1)
 
-found_under : (parents : Parents) (q : Request) (b : Buckets) (o : Offer) → ((kept_at b.always.entries o.0 ≡ Some o.1) ⊎ IsUnder parents q b o) ↔ IsFound parents q b o
+found_under : (parents : Parents) (q : Request) (b : Buckets) (o : Candidate) → ((kept_at b.always.entries o.0 ≡ Some o.1) ⊎ IsUnder parents q b o) ↔ IsFound parents q b o
 found_under parents q b o = (
   (λ s. elim s [
     | inl t ↦ (Always, tt, t)
@@ -244,10 +244,10 @@ found_under parents q b o = (
     by_kind (Principal e) met t = inr (inl (e, met, t))
     by_kind (Resource e) met t = inr (inr (e, met, t))
 
-pub offered_in_all : (parents : Parents) (q : Request) (b : Buckets) (none always all : List Offer) → none ≡ []
+pub offered_in_all : (parents : Parents) (q : Request) (b : Buckets) (none always all : List Candidate) → none ≡ []
     → Offers (λ o. kept_at b.always.entries o.0 ≡ Some o.1) none always
     → Offers (λ o. IsUnder parents q b o) always all
-    → (o : Offer) → Contains all o ↔ IsFound parents q b o
+    → (o : Candidate) → Contains all o ↔ IsFound parents q b o
 offered_in_all parents q b none always all is a u o =
     let found = found_under parents q b o in (
       (λ h. elim ((u o).0 h) [
@@ -261,10 +261,10 @@ offered_in_all parents q b none always all is a u o =
     )
 
 -- those of every request in one list, the others in another
-module _ (parents : Parents) (q : Request) (b : Buckets) (none others always : List Offer) (is : none ≡ [])
+module _ (parents : Parents) (q : Request) (b : Buckets) (none others always : List Candidate) (is : none ≡ [])
     (u : Offers (λ o. IsUnder parents q b o) none others)
-    (a : (o : Offer) → Contains always o ↔ (kept_at b.always.entries o.0 ≡ Some o.1)) where
-  in_either : (o : Offer) → (Contains always o ⊎ Contains others o) ↔ IsFound parents q b o
+    (a : (o : Candidate) → Contains always o ↔ (kept_at b.always.entries o.0 ≡ Some o.1)) where
+  in_either : (o : Candidate) → (Contains always o ⊎ Contains others o) ↔ IsFound parents q b o
   in_either o =
       let found = found_under parents q b o in (
         (λ s. elim s [
@@ -277,8 +277,8 @@ module _ (parents : Parents) (q : Request) (b : Buckets) (none others always : L
         (λ f. elim (found.1 f) [ inl t ↦ inl ((a o).1 t) | inr f ↦ inr ((u o).1 (inr f)) ]),
       )
 
-  pub offered_beside : (all : List Offer) → ((o : Offer) → Contains all o ↔ Contains always o ⊎ Contains others o)
-      → (o : Offer) → Contains all o ↔ IsFound parents q b o
+  pub offered_beside : (all : List Candidate) → ((o : Candidate) → Contains all o ↔ Contains always o ⊎ Contains others o)
+      → (o : Candidate) → Contains all o ↔ IsFound parents q b o
   offered_beside all j o = ((λ h. (in_either o).0 ((j o).0 h)), (λ f. (j o).1 ((in_either o).1 f)))
 
   pub one_among : HaveOnePolicy b → AreOneAmong always others
@@ -310,8 +310,8 @@ have_one seen kept b is filed k l q p r at_k at_l =
     let second : kept_at kept q ≡ Some r = (due_is l (kept_at kept q) r (sym (filed l q) ∙ at_l)).0 in
     cc (first, second)
 
-pub one_at_each : (parents : Parents) (q : Request) (b : Buckets) (os : List Offer) → HaveOnePolicy b
-    → ((o : Offer) → Contains os o ↔ IsFound parents q b o) → AreOneAtEach os
+pub one_at_each : (parents : Parents) (q : Request) (b : Buckets) (os : List Candidate) → HaveOnePolicy b
+    → ((o : Candidate) → Contains os o ↔ IsFound parents q b o) → AreOneAtEach os
 one_at_each parents q b os one are id p r has_p has_r =
     let f = (are (id, p)).0 has_p in
     let g = (are (id, r)).0 has_r in
@@ -319,8 +319,8 @@ one_at_each parents q b os one are id p r has_p has_r =
 
 pub exactly_offered : {E : Type 0} (parents : Parents) (q : Request) (seen kept : Kept) (b : Buckets) → kept ≡ seen → AreFiled kept b
     → (r : Result (Vec Lent Global) E)
-    → IfOk r (λ ps. (o : Offer) → Contains (lent ps.items) o ↔ IsFound parents q b o)
-    → IfOk r (λ ps. (o : Offer) → Contains (lent ps.items) o ↔ IsOffered seen parents q o)
+    → IfOk r (λ ps. (o : Candidate) → Contains (lent ps.items) o ↔ IsFound parents q b o)
+    → IfOk r (λ ps. (o : Candidate) → Contains (lent ps.items) o ↔ IsCandidate seen parents q o)
 exactly_offered parents q seen kept b is filed (Ok ps) h = λ o.
     let filed_seen : AreFiled seen b = subst (λ l. AreFiled l b) is filed in (
       (λ m.
@@ -336,8 +336,8 @@ exactly_offered parents q seen kept b is filed (Ok ps) h = λ o.
 exactly_offered parents q seen kept b is filed (Err e) h = tt
 
 pub none_left_out : {E : Type 0} (parents : Parents) (q : Request) (seen : Kept) (r : Result (Vec Lent Global) E)
-    → IfOk r (λ ps. (o : Offer) → Contains (lent ps.items) o ↔ IsOffered seen parents q o)
-    → IfOk r (λ ps. (o : Offer) → kept_at seen o.0 ≡ Some o.1 → IsScopeTrue parents o.1.scope q → Contains (lent ps.items) o)
+    → IfOk r (λ ps. (o : Candidate) → Contains (lent ps.items) o ↔ IsCandidate seen parents q o)
+    → IfOk r (λ ps. (o : Candidate) → kept_at seen o.0 ≡ Some o.1 → IsScopeTrue parents o.1.scope q → Contains (lent ps.items) o)
 none_left_out parents q seen (Ok ps) h = λ o at holds.
     (h o).1 (record { is_kept = at; met = scope_meets parents q o.1.scope holds })
 none_left_out parents q seen (Err e) h = tt

@@ -13,7 +13,7 @@ use Rattle.std.proofs.lemmas.Map.Keys.{Less-from_sorted}
 use Rattle.values.specs.Names.{text_cmp, text_cmp-IsTotalOrder, text_cmp-IsAntisymmetric}
 use Rattle.policy_grammar.specs.declared.policy.Policy.{Policy}
 use Rattle.ancestor_search.specs.Deciding.{Contains-here, Contains-there, Contains-cases, Contains-none}
-use Rattle.scope_index.specs.Keys.{Offer, ids, lent}
+use Rattle.scope_index.specs.Keys.{Candidate, ids, lent}
 use Rattle.scope_index.specs.Buckets.{AreOneAmong, AreOneAtEach}
 use Rattle.scope_index.proofs.Offering.{Lent, behind, lent-push, Contains-pushed}
 
@@ -61,7 +61,7 @@ Contains-lent xs i d lt =
     (Contains-get_or (lent xs) i (behind d) (subst (λ n. i < n) (sym (length-map xs behind)) lt))
 
 pub is_there : (xs : List Lent) (i : ℕ) (x : Lent) → i < length xs → ((d : Lent) → text_cmp (id (get_or xs i d)) (id x) ≡ Equal)
-    → ((p : Policy) → Contains (lent xs) (id x, p) → p ≡ x.1.now) → (o : Offer) → Contains (lent xs) o ↔ Contains (lent xs) o ⊎ (behind x ≡ o)
+    → ((p : Policy) → Contains (lent xs) (id x, p) → p ≡ x.1.now) → (o : Candidate) → Contains (lent xs) o ↔ Contains (lent xs) o ⊎ (behind x ≡ o)
 is_there xs i x lt same one o = ((λ h. inl h), (λ s. elim s [ inl h ↦ h | inr e ↦ subst (λ z. Contains (lent xs) z) (whole ∙ e) has ]))
   where
     has : Contains (lent xs) (behind (get_or xs i x))
@@ -118,7 +118,7 @@ put_ascends xs i x le s parts =
     above : AllByRecursion (λ y. text_cmp (id x) y ≡ Less) (ids (lent (drop i xs)))
     above = all_ids (λ y. text_cmp (id x) y ≡ Less) (drop i xs) (recursion_from_All (λ (y : Lent). text_cmp (id x) (id y) ≡ Less) (drop i xs) all_above)
 
-pub put_same : (xs : List Lent) (i : ℕ) (x : Lent) (o : Offer) → Contains (lent (insert xs i x)) o ↔ Contains (lent xs) o ⊎ (behind x ≡ o)
+pub put_same : (xs : List Lent) (i : ℕ) (x : Lent) (o : Candidate) → Contains (lent (insert xs i x)) o ↔ Contains (lent xs) o ⊎ (behind x ≡ o)
 put_same xs i x o =
     let moves : IsPermutation (lent (x ∷ xs)) (lent (insert xs i x)) = IsPermutation-map behind (x ∷ xs) (insert xs i x) (IsPermutation-insert xs i x) in
     let back : IsPermutation (lent (insert xs i x)) (lent (x ∷ xs)) = IsPermutation-sym (lent (x ∷ xs)) (lent (insert xs i x)) moves in (
@@ -138,14 +138,14 @@ lent-append : (xs ys : List Lent) → lent (xs ++ ys) ≡ lent xs ++ lent ys
 lent-append [] ys = refl
 lent-append (x ∷ xs) ys = ap (λ r. behind x ∷ r) (lent-append xs ys)
 
-Contains-of_take : (i : ℕ) (xs : List Lent) (o : Offer) → Contains (lent (take i xs)) o → Contains (lent xs) o
+Contains-of_take : (i : ℕ) (xs : List Lent) (o : Candidate) → Contains (lent (take i xs)) o → Contains (lent xs) o
 Contains-of_take i xs o h =
     subst (λ l. Contains (lent l) o) (take-append-drop i xs)
     (subst (λ l. Contains l o) (sym (lent-append (take i xs) (drop i xs))) (Contains-append_left (lent (take i xs)) (lent (drop i xs)) o h))
 
 -- the next one has the one policy of its id
-pub one_of_next : (os all : List Offer) (ps : List Lent) (i : ℕ) (x : Lent) → i < length ps → x ≡ get_or ps i x → AreOneAmong os (lent ps)
-    → ((o : Offer) → Contains all o ↔ Contains os o ⊎ Contains (lent (take i ps)) o)
+pub one_of_next : (os all : List Candidate) (ps : List Lent) (i : ℕ) (x : Lent) → i < length ps → x ≡ get_or ps i x → AreOneAmong os (lent ps)
+    → ((o : Candidate) → Contains all o ↔ Contains os o ⊎ Contains (lent (take i ps)) o)
     → (p : Policy) → Contains all (id x, p) → p ≡ x.1.now
 one_of_next os all ps i x lt at one so_far p h = one (id x) p x.1.now (elim ((so_far (id x, p)).0 h) [
   | inl t ↦ inl t
@@ -153,10 +153,10 @@ one_of_next os all ps i x lt at one so_far p h = one (id x) p x.1.now (elim ((so
 ]) (inr (subst (λ (y : Lent). Contains (lent ps) (behind y)) (sym at) (Contains-lent ps i x lt)))
 
 -- it is among those so far, once it is put
-pub one_more_put : (os all all' : List Offer) (ps : List Lent) (i : ℕ) (x : Lent) → i < length ps → x ≡ get_or ps i x
-    → ((o : Offer) → Contains all o ↔ Contains os o ⊎ Contains (lent (take i ps)) o)
-    → ((o : Offer) → Contains all' o ↔ Contains all o ⊎ (behind x ≡ o))
-    → (o : Offer) → Contains all' o ↔ Contains os o ⊎ Contains (lent (take (i + 1) ps)) o
+pub one_more_put : (os all all' : List Candidate) (ps : List Lent) (i : ℕ) (x : Lent) → i < length ps → x ≡ get_or ps i x
+    → ((o : Candidate) → Contains all o ↔ Contains os o ⊎ Contains (lent (take i ps)) o)
+    → ((o : Candidate) → Contains all' o ↔ Contains all o ⊎ (behind x ≡ o))
+    → (o : Candidate) → Contains all' o ↔ Contains os o ⊎ Contains (lent (take (i + 1) ps)) o
 one_more_put os all all' ps i x lt at so_far put o =
     let more : lent (take (i + 1) ps) ≡ lent (take i ps) ++ behind x ∷ [] =
     ap lent (take_more ps i x lt ∙ ap (λ y. take i ps ++ y ∷ []) (sym at)) ∙ lent-push (take i ps) x in
@@ -174,12 +174,12 @@ one_more_put os all all' ps i x lt at so_far put o =
       ]),
     )
 
-pub none_put : (os : List Offer) (o : Offer) → Contains os o ↔ Contains os o ⊎ Contains (lent []) o
+pub none_put : (os : List Candidate) (o : Candidate) → Contains os o ↔ Contains os o ⊎ Contains (lent []) o
 none_put os o = ((λ h. inl h), (λ s. elim s [ inl h ↦ h | inr h ↦ Contains-none o h ]))
 
 -- ---- the lists joined
 
-pub in_both : (xs ys all : List Lent) → all ≡ xs ++ ys → (o : Offer) → Contains (lent all) o ↔ Contains (lent xs) o ⊎ Contains (lent ys) o
+pub in_both : (xs ys all : List Lent) → all ≡ xs ++ ys → (o : Candidate) → Contains (lent all) o ↔ Contains (lent xs) o ⊎ Contains (lent ys) o
 in_both xs ys all is o =
     let shown : lent all ≡ lent xs ++ lent ys = ap lent is ∙ lent-append xs ys in (
       (λ h. Contains-append_cases (lent xs) (lent ys) o (subst (λ l. Contains l o) shown h)),

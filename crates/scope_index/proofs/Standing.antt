@@ -10,7 +10,7 @@ use Rattle.std.proofs.lemmas.List.Kept.{Contains-from_dedup, IsStrictlySortedBy-
 use Rattle.std.proofs.lemmas.List.Sorted.{Contains-permutation, IsPermutation-sym, IsPermutation-map}
 use Rattle.values.specs.Names.{text_cmp, text_cmp-IsTotalOrder}
 use Rattle.ancestor_search.specs.Deciding.{Contains-here, Contains-there, Contains-cases}
-use Rattle.scope_index.specs.Keys.{Offer, lent, ids}
+use Rattle.scope_index.specs.Keys.{Candidate, lent, ids}
 use Rattle.scope_index.specs.Buckets.{AreOneAtEach}
 use Rattle.scope_index.proofs.Offering.{Lent, behind}
 
@@ -18,7 +18,7 @@ use Rattle.scope_index.proofs.Offering.{Lent, behind}
 abbrev pub one_id : Lent → Lent → Bool
 one_id x y = pointwise nat_eq x.0.now y.0.now
 
-abbrev same_id : Offer → Offer → Bool
+abbrev same_id : Candidate → Candidate → Bool
 same_id x y = pointwise nat_eq x.0 y.0
 
 lent-dedup_from : (x : Lent) (xs : List Lent) → lent (dedup_from one_id x xs) ≡ dedup_from same_id (behind x) (lent xs)
@@ -34,7 +34,7 @@ lent-dedup : (xs : List Lent) → lent (dedup one_id xs) ≡ dedup same_id (lent
 lent-dedup [] = refl
 lent-dedup (x ∷ xs) = lent-dedup_from x xs
 
-ids-dedup_from : (x : Offer) (xs : List Offer) → ids (dedup_from same_id x xs) ≡ dedup_from (pointwise nat_eq) x.0 (ids xs)
+ids-dedup_from : (x : Candidate) (xs : List Candidate) → ids (dedup_from same_id x xs) ≡ dedup_from (pointwise nat_eq) x.0 (ids xs)
 ids-dedup_from x [] = refl
 ids-dedup_from x (y ∷ xs) =
     elim (same_id y x) as (λ b. ids (cond b (dedup_from same_id x xs) (x ∷ dedup_from same_id y xs))
@@ -43,32 +43,32 @@ ids-dedup_from x (y ∷ xs) =
       | false ↦ ap (λ r. x.0 ∷ r) (ids-dedup_from y xs)
     ]
 
-ids-dedup : (xs : List Offer) → ids (dedup same_id xs) ≡ dedup (pointwise nat_eq) (ids xs)
+ids-dedup : (xs : List Candidate) → ids (dedup same_id xs) ≡ dedup (pointwise nat_eq) (ids xs)
 ids-dedup [] = refl
 ids-dedup (x ∷ xs) = ids-dedup_from x xs
 
 -- ---- none is lost, where one id has one policy
 
-same_offer : (x o : Offer) → x.0 ≡ o.0 → x.1 ≡ o.1 → x ≡ o
+same_offer : (x o : Candidate) → x.0 ≡ o.0 → x.1 ≡ o.1 → x ≡ o
 same_offer x o id policy = λ i. (id i, policy i)
 
-one_of_two : (x y : Offer) (os : List Offer) → AreOneAtEach os → Contains os x → Contains os y → x.0 ≡ y.0 → x ≡ y
+one_of_two : (x y : Candidate) (os : List Candidate) → AreOneAtEach os → Contains os x → Contains os y → x.0 ≡ y.0 → x ≡ y
 one_of_two x y os one has_x has_y id =
     same_offer x y id (one y.0 x.1 y.1 (subst (λ i. Contains os (i, x.1)) id has_x) has_y)
 
-fewer : (x : Offer) (xs : List Offer) → AreOneAtEach (x ∷ xs) → AreOneAtEach xs
+fewer : (x : Candidate) (xs : List Candidate) → AreOneAtEach (x ∷ xs) → AreOneAtEach xs
 fewer x xs one id p r has_p has_r = one id p r (Contains-there x xs (id, p) has_p) (Contains-there x xs (id, r) has_r)
 
-first_and_rest : (x y : Offer) (xs : List Offer) → AreOneAtEach (x ∷ y ∷ xs) → AreOneAtEach (x ∷ xs)
+first_and_rest : (x y : Candidate) (xs : List Candidate) → AreOneAtEach (x ∷ y ∷ xs) → AreOneAtEach (x ∷ xs)
 first_and_rest x y xs one id p r has_p has_r = one id p r (within (id, p) has_p) (within (id, r) has_r)
   where
-    within : (o : Offer) → Contains (x ∷ xs) o → Contains (x ∷ y ∷ xs) o
+    within : (o : Candidate) → Contains (x ∷ xs) o → Contains (x ∷ y ∷ xs) o
     within o h = elim (Contains-cases x xs o h) [
       | inl e ↦ subst (λ z. Contains (x ∷ y ∷ xs) z) e (Contains-here x (y ∷ xs))
       | inr t ↦ Contains-there x (y ∷ xs) o (Contains-there y xs o t)
     ]
 
-kept_from : (x : Offer) (xs : List Offer) (o : Offer) → AreOneAtEach (x ∷ xs) → Contains (x ∷ xs) o → Contains (dedup_from same_id x xs) o
+kept_from : (x : Candidate) (xs : List Candidate) (o : Candidate) → AreOneAtEach (x ∷ xs) → Contains (x ∷ xs) o → Contains (dedup_from same_id x xs) o
 kept_from x [] o one h = h
 kept_from x (y ∷ xs) o one h =
     elim (same_id y x) as (λ b. same_id y x ≡ b
@@ -86,14 +86,14 @@ kept_from x (y ∷ xs) o one h =
       ]
     ] refl
 
-all_kept : (os : List Offer) (o : Offer) → AreOneAtEach os → Contains os o → Contains (dedup same_id os) o
+all_kept : (os : List Candidate) (o : Candidate) → AreOneAtEach os → Contains os o → Contains (dedup same_id os) o
 all_kept [] o one h = h
 all_kept (x ∷ xs) o one h = kept_from x xs o one h
 
 -- ---- the calls
 
 pub same_in_order : (xs ys zs : List Lent) → AreOneAtEach (lent xs) → IsPermutation xs ys → zs ≡ dedup one_id ys
-    → (o : Offer) → Contains (lent zs) o ↔ Contains (lent xs) o
+    → (o : Candidate) → Contains (lent zs) o ↔ Contains (lent xs) o
 same_in_order xs ys zs one moved left o =
     let whole : lent zs ≡ dedup same_id (lent ys) = ap lent left ∙ lent-dedup ys in
     let moves : IsPermutation (lent xs) (lent ys) = IsPermutation-map behind xs ys moved in

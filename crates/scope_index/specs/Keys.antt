@@ -18,8 +18,8 @@ use Rattle.policy_grammar.specs.declared.policy.EntityScope.TheVariants.{Any, Eq
 use Rattle.policy_grammar.specs.declared.policy.Scope.{Scope}
 use Rattle.policy_grammar.specs.declared.policy.Policy.{Policy}
 
--- `Always` matches every request. `Principal e` matches the requests whose principal is `e` or a descendant of `e`, and
--- `Resource e` those whose resource is.
+-- An `IndexKey` is the key of a policy. `Always` matches every request, `Principal e` the requests whose principal is
+-- `e` or a descendant of `e`, and `Resource e` those whose resource is `e` or a descendant of `e`.
 pub data IndexKey : Type 0 where
   Always : IndexKey
   Principal : EntityUid → IndexKey
@@ -33,7 +33,8 @@ entity_named (In e) = Some e
 entity_named (Is t) = None
 entity_named (IsOfTypeIn t e) = Some e
 
--- `key_by p r` is the key of the entity `p` named for the principal, else of `r` named for the resource, else `Always`.
+-- `key_by p r` is the key of a policy whose scope names the entity in `p` for the principal and that in `r` for the
+-- resource, where `None` means no entity: the key of `p`, else that of `r`, else `Always`.
 abbrev pub key_by : Option EntityUid → Option EntityUid → IndexKey
 key_by (Some e) r = Principal e
 key_by None (Some e) = Resource e
@@ -43,7 +44,7 @@ key_by None None = Always
 abbrev pub index_key : Scope → IndexKey
 index_key scope = key_by (entity_named scope.principal) (entity_named scope.resource)
 
--- `IsMet parents q key` holds if the request `q` matches `key`.
+-- `IsMet parents q key` holds if the request `q` matches `key` in the hierarchy with these parents.
 abbrev pub IsMet : Parents → Request → IndexKey → Type 0
 IsMet parents q Always = Unit {0}
 IsMet parents q (Principal e) = IsIn parents q.principal e
@@ -57,19 +58,19 @@ Kept = List (String Global × Policy)
 abbrev pub kept_at : Kept → List ℕ → Option Policy
 kept_at kept id = lookup (is_at (λ k. slice_cmp nat_cmp id (string_bytes k))) kept
 
--- An `Offer` is an id with its policy.
-abbrev pub Offer : Type 0
-Offer = List ℕ × Policy
+-- A `Candidate` is an id with its policy; `IsCandidate` states for which requests it is one.
+abbrev pub Candidate : Type 0
+Candidate = List ℕ × Policy
 
 -- `lent ps` are the ids and policies to which the references `ps` point.
-abbrev pub lent : List (Bor (List ℕ) × Bor Policy) → List Offer
+abbrev pub lent : List (Bor (List ℕ) × Bor Policy) → List Candidate
 lent ps = map (λ p. (p.0.now, p.1.now)) ps
 
 -- `ids os` are the ids of `os`.
-abbrev pub ids : List Offer → List (List ℕ)
+abbrev pub ids : List Candidate → List (List ℕ)
 ids os = map (λ o. o.0) os
 
--- `IsOffered kept parents q o` holds if `o` is a policy of the index `kept`, and its key matches the request `q`.
-pub record IsOffered (kept : Kept) (parents : Parents) (q : Request) (o : Offer) : Type 0 where
+-- `IsCandidate kept parents q o` holds if `o` is a policy of the index `kept`, and its key matches the request `q`.
+pub record IsCandidate (kept : Kept) (parents : Parents) (q : Request) (o : Candidate) : Type 0 where
   pub is_kept : kept_at kept o.0 ≡ Some o.1
   pub met : IsMet parents q (index_key o.1.scope)

@@ -8,18 +8,18 @@ ghost use Rattle.scope_index.specs.Buckets.{IsSetAtKey};
 ghost use Rattle.scope_index.specs.Buckets.{IsSameUnder, IsSameNamed, AreSame, AreEmpty};
 
 use crate::scope_key::{ScopeKey, key_of};
-use plain::{NoMemory, beside};
+use plain::{NoMemory, pair_with};
 use policy_grammar::{Policy, Scope};
 use std::alloc::Global;
 use std::collections::BTreeMap;
 use values::{EntityUid, SharedText, TypeName};
 
 /// The buckets of the entities of one type, by their ids.
-pub(crate) type Named = BTreeMap<SharedText, BTreeMap<String, Policy>>;
+pub(crate) type TypeBuckets = BTreeMap<SharedText, BTreeMap<String, Policy>>;
 
-/// The buckets of entities, by their types and then by their ids: a look-up compares types once, and not at each
-/// entity on its way.
-pub(crate) type Under = BTreeMap<TypeName, Named>;
+/// The buckets of entities, by their types and then by their ids: a look-up finds the type first, and then compares ids
+/// alone.
+pub(crate) type EntityBuckets = BTreeMap<TypeName, TypeBuckets>;
 
 /// Policies by id, in a bucket for each key.
 #[derive(Drop)]
@@ -27,9 +27,9 @@ pub(crate) struct Buckets {
     /// The policies whose scope names no entity for the principal or the resource.
     pub(crate) always: BTreeMap<String, Policy>,
     /// The policies by the entity that their scope names for the principal.
-    pub(crate) principals: Under,
+    pub(crate) principals: EntityBuckets,
     /// The other policies, by the entity that their scope names for the resource.
-    pub(crate) resources: Under,
+    pub(crate) resources: EntityBuckets,
 }
 
 // Returns a bucket of one policy.
@@ -42,10 +42,11 @@ fn alone(alloc: Global, id: String, policy: Policy) -> Result<BTreeMap<String, P
     Ok(bucket)
 }
 
-// Puts a policy into the bucket of an entity, given the buckets of its type and its id.
+// Puts a policy into the bucket of an entity, given the buckets of the entity's type (`named`) and the entity's id
+// (`entity`).
 fn put_named(
     alloc: Global,
-    named: &mut Named,
+    named: &mut TypeBuckets,
     entity: &SharedText,
     id: String,
     policy: Policy,
@@ -57,13 +58,18 @@ fn put_named(
         bucket.insert(id, policy)?;
         return Ok(());
     }
-    let (bucket, entity) = beside(alone(alloc, id, policy)?, entity.copy())?;
+    let (bucket, entity) = pair_with(alone(alloc, id, policy)?, entity.copy())?;
     named.insert(entity, bucket)?;
     Ok(())
 }
 
-// Returns the buckets of a type in which only one entity has a bucket, with one policy.
-fn only(alloc: Global, entity: &SharedText, id: String, policy: Policy) -> Result<Named, NoMemory>
+// Returns the buckets of a type, with one bucket for the entity's id (`entity`), which has one policy.
+fn only(
+    alloc: Global,
+    entity: &SharedText,
+    id: String,
+    policy: Policy,
+) -> Result<TypeBuckets, NoMemory>
     ensures { IfOk result (λ named. (e q : List ℕ) → policy_of_entity_id named e q
         ≡ cond (is_text entity.now e && bytes_eq (string_bytes id) q) (Some policy) None) }
 {
@@ -75,7 +81,7 @@ fn only(alloc: Global, entity: &SharedText, id: String, policy: Policy) -> Resul
 // Puts a policy into the bucket of an entity.
 fn put_under(
     alloc: Global,
-    under: &mut Under,
+    under: &mut EntityBuckets,
     uid: &EntityUid,
     id: String,
     policy: Policy,
@@ -86,14 +92,14 @@ fn put_under(
     if let Some(named) = under.get_mut(&uid.type_name) {
         return put_named(alloc, named, &uid.id, id, policy);
     }
-    let (named, type_name) = beside(only(alloc, &uid.id, id, policy)?, uid.type_name.copy())?;
+    let (named, type_name) = pair_with(only(alloc, &uid.id, id, policy)?, uid.type_name.copy())?;
     under.insert(type_name, named)?;
     Ok(())
 }
 
-// Removes the policy of an id from the bucket of an entity, given the buckets of its type; returns whether this leaves
-// an empty bucket.
-fn strike(named: &mut Named, entity: &SharedText, id: &str) -> bool
+// Removes the policy of an id from the bucket of an entity, given the buckets of the entity's type. Returns whether
+// this leaves an empty bucket.
+fn strike(named: &mut TypeBuckets, entity: &SharedText, id: &str) -> bool
     ensures turns { IsSetAtId entity.now id.now None named.old named.new }
     ensures none { IsTrue result → (q : List ℕ) → policy_of_entity_id named.new entity.now q ≡ None }
 {
@@ -106,9 +112,9 @@ fn strike(named: &mut Named, entity: &SharedText, id: &str) -> bool
     }
 }
 
-// Removes the policy of an id from the bucket of an entity, given the buckets of its type, and the bucket if it is then
-// empty.
-fn take_named(named: &mut Named, entity: &SharedText, id: &str)
+// Removes the policy of an id from the bucket of an entity, given the buckets of the entity's type. Also removes the
+// bucket if it is then empty.
+fn take_named(named: &mut TypeBuckets, entity: &SharedText, id: &str)
     ensures { IsSetAtId entity.now id.now None named.old named.new }
 {
     if strike(named, entity, id) {
@@ -116,9 +122,9 @@ fn take_named(named: &mut Named, entity: &SharedText, id: &str)
     }
 }
 
-// Removes the policy of an id from the bucket of an entity; returns whether this leaves an entry of the entity's type
-// without buckets.
-fn strike_type(under: &mut Under, uid: &EntityUid, id: &str) -> bool
+// Removes the policy of an id from the bucket of an entity. Returns whether the entry of the entity's type then has
+// no buckets.
+fn strike_type(under: &mut EntityBuckets, uid: &EntityUid, id: &str) -> bool
     ensures turns { IsSetAtUid uid.now id.now None under.old under.new }
     ensures none { IsTrue result → (u : PlainUid) (q : List ℕ) → IsTrue (is_text uid.now.type_name u.type_name)
         → policy_of_uid under.new u q ≡ None }
@@ -132,8 +138,9 @@ fn strike_type(under: &mut Under, uid: &EntityUid, id: &str) -> bool
     }
 }
 
-// Removes the policy of an id from the bucket of an entity, and the bucket and its type if they are then empty.
-fn take_under(under: &mut Under, uid: &EntityUid, id: &str)
+// Removes the policy of an id from the bucket of an entity. Also removes the bucket, and the entry of the entity's
+// type, if they are then empty.
+fn take_under(under: &mut EntityBuckets, uid: &EntityUid, id: &str)
     ensures { IsSetAtUid uid.now id.now None under.old under.new }
 {
     if strike_type(under, uid, id) {

@@ -6,11 +6,11 @@ ghost use Rattle.values.specs.declared.entity_uid.EntityUid.{EntityUid as PlainU
 ghost use Rattle.values.specs.Names.{text_cmp};
 ghost use Rattle.ancestor_search.specs.Hierarchy.{IsIn, names};
 ghost use Rattle.policy_grammar.specs.declared.policy.Policy.{Policy as PlainPolicy};
-ghost use Rattle.scope_index.specs.Keys.{IndexKey, IsMet, Offer, ids, kept_at, lent};
+ghost use Rattle.scope_index.specs.Keys.{IndexKey, IsMet, Candidate, ids, kept_at, lent};
 ghost use Rattle.scope_index.specs.Buckets.{HaveOnePolicy, AreOneAmong, AreOneAtEach, IsUnder};
 ghost use Rattle.scope_index.specs.Buckets.{bucket_at, policy_of_uid, in_bucket};
 
-use crate::buckets::{Buckets, Under};
+use crate::buckets::{Buckets, EntityBuckets};
 use ancestor_search::Ancestry;
 use plain::NoMemory;
 use policy_grammar::Policy;
@@ -31,7 +31,7 @@ fn offer<'a>(
     bucket: &'a BTreeMap<String, Policy>,
     found: &mut Vec<(&'a str, &'a Policy)>,
 ) -> Result<(), NoMemory>
-    ensures { OnOk result ((o : Offer) → Contains (lent found.new.items) o
+    ensures { OnOk result ((o : Candidate) → Contains (lent found.new.items) o
         ↔ Contains (lent found.old.items) o ⊎ (kept_at bucket.now.entries o.0 ≡ Some o.1)) }
 {
     found.reserve(bucket.len())?;
@@ -42,7 +42,7 @@ fn offer<'a>(
 }
 
 // Returns the bucket of an entity, if it has one.
-fn bucket_at<'a>(under: &'a Under, uid: &EntityUid) -> Option<&'a BTreeMap<String, Policy>>
+fn bucket_at<'a>(under: &'a EntityBuckets, uid: &EntityUid) -> Option<&'a BTreeMap<String, Policy>>
     ensures { option_copied result ≡ bucket_at under.now uid.now }
 {
     match under.get(&uid.type_name) {
@@ -52,12 +52,12 @@ fn bucket_at<'a>(under: &'a Under, uid: &EntityUid) -> Option<&'a BTreeMap<Strin
 }
 
 // Appends the policies in the bucket of an entity to the candidates.
-fn offer_under<'a>(
-    under: &'a Under,
+fn add_bucket<'a>(
+    under: &'a EntityBuckets,
     uid: &EntityUid,
     found: &mut Vec<(&'a str, &'a Policy)>,
 ) -> Result<(), NoMemory>
-    ensures { OnOk result ((o : Offer) → Contains (lent found.new.items) o
+    ensures { OnOk result ((o : Candidate) → Contains (lent found.new.items) o
         ↔ Contains (lent found.old.items) o ⊎ (policy_of_uid under.now uid.now o.0 ≡ Some o.1)) }
 {
     match bucket_at(under, uid) {
@@ -67,73 +67,73 @@ fn offer_under<'a>(
 }
 
 // Appends the policies that are candidates of every request.
-fn offer_unbound<'a>(
+fn add_unbound<'a>(
     buckets: &'a Buckets,
     found: &mut Vec<(&'a str, &'a Policy)>,
 ) -> Result<(), NoMemory>
-    ensures { OnOk result ((o : Offer) → Contains (lent found.new.items) o
+    ensures { OnOk result ((o : Candidate) → Contains (lent found.new.items) o
         ↔ Contains (lent found.old.items) o ⊎ (kept_at buckets.now.always.entries o.0 ≡ Some o.1)) }
 {
     offer(&buckets.always, found)
 }
 
 // Appends the policies in the bucket of the entity itself.
-fn offer_own<'a>(
-    under: &'a Under,
+fn add_own<'a>(
+    under: &'a EntityBuckets,
     uid: &EntityUid,
     found: &mut Vec<(&'a str, &'a Policy)>,
 ) -> Result<(), NoMemory>
-    ensures { OnOk result ((o : Offer) → Contains (lent found.new.items) o
+    ensures { OnOk result ((o : Candidate) → Contains (lent found.new.items) o
         ↔ Contains (lent found.old.items) o ⊎ (policy_of_uid under.now uid.now o.0 ≡ Some o.1)) }
 {
-    offer_under(under, uid, found)
+    add_bucket(under, uid, found)
 }
 
 // Appends the policies in the bucket of each of these entities.
-fn offer_each<'a>(
-    under: &'a Under,
+fn add_each<'a>(
+    under: &'a EntityBuckets,
     entities: &[&EntityUid],
     found: &mut Vec<(&'a str, &'a Policy)>,
 ) -> Result<(), NoMemory>
-    ensures { OnOk result ((o : Offer) → Contains (lent found.new.items) o
+    ensures { OnOk result ((o : Candidate) → Contains (lent found.new.items) o
         ↔ Contains (lent found.old.items) o
         ⊎ ((e : PlainUid) × Contains (names entities.now) e × (policy_of_uid under.now e o.0 ≡ Some o.1))) }
 {
     for entity in entities {
-        offer_under(under, entity, found)?;
+        add_bucket(under, entity, found)?;
     }
     Ok(())
 }
 
 // Appends the policies in the buckets of an entity and of each of its ancestors.
-fn offer_above<'a, A: Ancestry>(
-    under: &'a Under,
+fn add_with_ancestors<'a, A: Ancestry>(
+    under: &'a EntityBuckets,
     ancestry: &A,
     uid: &EntityUid,
     found: &mut Vec<(&'a str, &'a Policy)>,
 ) -> Result<(), NoMemory>
-    ensures { OnOk result ((o : Offer) → Contains (lent found.new.items) o
+    ensures { OnOk result ((o : Candidate) → Contains (lent found.new.items) o
         ↔ Contains (lent found.old.items) o
         ⊎ ((e : PlainUid) × IsIn (A.parents ancestry.now) uid.now e × (policy_of_uid under.now e o.0 ≡ Some o.1))) }
 {
-    offer_own(under, uid, found)?;
+    add_own(under, uid, found)?;
     let ancestors = ancestry.ancestors(uid)?;
-    offer_each(under, &ancestors, found)?;
+    add_each(under, &ancestors, found)?;
     Ok(())
 }
 
 // Appends the policies in the buckets of the request's principal and resource and of each of their ancestors.
-fn offer_bound<'a, A: Ancestry>(
+fn add_bound<'a, A: Ancestry>(
     buckets: &'a Buckets,
     request: &Request,
     ancestry: &A,
     found: &mut Vec<(&'a str, &'a Policy)>,
 ) -> Result<(), NoMemory>
-    ensures { OnOk result ((o : Offer) → Contains (lent found.new.items) o
+    ensures { OnOk result ((o : Candidate) → Contains (lent found.new.items) o
         ↔ Contains (lent found.old.items) o ⊎ IsUnder (A.parents ancestry.now) request.now buckets.now o) }
 {
-    offer_above(&buckets.principals, ancestry, &request.principal, found)?;
-    offer_above(&buckets.resources, ancestry, &request.resource, found)?;
+    add_with_ancestors(&buckets.principals, ancestry, &request.principal, found)?;
+    add_with_ancestors(&buckets.resources, ancestry, &request.resource, found)?;
     Ok(())
 }
 
@@ -144,12 +144,12 @@ fn found_by<'a, A: Ancestry>(
     request: &Request,
     ancestry: &A,
 ) -> Result<Vec<(&'a str, &'a Policy)>, NoMemory>
-    ensures { IfOk result (λ found. (o : Offer) → Contains (lent found.items) o
+    ensures { IfOk result (λ found. (o : Candidate) → Contains (lent found.items) o
         ↔ ((k : IndexKey) × IsMet (A.parents ancestry.now) request.now k × (in_bucket buckets.now k o.0 ≡ Some o.1))) }
 {
     let mut found = Vec::new(alloc);
-    offer_unbound(buckets, &mut found)?;
-    offer_bound(buckets, request, ancestry, &mut found)?;
+    add_unbound(buckets, &mut found)?;
+    add_bound(buckets, request, ancestry, &mut found)?;
     Ok(found)
 }
 
@@ -168,7 +168,7 @@ fn sort_by_id<'a>(policies: &mut Vec<(&'a str, &'a Policy)>)
 // Returns the policies `found`, ascending by id and without duplicates.
 fn in_order<'a>(found: Vec<(&'a str, &'a Policy)>) -> Vec<(&'a str, &'a Policy)>
     requires { AreOneAtEach (lent found.items) }
-    ensures same { (o : Offer) → Contains (lent result.items) o ↔ Contains (lent found.entry.items) o }
+    ensures same { (o : Candidate) → Contains (lent result.items) o ↔ Contains (lent found.entry.items) o }
     ensures ascending { IsStrictlySortedBy text_cmp (ids (lent result.items)) }
 {
     let mut policies = found;
@@ -182,7 +182,7 @@ fn all_of<'a>(
     alloc: Global,
     bucket: &'a BTreeMap<String, Policy>,
 ) -> Result<Vec<(&'a str, &'a Policy)>, NoMemory>
-    ensures all { IfOk result (λ ps. (o : Offer) → Contains (lent ps.items) o
+    ensures all { IfOk result (λ ps. (o : Candidate) → Contains (lent ps.items) o
         ↔ (kept_at bucket.now.entries o.0 ≡ Some o.1)) }
     ensures ascending { IfOk result (λ ps. IsStrictlySortedBy text_cmp (ids (lent ps.items))) }
 {
@@ -202,7 +202,7 @@ fn place<'a>(
     requires ascending { IsStrictlySortedBy text_cmp (ids (lent all.old.items)) }
     requires one { (p : PlainPolicy) → Contains (lent all.old.items) (id.now, p) → p ≡ policy.now }
     ensures ascending { OnOk result (IsStrictlySortedBy text_cmp (ids (lent all.new.items))) }
-    ensures same { OnOk result ((o : Offer) → Contains (lent all.new.items) o
+    ensures same { OnOk result ((o : Candidate) → Contains (lent all.new.items) o
         ↔ Contains (lent all.old.items) o ⊎ ((id.now, policy.now) ≡ o)) }
 {
     match all.binary_search_by_key(&id, |other| other.0) {
@@ -222,7 +222,7 @@ fn place_each<'a>(
     requires ascending { IsStrictlySortedBy text_cmp (ids (lent all.old.items)) }
     requires one { AreOneAmong (lent all.old.items) (lent policies.now) }
     ensures ascending { OnOk result (IsStrictlySortedBy text_cmp (ids (lent all.new.items))) }
-    ensures same { OnOk result ((o : Offer) → Contains (lent all.new.items) o
+    ensures same { OnOk result ((o : Candidate) → Contains (lent all.new.items) o
         ↔ Contains (lent all.old.items) o ⊎ Contains (lent policies.now) o) }
 {
     for (id, policy) in policies {
@@ -244,7 +244,7 @@ fn joined<'a>(
 ) -> Result<Vec<(&'a str, &'a Policy)>, NoMemory>
     requires ascending { IsStrictlySortedBy text_cmp (ids (lent all.items)) }
     requires one { AreOneAmong (lent all.items) (lent others.now) }
-    ensures same { IfOk result (λ ps. (o : Offer) → Contains (lent ps.items) o
+    ensures same { IfOk result (λ ps. (o : Candidate) → Contains (lent ps.items) o
         ↔ Contains (lent all.entry.items) o ⊎ Contains (lent others.now) o) }
     ensures ascending { IfOk result (λ ps. IsStrictlySortedBy text_cmp (ids (lent ps.items))) }
 {
@@ -266,12 +266,12 @@ fn offered_among<'a, A: Ancestry>(
     ancestry: &A,
 ) -> Result<Vec<(&'a str, &'a Policy)>, NoMemory>
     requires { HaveOnePolicy buckets.now }
-    ensures found { IfOk result (λ ps. (o : Offer) → Contains (lent ps.items) o
+    ensures found { IfOk result (λ ps. (o : Candidate) → Contains (lent ps.items) o
         ↔ ((k : IndexKey) × IsMet (A.parents ancestry.now) request.now k × (in_bucket buckets.now k o.0 ≡ Some o.1))) }
     ensures ascending { IfOk result (λ ps. IsStrictlySortedBy text_cmp (ids (lent ps.items))) }
 {
     let mut others = Vec::new(alloc);
-    offer_bound(buckets, request, ancestry, &mut others)?;
+    add_bound(buckets, request, ancestry, &mut others)?;
     let all = all_of(alloc, &buckets.always)?;
     Ok(joined(all, &others)?)
 }
@@ -284,7 +284,7 @@ pub(crate) fn offered<'a, A: Ancestry>(
     ancestry: &A,
 ) -> Result<Vec<(&'a str, &'a Policy)>, NoMemory>
     requires { HaveOnePolicy buckets.now }
-    ensures found { IfOk result (λ ps. (o : Offer) → Contains (lent ps.items) o
+    ensures found { IfOk result (λ ps. (o : Candidate) → Contains (lent ps.items) o
         ↔ ((k : IndexKey) × IsMet (A.parents ancestry.now) request.now k × (in_bucket buckets.now k o.0 ≡ Some o.1))) }
     ensures ascending { IfOk result (λ ps. IsStrictlySortedBy text_cmp (ids (lent ps.items))) }
 {

@@ -5,7 +5,7 @@ ghost use Rattle.scope_index.specs.Keys.{kept_at};
 ghost use Rattle.scope_index.specs.Buckets.{AreFiled};
 
 use crate::buckets::{Buckets, put, take};
-use plain::{NoMemory, beside};
+use plain::{NoMemory, pair_with};
 use policy_grammar::Policy;
 use std::alloc::Global;
 use std::collections::BTreeMap;
@@ -18,12 +18,12 @@ pub(crate) fn forget(kept: &mut BTreeMap<String, Policy>, buckets: &mut Buckets,
         ≡ cond (bytes_eq id.now q) None (kept_at kept.old.entries q) }
 {
     if let Some(policy) = kept.remove(id) {
-        take(buckets, policy.scope.get(), id);
+        take(buckets, &policy.scope, id);
     }
 }
 
-// Adds a policy whose id is new. `own` and `second` are its id with a shared reference to it, twice: for the map by id
-// and for the bucket. If an allocation fails, the index is unchanged.
+// Adds a policy whose id is new. `own` and `second` are each the id with a shared reference to the policy: `own` for
+// the map by id, `second` for the bucket. If an allocation fails, the index is unchanged.
 fn enter(
     alloc: Global,
     kept: &mut BTreeMap<String, Policy>,
@@ -47,7 +47,7 @@ fn enter(
     let (own_id, own_share) = own;
     kept.insert(own_id, own_share)?;
     let (second_id, second_share) = second;
-    let filed = put(alloc, buckets, policy.scope.get(), second_id, second_share);
+    let filed = put(alloc, buckets, &policy.scope, second_id, second_share);
     if filed.is_err() {
         kept.remove(id);
     }
@@ -59,7 +59,7 @@ fn entry_of(alloc: Global, id: &str, policy: &Policy) -> Result<(String, Policy)
     ensures id { IfOk result (λ entry. string_bytes entry.0 ≡ id.now) }
     ensures share { IfOk result (λ entry. entry.1 ≡ policy.now) }
 {
-    beside(String::from_str(alloc, id)?, policy.share())
+    pair_with(String::from_str(alloc, id)?, policy.share())
 }
 
 /// Adds a shared reference to a policy, replacing the policy of its id.
@@ -83,6 +83,6 @@ pub(crate) fn keep(
 {
     forget(kept, buckets, id);
     let own = entry_of(alloc, id, policy)?;
-    let (own, second) = beside(own, entry_of(alloc, id, policy))?;
+    let (own, second) = pair_with(own, entry_of(alloc, id, policy))?;
     enter(alloc, kept, buckets, id, policy, own, second)
 }

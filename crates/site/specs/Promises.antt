@@ -40,18 +40,18 @@ module _ (Steps : SiteName → Store → Input → Reply → Store → Type 0) (
     -- A stamp identifies an update: equal stamps mean equal updates, wherever they occur.
     pub alike : (u v : Update) → WasIssued Issues sites es rs u → WasIssued Issues sites es rs v
         → u.1.count ≡ v.1.count → u.1.site ≡ v.1.site → u ≡ v
-    -- Deltas suffice: a site that applies all of a delta, made from a store against an earlier summary of this site,
-    -- then holds the join of its store and that whole store.
+    -- Deltas suffice: let a delta be made from a whole store against an earlier summary of a site. If this site applies
+    -- all of the delta, it then has the join of its own store and that whole store.
     pub exchanged : (i k c : ℕ) (v : World) (m : SentMessage) (old : SentSummary) (s : Store)
         → Happens Steps sites w (record { site = i; operation = operation.Deliver k })
         (Replied (reply.Taken (Ok (All c)))) v
         → slice_get w.messages k ≡ Some m → m.since ≡ Some old → old.site ≡ i → numbered w.stores i ≡ Some s
         → numbered v.stores i ≡ Some (joined_stores s m.whole)
-    -- Messages are faithful: a state has the updates of the store that it was made from, and a delta those of the
-    -- entries whose names the summary lacks or has with a smaller stamp.
+    -- Messages are faithful: a state has the updates of the store that it was made from, and a delta has those updates
+    -- whose names its summary lacks or has with a smaller stamp.
     pub read : (k : ℕ) (m : SentMessage) → slice_get w.messages k ≡ Some m → States m.bytes (updates (content m))
-    -- Messages are understood: a message that was made is rejected, at any site and over any store, only for
-    -- `NoMemory`, and so is a summary that was made.
+    -- Messages are understood: at any site and over any store, a message or a summary that was made is rejected only
+    -- for `NoMemory`.
     pub taken : (k : ℕ) (m : SentMessage) (n : SiteName) (s t : Store) (f : SiteFault)
         → slice_get w.messages k ≡ Some m → Steps n s (input.Take m.bytes) (reply.Taken (Err f)) t → f ≡ NoMemory
     pub answered : (k : ℕ) (m : SentSummary) (n : SiteName) (s t : Store) (f : SiteFault)

@@ -34,7 +34,8 @@ set_numbered xs (suc k) x = set xs k x
 
 -- ---- systems
 
--- A `SentSummary` is a summary that was made: its bytes, the number of the site that made it, and that site's store.
+-- A `SentSummary` is a summary that was made: its bytes, the number of the site that made it, and the store from which
+-- it was made.
 pub record SentSummary : Type 0 where
   pub bytes : List ℕ
   pub site : ℕ
@@ -60,7 +61,7 @@ abbrev pub part_since : Store → Option SentSummary → Store
 part_since s None = s
 part_since s (Some old) = delta s (summary_of old.store)
 
--- `content m` is the part of its store that the message `m` has.
+-- `content m` is what the message `m` has of the store that it was made from: all of it, or the delta.
 abbrev pub content : SentMessage → Store
 content m = part_since m.whole m.since
 

@@ -1,5 +1,5 @@
--- Defines the runs of a system of sites: each event is one step of one site. A message or summary that it makes is
--- added to those of the system, and may be delivered to any site, again and in any order.
+-- Defines the runs of a system of sites: each event is one step of one site. A message or summary that the step makes
+-- is added to those of the system, and may be delivered to any site, again and in any order.
 -- Rules of this product: an event that names a site, a message or a summary that does not exist gets the reply
 -- `Unknown` (30) and changes nothing; there is no promise of time or order, or that a message is delivered.
 use Rattle.std.specs.Prelude.{◌≡◌, ℕ, List, [], ◌∷◌, ◌++◌, length, map, slice_get}
@@ -88,8 +88,8 @@ message_made w d s r = map (λ bytes. record { bytes = bytes; whole = s; since =
 abbrev pub summary_made : ℕ → Operation → Store → Reply → List SentSummary
 summary_made i d s r = map (λ bytes. record { bytes = bytes; site = i; store = s }) (summary_bytes d r)
 
--- `after w e s r t` is the state after the event `e` in the state `w`: its site, which had the store `s` and replied
--- `r`, now has the store `t`.
+-- `after w e s r t` is the state after the event `e` in the state `w`: the site of `e`, which had the store `s` and
+-- replied `r`, now has the store `t`, and a message or summary that the event made is added.
 abbrev pub after : World → Event → Store → Reply → Store → World
 after w e s r t = record {
   stores = set_numbered w.stores e.site t;
@@ -101,7 +101,7 @@ after w e s r t = record {
 -- may yield the reply `r` and the store `t`.
 module _ (Steps : SiteName → Store → Input → Reply → Store → Type 0) where
   -- `IsStepAt w e n s i a v` holds if the event `e` leads from the state `w` to the state `v` with the reply `a`, by
-  -- one step of its site, which is named `n` and has the store `s`, with the input `i`.
+  -- one step of a site. This site is named `n`, has the store `s`, and gets the input `i`.
   pub record IsStepAt (w : World) (e : Event) (n : SiteName) (s : Store) (i : Input) (a : EventReply) (v : World)
       : Type 0 where
     pub reply : Reply
@@ -110,14 +110,14 @@ module _ (Steps : SiteName → Store → Input → Reply → Store → Type 0) w
     pub answer : a ≡ answer_of w e.operation reply
     pub leaves : v ≡ after w e s reply store
 
-  -- `HappensAt w e n s i a v` is the same where the name `n`, the store `s` or the input `i` may be absent; then the
-  -- reply `a` is `Unknown`, and `v` is `w`.
+  -- `HappensAt w e n s i a v` is `IsStepAt` if the name `n`, the store `s` and the input `i` are present. If one of
+  -- them is absent, the reply `a` is `Unknown`, and `v` is `w`.
   abbrev pub HappensAt : World → Event → Option SiteName → Option Store → Option Input → EventReply → World → Type 0
   HappensAt w e (Some n) (Some s) (Some i) a v = IsStepAt w e n s i a v
   HappensAt w e _ _ _ a v = (a ≡ Unknown) × (v ≡ w)
 
   -- `Happens sites w e a v` holds if in the state `w` of the sites `sites` the event `e` may get the reply `a` and lead
-  -- to the state `v`.
+  -- to the state `v`. The strings of `e` must be UTF-8.
   pub record Happens (sites : List SiteName) (w : World) (e : Event) (a : EventReply) (v : World) : Type 0 where
     pub texts : HasTexts e.operation
     pub happens : HappensAt w e (numbered sites e.site) (numbered w.stores e.site) (input_of w e.operation) a v
@@ -146,7 +146,7 @@ AnswersFixWorlds = (schema : StatedSchema) (sites : List SiteName) (es : List Ev
 -- ---- what was issued
 
 -- `WasIssued Issues sites es rs u` holds if one of the events `es`, with its reply in `rs`, issued the update `u` at
--- the site that the stamp of `u` names, where `Issues d r u` says that the operation `d` with the reply `r` issues `u`.
+-- the site that the stamp of `u` names. `Issues d r u` says that the operation `d` with the reply `r` issues `u`.
 pub record WasIssued (Issues : Operation → Reply → Update → Type 0) (sites : List SiteName) (es : List Event)
     (rs : List EventReply) (u : Update) : Type 0 where
   pub place : ℕ

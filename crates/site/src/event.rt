@@ -19,7 +19,7 @@ pub enum Operation {
     Authorize(Items<u8>),
     /// Makes a summary of the store.
     Summary,
-    /// Makes a message of the whole store, a state.
+    /// Makes a state: a message of the whole store.
     Offer,
     /// Makes a delta against the summary with this number.
     OfferDelta(usize),

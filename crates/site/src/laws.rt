@@ -17,10 +17,10 @@ use site_steps::{
 ///
 /// - Each entry in a store or a message was issued by a local command at the site that its stamp names.
 /// - Equal stamps mean equal updates.
-/// - A site that applies all of a delta, made from a store against an earlier summary of this site, then has the join
-///   of its store and that store.
-/// - A state has the updates of its store, and a delta those of the missing entries. A message or summary that was made
-///   is rejected only for `NoMemory`.
+/// - Let a delta be made from a store against an earlier summary of a site. If this site applies all of the delta, it
+///   then has the join of its own store and the store that the delta was made from.
+/// - A state has the updates of the store that it was made from, and a delta has those updates whose names its summary
+///   lacks or has with a smaller stamp. A message or summary that was made is rejected only for `NoMemory`.
 pub fn worlds_keep_promises()
     ensures { AllWorldsKeepPromises }
 {
@@ -49,7 +49,7 @@ pub fn answers_fix_worlds()
 
 /// Proves that the five digits of 1, 2 and so on are distinct site names, for up to 99,999 sites. No-op.
 ///
-/// Messages of version 1 can name 65,535 of these.
+/// Messages of version 1 can name only the first 65,535 of these.
 pub fn first_sites_are_distinct()
     ensures { (count : ℕ) → count < 100000 → AreSites (first_sites count) }
 {

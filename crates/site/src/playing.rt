@@ -23,8 +23,8 @@ pub(crate) fn has_texts(operation: &Operation)
     }
 }
 
-/// Returns the input that an operation gives its site, by the messages and summaries that were made, or `None` if it
-/// names one that was not made yet.
+/// Returns the input that an operation gives its site, or `None` if the operation names a message or summary that is
+/// not among `messages` or `summaries`, those that were made so far.
 fn input_by<'a>(
     operation: &'a Operation,
     messages: &'a [Items<u8>],
@@ -70,7 +70,8 @@ pub(crate) fn step(
     }
 }
 
-/// Appends the message in a site's reply to `messages`, and returns the event's reply: its number, or the error.
+/// Appends the message in a site's reply to `messages`, and returns the event's reply: the message's number, or the
+/// error.
 fn keep_message(messages: &mut Vec<Items<u8>>, reply: Reply) -> Result<EventReply, NoMemory>
     ensures answer { IfOk result (λ a. a ≡ answer_among (length messages.old.items) 0 Operation.Offer reply) }
     ensures kept { OnOk result (messages.new.items ≡ messages.old.items ++ message_bytes Operation.Offer reply) }
@@ -86,7 +87,8 @@ fn keep_message(messages: &mut Vec<Items<u8>>, reply: Reply) -> Result<EventRepl
     }
 }
 
-/// Appends the summary in a site's reply to `summaries`, and returns the event's reply: its number, or the error.
+/// Appends the summary in a site's reply to `summaries`, and returns the event's reply: the summary's number, or the
+/// error.
 fn keep_summary(summaries: &mut Vec<Items<u8>>, reply: Reply) -> Result<EventReply, NoMemory>
     ensures answer { IfOk result (λ a. a ≡ answer_among 0 (length summaries.old.items) Operation.Summary reply) }
     ensures kept { OnOk result (summaries.new.items ≡ summaries.old.items ++ bytes_made Operation.Summary reply) }
@@ -122,8 +124,8 @@ pub(crate) fn keep(
     }
 }
 
-/// Runs one event, and returns its reply. Nothing changes if it names a site, a message or a summary that does not
-/// exist.
+/// Runs one event, and returns its reply. Nothing changes if the event names a site, a message or a summary that does
+/// not exist.
 fn play_one(
     alloc: Global,
     scratch: &mut Scratch,

@@ -28,7 +28,7 @@ pub struct World {
     pub replies: Vec<EventReply>,
 }
 
-/// Runs events at these sites, which are empty sites of one schema.
+/// Runs events at these sites, which must be empty and of one schema.
 fn simulate_at(alloc: Global, mut sites: Vec<Site>, events: &[Event]) -> Result<World, NoMemory>
     ensures { IfOk result (λ w. (schema : StatedSchema) (names : List Named)
         → AreSitesOf schema names (start names).stores sites.items
@@ -45,7 +45,7 @@ fn simulate_at(alloc: Global, mut sites: Vec<Site>, events: &[Event]) -> Result<
     })
 }
 
-/// Creates an empty site, whose name is the five digits of its number.
+/// Creates an empty site whose name is the five digits of `number`.
 fn new_site(alloc: Global, schema: &Shared<Schema>, number: u16) -> Result<Site, NoMemory>
     ensures { IfOk result (IsSiteOf (schema_view schema.now) (five_digits number) (store_of [])) }
 {
@@ -88,6 +88,6 @@ pub fn simulate(
 {
     first_sites_are_distinct();
     worlds_keep_promises();
-    schema.get().is_stated();
+    schema.is_stated();
     simulate_at(alloc, new_sites(alloc, schema, count)?, events)
 }

@@ -22,7 +22,8 @@ Replies old (rejects f) status body new =
     (((status, body) ≡ fault_reply f) ⊎ ((status, body) ≡ fault_reply fault.NoMemory)) × (new ≡ old)
 Replies old (unserved s) status body new = ((status, body) ≡ status_reply s) × (new ≡ old)
 
--- `Appends old asked status before after new` holds if `after` is `before` followed by the body of such a reply.
+-- `Appends old asked status before after new` holds if the site `old` may reply to `asked` with this status and be
+-- `new` afterwards, and `after` is `before` followed by the body of the reply.
 abbrev pub Appends : SiteView → SiteRequest → StatusCode → List ℕ → List ℕ → SiteView → Type 0
 Appends old asked status before after new =
     (body : List ℕ) × (after ≡ before ++ body) × Replies old asked status body new

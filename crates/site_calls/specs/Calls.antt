@@ -12,7 +12,7 @@ use Rattle.site_calls.specs.SiteRequest.{SiteRequest, gives, rejects, put_asked,
 use Rattle.site_calls.specs.declared.call.Call as code
 use Rattle.site_calls.specs.declared.call.Call.TheVariants as borrowed
 
--- A `Call` is a call of a site, with its bytes.
+-- A `Call` is a call of a site over bytes.
 pub data Call : Type 0 where
   -- decides the request with this JSON
   Authorize : List ℕ → Call
@@ -48,11 +48,11 @@ call_of borrowed.Summary = Summary
 call_of (borrowed.Delta summary) = Delta summary.now
 call_of (borrowed.Merge message) = Merge message.now
 
--- `upon id asks` is what `asks` gives for the policy id `id`; bytes that are not UTF-8 are not an id.
+-- `upon id asks` is what `asks` gives for the policy id `id`, or the error `BadId` (19) if `id` is not UTF-8.
 abbrev pub upon : List ℕ → (List ℕ → SiteRequest) → SiteRequest
 upon id asks = if is_utf8 id then asks id else rejects (fault.Policy BadId)
 
--- `asked c` is what the call `c` asks of a site.
+-- `asked c` is what the call `c` asks of a site: an input, or an error that is found before the site is called.
 abbrev pub asked : Call → SiteRequest
 asked (Authorize request) = gives (input.Authorize request)
 asked (PutPolicy id text) = upon id (put_asked text)

@@ -14,7 +14,7 @@ use Rattle.site.specs.site_steps.Faults.{code_of, place_of, within_of}
 use Rattle.site_calls.specs.Statuses.{refusal_status}
 use Rattle.site_calls.specs.Lines.{fault_line, found_line, put_line, stamp_line, taken_line}
 
--- `fault_reply f` is the reply to an error of the site.
+-- `fault_reply f` is the reply to the error `f` of the site.
 abbrev pub fault_reply : SiteFault → StatusCode × List ℕ
 fault_reply f = (refusal_status (code_of f), fault_line (code_of f) (place_of f) (within_of f))
 
@@ -32,8 +32,8 @@ abbrev pub stamp_reply : Result Stamp SiteFault → StatusCode × List ℕ
 stamp_reply (Ok stamp) = (200, stamp_line stamp)
 stamp_reply (Err f) = fault_reply f
 
--- `taken_reply r` is the reply to a message: the number of applied updates. If memory ran out on the way, it is the
--- error of code 1 with that number as its place.
+-- `taken_reply r` is the reply to a message: the number of applied updates. If memory ran out after some updates, the
+-- reply is the error of code 1 with the number of applied updates as its place.
 abbrev pub taken_reply : Result Taken SiteFault → StatusCode × List ℕ
 taken_reply (Ok (All count)) = (200, taken_line count)
 taken_reply (Ok (Short count)) = (503, fault_line 1 (Some count) None)
@@ -44,8 +44,8 @@ abbrev pub answer_reply : Result Answer SiteFault → StatusCode × List ℕ
 answer_reply (Ok answer) = (200, answer_line answer)
 answer_reply (Err f) = fault_reply f
 
--- `found_reply o` is the reply to a query for a policy: its text and stamp, or the error that there is no such policy
--- (60).
+-- `found_reply o` is the reply to a query for a policy: the policy's text and stamp, or the error `NotThere` (60) if
+-- the policy has no text.
 abbrev pub found_reply : Option (List ℕ × Stamp) → StatusCode × List ℕ
 found_reply (Some found) = (200, found_line found.0 found.1)
 found_reply None = fault_reply fault.NotThere
@@ -55,8 +55,8 @@ abbrev pub message_reply : Result (List ℕ) SiteFault → StatusCode × List �
 message_reply (Ok bytes) = (200, bytes)
 message_reply (Err f) = fault_reply f
 
--- `IsReplyOrNoMemory reply told body` holds if the status `told` and `body` are those of `reply`; or, if `reply` is not
--- an error, those of `NoMemory`.
+-- `IsReplyOrNoMemory reply told body` holds if the status `told` and the body `body` are those of `reply`; or, if
+-- `reply` has the status 200, those of the error `NoMemory`.
 abbrev pub IsReplyOrNoMemory : StatusCode × List ℕ → StatusCode → List ℕ → Type 0
 IsReplyOrNoMemory reply told body =
     ((told, body) ≡ reply) ⊎ ((reply.0 ≡ 200) × ((told, body) ≡ fault_reply fault.NoMemory))

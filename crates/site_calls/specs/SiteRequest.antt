@@ -1,7 +1,7 @@
 -- Defines the input of a site that bytes ask for.
 -- Source: docs/formats.md, "Routes of a site".
 -- Rules of this product: a policy's id is checked before its text, and the length of a text before whether it is UTF-8;
--- a body that does not name an entity has the error `BadShape`.
+-- a body that should name an entity and does not has the error `BadShape` (30).
 use Rattle.std.specs.Prelude.{ℕ, Bool, ◌&&◌, List, length, Option, Some, None, if◌then◌else◌, nat_le}
 use Rattle.std.specs.Str.{is_utf8}
 use Rattle.values.specs.declared.entity_uid.EntityUid.{EntityUid}
@@ -21,7 +21,7 @@ pub data SiteRequest : Type 0 where
   gives : Input → SiteRequest
   -- the site is not called, since an error is found before
   rejects : SiteFault → SiteRequest
-  -- the site is not called, since there is no such operation; its reply is this status
+  -- the site is not called, since there is no such operation; the reply has this status
   unserved : StatusCode → SiteRequest
 
 -- `is_policy_id id` tests whether a policy may have the id `id`: 1 to 256 bytes.
@@ -34,7 +34,8 @@ abbrev pub not_text : List ℕ → List ℕ → ReadFault
 not_text id text =
     if is_policy_id id then if nat_le (length text) most_policy_bytes then BadToken 0 else TooLong else BadId
 
--- `put_asked text id` asks to put `text` under `id`, or rejects it if `text` is not UTF-8.
+-- `put_asked text id` asks to put `text` under `id`; if `text` is not UTF-8, it is the rejection with the first error
+-- (`not_text`).
 abbrev pub put_asked : List ℕ → List ℕ → SiteRequest
 put_asked text id =
     if is_utf8 text then gives (input.PutPolicy id text) else rejects (fault.Policy (not_text id text))

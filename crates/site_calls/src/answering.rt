@@ -42,7 +42,7 @@ pub fn reply_to(
     report_reply(alloc, text, &reply)
 }
 
-/// Returns the answer to the request that JSON states; `json` is `None` if the bytes are not JSON.
+/// Returns the answer to the request that `json` describes; `None` stands for bytes that are not JSON.
 fn decided(site: &Site, json: &Option<Value>) -> Result<Answer, SiteFault>
     ensures { Answers (schema_of site.now) (store_in site.now) (option_map view json.now) result }
 {
@@ -52,11 +52,11 @@ fn decided(site: &Site, json: &Option<Value>) -> Result<Answer, SiteFault>
     }
 }
 
-/// Answers a request whose body was parsed as `json`, `None` if it is not JSON: appends the body of the reply to
-/// `text`, and returns the status.
+/// Answers a request for a decision whose body was parsed as `json`: appends the body of the reply to `text`, and
+/// returns the status. `None` stands for a body that is not JSON.
 ///
-/// For each such body, the reply is one that [`reply_to`] may give. A caller that uses the JSON too can thus parse the
-/// body once.
+/// The reply is one that [`reply_to`] may give for this body. A caller that needs the JSON too can thus parse the body
+/// once.
 pub fn reply_to_request(
     alloc: Global,
     site: &Site,
@@ -73,7 +73,8 @@ pub fn reply_to_request(
     report_reply(alloc, text, &reply)
 }
 
-/// Returns the first error of a policy whose text is not UTF-8: its id (19), its length (18), else its bytes (10).
+/// Returns the first error of a policy whose text is not UTF-8: of its id (19), of its length (18), else of its bytes
+/// (10).
 fn not_text(id: &str, text: &[u8]) -> ReadFault
     ensures { result ≡ not_text id.now text.now }
 {
@@ -106,7 +107,7 @@ pub fn put_text(
     }
 }
 
-/// Puts a policy under the id `id`; an id that is not UTF-8 is the error `BadId` (19).
+/// Puts a policy under the id `id`; an id that is not UTF-8 has the error `BadId` (19).
 fn put_policy(
     alloc: Global,
     scratch: &mut Scratch,
@@ -126,7 +127,7 @@ fn put_policy(
     }
 }
 
-/// Looks up the policy with the id `id`; an id that is not UTF-8 is the error `BadId` (19).
+/// Looks up the policy with the id `id`; an id that is not UTF-8 has the error `BadId` (19).
 fn get_policy(
     alloc: Global,
     scratch: &mut Scratch,
@@ -145,7 +146,7 @@ fn get_policy(
     }
 }
 
-/// Deletes the policy with the id `id`; an id that is not UTF-8 is the error `BadId` (19).
+/// Deletes the policy with the id `id`; an id that is not UTF-8 has the error `BadId` (19).
 fn delete_policy(
     alloc: Global,
     scratch: &mut Scratch,
@@ -164,7 +165,7 @@ fn delete_policy(
     }
 }
 
-/// Returns the uid that bytes name as JSON, or `None` if they do not name one.
+/// Returns the uid that `bytes` name as JSON, or `None` if they do not name one.
 fn named_entity(
     alloc: Global,
     scratch: &mut Scratch,

@@ -1,12 +1,12 @@
-//! Theorems about replies, each the contract of a function that does nothing.
+//! Theorems about replies. The functions are no-ops.
 ghost use Rattle.std.specs.Prelude.{◌≡◌, ◌++◌, ℕ, Bool, None, codes, decimal, if◌then◌else◌};
 ghost use Rattle.http_streams.specs.ReplyText.{error_line};
 ghost use Rattle.site.specs.site_steps.stamped_store.SiteNames.{IsSiteName};
 ghost use Rattle.site.specs.site_steps.stamped_store.declared.entry.Stamp.{Stamp};
 ghost use Rattle.site_calls.specs.Lines.{fault_line, put_line, stamp_line};
 
-/// Proves that an error without a code of its own, which is reported by its status, has one line, whether the request
-/// is rejected before it is complete or by the service. No-op.
+/// Proves that an error that is reported by its status has the same line whether the stream or the service rejects the
+/// request. No-op.
 pub fn errors_have_one_line()
     ensures { (n : ℕ) → fault_line n None None ≡ error_line n }
 {}

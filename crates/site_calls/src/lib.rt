@@ -1,8 +1,8 @@
 //! The calls of a site over bytes, each answered by a status and a body; and the reply to each outcome of a request.
 //!
-//! A call is at most one step of the site, and its reply is that of the route which asks for the same. Routes and
-//! streams are not in this crate. A body is one line of compact JSON. Replies to changes, and errors of any kind,
-//! allocate nothing: they are appended to a text that has room for them.
+//! A call is at most one step of the site, and has the same reply as the HTTP route for it. Routes and streams are not
+//! in this crate. A body is one line of compact JSON. Replies to changes, and errors of any kind, allocate nothing:
+//! they are appended to a text that has room for them.
 #![tactic(auto)]
 
 mod answering;
@@ -30,5 +30,5 @@ pub use site::{
     runs_are_sound, runs_leave_what_they_took, simulate, site_names_are_recognized, take_bytes,
 };
 
-/// The greatest length in bytes of the body of a reply to a change, or of an error.
+/// The number of bytes that suffices for the body of a reply to a change, or of an error.
 pub const LINE_ROOM: usize = 128;

@@ -57,7 +57,8 @@ fn append_or_null(text: &mut Vec<u8>, number: Option<u64>)
     }
 }
 
-/// Appends the end of the line of a stamp: 11 bytes, and the site's name, of at most 32 bytes, which needs no escape.
+/// Appends the end of the line of a stamp: 11 bytes, and the site's name. A site name has at most 32 bytes, and needs
+/// no escape.
 fn append_site(text: &mut Vec<u8>, site: &SiteName)
     requires room { vec_len text.old + 43 ≤ vec_capacity text.old }
     ensures items { text.new.items ≡ text.old.items ++ site_end site.now }
@@ -80,7 +81,7 @@ pub(crate) fn append_stamp(text: &mut Vec<u8>, stamp: Stamp)
     append_site(text, &stamp.site);
 }
 
-/// Appends the line of a put policy.
+/// Appends the line of a put of a policy: the stamp, and whether the policy is impossible.
 pub(crate) fn append_put(text: &mut Vec<u8>, stamp: Stamp, impossible: bool)
     requires room { vec_len text.old + LINE_ROOM ≤ vec_capacity text.old }
     ensures items { text.new.items ≡ text.old.items ++ put_line stamp impossible }

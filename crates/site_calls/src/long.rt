@@ -1,4 +1,4 @@
-//! Appends the bodies that may need an allocation. If it fails, the text is unchanged.
+//! Appends the bodies that may need an allocation. If the allocation fails, the text is unchanged.
 ghost use Rattle.std.specs.Prelude.{◌≡◌, ◌≤◌, ◌++◌, IfOk, OnOk, OnErr, vec_len};
 ghost use Rattle.std.specs.Vec.{vec_capacity};
 ghost use Rattle.serde_json.specs.View.{view};

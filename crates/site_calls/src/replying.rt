@@ -25,8 +25,8 @@ fn report_policy(alloc: Global, text: &mut Vec<u8>, found: &Option<Found>) -> St
     }
 }
 
-/// Appends the body of a reply, and returns its status. If the body of a query's reply cannot be allocated, appends
-/// that error in its place.
+/// Appends the body of a reply, and returns its status. If the body of a query's reply cannot be allocated, appends the
+/// error 1 (out of memory) in its place, and returns 503.
 pub(crate) fn report_reply(alloc: Global, text: &mut Vec<u8>, reply: &Reply) -> StatusCode
     requires room { vec_len text.old + LINE_ROOM ≤ vec_capacity text.old }
     ensures reply { Reports reply.now result text.old.items text.new.items }

@@ -1,7 +1,7 @@
-//! Reports each outcome: appends the body of its reply to a text, and returns its status.
+//! Reports each outcome: appends the body of the reply to a text, and returns the status of the reply.
 //!
-//! Each function demands room for a short line. If a longer body cannot be allocated, the error of code 1 (out of
-//! memory) is appended in that room, so there is always a reply. The text keeps its memory.
+//! Each function demands room in the text for a short line. If a longer body cannot be allocated, the error of code 1
+//! (out of memory) is appended in this room, so there is always a reply. The text keeps its memory.
 ghost use Rattle.std.specs.Prelude.{◌≡◌, ◌≤◌, ◌+◌, ◌++◌, List, ℕ, OnOk, OnErr, option_map, vec_len};
 ghost use Rattle.std.specs.Vec.{vec_capacity};
 ghost use Rattle.site_calls.specs.Replies.{answer_reply, fault_reply, found_reply, message_reply, put_reply};
@@ -92,7 +92,8 @@ pub fn report_taken(text: &mut Vec<u8>, outcome: Result<Taken, SiteFault>) -> St
     }
 }
 
-/// Returns 200 if a body was appended. If it could not be allocated, appends the error 1 in its place, and returns 503.
+/// Returns 200 if a body was appended. If the body could not be allocated, appends the error 1 (out of memory) in its
+/// place, and returns 503.
 fn status_or_no_memory(text: &mut Vec<u8>, appended: Result<(), NoMemory>) -> StatusCode
     requires room { OnErr appended (vec_len text.old + LINE_ROOM ≤ vec_capacity text.old) }
     ensures ok { OnOk appended ((result ≡ 200) × (text.new.items ≡ text.old.items)) }
@@ -144,7 +145,7 @@ pub fn report_found(alloc: Global, text: &mut Vec<u8>, found: &Option<(&str, Sta
     }
 }
 
-/// Appends a message that was written, or its error.
+/// Appends the message in `outcome`, or its error.
 pub fn report_message(text: &mut Vec<u8>, outcome: &Result<Items<u8>, SiteFault>) -> StatusCode
     requires room { vec_len text.old + LINE_ROOM ≤ vec_capacity text.old }
     ensures reply { (body : List ℕ) × (text.new.items ≡ text.old.items ++ body)

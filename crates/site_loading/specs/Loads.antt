@@ -1,7 +1,7 @@
 -- Defines the load of a file of policies and an array of entities into a site, and its errors.
 -- Rules of this product: the policies are put first, each under its name in the file and with its own text from the
--- file; then the entities, in their order. Each of the two is parsed whole before any of it is put; if it has an error,
--- this is the error that a decision reports.
+-- file; then the entities, in their order. The file and the array are each parsed whole before any item is put; an
+-- error of the parsing is the one that a decision reports.
 use Rattle.std.specs.Prelude.{◌≡◌, ℕ, List, [], ◌∷◌, length, map, Option, None, Some, option_and_then, option_map}
 use Rattle.std.specs.Prelude.{Ok, Err}
 use Rattle.serde_json.specs.Data.{Data}
@@ -59,8 +59,8 @@ RefusesIfNamed Refuses s (Some bytes) refusal = Refuses s bytes refusal
 -- ---- for a site of the schema `schema`, named `n`
 
 module _ (schema : StatedSchema) (n : List ℕ) where
-  -- `LoadsPolicies s bytes t` holds if the site accepts all policies of the file `bytes`, which leads from the store
-  -- `s` to the store `t`.
+  -- `LoadsPolicies s bytes t` holds if the site with the store `s` accepts all policies of the file `bytes`, and then
+  -- has the store `t`.
   pub record LoadsPolicies (s : Store) (bytes : List ℕ) (t : Store) : Type 0 where
     pub names : List (List ℕ)
     pub texts : List (List ℕ)
@@ -68,14 +68,14 @@ module _ (schema : StatedSchema) (n : List ℕ) where
     pub puts : AcceptsAll schema n s (policy_puts names texts) t
 
   -- `RefusesPolicies s bytes refusal` holds if `refusal` is the error of the file `bytes`, or of its first policy that
-  -- the site rejects.
+  -- the site, from the store `s`, rejects.
   pub data RefusesPolicies (s : Store) (bytes : List ℕ) (refusal : Refusal) : Type 0 where
     by_file : ArePoliciesRefused bytes refusal → RefusesPolicies s bytes refusal
     by_put : (names texts : List (List ℕ)) → AreNamedTexts bytes names texts
         → RefusesFirst schema n s 0 (policy_puts names texts) refusal → RefusesPolicies s bytes refusal
 
-  -- `LoadsEntities s bytes t` holds if the site accepts all entities of the array `bytes`, which leads from the store
-  -- `s` to the store `t`.
+  -- `LoadsEntities s bytes t` holds if the site with the store `s` accepts all entities of the array `bytes`, and then
+  -- has the store `t`.
   pub record LoadsEntities (s : Store) (bytes : List ℕ) (t : Store) : Type 0 where
     pub entities : List Entity
     pub read : entities_of (reading_under schema) bytes ≡ Ok entities
@@ -84,15 +84,16 @@ module _ (schema : StatedSchema) (n : List ℕ) where
     pub puts : AcceptsAll schema n s (map entity_put items) t
 
   -- `RefusesEntities s bytes refusal` holds if `refusal` is the error of the array `bytes`, or of its first entity that
-  -- the site rejects.
+  -- the site, from the store `s`, rejects.
   pub data RefusesEntities (s : Store) (bytes : List ℕ) (refusal : Refusal) : Type 0 where
     by_array : entities_of (reading_under schema) bytes ≡ Err refusal → RefusesEntities s bytes refusal
     by_stored : (entities : List Entity) (items : List Data) → entities_of (reading_under schema) bytes ≡ Ok entities
         → items_of bytes ≡ Some items → RefusesFirst schema n s 0 (map entity_put items) refusal
         → RefusesEntities s bytes refusal
 
-  -- `IsLoadedState s policies entities bytes` holds if the site accepts the file `policies` and then the array
-  -- `entities`, as far as they are present, and `bytes` are its state then, which is parsed as the store's updates.
+  -- `IsLoadedState s policies entities bytes` holds if the site, from the store `s`, accepts the file `policies` and
+  -- then the array `entities`, if they are present, and `bytes` are the state of the store at the end. This message is
+  -- parsed as the updates of that store.
   pub record IsLoadedState (s : Store) (policies entities : Option (List ℕ)) (bytes : List ℕ) : Type 0 where
     pub between : Store
     pub last : Store
@@ -101,8 +102,8 @@ module _ (schema : StatedSchema) (n : List ℕ) where
     pub bytes_are : bytes ≡ state_text schema.label last
     pub reads_back : updates_stated schema.label bytes ≡ Ok (updates last)
 
-  -- `IsRefused s policies entities refusal` holds if `refusal` is the error of the file `policies` or, if that is
-  -- loaded or absent, of the array `entities`.
+  -- `IsRefused s policies entities refusal` holds if, from the store `s`, `refusal` is the error of the file `policies`
+  -- or, if that file is loaded or absent, of the array `entities`.
   pub data IsRefused (s : Store) (policies entities : Option (List ℕ)) (refusal : Refusal) : Type 0 where
     by_policies : RefusesIfNamed RefusesPolicies s policies refusal → IsRefused s policies entities refusal
     by_entities : (between : Store) → LoadsIfNamed LoadsPolicies s policies between

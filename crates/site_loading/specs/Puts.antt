@@ -1,5 +1,5 @@
 -- Defines puts of policies and entities into a site, one after another, up to the first that is rejected.
--- Rules of this product: each is accepted or rejected like a single put.
+-- Rules of this product: each put is accepted or rejected as it would be by itself.
 use Rattle.std.specs.Prelude.{◌≡◌, ◌⊎◌, ℕ, suc, List, [], ◌∷◌, Some, Ok, Err}
 use Rattle.serde_json.specs.Data.{Data}
 use Rattle.schema_decisions.specs.schema.Schemas.{StatedSchema}
@@ -13,7 +13,8 @@ use Rattle.site_steps.specs.declared.outcome.Put.{Put}
 use Rattle.site_steps.specs.Faults.{code_of, within_of}
 use Rattle.site_steps.specs.Steps.{PutsPolicy, PutsEntity}
 
--- An `Operation` is the put of a policy's text under its id, or of the entity that JSON describes.
+-- An `Operation` is a put: `policy_put id text` puts the text of a policy under its id, and `entity_put json` the
+-- entity that `json` describes.
 pub data Operation : Type 0 where
   policy_put : List ℕ → List ℕ → Operation
   entity_put : Data → Operation
@@ -26,7 +27,7 @@ put_refusal place f = record { code = code_of f; place = Some place; within = wi
 
 -- for a site of the schema `schema`, named `n`
 module _ (schema : StatedSchema) (n : List ℕ) where
-  -- `Accepts s operation t` holds if the site with the store `s` accepts `operation`, which leads to the store `t`.
+  -- `Accepts s operation t` holds if the site with the store `s` accepts `operation`, and then has the store `t`.
   abbrev pub Accepts : Store → Operation → Store → Type 0
   Accepts s (policy_put id text) t = (put : Put) × PutsPolicy schema n s id text (Ok put) t
   Accepts s (entity_put json) t = (stamp : Stamp) × PutsEntity schema n s (Some json) (Ok stamp) t
@@ -41,15 +42,15 @@ module _ (schema : StatedSchema) (n : List ℕ) where
   abbrev pub RefusesAt : Store → ℕ → Operation → Refusal → Type 0
   RefusesAt s place operation refusal = (f : SiteFault) × Refuses s operation f × (refusal ≡ put_refusal place f)
 
-  -- `AcceptsAll s operations t` holds if the site accepts all of `operations`, one after another, which leads from the
-  -- store `s` to the store `t`.
+  -- `AcceptsAll s operations t` holds if the site with the store `s` accepts all of `operations`, one after another,
+  -- and then has the store `t`.
   abbrev pub AcceptsAll : Store → List Operation → Store → Type 0
   AcceptsAll s [] t = t ≡ s
   AcceptsAll s (operation ∷ operations) t = (m : Store) × Accepts s operation m × AcceptsAll m operations t
 
-  -- `RefusesFirst s place operations refusal` holds if the site, from the store `s`, accepts some first ones of
-  -- `operations`, or none, and rejects the next, and `refusal` reports the error, where `operations` begin at the index
-  -- `place` of their file.
+  -- `RefusesFirst s place operations refusal` holds if `refusal` reports the error of the first of `operations` that
+  -- the site, from the store `s`, rejects, after it accepted those before. The first of `operations` has the index
+  -- `place` in its file.
   abbrev pub RefusesFirst : Store → ℕ → List Operation → Refusal → Type 0
   RefusesFirst s place [] refusal = ⊥
   RefusesFirst s place (operation ∷ operations) refusal = RefusesAt s place operation refusal

@@ -1,8 +1,8 @@
-//! Puts of the entities of an array, one after another.
+//! Puts the entities of an array into a site, one after another.
 ghost use Rattle.std.specs.Prelude.{◌≡◌, ◌<◌, ◌^◌, List, length, map, Some, IfErr, OnOk};
 ghost use Rattle.serde_json.specs.Data.{Data};
 ghost use Rattle.serde_json.specs.View.{view};
-ghost use Rattle.schema_decisions.specs.json_words.Arrays.{to_come};
+ghost use Rattle.schema_decisions.specs.json_words.Arrays.{unread_members};
 ghost use Rattle.site_steps.specs.SiteViews.{schema_of, store_in, IsSameSite};
 ghost use Rattle.plain.specs.Refused.{OrNoMemory};
 ghost use Rattle.schema_decisions.specs.answer_lines.Refusals.{no_memory};
@@ -11,7 +11,7 @@ ghost use Rattle.site_loading.specs.Loads.{LoadsEntities, RefusesEntities};
 
 use crate::refusal::put_refusal;
 use schema_decisions::{
-    Member, Members, Refusal, Scratch, UnderSchema, check_entities, members_of,
+    ArrayMembers, Member, Refusal, Scratch, UnderSchema, check_entities, members_of,
 };
 use serde_json::Value;
 use site_steps::Site;
@@ -32,14 +32,14 @@ fn put_entity(site: &mut Site, place: usize, value: &Value) -> Result<(), Refusa
     }
 }
 
-/// Puts the remaining entities of an array, in their order, up to the first that is rejected. Those before it stay put.
-fn put_each(alloc: Global, site: &mut Site, members: &mut Members<'_>) -> Result<(), Refusal>
+/// Puts the remaining entities of an array, in their order, up to the first that is rejected. The earlier puts remain.
+fn put_each(alloc: Global, site: &mut Site, members: &mut ArrayMembers<'_>) -> Result<(), Refusal>
     requires few { length members.old.reader < 2 ^ 63 }
-    requires json { (ds : List Data) × (to_come members.old ≡ Some ds) }
-    ensures accepted { (ds : List Data) → to_come members.old ≡ Some ds →
+    requires json { (ds : List Data) × (unread_members members.old ≡ Some ds) }
+    ensures accepted { (ds : List Data) → unread_members members.old ≡ Some ds →
         OnOk result (AcceptsAll (schema_of site.old) site.old.name (store_in site.old) (map entity_put ds)
         (store_in site.new)) }
-    ensures refused { (ds : List Data) → to_come members.old ≡ Some ds →
+    ensures refused { (ds : List Data) → unread_members members.old ≡ Some ds →
         IfErr result (OrNoMemory no_memory (RefusesFirst (schema_of site.old) site.old.name (store_in site.old) 0
         (map entity_put ds))) }
     ensures same { IsSameSite site.old site.new }
@@ -55,14 +55,14 @@ fn put_each(alloc: Global, site: &mut Site, members: &mut Members<'_>) -> Result
     }
 }
 
-/// Puts the entities of an array, one after another. Parses the array twice: to check it as a whole, and to put its
-/// entities. Each time only one member's JSON value is in memory.
+/// Puts the entities of an array into a site, one after another. Parses the array twice: to check it as a whole, and to
+/// put its entities. Each time only one member's JSON value is in memory.
 ///
 /// # Errors
 ///
 /// In this order:
 ///
-/// - 30 to 38, at the entity's index in the array: the first error of the array, as for a decision; 30 without a place
+/// - 30 to 38, at the entity's index in the array: the first error of the array, as for a decision; 30 without an index
 ///   if the bytes are not an array.
 /// - The error of the first rejected put, at the entity's index.
 /// - `NoMemory` (1): an allocation failed; possible at any point.

@@ -52,19 +52,19 @@ fn load_entities_if_named(
     }
 }
 
-/// Puts the policies of a file and the entities of an array, as far as they are given, into a site, and returns its
+/// Puts the policies of a file and the entities of an array, if they are given, into a site, and returns the site's
 /// state as a message.
 ///
-/// Each policy is put under its name in the file with its own text from the file, then each entity. The result is
-/// that of [`Site::state`] after these puts, and is parsed as the store's updates.
+/// Each policy is put under its name in the file with its own text from the file; then each entity is put. The result
+/// is that of [`Site::state`] after these puts, and is parsed as the store's updates.
 ///
 /// # Errors
 ///
-/// The first of these, in this order; there is then no state:
+/// The first of these, in this order; no state is then returned:
 ///
 /// - 10 to 19, at a byte offset: the file of policies is rejected.
-/// - 18, 40 to 46 or 62, at the policy's index in the file: the first rejected put of a policy (18: its own text has
-///   over 262,144 bytes; 40 to 46: it does not pass validation; 62: no stamp is left).
+/// - 18, 40 to 46 or 62, at the policy's index in the file: the first rejected put of a policy (18: the policy's own
+///   text has over 262,144 bytes; 40 to 46: the policy does not pass validation; 62: no stamp is left).
 /// - 30 to 38, at the entity's index in the array: the array of entities is rejected; 30 without a place if the bytes
 ///   are not an array.
 /// - 61 or 62, at the entity's index: the first rejected put of an entity (61: a cycle; 62: no stamp is left).

@@ -46,8 +46,8 @@ fn texts_of<'t>(alloc: Global, bytes: &'t [u8]) -> Result<Vec<&'t str>, NoMemory
     }
 }
 
-/// Puts policies under these names with these texts, in their order, up to the first that is rejected. Those before it
-/// stay put.
+/// Puts `texts` under the names in `policies`, in their order, up to the first that is rejected. The earlier puts
+/// remain.
 fn put_each(site: &mut Site, policies: &[(String, Policy)], texts: &[&str]) -> Result<(), Refusal>
     requires { length texts.now ≡ length policies.now }
     ensures accepted { OnOk result (AcceptsAll (schema_of site.old) site.old.name (store_in site.old)
@@ -63,7 +63,7 @@ fn put_each(site: &mut Site, policies: &[(String, Policy)], texts: &[&str]) -> R
     Ok(())
 }
 
-/// Puts the policies of a file in its order, each under its name in the file with its own text from the file.
+/// Puts the policies of a file in their order, each under its name in the file with its own text from the file.
 ///
 /// # Errors
 ///

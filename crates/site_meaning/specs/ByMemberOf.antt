@@ -18,14 +18,16 @@ use Rattle.site_meaning.specs.StoreMeaning.{ArePolicies, AreEntities, data_in, I
 
 -- ---- the meaning of a store, under a schema that bytes describe
 
+-- `stated` shows that `bytes` describe `schema`. `Policies` and `Entities` relate a name and a text to what the text is
+-- parsed as.
 module _ {bytes : List ℕ} {schema : StatedSchema} (stated : IsSchemaOf bytes schema) where
   -- `stated_world_under entities` is the entity data for evaluation: the attributes and parents of `entities`, and the
   -- parents that the `memberOf` of each action of the schema names.
   abbrev pub stated_world_under : (EntityUid → Option Entity) → Entities
   stated_world_under entities = stated_world stated.named schema (data_in entities)
 
-  -- `stated_parents_with entities e` is the parent relation of that data with the entity `e` put: the parents of its
-  -- uid are those of `e`.
+  -- `stated_parents_with entities e` is the parent relation of `stated_world_under entities` after the entity `e` is
+  -- put: the uid of `e` then has the parents of `e`.
   abbrev pub stated_parents_with : (EntityUid → Option Entity) → Entity → Parents
   stated_parents_with entities e = with_parents (stated_world_under entities).parents e.uid e.parents
 
@@ -55,25 +57,25 @@ module _ {bytes : List ℕ} {schema : StatedSchema} (stated : IsSchemaOf bytes s
       pub are_entities : AreEntities Entities s entities
       pub none : IsOnCycle (stated_parents_with entities e) e.uid → ⊥
 
--- ---- theorems, whatever the texts of the store are parsed as
+-- ---- theorems, for any `Policies` and `Entities`: relations between a name, a text and what the text is parsed as
 
--- `StoredActionsAnswerAlike Policies Entities`: the answers over a store are those where each action has the parents
--- that its `memberOf` names.
+-- `StoredActionsAnswerAlike Policies Entities`: the answers over a store are the answers over the same store where each
+-- action has only the parents that its `memberOf` names.
 abbrev pub StoredActionsAnswerAlike : (List ℕ → List ℕ → Policy → Type 0) → (EntityUid → List ℕ → Entity → Type 0)
     → Type 0
 StoredActionsAnswerAlike Policies Entities =
     (bytes : List ℕ) (schema : StatedSchema) (stated : IsSchemaOf bytes schema) (s : Store) (q : Request) (a : Answer)
     → IsAnswerOver Policies Entities schema s q a ↔ IsAnswerByMemberOf stated Policies Entities s q a
 
--- `StoredActionsCycleAlike Entities`: an entity becomes cyclic when it is put if and only if it does so where each
--- action has the parents that its `memberOf` names.
+-- `StoredActionsCycleAlike Entities`: an entity that is put becomes cyclic (`MakesCycle`) if and only if it becomes
+-- cyclic where each action has only the parents that its `memberOf` names.
 abbrev pub StoredActionsCycleAlike : (EntityUid → List ℕ → Entity → Type 0) → Type 0
 StoredActionsCycleAlike Entities =
     (bytes : List ℕ) (schema : StatedSchema) (stated : IsSchemaOf bytes schema) (s : Store) (e : Entity)
     → MakesCycle Entities schema s e ↔ MakesCycleByMemberOf stated Entities s e
 
--- `StoredActionsAllowAlike Entities`: an entity does not become cyclic when it is put if and only if it does not where
--- each action has the parents that its `memberOf` names.
+-- `StoredActionsAllowAlike Entities`: an entity that is put stays acyclic (`MakesNoCycle`) if and only if it stays
+-- acyclic where each action has only the parents that its `memberOf` names.
 abbrev pub StoredActionsAllowAlike : (EntityUid → List ℕ → Entity → Type 0) → Type 0
 StoredActionsAllowAlike Entities =
     (bytes : List ℕ) (schema : StatedSchema) (stated : IsSchemaOf bytes schema) (s : Store) (e : Entity)

@@ -17,7 +17,7 @@ use Rattle.stamped_store.specs.Stored.{value_at}
 use Rattle.site_meaning.specs.StoreMeaning.{data_of, data_in}
 use Rattle.site_meaning.specs.TextsRead.{entity_at, uids_read}
 
--- each member of a filtered list is a member of the list, and has the property
+-- each member of `filter p xs` is a member of `xs` and satisfies `p`
 out_of_filter : (p : EntityUid → Bool) (xs : List EntityUid) (u : EntityUid) → Contains (filter p xs) u
     → Contains xs u × (p u ≡ true)
 out_of_filter p [] u h = Contains-none u h
@@ -31,7 +31,7 @@ out_of_filter p (x ∷ xs) u h =
       | false ↦ λ is m. let rest = out_of_filter p xs u m in (Contains-there x xs u rest.0, rest.1)
     ] refl h
 
--- each member of a list that has the property is a member of the filtered list
+-- each member of `xs` that satisfies `p` is a member of `filter p xs`
 into_filter : (p : EntityUid → Bool) (xs : List EntityUid) (u : EntityUid) → Contains xs u → p u ≡ true
     → Contains (filter p xs) u
 into_filter p [] u h is = Contains-none u h
@@ -59,10 +59,12 @@ key_at (e ∷ es) u h =
       | false ↦ λ apart h. Contains-there e.0 (keys_of es) u (key_at es u h)
     ] refl h
 
+-- an option has a value if `option_and_then` of it has one
 some_before : {A B : Type 0} (f : A → Option B) (o : Option A) → IsSome (option_and_then f o) → IsSome o
 some_before f None h = h
 some_before f (Some x) h = refl
 
+-- `option_map f o` has a value exactly when `o` has one
 some_mapped : {A B : Type 0} (f : A → B) (o : Option A) → is_some (option_map f o) ≡ is_some o
 some_mapped f None = refl
 some_mapped f (Some x) = refl

@@ -1,7 +1,8 @@
 -- Defines the meaning of a store: its policies, its entities, and the answers over them.
--- Rules of this product: the policies and entities are those whose entry has a text, each parsed from it; a deleted
--- name has no policy and no entity; the schema's actions are added to the entities. The relation `Reads` between a
--- name, a text and what the text may be parsed as is a parameter of these definitions.
+-- Rules of this product: the policies and entities are those whose entry has a text, each parsed from that text; a
+-- deleted name has no policy and no entity; the schema's actions are added to the entities. These definitions have a
+-- parameter `Reads` (or `Policies` and `Entities`): the relation between a name, a text and a value that the text may
+-- be parsed as.
 use Rattle.std.specs.Prelude.{◌≡◌, ℕ, List, Option, Some, None, option_map}
 use Rattle.std.specs.List.{AllZip}
 use Rattle.values.specs.declared.entity_uid.EntityUid.{EntityUid}
@@ -18,12 +19,12 @@ use Rattle.entity_hierarchy.specs.entity_data.Entities.{EntityMap, with_actions,
 use Rattle.stamped_store.specs.Store.{Store, entity_name}
 use Rattle.stamped_store.specs.Contents.{text_under, policies_of}
 
--- `HaveOneReading Reads` holds if a text has at most one value by `Reads` under its name.
+-- `HaveOneReading Reads` holds if a text has at most one value by `Reads` under each name.
 abbrev pub HaveOneReading : {N X : Type 0} → (N → List ℕ → X → Type 0) → Type 0
 HaveOneReading {N} {X} Reads = (name : N) (text : List ℕ) (x y : X) → Reads name text x → Reads name text y → x ≡ y
 
--- `ArePolicies Reads s ps` holds if `ps` are the policies of the store `s`, ascending by id: for each id with a text
--- a value of that text by `Reads`.
+-- `ArePolicies Reads s ps` holds if `ps` are the policies of the store `s`, ascending by id: one for each id that has a
+-- text in `s`, a value of that text by `Reads`.
 abbrev pub ArePolicies : (List ℕ → List ℕ → Policy → Type 0) → Store → List NamedPolicy → Type 0
 ArePolicies Reads s ps = AllZip (λ t p. (p.id ≡ t.0) × Reads t.0 t.1 p.policy) (policies_of s) ps
 
@@ -49,7 +50,7 @@ abbrev pub data_in : (EntityUid → Option Entity) → EntityMap
 data_in entities uid = option_map data_of (entities uid)
 
 -- `entity_data_under schema entities` is the entity data for evaluation: the attributes and parents of `entities`, and
--- the parents of the schema's actions, which are those that its `memberOf` names (ByMemberOf.antt). A theorem of
+-- for each action of `schema` the parents that the action's `memberOf` names (ByMemberOf.antt). A theorem of
 -- `entity_hierarchy` shows that answers and cycles stay the same if each action has all of its ancestors as parents.
 abbrev pub entity_data_under : StatedSchema → (EntityUid → Option Entity) → Entities
 entity_data_under schema entities = entity_data_in (with_actions schema.member_of (data_in entities))
@@ -64,8 +65,8 @@ pub record IsAnswerOver (Policies : List ℕ → List ℕ → Policy → Type 0)
   pub are_entities : AreEntities Entities s entities
   pub is_answer : IsAnswer (entity_data_under schema entities) q policies a
 
--- `parents_with schema entities e` is the parent relation of `entities` and the actions of `schema` with the entity `e`
--- put: the parents of its uid are those of `e`.
+-- `parents_with schema entities e` is the parent relation of `entities` and the actions of `schema` after the entity
+-- `e` is put: the uid of `e` then has the parents of `e`.
 abbrev pub parents_with : StatedSchema → (EntityUid → Option Entity) → Entity → Parents
 parents_with schema entities e = with_parents (entity_data_under schema entities).parents e.uid e.parents
 

@@ -1,4 +1,4 @@
--- Defines the parsed policies and entities that a store has with its texts.
+-- Defines the parsed policies and entities that a store has together with their texts.
 use Rattle.std.specs.Prelude.{ℕ, List, [], ◌∷◌, Option, Some, None, is_some, string_bytes, option_and_then, option_map}
 use Rattle.std.specs.List.{filter, flat_map}
 use Rattle.std.specs.Map.{keys_of}
@@ -13,7 +13,8 @@ use Rattle.stamped_store.specs.declared.entry.Entry.{Entry}
 use Rattle.stamped_store.specs.declared.entry.ReadText.{ReadText}
 use Rattle.stamped_store.specs.Stored.{value_at}
 
--- `policy_read id t` is the list of the parsed policy of the text `t` with the name `id`; it is empty without a text.
+-- `policy_read id t` is the list of the one parsed policy of the text `t`, with the name `id`; it is empty if `t` is
+-- `None`.
 abbrev pub policy_read : List ℕ → Option (ReadText Policy) → List NamedPolicy
 policy_read id None = []
 policy_read id (Some t) = record { id = id; policy = t.read } ∷ []
@@ -22,7 +23,7 @@ policy_read id (Some t) = record { id = id; policy = t.read } ∷ []
 abbrev pub policies_read : List (String Global × Entry Policy) → List NamedPolicy
 policies_read es = flat_map (λ e. policy_read (string_bytes e.0) e.1.body) es
 
--- `entity_read body` is the parsed entity of `body`, if that is a text and not a tombstone's.
+-- `entity_read body` is the parsed entity of `body`, or `None` if `body` is a tombstone's.
 abbrev pub entity_read : Option (ReadText Entity) → Option Entity
 entity_read body = option_map (λ t. t.read) body
 

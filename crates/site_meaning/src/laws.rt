@@ -17,8 +17,8 @@ use entity_hierarchy::{Entity, Policy, actions_may_be_closed, answers_are_lawful
 use stamped_store::Readings;
 use stamped_store::laws::contents_are_the_texts;
 
-/// Proves that a store has at most one list of policies and at most one entity at each uid, if a text has at most one
-/// value under its name. No-op.
+/// Proves that, if a text has at most one value under each name, a store has at most one list of policies and at most
+/// one entity at each uid. No-op.
 ///
 /// The policies and entities are then exactly the values of the texts in the store. The ids of the policies ascend.
 pub fn stores_have_one_reading<R: Readings<Policy, Entity>>()
@@ -41,7 +41,7 @@ pub fn stores_have_one_reading<R: Readings<Policy, Entity>>()
 }
 
 /// Proves that a request has one answer over a store, under a schema that bytes describe: at least one if each text has
-/// a value, and at most one if a text has at most one value under its name. No-op.
+/// a value, and at most one if a text has at most one value under each name. No-op.
 ///
 /// So equal stores give equal answers.
 pub fn requests_have_one_answer<R: Readings<Policy, Entity>>()
@@ -61,9 +61,9 @@ pub fn requests_have_one_answer<R: Readings<Policy, Entity>>()
 /// Proves that answers and cycles over a store are those over the entity data in which each action has only the parents
 /// that its `memberOf` names. No-op.
 ///
-/// Under a schema that bytes describe, an answer over a store is an answer over that data, and conversely. An entity
-/// becomes cyclic when it is put if and only if it does so there. Both hold whatever the texts are parsed as, and for
-/// any uid.
+/// Under a schema that bytes describe, an answer over a store is an answer over that data, and conversely. Putting an
+/// entity, whatever its uid, makes the entity cyclic over the store if and only if it does over that data. Both hold
+/// whatever the texts are parsed as.
 pub fn stored_actions_answer_alike<R: Readings<Policy, Entity>>()
     ensures answers { (r : R) → StoredActionsAnswerAlike (R.reads_policy r) (R.reads_entity r) }
     ensures cycles { (r : R) → StoredActionsCycleAlike (R.reads_entity r) }

@@ -76,7 +76,7 @@ pub(crate) fn push_context(
     let (type_name, text) = first_word(text);
     let (id, json) = first_word(text);
     match action_of(alloc, type_name, id) {
-        Ok(Some(action)) => push_read(alloc, schema.get(), action, json, line),
+        Ok(Some(action)) => push_read(alloc, schema, action, json, line),
         Ok(None) => line.push(BAD_ROW),
         Err(_) => line.push(NO_MEMORY),
     }

@@ -1,7 +1,7 @@
 //! What the cases above a case have set up.
 use crate::inputs::{all_lent, inputs_of};
 use crate::line::{BAD_ROW, Line, NO_MEMORY};
-use crate::replies::{push_reply, push_standing};
+use crate::replies::{push_caches, push_reply};
 use crate::written::first_word;
 use entities::{Schema, read_schema};
 use http_service::{Input, Reply, Site, SiteName, run};
@@ -52,7 +52,7 @@ fn add_site(
     Ok(())
 }
 
-/// Returns the index of the newest site of a name, or the number of sites without one.
+/// Returns the index of the newest site of a name, or the number of sites if none has this name.
 fn index_of(sites: &[Started], name: &str) -> usize {
     for at in 0..sites.len() {
         if sites[at].name.as_str() == name {
@@ -62,7 +62,7 @@ fn index_of(sites: &[Started], name: &str) -> usize {
     sites.len()
 }
 
-/// Gives the site of a name inputs as one run, and returns its replies; None without such a site.
+/// Gives inputs, as one run, to the newest site of this name, and returns the replies; `None` without such a site.
 fn run_at(
     alloc: Global,
     sites: &mut Vec<Started>,
@@ -116,7 +116,7 @@ impl Given {
     pub(crate) fn start(&mut self, alloc: Global, name: &str, line: &mut Line) {
         match (&self.schema, SiteName::parse(name)) {
             (Some(schema), Some(name)) => match add_site(alloc, schema, name, &mut self.sites) {
-                Ok(()) => line.push(schema.get().label().as_bytes()),
+                Ok(()) => line.push(schema.label().as_bytes()),
                 Err(_) => line.push(NO_MEMORY),
             },
             _ => line.push(BAD_ROW),
@@ -127,7 +127,7 @@ impl Given {
     pub(crate) fn push_measure(&self, word: &str, name: &str, line: &mut Line) {
         match (word, site_of(&self.sites, name)) {
             ("tried", Some(site)) => line.push_number(site.tried() as u64),
-            (_, Some(site)) => push_standing(line, site.standing()),
+            (_, Some(site)) => push_caches(line, site.caches_present()),
             _ => line.push(BAD_ROW),
         }
     }

@@ -2,7 +2,7 @@
 use crate::line::BETWEEN;
 use crate::written::{expanded, expanded_text, first_word};
 use http_service::Input;
-use plain::{Items, NoMemory, Text, beside};
+use plain::{Items, NoMemory, Text, pair_with};
 use std::alloc::Global;
 use values::{EntityUid, SharedText, TypeName};
 
@@ -48,23 +48,23 @@ pub(crate) fn all_lent(alloc: Global, inputs: &[OwnedInput]) -> Result<Vec<Input
     Ok(lent)
 }
 
-/// Returns the policy to put: its id up to a blank, and its text.
+/// Returns the put of a policy, which a string gives by its id, a blank and its text.
 fn policy_put(alloc: Global, text: &str) -> Result<Option<OwnedInput>, NoMemory> {
     let (id, text) = first_word(text);
     let id = expanded_text(alloc, id)?;
-    let (id, text) = beside(id, expanded_text(alloc, text))?;
+    let (id, text) = pair_with(id, expanded_text(alloc, text))?;
     Ok(Some(OwnedInput::PutPolicy(id, text)))
 }
 
 /// Returns the uid of this type and id.
 pub(crate) fn uid_of(alloc: Global, type_name: TypeName, id: &str) -> Result<EntityUid, NoMemory> {
-    let (type_name, id) = beside(type_name, expanded_text(alloc, id))?;
-    let (type_name, id) = beside(type_name, SharedText::from_text(alloc, id))?;
+    let (type_name, id) = pair_with(type_name, expanded_text(alloc, id))?;
+    let (type_name, id) = pair_with(type_name, SharedText::from_text(alloc, id))?;
     Ok(EntityUid { type_name, id })
 }
 
-/// Returns the entity to delete: its type up to a blank, and its id. If the type is not a path, returns a put of no
-/// bytes, which has the error (30) that a served site reports for a malformed uid.
+/// Returns the deletion of an entity, which a string gives by its type, a blank and its id. If the type is not a path,
+/// returns a put of no bytes, which has the error (30) that a served site reports for a malformed uid.
 fn entity_deleted(alloc: Global, text: &str) -> Result<Option<OwnedInput>, NoMemory> {
     let (type_name, id) = first_word(text);
     match TypeName::parse(alloc, type_name)? {
@@ -73,7 +73,7 @@ fn entity_deleted(alloc: Global, text: &str) -> Result<Option<OwnedInput>, NoMem
     }
 }
 
-/// Returns the deletion of a policy, or its look-up.
+/// Returns the deletion or the look-up of the policy with this id.
 fn input_by_id(alloc: Global, word: &str, id: &str) -> Result<Option<OwnedInput>, NoMemory> {
     let id = expanded_text(alloc, id)?;
     match word {
@@ -82,7 +82,7 @@ fn input_by_id(alloc: Global, word: &str, id: &str) -> Result<Option<OwnedInput>
     }
 }
 
-/// Returns the input that bytes are: an entity, a message, a request or a summary.
+/// Returns the input of this word with these bytes: an entity, a message, a request or a summary.
 pub(crate) fn input_of_bytes<'a>(word: &str, bytes: &'a [u8]) -> Input<'a> {
     match word {
         "put_entity" => Input::PutEntity(bytes),
@@ -92,7 +92,7 @@ pub(crate) fn input_of_bytes<'a>(word: &str, bytes: &'a [u8]) -> Input<'a> {
     }
 }
 
-/// Returns the input that holds the bytes of a string.
+/// Returns the input of this word with the bytes that a string denotes.
 fn input_by_bytes(alloc: Global, word: &str, text: &str) -> Result<Option<OwnedInput>, NoMemory> {
     let bytes = Items::from_vec(expanded(alloc, text)?);
     match word {

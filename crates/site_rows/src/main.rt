@@ -20,9 +20,10 @@
 //! - `world COUNT EVENT` executes events at COUNT empty sites, and prints the reply to each event and the state of each
 //!   site. ` ¶ ` separates events. An event is the number of a site and one of the first five inputs, or `summary`,
 //!   `offer`, `offer_delta NUMBER` or `deliver NUMBER`.
-//! - `serve STREAM` serves an empty site, `00001`, over a stream of requests, and prints the outcome and the replies. `
-//!   ¶ ` separates the bytes of one read from those of the next. An outcome is the code of the error (`-` without one),
-//!   the number of unread bytes, the numbers of whole replies and of bytes after them, and the site's state.
+//! - `serve STREAM` serves an empty site, `00001`, over a stream of requests, and prints the outcome and the replies.
+//!   In STREAM ` ¶ ` separates the bytes of one read from those of the next. An outcome is the code of the error (`-`
+//!   without one), the number of unread bytes, the numbers of whole replies and of bytes after them, and the site's
+//!   state.
 //! - `reads STREAM` prints the outcome if the first read fails, if the second read fails, and so on, up to a read that
 //!   never happens. `writes SIZE STREAM` does the same for writes, each of at most SIZE bytes.
 //! - `logs SIZE STREAM` serves with a log whose first write fails, whose second write fails, and so on, up to a write
@@ -32,9 +33,9 @@
 //!   on, as `serve` does; and then the outcome if the second of these reads fails.
 //!
 //! A case of another form has the outcome `bad row`, and one for which an allocation fails `no memory`. An error is
-//! its code, its place and the code within. In an input `⟦3×ab⟧` is `ababab`, `⟦2№a#+⟧` is `a01a12`, and `⟦0a ff⟧` two
-//! bytes. In a stream `\r` and `\n` are a carriage return and a line feed, and a backslash before any other byte is
-//! that byte.
+//! its code, its place and the code within. In an input `⟦3×ab⟧` is `ababab`, `⟦2№a#+⟧` is `a01a12` (`#` is the number
+//! of the repetition, from 0, and `+` the next number), and `⟦0a ff⟧` is the bytes 10 and 255. In a stream `\r` and
+//! `\n` are a carriage return and a line feed, and a backslash with any other byte is that byte.
 //!
 //! [`run`]: site::run
 //! [`simulate`]: site::simulate

@@ -29,7 +29,7 @@ fn push_error(line: &mut Line, code: u8, place: Option<usize>, within: Option<u8
     push_within(line, within);
 }
 
-/// Appends why a site rejects an input: the error's code and places, or its message.
+/// Appends why a site rejects an input: the code, the place and the code within, or the message.
 pub(crate) fn push_fault(line: &mut Line, fault: SiteFault) {
     if line.has_messages() {
         return line.push_shown(&fault);
@@ -46,7 +46,7 @@ fn push_stamp(line: &mut Line, stamp: &Stamp) {
     line.push(b")");
 }
 
-/// Appends the outcome of a put policy.
+/// Appends the outcome of the put of a policy.
 fn push_put(line: &mut Line, put: &Put) {
     push_stamp(line, &put.stamp);
     if put.impossible {
@@ -101,8 +101,8 @@ pub(crate) fn push_state(line: &mut Line, site: &Site) {
 }
 
 /// Appends whether the ancestor cache of a site is present, and whether its index of policies is.
-pub(crate) fn push_standing(line: &mut Line, standing: (bool, bool)) {
-    match standing {
+pub(crate) fn push_caches(line: &mut Line, present_caches: (bool, bool)) {
+    match present_caches {
         (true, true) => line.push(b"ancestors, index"),
         (true, false) => line.push(b"ancestors"),
         (false, true) => line.push(b"index"),

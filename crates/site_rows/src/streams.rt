@@ -6,7 +6,7 @@ use crate::replies::push_state;
 use crate::written::{first_word, number_of, push_escaped, push_unescaped, text_in};
 use entities::Schema;
 use http_service::{Fed, Kept, Plan, Site, SiteName, StreamFault, serve, serve_logged};
-use plain::{NoMemory, Shared, beside};
+use plain::{NoMemory, Shared, pair_with};
 use std::alloc::Global;
 
 /// The number of calls of a device, and of replies, after which a case is cut off; no case has so many.
@@ -24,17 +24,19 @@ struct Stream {
 struct Devices<'a> {
     /// How many bytes each read returns at most.
     reads: &'a [usize],
+    /// The number of the read that fails, from 0, if one does.
     failing_read: Option<u64>,
     /// How many bytes each write takes at most.
     writes: &'a [usize],
+    /// The number of the write that fails, from 0, if one does.
     failing_write: Option<u64>,
-    /// How many bytes the second of two reads returns, or 0 if the number of reads is not two.
+    /// How many bytes the second read of a case `cuts` returns; 0 in other cases.
     second: usize,
     /// Whether the outcome shows the replies.
     is_shown: bool,
 }
 
-/// Returns the devices of a case, of which the call of this number fails.
+/// Returns the devices of a case: for `reads` and `writes` the read or the write with this number fails.
 fn devices_of<'a>(word: &str, reads: &'a [usize], writes: &'a [usize], number: u64) -> Devices<'a> {
     let is_read = word == "reads";
     let is_write = word == "writes";
@@ -76,7 +78,7 @@ fn stream_of(alloc: Global, text: &str) -> Result<Stream, NoMemory> {
     for one in text.split(BETWEEN) {
         push_read(&mut bytes, &mut reads, one);
     }
-    let (reads, bytes) = beside(reads, bytes.ended())?;
+    let (reads, bytes) = pair_with(reads, bytes.ended())?;
     Ok(Stream { bytes, reads })
 }
 
@@ -181,7 +183,7 @@ fn push_served_anew(
     }
 }
 
-/// Serves a stream once for each call of a device, which fails, up to a call that never happens.
+/// Serves a stream once for each call of a device, with a failure of that call, up to a call that never happens.
 fn push_in_turn(
     alloc: Global,
     schema: &Shared<Schema>,
@@ -242,7 +244,7 @@ fn push_served_logged(
     matches!(fault, Some(StreamFault::Log))
 }
 
-/// Serves a stream once for each write of the log, which fails, up to a write that never happens.
+/// Serves a stream once for each write of the log, with a failure of that write, up to a write that never happens.
 fn push_logged_in_turn(
     alloc: Global,
     schema: &Shared<Schema>,

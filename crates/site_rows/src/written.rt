@@ -40,7 +40,7 @@ fn push_hexadecimal(bytes: &mut Line, text: &str) {
     }
 }
 
-/// Returns the number that a string is, if it is one.
+/// Returns the number that a string spells in decimal digits, if it spells one.
 pub(crate) fn number_of(text: &str) -> Option<usize> {
     text.parse().ok()
 }

@@ -7,14 +7,14 @@ use Rattle.site_meaning.specs.ancestor_search.Decided.{is_same}
 use Rattle.site_meaning.specs.ancestor_search.Deciding.{Contains-here, Contains-there, same_uid}
 use Rattle.serde_json.specs.Find.{get, as_object}
 use Rattle.values.specs.declared.entity_uid.EntityUid.{EntityUid}
-use Rattle.site_meaning.specs.schema.declared.parts.Place.{Place}
+use Rattle.site_meaning.specs.schema.declared.parts.EnvironmentKey.{EnvironmentKey}
 use Rattle.site_meaning.specs.schema.Schemas.{EnvironmentOf, StatedSchema}
 use Rattle.site_meaning.specs.entities.declared.value_fault.ValueFault.{ValueFault}
 use Rattle.site_meaning.specs.entities.declared.fault.EntityFault.TheVariants.{UnknownType, ActionEntity, TagsLeftOut}
 use Rattle.site_meaning.specs.entities.declared.fault.EntityFault.TheVariants.{NotApplicable}
 use Rattle.site_meaning.specs.entity_data.declared.entity.Entity.{Entity}
 use Rattle.site_meaning.specs.entities.declared.stated.StatedEntity.{StatedEntity}
-use Rattle.site_meaning.specs.entities.Faults.{told}
+use Rattle.site_meaning.specs.entities.Faults.{with_entity_fault}
 use Rattle.site_meaning.specs.entities.Stated.{stated_in, is_absent_or_empty, or_empty}
 use Rattle.site_meaning.specs.entities.Entities.{is_action_type, shape_of, attributes_in, parents_in, entity_stated_in}
 use Rattle.site_meaning.specs.entities.Contexts.{context_where, is_place}
@@ -71,7 +71,7 @@ records_are_of made t d vs e =
 
 -- ---- entities
 
-told_of : {A : Type 0} (r : Result A ValueFault) (x : A) → told r ≡ Ok x → r ≡ Ok x
+told_of : {A : Type 0} (r : Result A ValueFault) (x : A) → with_entity_fault r ≡ Ok x → r ≡ Ok x
 told_of (Ok y) x h = cc
 told_of (Err f) x h = absurd cc
 
@@ -92,8 +92,8 @@ attributes_are_of : SetsHoldTheirMembers → (s : StatedSchema) (name : List ℕ
     → Of (record_of (fields_of fs)) (record_type (attributes_of s name))
 unfolding attributes_in
 attributes_are_of made s name d fs e =
-    let a = bound (shape_of s name) (λ (t : Cedar). demand TagsLeftOut (is_absent_or_empty (get (codes "tags") d)) >>= λ (x : ⊤). told (record_in t (or_empty (get (codes "attrs") d)))) fs e in
-    let b = bound (demand TagsLeftOut (is_absent_or_empty (get (codes "tags") d))) (λ (x : ⊤). told (record_in a.0 (or_empty (get (codes "attrs") d)))) fs a.2 in
+    let a = bound (shape_of s name) (λ (t : Cedar). demand TagsLeftOut (is_absent_or_empty (get (codes "tags") d)) >>= λ (x : ⊤). with_entity_fault (record_in t (or_empty (get (codes "attrs") d)))) fs e in
+    let b = bound (demand TagsLeftOut (is_absent_or_empty (get (codes "tags") d))) (λ (x : ⊤). with_entity_fault (record_in a.0 (or_empty (get (codes "attrs") d)))) fs a.2 in
     let read : record_in a.0 (or_empty (get (codes "attrs") d)) ≡ Ok fs = told_of (record_in a.0 (or_empty (get (codes "attrs") d))) fs b.2 in
     subst (λ (ts : FieldTypes). Of (record_of (fields_of fs)) (record_type ts)) (sym (shape_is s name a.0 a.1)) (records_are_of made a.0 (or_empty (get (codes "attrs") d)) fs read)
 
@@ -109,15 +109,15 @@ entities_are_of made s d e h =
 
 -- ---- requests
 
-abbrev IsWhere : (Place → Bool) → List EnvironmentOf → Cedar → Type 0
+abbrev IsWhere : (EnvironmentKey → Bool) → List EnvironmentOf → Cedar → Type 0
 IsWhere passes es t = (e : EnvironmentOf) × Contains es e × (passes e.place ≡ true) × (e.context ≡ t)
 
-where_here : (passes : Place → Bool) (e : EnvironmentOf) (es : List EnvironmentOf) (t : Cedar) → (context_where passes es ≡ Some t → IsWhere passes es t)
+where_here : (passes : EnvironmentKey → Bool) (e : EnvironmentOf) (es : List EnvironmentOf) (t : Cedar) → (context_where passes es ≡ Some t → IsWhere passes es t)
     → (b : Bool) → b ≡ passes e.place → cond b (Some e.context) (context_where passes es) ≡ Some t → IsWhere passes (e ∷ es) t
 where_here passes e es t more true at h = (e, Contains-here e es, sym at, cc)
 where_here passes e es t more false at h = let m = more h in (m.0, Contains-there e es m.0 m.1, m.2, m.3)
 
-is_where : (passes : Place → Bool) (es : List EnvironmentOf) (t : Cedar) → context_where passes es ≡ Some t → IsWhere passes es t
+is_where : (passes : EnvironmentKey → Bool) (es : List EnvironmentOf) (t : Cedar) → context_where passes es ≡ Some t → IsWhere passes es t
 is_where passes [] t h = absurd cc
 is_where passes (e ∷ es) t h = where_here passes e es t (is_where passes es t) (passes e.place) refl h
 
@@ -127,11 +127,11 @@ context_static made t u d fs same read = subst (λ (w : Cedar). Of (record_of (f
 pub requests_are_of : SetsHoldTheirMembers → RequestsAreOfAnEnvironment
 unfolding context_asked
 requests_are_of made s d q states =
-    let passes : Place → Bool = is_place q.action q.principal.type_name q.resource.type_name in
+    let passes : EnvironmentKey → Bool = is_place q.action q.principal.type_name q.resource.type_name in
     let asked : Data = or_empty (get (codes "context") d) in
-    let a = bound (or_fault NotApplicable (context_where passes s.environments)) (λ (t : Cedar). told (record_in t asked)) q.context states.context in
+    let a = bound (or_fault NotApplicable (context_where passes s.environments)) (λ (t : Cedar). with_entity_fault (record_in t asked)) q.context states.context in
     let found = is_where passes s.environments a.0 (some_of NotApplicable (context_where passes s.environments) a.0 a.1) in
-    let place : Place = found.0.place in
+    let place : EnvironmentKey = found.0.place in
     let one = both_true (is_same place.action q.action) (bytes_eq place.principal q.principal.type_name && bytes_eq place.resource q.resource.type_name) found.2 in
     let two = both_true (bytes_eq place.principal q.principal.type_name) (bytes_eq place.resource q.resource.type_name) one.1 in (
       found.0,

@@ -1,7 +1,8 @@
 -- Defines the errors that are possible in an answer over a store whose texts were parsed under a schema.
 -- Source: cedar-spec, cedar-lean/Cedar/Thm/Validation.lean (`validation_is_sound`: a policy that passes the validator
 -- has no error of type, attribute or extension).
--- Rules of this product: each stored text was parsed under the schema, so a store meets the premises of that theorem.
+-- Rules of this product: each stored text was parsed under the schema, so a store meets the premises of
+-- `validation_is_sound`.
 use Rattle.std.specs.Prelude.{◌≢◌, ℕ, List, Contains, Option, true, Ok}
 use Rattle.serde_json.specs.Data.{Data}
 use Rattle.values.specs.declared.entity_uid.EntityUid.{EntityUid}
@@ -29,8 +30,8 @@ abbrev pub HasPermittedErrors : Answer → Type 0
 HasPermittedErrors a = (e : ErringPolicy) → Contains a.errors e → IsPermittedError (fault_of e.error)
 
 -- `StoredPoliciesAreSound`: over a store whose texts were each parsed under a schema that bytes describe, and for a
--- request that was parsed under it, each policy gives a boolean or one of these two errors; an impossible one is never
--- true.
+-- request that was parsed under the same schema, each policy gives a boolean, `EntityDoesNotExist` or
+-- `ArithBoundsError`; an impossible policy never gives true.
 abbrev pub StoredPoliciesAreSound : Type 0
 StoredPoliciesAreSound = (bytes : List ℕ) (schema : StatedSchema) → IsSchemaOf bytes schema → (s : Store)
     → (d : Data) (q : Request) → StatesRequest schema d q
@@ -40,7 +41,8 @@ StoredPoliciesAreSound = (bytes : List ℕ) (schema : StatedSchema) → IsSchema
     → EvaluatesTo (entity_data_under schema entities) q (expression_of p.policy) r
     → Fits boolean_type r × (IsImpossible schema p.policy → r ≢ Ok (boolean true))
 
--- `StoredAnswersAreSound`: an answer to such a request over such a store has only these two errors.
+-- `StoredAnswersAreSound`: an answer to such a request over such a store has no errors other than `EntityDoesNotExist`
+-- and `ArithBoundsError`.
 abbrev pub StoredAnswersAreSound : Type 0
 StoredAnswersAreSound = (bytes : List ℕ) (schema : StatedSchema) → IsSchemaOf bytes schema → (s : Store)
     → (d : Data) (q : Request) → StatesRequest schema d q → (a : Answer)

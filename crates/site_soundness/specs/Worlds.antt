@@ -3,7 +3,7 @@
 -- Source: cedar-spec, cedar-lean/Cedar/Validation/RequestEntityValidator.lean (`validateRequest`,
 -- `validateEntities`, by which `InstanceOfWellFormedEnvironment` holds) and cedar-lean/Cedar/Thm/Validation.lean
 -- (`validation_is_sound`).
--- Here parsing under a schema checks conformance: there is no separate step.
+-- Rules of this product: parsing under a schema checks conformance; there is no separate step.
 use Rattle.std.specs.Prelude.{◌≡◌, ◌≢◌, ℕ, List, Contains, Some, true, Ok}
 use Rattle.serde_json.specs.Data.{Data}
 use Rattle.values.specs.declared.entity_uid.EntityUid.{EntityUid}
@@ -34,15 +34,15 @@ abbrev pub AreRead : StatedSchema → EntityMap → Type 0
 AreRead s entities = (u : EntityUid) (kept : EntityData) → entities u ≡ Some kept
     → (d : Data) × (entity_stated_in s d ≡ Ok (entity_kept u kept))
 
--- `WhatIsReadConforms`: under a schema that bytes describe, parsed entities together with the schema's actions, each of
--- which has all of its ancestors as parents, and a parsed request conform to an environment of the schema.
+-- `WhatIsReadConforms`: under a schema that bytes describe, parsed entities and a parsed request conform to an
+-- environment of the schema. The schema's actions are added to the entities, each with all of its ancestors as parents.
 abbrev pub WhatIsReadConforms : Type 0
 WhatIsReadConforms = (bytes : List ℕ) (s : StatedSchema) → IsSchemaOf bytes s → (entities : EntityMap)
     → AreRead s entities → (d : Data) (q : Request) → StatesRequest s d q
     → (e : EnvironmentOf) × Contains s.environments e × Conforms (typing_environment_of s e) (closed_world s entities) q
 
 -- `WhatIsStoredIsSound`: over finitely many such entities with these actions, and for such a request, a policy that
--- passes validation gives a boolean, `EntityDoesNotExist` or `ArithBoundsError`; if it is impossible, it is never true.
+-- passes validation gives a boolean, `EntityDoesNotExist` or `ArithBoundsError`; an impossible policy never gives true.
 abbrev pub WhatIsStoredIsSound : Type 0
 WhatIsStoredIsSound = (bytes : List ℕ) (s : StatedSchema) → IsSchemaOf bytes s → (entities : EntityMap)
     → AreRead s entities → (us : List EntityUid) → AreListed entities us → (d : Data) (q : Request)

@@ -38,8 +38,8 @@ pub fn what_is_read_conforms()
 }
 
 /// Proves that validation is sound over parsed entities: if each of finitely many entities and the request were parsed
-/// under the schema, a policy that passes validation gives a boolean, `EntityDoesNotExist` or `ArithBoundsError`; if it
-/// is impossible, it is never true. No-op.
+/// under the schema, a policy that passes validation gives a boolean, `EntityDoesNotExist` or `ArithBoundsError`; an
+/// impossible policy never gives true. No-op.
 pub fn what_is_stored_is_sound()
     ensures { WhatIsStoredIsSound }
 {
@@ -52,8 +52,8 @@ pub fn what_is_stored_is_sound()
 /// Proves that answers over a store are sound. No-op.
 ///
 /// If each text of the store and the request were parsed under the schema, each policy gives a boolean,
-/// `EntityDoesNotExist` or `ArithBoundsError`, and an impossible one is never true. So no answer over the store reports
-/// an error of type, of an attribute or of an extension function.
+/// `EntityDoesNotExist` or `ArithBoundsError`, and an impossible policy never gives true. So no answer over the store
+/// reports an error of type, of an attribute or of an extension function.
 pub fn stored_answers_are_sound()
     ensures policies { StoredPoliciesAreSound }
     ensures answers { StoredAnswersAreSound }

@@ -2,7 +2,8 @@
 //!
 //! Values and the attributes of entities have their declared types, and requests are of an environment of the schema.
 //! So parsed entities and a parsed request conform to the schema, and policies that pass validation are sound over
-//! them. So no answer over a store whose texts were parsed reports an error of type. All functions are no-ops.
+//! them. It follows that no answer over a store whose texts were parsed under the schema reports an error of type. All
+//! functions are no-ops.
 #![tactic(auto)]
 
 mod laws;

@@ -44,7 +44,7 @@ use Rattle.site_soundness.specs.validator.Unknown.{IsUnknown, IsKnown}
 use Rattle.site_soundness.specs.validator.Passing.{Passes, IsCheckRefused, FirstFaulty, HasBooleanType}
 use Rattle.site_soundness.specs.validator.Passing
 use Rattle.site_soundness_example.specs.Example.{schema, viewing, entities, request, policy, unsure_policy}
-use Rattle.site_soundness_example.specs.Something.{SomethingPasses, SomethingIsRefused}
+use Rattle.site_soundness_example.specs.ExamplePremises.{ExamplePolicyPasses, UnguardedAccessIsRejected}
 
 abbrev env : Environment
 env = typing_environment_of schema viewing
@@ -163,7 +163,7 @@ aged_faulty =
     (Faults.fault_later (Typing.types_literal (literal.Long (pos 0)))
     (Faults.fault_here (Faults.fault_of_field (form.Variable variable.Principal) (codes "age") (principal_typed []) (nothing_known _) refl)))
 
-pub something_is_refused : SomethingIsRefused
+pub something_is_refused : UnguardedAccessIsRejected
 something_is_refused =
     Passing.for_type (all_known (names_of unsure_policy) (names_with is_aged aged_names))
     (Passing.faulty_here
@@ -205,5 +205,5 @@ policy_given =
     (Evaluation.and_true action_part _ action_given
     (Evaluation.and_true truth _ truth_given (Evaluation.and_true has_age is_aged has_given aged_given)))
 
-pub something_passes : SomethingPasses
+pub something_passes : ExamplePolicyPasses
 something_passes = (passes, policy_given)

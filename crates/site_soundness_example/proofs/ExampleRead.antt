@@ -20,7 +20,7 @@ use Rattle.site_soundness.specs.entity_data.Entities.{AreListed}
 use Rattle.site_soundness.specs.typing.Example.{alice, view}
 use Rattle.site_soundness.specs.Worlds.{AreRead, entity_kept}
 use Rattle.site_soundness_example.specs.Example.{schema, user, alice_json, alice_data, entities, request_json, request}
-use Rattle.site_soundness_example.specs.Something.{SomethingIsRead}
+use Rattle.site_soundness_example.specs.ExamplePremises.{ExampleDataIsParsed}
 use Rattle.site_soundness_example.proofs.ExampleStated.{only, some_same, some_none}
 
 alice_read : entity_stated_in schema alice_json ≡ Ok (entity_kept alice alice_data)
@@ -66,5 +66,5 @@ states paths back =
       context = no_context;
     }
 
-pub something_is_read : PathTestIsExact → WrittenIsRead → SomethingIsRead
+pub something_is_read : PathTestIsExact → WrittenIsRead → ExampleDataIsParsed
 something_is_read paths back = (are_read, listed, states paths back)

@@ -19,7 +19,7 @@ use Rattle.site_soundness.specs.schema_types.Names.{found, as_declared, any_name
 use Rattle.site_soundness.specs.schema_types.Names.{qualified_of, fields_of, built_in}
 use Rattle.json_words.specs.Each.{each}
 use Rattle.site_soundness.specs.schema_file.FileForm.{NamespaceOf, EntityTypeOf, ActionOf, UseOf}
-use Rattle.site_soundness.specs.schema.declared.parts.Place.{Place}
+use Rattle.site_soundness.specs.schema.declared.parts.EnvironmentKey.{EnvironmentKey}
 use Rattle.site_soundness.specs.schema_names.Qualifying.{scope_in, ResolvedEntityType, ResolvedUse, ResolvedAction, ResolvedSchema}
 use Rattle.site_soundness.specs.schema_names.Qualifying.{qualified, qualified_namespaces, qualified_namespace}
 use Rattle.site_soundness.specs.schema_names.Qualifying.{qualified_commons, qualified_entity_types, qualified_actions}
@@ -201,7 +201,7 @@ one_place_ascends = (tt, tt)
 viewing_is : IsEnvironment named viewing
 viewing_is = (the_use, record { action = the_action; declared = Contains-here the_action []; is = refl; applies = refl; principal = Contains-here user []; resource = Contains-here user [] }, refl)
 
-place_is : (p : Place) (u : ResolvedUse) → Applies named p u → viewing.place ≡ p
+place_is : (p : EnvironmentKey) (u : ResolvedUse) → Applies named p u → viewing.place ≡ p
 place_is p u h =
     let used : the_use ≡ u = some_same (subst (λ (x : ResolvedAction). x.applies_to ≡ Some u) (sym (only h.declared)) h.applies) in
     let action : view ≡ p.action = action_is p.action (h.action, h.declared, h.is) in
@@ -221,7 +221,7 @@ answers = record {
   all_ancestors = λ u a. subst (λ (x : EntityUid). IsSome (schema.ancestors x)) (action_is u a) refl;
   parents = λ child above. ((λ h. absurd cc), (λ p. absurd (no_path (type_parents named) no_type_parent (type_uid above) (type_uid child) p)));
   environments = λ e c. subst (λ (x : EnvironmentOf). IsEnvironment named x) (only c) viewing_is;
-  all_environments = λ p h. subst (λ (x : Place). Contains (viewing.place ∷ []) x) (place_is p h.0 h.1) (Contains-here viewing.place []);
+  all_environments = λ p h. subst (λ (x : EnvironmentKey). Contains (viewing.place ∷ []) x) (place_is p h.0 h.1) (Contains-here viewing.place []);
   environments_ascend = one_place_ascends;
 }
 

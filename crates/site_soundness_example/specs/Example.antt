@@ -22,7 +22,7 @@ use Rattle.site_soundness.specs.entity_data.declared.data.EntityData.{EntityData
 use Rattle.site_soundness.specs.entity_data.Entities.{EntityMap}
 use Rattle.site_soundness.specs.typing.Example.{alice, view, has_age, is_aged}
 
--- `schema_text` is the text of a schema in which a user may have an age, and users view users.
+-- `schema_text` is the text of a schema in which a user may have an age, and a user may view a user.
 unfoldable pub schema_text : List ℕ
 schema_text =
     codes "{\"\":{\"actions\":{\"view\":{\"appliesTo\":{\"principalTypes\":[\"User\"],\"resourceTypes\":[\"User\"]}}},"
@@ -53,7 +53,7 @@ schema = record {
   may_have_parent = λ child parent. false;
 }
 
--- `alice_json` is the JSON of Alice, who is 30.
+-- `alice_json` is the JSON of the user Alice, whose age is 30.
 abbrev pub alice_json : Data
 alice_json = object (member (codes "attrs") (object (member (codes "age") (number (unsigned 30)) no_members))
     (member (codes "uid") (uid_json alice) no_members))
@@ -62,7 +62,7 @@ alice_json = object (member (codes "attrs") (object (member (codes "age") (numbe
 abbrev pub alice_data : EntityData
 alice_data = record { attrs = (codes "age", long (pos 30)) ∷ []; parents = [] }
 
--- `entities` is the map with Alice alone.
+-- `entities` maps the uid of Alice to `alice_data`, and no other uid.
 abbrev pub entities : EntityMap
 entities u = if is_same alice u then Some alice_data else None
 
@@ -75,8 +75,8 @@ request_json = object (member (codes "action") (uid_json view) (member (codes "p
 abbrev pub request : Request
 request = record { principal = alice; action = view; resource = alice; context = [] }
 
--- `policy` is `permit(principal, action == Action::"view", resource) when { principal has age && 0 < principal.age
--- };`.
+-- `policy` is the policy
+-- `permit(principal, action == Action::"view", resource) when { principal has age && 0 < principal.age };`.
 abbrev pub policy : Policy
 policy = record {
   effect = Permit;
@@ -88,7 +88,8 @@ policy = record {
   condition = form.And has_age is_aged;
 }
 
--- `unsure_policy` is `permit(principal, action == Action::"view", resource) when { 0 < principal.age };`.
+-- `unsure_policy` is the policy `permit(principal, action == Action::"view", resource) when { 0 < principal.age };`,
+-- which does not test for the optional attribute.
 abbrev pub unsure_policy : Policy
 unsure_policy = record {
   effect = Permit;

@@ -1,5 +1,5 @@
--- Defines which inputs a site of a schema admits: policies, entities, requests and updates. These are the same at every
--- site of that schema, whatever its store.
+-- Defines which inputs a site of a schema admits: policies, entities, requests and updates. Every site of the schema
+-- admits the same inputs, whatever its store.
 -- Source: Cedar reference guide 4.0, "Policy validation", "Entities and context: JSON format" and "Authorization
 -- request".
 -- Rules of this product: a policy's id has 1 to 256 bytes, and is checked before the text; an entity is given as
@@ -59,8 +59,8 @@ pub data IsNotAdmitted (schema : StatedSchema) (id text : List ℕ) : SiteFault 
 
 -- ---- entities
 
--- `entity_stated schema json` is the entity that `json` describes under `schema`, or the first error; for bytes that
--- are not JSON (`None`) that is `BadShape`.
+-- `entity_stated schema json` is the entity that `json` describes under `schema`, or the first error. `None` stands for
+-- bytes that are not JSON, whose error is `BadShape` (30).
 abbrev pub entity_stated : StatedSchema → Option Data → Result Entity EntityFault
 entity_stated schema json = do
   d ← or_fault BadShape json
@@ -74,8 +74,8 @@ abbrev pub IsRequestOf : StatedSchema → Option Data → Request → Type 0
 IsRequestOf schema None q = ⊥
 IsRequestOf schema (Some d) q = StatesRequest schema d q
 
--- `IsNoRequest schema json f` holds if `f` is the first error of `json` as a request under `schema`; for bytes that are
--- not JSON (`None`) that is `BadShape`.
+-- `IsNoRequest schema json f` holds if `f` is the first error of `json` as a request under `schema`. `None` stands for
+-- bytes that are not JSON, whose error is `BadShape` (30).
 abbrev pub IsNoRequest : StatedSchema → Option Data → EntityFault → Type 0
 IsNoRequest schema None f = f ≡ BadShape
 IsNoRequest schema (Some d) f = RequestRefused schema d f
@@ -83,8 +83,8 @@ IsNoRequest schema (Some d) f = RequestRefused schema d f
 -- ---- updates that another site sent
 
 -- `IsValidUnder schema u` holds if the name and stamp of the update `u` are in their ranges, and its text, if it has
--- one, is parsed under `schema` as the value that `u` has with it. (`IsValid` of message_format is the second half
--- alone.)
+-- one, is parsed under `schema` as the value that `u` has with it. (`IsValid` of message_format says only that the text
+-- can be parsed.)
 pub record IsValidUnder (schema : StatedSchema) (u : Update Policy Entity) : Type 0 where
   pub in_range : IsStamped (stamped (plain_update u))
   pub is_read : IsUpdateRead (IsPolicyUnder schema) (IsEntityUnder schema) u

@@ -15,8 +15,8 @@ use Rattle.site_soundness.specs.message_format.declared.fault.MessageFault.TheVa
 use Rattle.site_steps.specs.declared.fault.SiteFault.{SiteFault}
 use Rattle.site_steps.specs.declared.fault.SiteFault.TheVariants as fault
 
--- `code_of f` is the code of the error `f`: for a text, an entity or a message the code of the inner error, for a
--- request 63, with the code of the inner error within.
+-- `code_of f` is the code of the error `f`: for the text of a policy, an entity or a message the code of the inner
+-- error; for a request 63, and `within_of f` is the code of the inner error.
 abbrev pub code_of : SiteFault → ℕ
 code_of fault.NoMemory = 1
 code_of (fault.Policy f) = policy_faults.code_of f
@@ -28,8 +28,8 @@ code_of fault.WouldCycle = 61
 code_of fault.ClockFull = 62
 code_of (fault.Request f) = 63
 
--- `place_of f` is the place of the error `f`: the byte offset in a policy's text or the index of a message's entry or
--- stamp, if it has one.
+-- `place_of f` is the place of the error `f`, if it has one: the byte offset in a policy's text, or the index of a
+-- message's entry or stamp.
 abbrev pub place_of : SiteFault → Option ℕ
 place_of (fault.Policy f) = policy_faults.place_of f
 place_of (fault.Message f) = message_faults.place_of f

@@ -1,5 +1,5 @@
--- Defines the theorem that each input of a site has one outcome unless the reply reports a failed allocation: one
--- reply, and one store.
+-- Defines the theorem that each input of a site has one outcome (one reply and one store), unless the reply reports a
+-- failed allocation.
 -- Rules of this product: a failed allocation is reported as such; apart from that, reply and store are determined.
 use Rattle.std.specs.Prelude.{◌≡◌, ℕ, List, Result, Ok, Err}
 use Rattle.site_store.specs.schema.Schemas.{StatedSchema}

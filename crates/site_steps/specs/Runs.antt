@@ -1,5 +1,5 @@
--- Defines runs of a site: a sequence of steps, each an input with its reply, and the updates that it applies. The store
--- at the end is determined by the first store and these updates.
+-- Defines runs of a site: a sequence of steps, each an input with its reply, and the updates that the run applies. The
+-- first store and these updates determine the store at the end.
 -- Rules of this product: a message is rejected whole or its updates are applied in order; rejected inputs and queries
 -- leave the store unchanged.
 use Rattle.std.specs.Prelude.{◌≡◌, ℕ, List, [], ◌∷◌, ◌++◌, take, Option, Some, None, option_map, Result, Ok, Err}
@@ -39,7 +39,7 @@ IsNoMessageOf schema bytes (fault.Message f) = IsMessageFaultOf schema bytes f
 IsNoMessageOf schema bytes _ = ⊥
 
 -- `TakesMessage schema s bytes r t` holds if the message `bytes` leads from the store `s` to the store `t` with the
--- result `r`: all of its updates are applied, or the first ones, or it is rejected whole.
+-- result `r`: all of its updates are applied, or the first ones, or the message is rejected whole.
 abbrev pub TakesMessage : StatedSchema → Store → List ℕ → Result taking.Taken SiteFault → Store → Type 0
 TakesMessage schema s bytes (Ok taken) t =
     (us : List (SentUpdate Policy Entity)) × IsMessageOf schema bytes us × TakesUpdates s (plain_updates us) taken t
@@ -47,8 +47,8 @@ TakesMessage schema s bytes (Err f) t = IsNoMessageOf schema bytes f × (t ≡ s
 
 -- ---- queries
 
--- `Finds s id r` holds if `r` is the text and stamp of the policy `id` in the store `s`, or `None` if it has no text
--- there, or `NoMemory`.
+-- `Finds s id r` holds if `r` is the text and stamp of the policy `id` in the store `s`, or `None` if `id` has no text
+-- in `s`, or `NoMemory`.
 abbrev pub Finds : Store → List ℕ → Result (Option Found) SiteFault → Type 0
 Finds s id (Ok found) = option_map (λ f. (f.text, f.stamp)) found ≡ policy_found s id
 Finds s id (Err fault.NoMemory) = Unit {0}
@@ -102,19 +102,20 @@ Run schema n s [] (r ∷ rs) t = ⊥
 Run schema n s (i ∷ is) [] t = ⊥
 Run schema n s (i ∷ is) (r ∷ rs) t = (m : Store) × Step schema n s i r m × Run schema n m is rs t
 
--- `update_of_entity stamp e` is the list of the update that puts the entity in `e`, as its canonical text, with
--- `stamp`; it is empty for an error.
+-- `update_of_entity stamp e` is the list of the one update that puts the entity in `e`, as its canonical text, with
+-- `stamp`; it is empty if `e` is an error.
 abbrev pub update_of_entity : Stamp → Result Entity EntityFault → List Update
 update_of_entity stamp (Ok e) = (entity_name e.uid, issued stamp (Some (canonical_text e))) ∷ []
 update_of_entity stamp (Err f) = []
 
--- `updates_of_message us` is the list of the updates in `us`; it is empty for an error.
+-- `updates_of_message us` is the list of the updates in `us`; it is empty if `us` is an error.
 abbrev pub updates_of_message : Result (List Update) MessageFault → List Update
 updates_of_message (Ok us) = us
 updates_of_message (Err f) = []
 
--- `took_by schema i r` is the list of the updates that the input `i` with the reply `r` applied: the one of a command
--- that got a stamp, or all or the first `k` of a message, including those that lose to a greater entry.
+-- `took_by schema i r` is the list of the updates that the input `i` with the reply `r` applied: for a command that got
+-- a stamp, its one update; for a message, all of its updates or the first `k`, including those that lose to a greater
+-- entry.
 abbrev pub took_by : StatedSchema → Input → Reply → List Update
 took_by schema (input.PutPolicy id text) (reply.Put (Ok put)) = (policy_name id, issued put.stamp (Some text)) ∷ []
 took_by schema (input.DeletePolicy id) (reply.Stamped (Ok stamp)) = (policy_name id, issued stamp None) ∷ []

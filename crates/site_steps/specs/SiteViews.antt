@@ -27,7 +27,7 @@ schema_of a = schema_view a.schema
 abbrev pub store_in : SiteView → Store
 store_in a = abstract_store a.kept
 
--- `IsSameSite a b` holds if the sites `a` and `b` have one schema and one name.
+-- `IsSameSite a b` holds if the sites `a` and `b` have the same schema and the same name.
 abbrev pub IsSameSite : SiteView → SiteView → Type 0
 IsSameSite a b = (b.schema ≡ a.schema) × (b.name ≡ a.name)
 
@@ -43,7 +43,7 @@ pub record IsSite (schema : StatedSchema) (name : List ℕ) (k : StoreEntries Po
   pub named : IsSiteName name
 
 -- `IsValidStore schema s` holds if the names and stamps of the store `s` are in their ranges, and each text can be
--- parsed under `schema` and its name.
+-- parsed under `schema` and the name at which it is stored.
 pub record IsValidStore (schema : StatedSchema) (s : Store) : Type 0 where
   pub in_range : AreInRange (updates s)
   pub valid : AreValid (IsPolicyUnder schema) (IsEntityUnder schema) (updates s)

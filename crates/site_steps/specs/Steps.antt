@@ -36,15 +36,15 @@ use Rattle.site_steps.specs.Admitted.{IsRequestOf, IsNoRequest}
 abbrev pub most_count : ℕ
 most_count = 1_000_000_000_000_000_000
 
--- `Records n s name body stamp t` holds if `body` is stored under `name` with the next stamp: `t` is the store of the
--- updates of `s` and this one. Whether `body` may be put is a condition of each use.
+-- `Records n s name body stamp t` holds if `body` is stored under `name` with `stamp`, the next stamp of the site `n`:
+-- `t` is the store of the updates of `s` and this one. Each use has its own conditions on what may be put as `body`.
 pub record Records (n : List ℕ) (s : Store) (name : Name) (body : Option (List ℕ)) (stamp : Stamp) (t : Store) : Type 0
   where
     pub clock : greatest_count s < most_count
     pub next : stamp ≡ issue s n
     pub store : t ≡ store_of (updates s ++ (name, issued stamp body) ∷ [])
 
--- `IsClockFull s t` holds if no stamp is left in `s`, and `t` is `s`.
+-- `IsClockFull s t` holds if the greatest count in `s` is `most_count`, so that no stamp is left, and `t` is `s`.
 abbrev pub IsClockFull : Store → Store → Type 0
 IsClockFull s t = (greatest_count s ≡ most_count) × (t ≡ s)
 
@@ -75,8 +75,8 @@ PutsEntity schema n s json (Err fault.ClockFull) t =
     × IsClockFull s t
 PutsEntity schema n s json (Err _) t = ⊥
 
--- `Deletes n s name r t` holds if deleting `name`, that is, writing a tombstone if it has a text, may lead from `s` to
--- `t` with the result `r`.
+-- `Deletes n s name r t` holds if deleting `name`, that is, writing a tombstone under `name` if it has a text, may lead
+-- from `s` to `t` with the result `r`.
 abbrev pub Deletes : List ℕ → Store → Name → Result Stamp SiteFault → Store → Type 0
 Deletes n s name (Ok stamp) t = IsSome (text_under s name) × Records n s name None stamp t
 Deletes n s name (Err fault.NoMemory) t = t ≡ s
@@ -108,6 +108,7 @@ Answers schema s json (Err _) = ⊥
 abbrev pub text_of : PlainEntry → Option (List ℕ × Stamp)
 text_of e = option_map (λ text. (text, stamp_of e)) e.body
 
--- `policy_found s id` is the text and the stamp of the policy `id` in the store `s`, if it has a text there.
+-- `policy_found s id` is the text and the stamp of the policy `id` in the store `s`, or `None` if `id` has no text in
+-- `s`.
 abbrev pub policy_found : Store → List ℕ → Option (List ℕ × Stamp)
 policy_found s id = option_and_then text_of (get s (policy_name id))

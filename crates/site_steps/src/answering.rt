@@ -71,7 +71,7 @@ fn updates_of(
     }
 }
 
-/// Applies the updates of a message, a state or a delta of another site of the schema, in their order.
+/// Applies the updates of a message (a state or a delta of another site of the schema) in their order.
 ///
 /// If an allocation fails while updates are applied, exactly the first ones are applied, and the result has their
 /// number.
@@ -117,7 +117,7 @@ fn authorize(
     }
 }
 
-/// Returns the text and the stamp of the policy with this id, or `None` if it has no text. The only error is
+/// Returns the text and the stamp of the policy with this id, or `None` if the id has no text. The only error is
 /// `NoMemory`.
 fn find_policy(alloc: Global, site: &Site, id: &str) -> Result<Option<Found>, SiteFault>
     ensures { Finds (store_in site.now) id.now result }
@@ -147,7 +147,8 @@ fn summary(site: &Site) -> Result<Items<u8>, SiteFault>
     Ok(Items::from_vec(bytes))
 }
 
-/// Returns a delta against the summary in `bytes`: the entries whose names it lacks or has with a smaller stamp.
+/// Returns a delta against the summary in `bytes`: the entries whose names the summary lacks or has with a smaller
+/// stamp.
 ///
 /// # Errors
 ///
@@ -190,7 +191,7 @@ pub fn answer(alloc: Global, scratch: &mut Scratch, site: &mut Site, input: &Inp
 
 /// Answers inputs in their order, each with its reply.
 ///
-/// The store is then that of the updates that the site had and of those that it applied: one for each command that got
+/// The store is then the join of the updates that the site had and those that it applied: one for each command that got
 /// a stamp, and those of messages. Each error in an answer is `EntityDoesNotExist` or `ArithBoundsError`.
 ///
 /// # Errors

@@ -33,7 +33,7 @@ use site_store::{
 };
 use values::EntityUid;
 
-/// Returns the result of a put: its stamp, and whether the policy is impossible; or the error of storing it.
+/// Returns the result of putting a policy: the stamp, and whether the policy is impossible; or the error in `stamped`.
 fn put_of(stamped: Result<Stamp, SiteFault>, impossible: bool) -> Result<Put, SiteFault>
     ensures { result ≡ put_result impossible stamped }
 {
@@ -53,7 +53,7 @@ fn stamped<T: Drop>(taken: Result<(), T>, stamp: &Stamp) -> Result<Stamp, SiteFa
     }
 }
 
-/// Returns whether there is an entry with a text.
+/// Returns whether `entry` is present and has a text.
 fn has_text<P>(entry: Option<&Entry<P>>) -> bool
     ensures { result ≡ is_some (option_and_then (λ e. e.body) (option_map plain_entry (option_copied entry.entry))) }
 {
@@ -257,7 +257,7 @@ impl Site {
         self.remove_entity(uid)
     }
 
-    /// Returns whether putting an entity would make it cyclic.
+    /// Returns whether putting an entity would make the entity cyclic.
     fn makes_cycle(&self, entity: &Entity) -> Result<bool, NoMemory>
         ensures yes { IfOk result (λ yes. yes ≡ true → MakesCycle (IsEntityUnder (schema_of self.now))
             (schema_of self.now) (store_in self.now) entity.now) }
@@ -267,7 +267,8 @@ impl Site {
         self.store.would_cycle::<SchemaTexts<'static>>(entity)
     }
 
-    /// Puts a parsed entity if `cycle` is false. If it is true the error is `WouldCycle`, if it is an error `NoMemory`.
+    /// Puts a parsed entity if `cycle` is false. The error is `WouldCycle` if `cycle` is true, and `NoMemory` if
+    /// `cycle` is an error.
     fn put_unless(
         &mut self,
         cycle: Result<bool, NoMemory>,
@@ -287,11 +288,12 @@ impl Site {
         }
     }
 
-    /// Puts the entity that JSON describes, as its canonical text, and replaces the text that its uid has, if any.
+    /// Puts the entity that JSON describes, as its canonical text, and replaces the text that the entity's uid has, if
+    /// any.
     ///
     /// The check for a cycle takes two look-ups for each parent or, if the ancestor cache is absent, a search that is
-    /// linear in the entity's ancestors. If the parents change, the cached ancestors of all descendants of the entity
-    /// are rewritten.
+    /// linear in the number of the entity's ancestors. If the parents change, the cached ancestors of all descendants
+    /// of the entity are rewritten.
     ///
     /// # Errors
     ///

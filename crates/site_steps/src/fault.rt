@@ -27,7 +27,8 @@ pub enum SiteFault {
     /// Codes 50 to 56: the bytes are not a message of the expected kind.
     #[error(transparent)]
     Message(MessageFault),
-    /// Code 60: the name to be deleted has no text.
+    /// Code 60: the name to be deleted has no text. The reply to a query for a policy without a text is reported by
+    /// this code too.
     #[error("site 60: nothing stored under this name")]
     NotThere,
     /// Code 61: the put would make the entity cyclic.

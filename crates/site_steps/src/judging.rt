@@ -27,14 +27,14 @@ use values::{EntityUid, Request};
 
 // ---- policies
 
-/// Returns whether a policy may have this id: whether it has 1 to 256 bytes.
+/// Returns whether a policy may have this id: whether the id has 1 to 256 bytes.
 fn is_id(id: &str) -> bool
     ensures { IsTrue result ↔ IsId id.now }
 {
     1 <= id.len() && id.len() <= MOST_ID_BYTES
 }
 
-/// Validates a policy, and returns whether it is impossible.
+/// Validates a policy, and returns whether the policy is impossible.
 fn is_impossible(alloc: Global, schema: &Schema, policy: &Policy) -> Result<bool, SiteFault>
     ensures passes { IfOk result (λ yes. Passes (schema_view schema.now) policy.now
         × (IsTrue yes ↔ IsImpossible (schema_view schema.now) policy.now)) }
@@ -55,7 +55,7 @@ pub(crate) struct CheckedPolicy<P> {
     pub(crate) impossible: bool,
 }
 
-/// Returns a parsed policy together with its id, its text and its verdict, or the first error of these.
+/// Returns a parsed policy together with its id, its text and whether it is impossible, or the first error of these.
 fn with_verdict<P: Drop>(
     read: P,
     verdict: Result<bool, SiteFault>,
@@ -113,7 +113,7 @@ pub(crate) fn judged_policy(
 
 // ---- entities
 
-/// Returns the entity that JSON describes, or the site's error for it.
+/// Returns the entity that `json` describes, or the site's error for `json`.
 fn entity_of(alloc: Global, schema: &Schema, json: &Value) -> Result<Entity, SiteFault>
     ensures states { IfOk result (λ e. entity_stated_in (schema_view schema.now) (view json.now) ≡ Ok e) }
     ensures path { IfOk result (λ e. IsPath e.uid.type_name) }
@@ -181,7 +181,7 @@ pub(crate) fn stated_entity(
 
 // ---- requests
 
-/// Returns the request that JSON describes, or the site's error for it.
+/// Returns the request that `json` describes, or the site's error for `json`.
 pub(crate) fn stated_request(
     alloc: Global,
     schema: &Schema,

@@ -8,7 +8,7 @@ ghost use Rattle.site_steps.specs.Runs.{Run, took};
 
 use site_store::updates_have_one_store;
 
-/// Proves that the store at the end of a run is that of the updates of the first store and of those that the run
+/// Proves that the store at the end of a run is the join of the updates of the first store and those that the run
 /// applied. No-op.
 pub fn runs_leave_what_they_took()
     ensures { (schema : StatedSchema) (n : List ℕ) (s : Store) (inputs : List Input) (replies : List Reply) (t : Store)

@@ -1,10 +1,10 @@
 //! A site: a store of stamped texts under one schema, its commands, messages and queries; and runs of a site.
 //!
-//! The store is the only owner of policies and entities. Answers come from the parsed values of its texts, with an
-//! index of the policies and an ancestor cache, which no contract mentions.
+//! The store is the only owner of policies and entities. Answers come from the parsed values of its texts. An index of
+//! the policies and an ancestor cache make answers faster; no contract mentions these caches.
 //!
-//! The store at the end of a run is that of the updates that the site had and of those that it applied. So sites of one
-//! schema that had and applied equal sets of updates have equal stores, in whatever order, as often and in whatever
+//! The store at the end of a run is the join of the updates that the site had and those that it applied. So sites of
+//! one schema that had and applied equal sets of updates have equal stores, in whatever order, as often and in whatever
 //! groups the updates arrived.
 #![tactic(auto)]
 

@@ -13,9 +13,14 @@ use site_store::{COUNT_MAX, deltas_are_joined, stamps_are_issued, updates_have_o
 
 /// Proves that the names and stamps of a store stay in their ranges. No-op.
 ///
-/// The names and stamps of the empty store are in their ranges. If those of a store are, then so are those of the store
-/// after the join of an update in its ranges, of its deltas and of its summary; its greatest count is at most 10^18;
-/// and each name that has a text, and each stamp that it issues, is in its range.
+/// The names and stamps of the empty store are in their ranges. If the names and stamps of a store are in their ranges:
+///
+/// - the names and stamps of the store after the join of an update in its ranges are in their ranges;
+/// - the names and stamps in a delta of the store and in its summary are in their ranges;
+/// - the greatest count of the store is at most 10^18;
+/// - each name that has a text is in its range.
+///
+/// If the greatest count of a store is less than 10^18, the stamp that a site issues next is in its range.
 pub(crate) fn ranges_stay()
     ensures empty { AreInRange (updates (store_of [])) }
     ensures joined { (s t : Store) (u : Update) → AreInRange (updates s) → IsStamped (stamped u)

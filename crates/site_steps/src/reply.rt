@@ -10,7 +10,7 @@ use site_store::{Answer, Stamp};
 pub struct Found {
     /// The policy's text.
     pub text: Text,
-    /// The stamp of its put.
+    /// The stamp of the put that stored the text.
     pub stamp: Stamp,
 }
 
@@ -19,13 +19,13 @@ pub struct Found {
 pub enum Reply {
     /// The reply to a put of a policy.
     Put(Result<Put, SiteFault>),
-    /// The reply to a put of an entity, or to a deletion: its stamp.
+    /// The reply to a put of an entity or to a deletion: the stamp of this command.
     Stamped(Result<Stamp, SiteFault>),
-    /// The reply to a message.
+    /// The reply to a state or a delta: how many of its updates were applied.
     Taken(Result<Taken, SiteFault>),
     /// The reply to a request.
     Answered(Result<Answer, SiteFault>),
-    /// The reply to a query for a policy; `None` if its id has no text.
+    /// The reply to a query for a policy; `None` if the id has no text.
     Found(Result<Option<Found>, SiteFault>),
     /// The reply to a query for the state, the summary or a delta: the bytes of a message.
     Written(Result<Items<u8>, SiteFault>),

@@ -27,7 +27,7 @@ use std::marker::Model;
 
 /// A site: a schema, a name, and a store of stamped texts with their parsed forms.
 ///
-/// Contracts see these three as a `SiteView`. They describe the store abstractly, as at most one stamped body for each
+/// Contracts see these three as a `SiteView`, and describe the store abstractly, as at most one stamped body for each
 /// name.
 #[derive(Drop)]
 pub struct Site {
@@ -94,7 +94,7 @@ impl Site {
 
     /// Returns the text and the stamp of the policy with this id, or `None` if the policy was never put or was deleted.
     ///
-    /// O(log n). Does not allocate.
+    /// O(log n) for n policies. Does not allocate.
     pub fn get_policy(&self, id: &str) -> Option<(&str, Stamp)>
         ensures { option_map (λ f. (f.0.now, f.1)) result ≡ policy_found (store_in self.now) id.now }
     {
@@ -109,14 +109,14 @@ impl Site {
 
     /// Returns whether some entry of the store, a tombstone included, has a stamp of the site `name`.
     ///
-    /// O(n). Does not allocate.
+    /// O(n) for n entries. Does not allocate.
     pub fn has_stamps_of(&self, name: SiteName) -> bool
         ensures { result ≡ has_stamps_of name (store_in self.now) }
     {
         self.store.store().has_stamps_of(name)
     }
 
-    /// Returns the state: the whole store as a message to other sites of the schema, which parse it as the store's
+    /// Returns the state: the whole store as a message. Other sites of the schema parse the message as the store's
     /// updates.
     ///
     /// # Errors
@@ -145,8 +145,8 @@ impl Site {
         write_summary(self.alloc, self.store.schema().label(), self.store.store())
     }
 
-    /// Returns a delta: the entries whose names `since` lacks or has with a smaller stamp, as a message to other sites
-    /// of the schema, which parse it as those entries.
+    /// Returns a delta: the entries whose names `since` lacks or has with a smaller stamp, as a message. Other sites of
+    /// the schema parse the message as the updates of those entries.
     ///
     /// # Errors
     ///
@@ -171,8 +171,8 @@ impl Site {
     ///
     /// Each error in the answer is `EntityDoesNotExist` or `ArithBoundsError`.
     ///
-    /// Evaluates only the policies whose key in the index matches the request, and looks up ancestors in the cache. If
-    /// the index is absent, every policy is evaluated; if the cache is absent, the hierarchy is searched for cycles.
+    /// Evaluates only the policies that the index offers for the request, and looks up ancestors in the ancestor cache.
+    /// If the index is absent, every policy is evaluated; if the cache is absent, the hierarchy is searched for cycles.
     /// Both are linear in the store.
     ///
     /// # Errors
@@ -202,8 +202,8 @@ impl Site {
     }
 
     /// Returns whether the ancestor cache is present, and whether the policy index is; for tests alone.
-    pub fn standing(&self) -> (bool, bool) {
-        self.store.standing()
+    pub fn caches_present(&self) -> (bool, bool) {
+        self.store.caches_present()
     }
 
     /// Returns how many policies the last answer evaluated; for tests alone.

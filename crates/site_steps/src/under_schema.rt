@@ -17,10 +17,12 @@ ghost use Rattle.site_steps.specs.Admitted.{IsPolicyUnder, IsEntityUnder};
 ghost use Rattle.site_steps.specs.SiteViews.{IsHeld};
 
 use site_soundness::SchemaTexts;
-use site_store::{Entity, Policy, readings_are_kept};
+use site_store::{Entity, Policy, readings_are_preserved};
 
-/// Proves that each text of a store is parsed as the value stored with it: in the empty store, and, if so before, after
-/// the join of an entry whose text is parsed as the value that the entry has with it. No-op.
+/// Proves an invariant of stores: each text is parsed as the value that is stored with it. No-op.
+///
+/// The empty store has the invariant. The join of an entry keeps it, if the text of the entry is parsed as the value
+/// that the entry has with it.
 pub(crate) fn readings_stay()
     ensures empty { (schema : SchemaKept) → IsHeld (schema_view schema) (kept [] []) }
     ensures policy { (schema : SchemaKept) (k : StoreEntries Policy Entity) (id : String Global) (entry : Entry Policy)
@@ -30,5 +32,5 @@ pub(crate) fn readings_stay()
         → IsHeld (schema_view schema) k → IsEntryRead (IsEntityUnder (schema_view schema) uid) entry
         → IsHeld (schema_view schema) (kept k.policies (taken uid_cmp greater k.entities uid entry)) }
 {
-    readings_are_kept::<Policy, Entity, SchemaTexts<'static>>()
+    readings_are_preserved::<Policy, Entity, SchemaTexts<'static>>()
 }

@@ -92,11 +92,12 @@ impl Site {
 
     /// Applies updates of another site in their order: each is joined at its name, where the greater entry wins.
     ///
-    /// All are counted, also those that lose. If an allocation fails, exactly the first ones are applied, and the
-    /// others are not. An update that makes an entity cyclic is applied too. Absent caches are rebuilt after the
-    /// updates.
+    /// All applied updates are counted, also those that lose. If an allocation fails, exactly the first updates are
+    /// applied, and the others are not. An update that makes an entity cyclic is applied too. Absent caches are rebuilt
+    /// after the updates.
     ///
-    /// Each update must be valid under the site's schema, as [`message_format::read_message`] returns them.
+    /// Each update must be valid under the site's schema, as the updates are that [`message_format::read_message`]
+    /// returns.
     pub fn take(&mut self, updates: Vec<Update<Policy, Entity>>) -> Taken
         requires { AllByRecursion (IsValidUnder (schema_of self.old)) updates.items }
         ensures takes { TakesUpdates (store_in self.old) (plain_updates updates.items) result (store_in self.new) }

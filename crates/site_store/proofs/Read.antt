@@ -22,7 +22,7 @@ use Rattle.ancestor_closure.specs.ancestor_search.Hierarchy.{Parents}
 use Rattle.stamped_store.specs.declared.entry.Entry.{Entry}
 use Rattle.stamped_store.specs.Stored.{value_at_text}
 use Rattle.stamped_store.specs.declared.entry.ReadText.{ReadText}
-use Rattle.scope_index.specs.Keys.{Kept, kept_at, Offer, ids, lent, IsOffered}
+use Rattle.scope_index.specs.Keys.{Kept, kept_at, Candidate, ids, lent, IsCandidate}
 use Rattle.scope_index.specs.Scopes.{IsScopeTrue}
 use Rattle.site_meaning.specs.authoriser.Answers.{NamedPolicy}
 use Rattle.site_meaning.specs.authoriser.Views.{named}
@@ -130,7 +130,7 @@ policies_are_read (e ∷ es) sorted p =
 abbrev pub Lent : Type 0
 Lent = Bor (List ℕ) × Bor Policy
 
-abbrev as_named : Offer → NamedPolicy
+abbrev as_named : Candidate → NamedPolicy
 as_named o = record { id = o.0; policy = o.1 }
 
 is_lent : (ps : List Lent) (p : NamedPolicy) → Contains (named ps) p → Contains (lent ps) (p.id, p.policy)
@@ -140,10 +140,10 @@ is_lent (x ∷ ps) p h = elim (Contains-cases (record { id = x.0.now; policy = x
   | inr t ↦ Contains-there (x.0.now, x.1.now) (lent ps) (p.id, p.policy) (is_lent ps p t)
 ]
 
-is_named : (ps : List Lent) (o : Offer) → Contains (lent ps) o → Contains (named ps) (as_named o)
+is_named : (ps : List Lent) (o : Candidate) → Contains (lent ps) o → Contains (named ps) (as_named o)
 is_named [] o h = Contains-none o h
 is_named (x ∷ ps) o h = elim (Contains-cases (x.0.now, x.1.now) (lent ps) o h) [
-  | inl e ↦ subst (λ (n : Offer). Contains (named (x ∷ ps)) (as_named n)) e (Contains-here (record { id = x.0.now; policy = x.1.now }) (named ps))
+  | inl e ↦ subst (λ (n : Candidate). Contains (named (x ∷ ps)) (as_named n)) e (Contains-here (record { id = x.0.now; policy = x.1.now }) (named ps))
   | inr t ↦ Contains-there (record { id = x.0.now; policy = x.1.now }) (named ps) (as_named o) (is_named ps o t)
 ]
 
@@ -157,8 +157,8 @@ they_ascend ps h = subst (λ l. IsStrictlySortedBy text_cmp l) (ids_are ps) h
 -- the candidates of an index suffice
 candidates_are : (es : PolicyEntries) (kept : Kept) (parents : Parents) (q : Request) (ps : List Lent)
     → IsStrictlySortedBy string_cmp (keys_of es) → AreIndexed es kept
-    → ((o : Offer) → Contains (lent ps) o ↔ IsOffered kept parents q o)
-    → ((o : Offer) → kept_at kept o.0 ≡ Some o.1 → IsScopeTrue parents o.1.scope q → Contains (lent ps) o)
+    → ((o : Candidate) → Contains (lent ps) o ↔ IsCandidate kept parents q o)
+    → ((o : Candidate) → kept_at kept o.0 ≡ Some o.1 → IsScopeTrue parents o.1.scope q → Contains (lent ps) o)
     → AreCandidates parents q (policies_read es) (named ps)
 candidates_are es kept parents q ps sorted indexed exact complete = record {
   among = λ p h.
@@ -173,8 +173,8 @@ candidates_are es kept parents q ps sorted indexed exact complete = record {
 
 pub offered_are : {E : Type 0} (es : PolicyEntries) (kept : Kept) (parents : Parents) (q : Request) (r : Result (Vec Lent Global) E)
     → IsStrictlySortedBy string_cmp (keys_of es) → AreIndexed es kept
-    → IfOk r (λ ps. (o : Offer) → Contains (lent ps.items) o ↔ IsOffered kept parents q o)
-    → IfOk r (λ ps. (o : Offer) → kept_at kept o.0 ≡ Some o.1 → IsScopeTrue parents o.1.scope q → Contains (lent ps.items) o)
+    → IfOk r (λ ps. (o : Candidate) → Contains (lent ps.items) o ↔ IsCandidate kept parents q o)
+    → IfOk r (λ ps. (o : Candidate) → kept_at kept o.0 ≡ Some o.1 → IsScopeTrue parents o.1.scope q → Contains (lent ps.items) o)
     → IfOk r (λ ps. AreCandidates parents q (policies_read es) (named ps.items))
 offered_are es kept parents q (Ok ps) sorted indexed exact complete = candidates_are es kept parents q ps.items sorted indexed exact complete
 offered_are es kept parents q (Err e) sorted indexed exact complete = tt

@@ -21,7 +21,7 @@ use Rattle.stamped_store.specs.Store.{StoreEntries, kept}
 use Rattle.stamped_store.specs.Stored.{value_at, value_at_text, taken}
 use Rattle.stamped_store.proofs.Points.{value_at-taken, value_at-tied}
 use Rattle.site_store.specs.Indexed.{PolicyEntries, policy_in, AreIndexed}
-use Rattle.site_store.specs.Staying.{Stays}
+use Rattle.site_store.specs.Winning.{StoredWins}
 use Rattle.site_store.proofs.Follows.{at_other, is_at_bytes}
 
 -- ---- what is found stays
@@ -49,7 +49,7 @@ module _ {K V : Type 0} {R : K → K → Ordering} (o : IsTotalOrder R) where
 
 -- ---- the index
 
-same_texts : (es : PolicyEntries) (id : String Global) (entry : Entry Policy) → Stays (value_at_text es (string_bytes id)) entry
+same_texts : (es : PolicyEntries) (id : String Global) (entry : Entry Policy) → StoredWins (value_at_text es (string_bytes id)) entry
     → (q : List ℕ) → value_at_text (taken string_cmp greater es id entry) q ≡ value_at_text es q
 same_texts es id entry (e, there, same) q =
     elim (bytes_eq (string_bytes id) q) as (λ t. bytes_eq (string_bytes id) q ≡ t
@@ -61,7 +61,7 @@ same_texts es id entry (e, there, same) q =
 
 texts_after : {T F E : Type 0} (r : Result T F) (new old : StoreEntries Policy E) (id : String Global) (entry : Entry Policy)
     → OnOk r (new ≡ kept (taken string_cmp greater old.policies id entry) old.entities) → OnErr r (new ≡ old)
-    → Stays (value_at_text old.policies (string_bytes id)) entry
+    → StoredWins (value_at_text old.policies (string_bytes id)) entry
     → (q : List ℕ) → value_at_text new.policies q ≡ value_at_text old.policies q
 texts_after (Ok t) new old id entry is none stays q =
     ap (λ k. value_at_text k.policies q) is ∙ same_texts old.policies id entry stays q
@@ -69,7 +69,7 @@ texts_after (Err e) new old id entry none is stays q = ap (λ k. value_at_text k
 
 pub index_stays : {T F E : Type 0} (r : Result T F) (new old : StoreEntries Policy E) (id : String Global) (entry : Entry Policy)
     → OnOk r (new ≡ kept (taken string_cmp greater old.policies id entry) old.entities) → OnErr r (new ≡ old)
-    → (o : Option Kept) → (o ≡ None) ⊎ Stays (value_at_text old.policies (string_bytes id)) entry
+    → (o : Option Kept) → (o ≡ None) ⊎ StoredWins (value_at_text old.policies (string_bytes id)) entry
     → IfSome o (AreIndexed old.policies) → IfSome o (AreIndexed new.policies)
 index_stays r new old id entry ok err None why h = tt
 index_stays r new old id entry ok err (Some kept) (inl none) h = absurd (cc (none))

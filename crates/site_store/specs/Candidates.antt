@@ -12,8 +12,8 @@ use Rattle.site_meaning.specs.authoriser.declared.answer.Answer.{Answer}
 use Rattle.site_meaning.specs.authoriser.Answers.{NamedPolicy, IsAnswer}
 use Rattle.site_meaning.specs.authoriser.Laws.{AreIdsAscending}
 
--- `AreCandidates parents q ps qs` holds if the policies `qs` are among the policies `ps`, and each of `ps` whose scope
--- is true for the request `q` is among `qs`.
+-- `AreCandidates parents q ps qs` holds if the policies `qs` are among the policies `ps`, and include each of `ps`
+-- whose scope is true for the request `q` under the parent relation `parents`.
 pub record AreCandidates (parents : Parents) (q : Request) (ps qs : List NamedPolicy) : Type 0 where
   pub among : (p : NamedPolicy) → Contains qs p → Contains ps p
   pub all : (p : NamedPolicy) → Contains ps p → IsScopeTrue parents p.policy.scope q → Contains qs p
@@ -22,7 +22,8 @@ pub record AreCandidates (parents : Parents) (q : Request) (ps qs : List NamedPo
 abbrev pub Ascend : List NamedPolicy → Type 0
 Ascend ps = AreIdsAscending (map (λ p. p.id) ps)
 
--- `CandidatesSuffice`: the answers over candidates are the answers over all policies, if the ids of both ascend.
+-- `CandidatesSuffice`: if the ids of all policies and of the candidates ascend, the answers over the candidates are the
+-- answers over all policies. Here `W` is the entity data, and the test `above` decides the ancestors in it.
 abbrev pub CandidatesSuffice : Type 0
 CandidatesSuffice = (W : Entities) (above : EntityUid → EntityUid → Bool) → Decides W.parents above →
     (q : Request) (ps qs : List NamedPolicy) (a : Answer) → Ascend ps → Ascend qs → AreCandidates W.parents q ps qs

@@ -22,6 +22,7 @@ policy_in e = option_map (λ t. t.read) e.body
 abbrev pub policy_at : PolicyEntries → List ℕ → Option Policy
 policy_at es id = option_and_then policy_in (value_at_text es id)
 
--- `AreIndexed es kept` holds if `kept` has exactly the policies of the entries `es`, each under its id.
+-- `AreIndexed es kept` holds if the index with the content `kept` has exactly the policies of the entries `es`, each
+-- under its id.
 abbrev pub AreIndexed : PolicyEntries → Kept → Type 0
 AreIndexed es kept = (id : List ℕ) → kept_at kept id ≡ policy_at es id

@@ -1,5 +1,5 @@
 pub mod Indexed
-pub mod Staying
+pub mod Winning
 pub mod inner
 pub mod Candidates
 pub mod Kept

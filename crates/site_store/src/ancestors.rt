@@ -7,10 +7,10 @@ ghost use Rattle.stamped_store.specs.Store.{abstract_store, store_of, updates, k
 ghost use Rattle.stamped_store.specs.Stored.{taken, value_at};
 ghost use Rattle.site_store.specs.Kept.{AreAncestorsOf};
 ghost use Rattle.site_store.specs.inner.Updating.{AreAncestorsBut};
-ghost use Rattle.site_store.specs.Staying.{Stays};
+ghost use Rattle.site_store.specs.Winning.{StoredWins};
 
-use crate::rebuild_policy::RebuildPolicy;
-use crate::staying::stays;
+use crate::rebuild_policy::RebuildRule;
+use crate::winning::stored_wins;
 use ancestor_closure::AncestorCache;
 use plain::NoMemory;
 use scope_index::Policy;
@@ -28,7 +28,7 @@ pub(crate) fn ancestors_of(
     alloc: Global,
     schema: &Schema,
     store: &StampedStore<Policy, Entity>,
-    rebuild_policy: &mut RebuildPolicy,
+    rebuild_policy: &mut RebuildRule,
 ) -> Result<AncestorCache, NoMemory>
     ensures { IfOk result (AreAncestorsOf (schema_view schema.now) store.now.entities) }
 {
@@ -37,7 +37,7 @@ pub(crate) fn ancestors_of(
     AncestorCache::of_graph(alloc, &world, &mut rebuild_policy.room)
 }
 
-/// Updates the cache after the entity `uid` changed. The cache is stale after an error.
+/// Updates the cache after the entity `uid` changed. After an error the cache must not be used.
 ///
 /// # Errors
 ///
@@ -47,7 +47,7 @@ fn follow_store(
     ancestors: &mut AncestorCache,
     schema: &Schema,
     store: &StampedStore<Policy, Entity>,
-    rebuild_policy: &mut RebuildPolicy,
+    rebuild_policy: &mut RebuildRule,
     uid: &EntityUid,
 ) -> Result<(), NoMemory>
     requires { AreAncestorsBut uid.now (schema_view schema.now) store.now.entities ancestors.old }
@@ -61,13 +61,13 @@ fn follow_store(
 /// Returns the cache, updated after the entity `uid` changed, or `None` if there was none or the update failed.
 ///
 /// The cache is also dropped if its updates for one message have cost so much that a rebuild after the message is
-/// cheaper (`RebuildPolicy::is_dear`).
+/// cheaper (`RebuildRule::is_dear`).
 fn followed(
     alloc: Global,
     ancestors: Option<AncestorCache>,
     schema: &Schema,
     store: &StampedStore<Policy, Entity>,
-    rebuild_policy: &mut RebuildPolicy,
+    rebuild_policy: &mut RebuildRule,
     uid: &EntityUid,
 ) -> Option<AncestorCache>
     requires { IfSome ancestors (AreAncestorsBut uid.now (schema_view schema.now) store.now.entities) }
@@ -89,21 +89,21 @@ fn needs_nothing(
     entry: &Entry<Entity>,
 ) -> bool
     ensures { IsTrue result
-        → (ancestors.now ≡ None) ⊎ Stays (value_at uid_cmp store.now.entities uid.now) entry.now }
+        → (ancestors.now ≡ None) ⊎ StoredWins (value_at uid_cmp store.now.entities uid.now) entry.now }
 {
     if ancestors.is_none() {
         return true;
     }
-    stays(store.get_entity(uid), entry)
+    stored_wins(store.get_entity(uid), entry)
 }
 
-/// Joins an entry at an entity's uid, and then updates the cache, or drops it if that fails.
+/// Joins an entry at an entity's uid, and then updates the cache, or drops the cache if the update fails.
 fn take_and_follow(
     alloc: Global,
     schema: &Schema,
     store: &mut StampedStore<Policy, Entity>,
     ancestors: &mut Option<AncestorCache>,
-    rebuild_policy: &mut RebuildPolicy,
+    rebuild_policy: &mut RebuildRule,
     uid: EntityUid,
     entry: Entry<Entity>,
 ) -> Result<(), (EntityUid, Entry<Entity>)>
@@ -130,7 +130,8 @@ fn take_and_follow(
 
 /// Joins an entry at an entity's uid, and updates the cache.
 ///
-/// If an allocation for the cache fails, the cache is dropped; the entry is joined all the same.
+/// The cache is dropped if its update fails, or if the updates for one message cost more than a rebuild; the entry is
+/// joined all the same.
 ///
 /// # Errors
 ///
@@ -140,7 +141,7 @@ pub(crate) fn take_entity(
     schema: &Schema,
     store: &mut StampedStore<Policy, Entity>,
     ancestors: &mut Option<AncestorCache>,
-    rebuild_policy: &mut RebuildPolicy,
+    rebuild_policy: &mut RebuildRule,
     uid: EntityUid,
     entry: Entry<Entity>,
 ) -> Result<(), (EntityUid, Entry<Entity>)>
@@ -164,13 +165,13 @@ pub(crate) fn take_entity(
 
 /// Joins an entry at an entity's uid, and updates the cache without first comparing the entry with the stored one.
 ///
-/// It is meant for an entry that wins. Otherwise like [`take_entity`].
+/// Intended for an entry that wins. Otherwise like [`take_entity`].
 pub(crate) fn record_entity(
     alloc: Global,
     schema: &Schema,
     store: &mut StampedStore<Policy, Entity>,
     ancestors: &mut Option<AncestorCache>,
-    rebuild_policy: &mut RebuildPolicy,
+    rebuild_policy: &mut RebuildRule,
     uid: EntityUid,
     entry: Entry<Entity>,
 ) -> Result<(), (EntityUid, Entry<Entity>)>

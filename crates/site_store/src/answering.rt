@@ -28,8 +28,8 @@ pub(crate) fn is_in_order(store: &StampedStore<Policy, Entity>)
 impl StoredWorld<'_, '_> {
     /// Returns the policies to evaluate, in ascending order of ids: the candidates of the index or all policies.
     ///
-    /// The candidates are returned if the index is present, they may be fewer than all policies, and there is memory
-    /// to list them.
+    /// The candidates are returned if the index is present, the candidates may be fewer than all policies, and there is
+    /// memory to list them.
     ///
     /// # Errors
     ///
@@ -71,7 +71,7 @@ impl StoredWorld<'_, '_> {
     {
         is_in_order(self.store);
         candidates_suffice();
-        // 0: the ancestors of no other entities are memoized, since the ancestor cache has them, if it is present
+        // 0: memoizes no ancestors of entities other than the request's; the ancestor cache, if present, has them
         let mut known = PreparedRequest::of(self.alloc, self, request, 0)?;
         let policies = self.policies_for(request, &known, scan_count)?;
         scan_count.begin(policies.len());

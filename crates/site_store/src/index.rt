@@ -10,9 +10,9 @@ ghost use Rattle.stamped_store.specs.Store.{abstract_store, store_of, updates, k
 ghost use Rattle.stamped_store.specs.Stored.{taken, value_at_text};
 ghost use Rattle.site_store.specs.Indexed.{policy_at, policy_in, AreIndexed};
 ghost use Rattle.site_store.specs.inner.IndexUpdating.{AreIndexedBut, noted};
-ghost use Rattle.site_store.specs.Staying.{Stays};
+ghost use Rattle.site_store.specs.Winning.{StoredWins};
 
-use crate::staying::stays;
+use crate::winning::stored_wins;
 use plain::NoMemory;
 use scope_index::{Policy, ScopeIndex};
 use stamped_store::{Entry, StampedStore};
@@ -79,8 +79,8 @@ fn index_of<E: Drop>(alloc: Global, store: &StampedStore<Policy, E>) -> Result<S
     Ok(index)
 }
 
-/// Rebuilds the index if it is absent and there is memory. An index that is present must be valid for the store, and
-/// stays as it is.
+/// Rebuilds the index if it is absent and there is memory. An index that is present must be valid for the store, and is
+/// left unchanged.
 pub fn rebuild_index_if_missing<E: Drop>(
     alloc: Global,
     store: &StampedStore<Policy, E>,
@@ -103,12 +103,12 @@ fn needs_nothing<E: Drop>(
     id: &str,
     entry: &Entry<Policy>,
 ) -> bool
-    ensures { IsTrue result → (index.now ≡ None) ⊎ Stays (value_at_text store.now.policies id.now) entry.now }
+    ensures { IsTrue result → (index.now ≡ None) ⊎ StoredWins (value_at_text store.now.policies id.now) entry.now }
 {
     if index.is_none() {
         return true;
     }
-    stays(store.get_policy(id), entry)
+    stored_wins(store.get_policy(id), entry)
 }
 
 /// Joins an entry that wins at a policy's id, and updates the index without a comparison with the stored entry.
@@ -145,8 +145,8 @@ pub(crate) fn record_policy<E: Drop>(
 
 /// Joins an entry at a policy's id, and updates the index.
 ///
-/// If the index is present, it must be valid for the store. If an allocation for it fails, it is dropped; the entry is
-/// joined all the same.
+/// If the index is present, it must be valid for the store. If an allocation for the index fails, the index is dropped;
+/// the entry is joined all the same.
 ///
 /// # Errors
 ///

@@ -1,11 +1,11 @@
-//! A store of stamped texts with two caches: an index of its policies by their scopes, and the ancestors of its
-//! entities.
+//! A store of stamped texts with two caches: an index of the store's policies by their scopes, and the ancestors of the
+//! store's entities.
 //!
-//! With the index, a request is decided over those policies alone whose scope it may satisfy. With the ancestor cache,
-//! nothing is searched if the hierarchy has no cycle. A change is first joined into the store. Then each cache is
-//! updated to what the store has, whichever entry won, or dropped, for example if an allocation fails. A dropped cache
-//! changes no answer: without the index every policy is evaluated, and without the ancestor cache the hierarchy is
-//! searched in place.
+//! With the index, a request is decided over only those policies whose scope the request may satisfy. With the ancestor
+//! cache, nothing is searched if the hierarchy has no cycle. A change is first joined into the store. Then each cache
+//! is updated to the entry that won, or is dropped, for example if an allocation fails. A dropped cache changes no
+//! answer: without the index every policy is evaluated, and without the ancestor cache the hierarchy is searched in
+//! place.
 #![tactic(auto)]
 
 mod ancestors;
@@ -15,9 +15,9 @@ mod laws;
 mod offering;
 mod rebuild_policy;
 mod scan_count;
-mod staying;
 mod store;
 mod stored_world;
+mod winning;
 
 pub use ancestor_closure::paths_are_decided;
 pub use index::{rebuild_index_if_missing, take_policy};
@@ -29,9 +29,9 @@ pub use site_meaning::{
     stated_schemas_are_well_formed, stores_have_one_reading,
 };
 pub use stamped_store::laws::{
-    contents_are_the_texts, deltas_are_joined, readings_are_kept, site_names_are_recognized,
+    contents_are_the_texts, deltas_are_joined, readings_are_preserved, site_names_are_recognized,
     stamps_are_issued, updates_have_one_store,
 };
 pub use stamped_store::{COUNT_MAX, Entry, ReadText, SiteName, Stamp, StampedStore, is_site_name};
-pub use staying::stays;
 pub use store::IndexedStore;
+pub use winning::stored_wins;

@@ -12,8 +12,8 @@ use site_meaning::Entity;
 use stamped_store::StampedStore;
 use values::Request;
 
-/// Returns the candidates of the index, in ascending order of ids. They are borrowed from the index, without look-ups
-/// in the store.
+/// Returns the candidates that the index has for a request, in ascending order of ids. They are borrowed from the
+/// index, without look-ups in the store.
 ///
 /// # Errors
 ///

@@ -2,40 +2,44 @@
 
 use ancestor_closure::CacheBudget;
 
-/// The most cached ancestors for each entity of the store, on average, in addition to [`EXTRA_ANCESTORS`].
+/// The part of the limit on cached ancestors that grows with the store: for `n` entities the cache may have
+/// `ANCESTORS_PER_ENTITY * n` ancestors, and [`EXTRA_ANCESTORS`] more.
 const ANCESTORS_PER_ENTITY: usize = 64;
 
-/// The most cached ancestors in addition to [`ANCESTORS_PER_ENTITY`] for each entity.
+/// The part of the limit on cached ancestors that does not depend on the store.
 const EXTRA_ANCESTORS: usize = 1_000_000;
 
 /// The number of changes of entities, in addition to one for each entity, between a build that found too many ancestors
-/// and the next attempt. A build ends once it has found too many, so it costs some 64 ancestors for each of these
-/// changes.
+/// and the next attempt: 15,625. A build ends once it has found too many ancestors, so it costs some 64 ancestors for
+/// each of these changes.
 const CHANGES_BEFORE_RETRY: usize = EXTRA_ANCESTORS / ANCESTORS_PER_ENTITY;
 
-/// The most ancestors that the incremental updates for a message may write in addition to those that a rebuild writes.
+/// The most ancestors that the incremental updates for a message may write or visit in addition to those that a rebuild
+/// writes.
 const EXTRA_WRITES: usize = 10_000;
 
 /// The counts that decide when the ancestor cache is rebuilt or dropped. No contract and no answer depends on them.
 #[derive(Clone, Copy)]
-pub(crate) struct RebuildPolicy {
-    /// How many ancestors the cache has, how many it may have, and how many a put or a message has written.
+pub(crate) struct RebuildRule {
+    /// How many ancestors the cache has, how many it may have, and how many the current put or message has written or
+    /// visited.
     pub(crate) room: CacheBudget,
     /// The number of changes of entities before the next attempt to build the cache.
     pause: usize,
 }
 
-impl RebuildPolicy {
+impl RebuildRule {
     /// Creates the counts of a store without a cache.
-    pub(crate) fn new() -> RebuildPolicy {
-        RebuildPolicy {
+    pub(crate) fn new() -> RebuildRule {
+        RebuildRule {
             room: CacheBudget::new(0),
             pause: 0,
         }
     }
 
-    /// Begins a put or ends a message, where `stand` is whether the cache is present and `entities` the number of
-    /// entities. Returns whether to build the cache now; never if it is present.
+    /// Begins a put or ends a message, and returns whether to build the cache now.
+    ///
+    /// `stand` is whether the cache is present; the result is then false. `entities` is the number of entities.
     pub(crate) fn begin(&mut self, stand: bool, entities: usize) -> bool {
         let most = entities
             .saturating_mul(ANCESTORS_PER_ENTITY)
@@ -51,19 +55,20 @@ impl RebuildPolicy {
         true
     }
 
-    /// Ends a build of the cache. If that found too many ancestors, the next attempt is postponed.
+    /// Ends a build of the cache. If the build found too many ancestors, the next attempt is postponed.
     pub(crate) fn end(&mut self, entities: usize) {
         if self.room.is_short() {
             self.pause = entities.saturating_add(CHANGES_BEFORE_RETRY);
         }
     }
 
-    /// Counts a change of an entity.
+    /// Counts a change of an entity towards the next attempt to build the cache.
     pub(crate) fn pass(&mut self) {
         self.pause = self.pause.saturating_sub(1);
     }
 
-    /// Returns whether the incremental updates have cost more than a rebuild and [`EXTRA_WRITES`] ancestors.
+    /// Returns whether the incremental updates have written or visited over [`EXTRA_WRITES`] ancestors more than a
+    /// rebuild would write.
     pub(crate) fn is_dear(&self, entities: usize) -> bool {
         let anew = self.room.kept().saturating_add(entities);
         self.room.written() > anew.saturating_add(EXTRA_WRITES)

@@ -4,8 +4,9 @@ use scope_index::{EntityScope, Policy};
 use stamped_store::Entry;
 use std::cell::Cell;
 
-/// How many policies the last answer evaluated, and whether the scope of a policy that was put ever named a principal
-/// or a resource. As long as none has, all policies are candidates, and listing them would cost more than it saves.
+/// How many policies the last answer evaluated, and whether any policy that was ever joined names an entity in its
+/// constraint on the principal or the resource. As long as none does, all policies are candidates, and listing the
+/// candidates would cost more than it saves.
 ///
 /// No contract and no answer depends on these measures.
 #[derive(Drop)]
@@ -34,7 +35,7 @@ impl ScanCount {
     /// Records the scope of a policy that is to be stored.
     pub(crate) fn note(&mut self, entry: &Entry<Policy>) {
         if let Some(text) = &entry.body {
-            let scope = text.read.scope.get();
+            let scope = &*text.read.scope;
             self.is_bound = self.is_bound
                 | names_entity(&scope.principal)
                 | names_entity(&scope.resource);
@@ -46,7 +47,7 @@ impl ScanCount {
         self.is_bound
     }
 
-    /// Records the number of policies that are evaluated.
+    /// Records the number of policies that an answer evaluates.
     pub(crate) fn begin(&self, tried: usize) {
         self.tried.set(tried);
     }

@@ -15,7 +15,7 @@ ghost use Rattle.site_store.specs.StoreViews.{AreValidCaches};
 use crate::ancestors::{ancestors_of, record_entity, take_entity};
 use crate::answering::is_in_order;
 use crate::index::{rebuild_index_if_missing, record_policy, take_policy};
-use crate::rebuild_policy::RebuildPolicy;
+use crate::rebuild_policy::RebuildRule;
 use crate::scan_count::ScanCount;
 use crate::stored_world::StoredWorld;
 use ancestor_closure::AncestorCache;
@@ -35,7 +35,7 @@ pub struct IndexedStore {
     store: StampedStore<Policy, Entity>,
     index: Option<ScopeIndex>,
     ancestors: Option<AncestorCache>,
-    rebuild_policy: RebuildPolicy,
+    rebuild_policy: RebuildRule,
     scan_count: ScanCount,
 }
 
@@ -57,14 +57,14 @@ impl Model for IndexedStore {
     ghost invariant = { λ s. AreValidCaches (schema_view s.schema) s.store s.index s.ancestors };
 }
 
-/// Rebuilds the caches that are absent, if there is memory; the ancestor cache only if it is not too large.
-fn stand(
+/// Rebuilds the caches that are absent, if there is memory; the ancestor cache only if `rebuild_policy` allows it.
+fn rebuild_absent(
     alloc: Global,
     schema: &Schema,
     store: &StampedStore<Policy, Entity>,
     index: &mut Option<ScopeIndex>,
     ancestors: &mut Option<AncestorCache>,
-    rebuild_policy: &mut RebuildPolicy,
+    rebuild_policy: &mut RebuildRule,
 )
     requires { AreValidCaches (schema_view schema.now) store.now index.old ancestors.old }
     ensures { AreValidCaches (schema_view schema.now) store.now index.new ancestors.new }
@@ -80,7 +80,7 @@ fn stand(
 impl IndexedStore {
     /// Creates an empty store under a schema, with an index but without an ancestor cache. Does not allocate.
     ///
-    /// The ancestor cache has the schema's actions, so that building it allocates. The first [`Self::record_policy`],
+    /// The ancestor cache includes the schema's actions, so building it allocates. The first [`Self::record_policy`],
     /// [`Self::record_entity`] or [`Self::rebuild`] builds it.
     pub fn new(alloc: Global, schema: Shared<Schema>) -> Self
         ensures { result ≡ record { schema = schema; kept = kept [] [] } }
@@ -91,7 +91,7 @@ impl IndexedStore {
             store: StampedStore::new(alloc),
             index: Some(ScopeIndex::new(alloc)),
             ancestors: None,
-            rebuild_policy: RebuildPolicy::new(),
+            rebuild_policy: RebuildRule::new(),
             scan_count: ScanCount::new(),
         }
     }
@@ -100,7 +100,7 @@ impl IndexedStore {
     pub fn schema(&self) -> &Schema
         ensures { result.now ≡ self.now.schema }
     {
-        self.schema.get()
+        &self.schema
     }
 
     /// Returns the store without its caches.
@@ -164,7 +164,7 @@ impl IndexedStore {
     {
         take_entity(
             self.alloc,
-            self.schema.get(),
+            &self.schema,
             &mut self.store,
             &mut self.ancestors,
             &mut self.rebuild_policy,
@@ -173,7 +173,9 @@ impl IndexedStore {
         )
     }
 
-    /// Like [`Self::take_policy`], for an entry that wins; first rebuilds the absent caches, if there is memory.
+    /// Rebuilds the absent caches, if there is memory, and joins an entry that wins at a policy's id.
+    ///
+    /// Otherwise like [`Self::take_policy`].
     pub fn record_policy(
         &mut self,
         id: String,
@@ -191,9 +193,9 @@ impl IndexedStore {
         ensures same { self.new.schema ≡ self.old.schema }
     {
         self.scan_count.note(&entry);
-        stand(
+        rebuild_absent(
             self.alloc,
-            self.schema.get(),
+            &self.schema,
             &self.store,
             &mut self.index,
             &mut self.ancestors,
@@ -202,7 +204,9 @@ impl IndexedStore {
         record_policy(self.alloc, &mut self.store, &mut self.index, id, entry)
     }
 
-    /// Like [`Self::take_entity`], for an entry that wins; first rebuilds the absent caches, if there is memory.
+    /// Rebuilds the absent caches, if there is memory, and joins an entry that wins at an entity's uid.
+    ///
+    /// Otherwise like [`Self::take_entity`].
     pub fn record_entity(
         &mut self,
         uid: EntityUid,
@@ -219,9 +223,9 @@ impl IndexedStore {
         ensures err { OnErr result (self.new.kept ≡ self.old.kept) }
         ensures same { self.new.schema ≡ self.old.schema }
     {
-        stand(
+        rebuild_absent(
             self.alloc,
-            self.schema.get(),
+            &self.schema,
             &self.store,
             &mut self.index,
             &mut self.ancestors,
@@ -229,7 +233,7 @@ impl IndexedStore {
         );
         record_entity(
             self.alloc,
-            self.schema.get(),
+            &self.schema,
             &mut self.store,
             &mut self.ancestors,
             &mut self.rebuild_policy,
@@ -240,14 +244,14 @@ impl IndexedStore {
 
     /// Rebuilds the absent caches, if there is memory, by one attempt each. No entry changes.
     ///
-    /// Intended for the end of a message. After a build that found too many ancestors, the ancestor cache is not tried
-    /// again before at least as many changes of entities as there are entities, and 15,625 more.
+    /// Intended for the end of a message. After a build of the ancestor cache that found too many ancestors, the next
+    /// build waits for as many changes of entities as there were entities, and 15,625 more.
     pub fn rebuild(&mut self)
         ensures { self.new ≡ self.old }
     {
-        stand(
+        rebuild_absent(
             self.alloc,
-            self.schema.get(),
+            &self.schema,
             &self.store,
             &mut self.index,
             &mut self.ancestors,
@@ -255,12 +259,12 @@ impl IndexedStore {
         );
     }
 
-    /// Returns the parts of this store over which requests are decided. `entities` are the entities of this store.
+    /// Returns the parts of this store over which requests are decided. `entities` must be the entities of this store.
     fn lend_world<'a, 's>(&'a self, entities: &'a StoredEntities<'s>) -> StoredWorld<'a, 's>
         requires { entities.now.store.now ≡ self.now.kept }
         ensures { result ≡ self.now }
     {
-        let schema = self.schema.get();
+        let schema = &*self.schema;
         let searched = entity_data_under(self.alloc, entities, schema);
         StoredWorld {
             alloc: self.alloc,
@@ -295,8 +299,8 @@ impl IndexedStore {
         world.answer(request, &self.scan_count)
     }
 
-    /// Returns whether putting an entity into the store would make the entity cyclic, whatever the store has at its uid
-    /// now. Cycles of other entities do not matter.
+    /// Returns whether putting an entity into the store would make the entity cyclic, whatever the store now has at the
+    /// entity's uid. Cycles of other entities do not matter.
     ///
     /// `R` is as in [`Self::answer`].
     ///
@@ -331,7 +335,7 @@ impl IndexedStore {
     }
 
     /// Returns whether the ancestor cache is present, and whether the index is; for tests alone.
-    pub fn standing(&self) -> (bool, bool) {
+    pub fn caches_present(&self) -> (bool, bool) {
         (self.ancestors.is_some(), self.index.is_some())
     }
 

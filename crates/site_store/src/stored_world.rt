@@ -21,8 +21,8 @@ use values::{EntityUid, Record};
 
 /// A store under a schema, with its index and its ancestor cache if they are present.
 ///
-/// With the ancestor cache, ancestors are looked up, and nothing is searched if there is no cycle; without it the
-/// hierarchy is searched in place. Contracts see the schema and the store.
+/// With the ancestor cache, ancestors are looked up, and nothing is searched if there is no cycle; without the cache,
+/// the hierarchy is searched in place. Contracts see the schema and the store.
 #[derive(Drop)]
 pub(crate) struct StoredWorld<'a, 's> {
     pub(crate) alloc: Global,

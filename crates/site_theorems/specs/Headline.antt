@@ -1,16 +1,16 @@
--- Defines the headline of this product over what JSON and bytes state: what runs of a site and systems of sites keep.
+-- Defines the main theorem about sites, by what JSON and bytes describe: what runs of a site and systems of sites keep.
 -- Rules of this product: each site's store is the join of the updates that it applied, whatever their order, repeats or
 -- grouping; no reply has an error of type, of an attribute or of an extension function.
 use Rattle.site_theorems.specs.Runs.{RunsLeaveApplied, EqualUpdatesLeaveEqualStores, RunsReplyHarmlessly}
 use Rattle.site_theorems.specs.SiteStores.{SitesHoldApplied}
 use Rattle.site_theorems.specs.Promises.{AllWorldsKeepPromises}
 
--- `SitesAreAsStated` holds if runs and systems of sites keep these promises.
+-- `SitesAreAsStated` holds if all runs of sites and all systems of sites keep these promises.
 pub record SitesAreAsStated : Type 0 where
-  -- of each run of a site, from any store
+  -- for each run of a site, from any store
   pub leave : RunsLeaveApplied
   pub equal : EqualUpdatesLeaveEqualStores
   pub harmless : RunsReplyHarmlessly
-  -- of each system of sites, at every moment
+  -- for each system of sites, at every moment
   pub stores : SitesHoldApplied
   pub worlds : AllWorldsKeepPromises

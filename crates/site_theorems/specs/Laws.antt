@@ -1,4 +1,4 @@
--- Defines the theorem that the steps of a site are those that JSON and bytes state.
+-- Defines the theorem that the steps of a site, as its contracts cite them, are those that JSON and bytes describe.
 use Rattle.std.specs.Prelude.{◌↔◌, ℕ, List}
 use Rattle.site.specs.site_steps.schema.Schemas.{StatedSchema}
 use Rattle.site.specs.site_steps.stamped_store.Store.{Store}
@@ -7,7 +7,8 @@ use Rattle.site.specs.site_steps.declared.reply.Reply.{Reply}
 use Rattle.site.specs.site_steps.Runs.{Step}
 use Rattle.site_theorems.specs.Steps.{IsStep}
 
--- `StepsAreAsStated`: the steps that the contracts of a site cite are those that JSON and bytes state.
+-- `StepsAreAsStated`: `Step`, which the contracts of a site cite, and `IsStep`, which rests on relations between bytes
+-- and what they describe, relate the same inputs, replies and stores.
 abbrev pub StepsAreAsStated : Type 0
 StepsAreAsStated = (schema : StatedSchema) (n : List ℕ) (s : Store) (i : Input) (r : Reply) (t : Store)
     → Step schema n s i r t ↔ IsStep schema n s i r t

@@ -1,6 +1,6 @@
--- Defines the promises of systems of sites over relations between bytes and what they state.
--- Rules of this product: schemas, entities, requests, messages and summaries are those that bytes state. No function
--- that reads these from JSON is cited; `json_of`, which parses JSON, is.
+-- Defines the promises of systems of sites over relations between bytes and what they describe.
+-- Rules of this product: schemas, entities, requests, messages and summaries are those that bytes describe. The
+-- definitions cite no function that reads these from JSON, only `json_of`, which parses JSON.
 use Rattle.std.specs.Prelude.{◌≡◌, ℕ, List, Some, None, Ok}
 use Rattle.json_words.specs.Json.{json_of}
 use Rattle.site.specs.site_steps.schema.Schemas.{StatedSchema, IsSchemaOf}
@@ -18,7 +18,8 @@ use Rattle.site.specs.site_steps.entities.StatedEntities.{StatesEntity}
 use Rattle.site.specs.site_steps.sync_messages.StatedUpdates.{StatesUpdates}
 use Rattle.site_theorems.specs.Steps.{JsonStates, IsStep}
 
--- `Issues schema d r u` holds if the local command `d` issued the update `u`: its reply `r` is the stamp of `u`.
+-- `Issues schema d r u` holds if the local command `d` issued the update `u`: the reply `r` to `d` has the stamp of
+-- `u`.
 abbrev pub Issues : StatedSchema → Operation → Reply → Update → Type 0
 Issues schema (operation.PutPolicy id text) (reply.Put (Ok put)) u =
     u ≡ (policy_name id, issued put.stamp (Some text))
@@ -30,11 +31,11 @@ Issues schema (operation.DeleteEntity uid) (reply.Stamped (Ok stamp)) u = u ≡ 
 Issues schema _ _ u = ⊥
 
 -- `WorldsKeepPromises schema` holds if all systems of sites of `schema` keep the promises, by the steps, messages and
--- issued updates that bytes state.
+-- issued updates that bytes describe.
 abbrev pub WorldsKeepPromises : StatedSchema → Type 0
 WorldsKeepPromises schema = SystemsKeepPromises (IsStep schema) (StatesUpdates schema.label) (Issues schema)
 
--- `AllWorldsKeepPromises`: under each schema that bytes state, all systems of sites keep the promises.
+-- `AllWorldsKeepPromises`: under each schema that bytes describe, all systems of sites keep the promises.
 abbrev pub AllWorldsKeepPromises : Type 0
 AllWorldsKeepPromises = (bytes : List ℕ) (schema : SchemaEntries) → IsSchemaOf bytes (schema_view schema)
     → WorldsKeepPromises (schema_view schema)

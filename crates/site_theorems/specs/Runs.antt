@@ -1,4 +1,5 @@
--- Defines the runs of a site by what JSON and bytes state, the updates that they apply, and the stores that they leave.
+-- Defines the runs of a site by what JSON and bytes describe, the updates that the runs apply, and the stores that they
+-- leave.
 -- Source: docs/formats.md, "Messages between sites".
 -- Rules of this product: a command applies an update if its reply is a stamp; a message applies its updates in their
 -- order, all or the first k, including those that lose to a greater entry; other inputs and replies apply none.
@@ -21,18 +22,18 @@ use Rattle.site_theorems.specs.Steps.{JsonStates, IsStep}
 
 -- ---- runs
 
--- `IsRun schema n s is rs t` holds if a chain of steps, one for each of the inputs `is` with its reply of `rs`, leads
--- the site named `n` from the store `s` to `t`. An example: site `east`, empty at first, puts a text for the policy
--- `a`, with the stamp (1, `east`); applies a message in which site `west` has put another text for `a`, with the stamp
--- (3, `west`); and deletes `a`, with the stamp (4, `east`). These three inputs with their replies applied three
--- updates; in the store at the end, `a` was deleted at (4, `east`).
+-- `IsRun schema n s is rs t` holds if a chain of steps, one for each of the inputs `is` with its reply in `rs`, leads
+-- the site named `n` from the store `s` to the store `t`. For example, the site `east`, empty at first, puts a text for
+-- the policy `a`, with the stamp (1, `east`); applies a message in which the site `west` has put another text for `a`,
+-- with the stamp (3, `west`); and deletes `a`, with the stamp (4, `east`). These three inputs have three replies and
+-- apply three updates; in the store at the end, `a` has a tombstone with the stamp (4, `east`).
 abbrev pub IsRun : StatedSchema → List ℕ → Store → List Input → List Reply → Store → Type 0
 IsRun schema n s [] [] t = t ≡ s
 IsRun schema n s [] (r ∷ rs) t = ⊥
 IsRun schema n s (i ∷ is) [] t = ⊥
 IsRun schema n s (i ∷ is) (r ∷ rs) t = (m : Store) × IsStep schema n s i r m × IsRun schema n m is rs t
 
--- ---- what they apply
+-- ---- the updates that runs apply
 
 -- `Applies schema i r us` holds if `us` are the updates that the input `i` with the reply `r` applied.
 abbrev pub Applies : StatedSchema → Input → Reply → List Update → Type 0
@@ -58,10 +59,10 @@ Applied schema (i ∷ is) (r ∷ rs) us =
     (first : List Update) × (more : List Update) × Applies schema i r first × Applied schema is rs more
     × (us ≡ first ++ more)
 
--- ---- what they leave
+-- ---- the stores that runs leave
 
--- `LeavesApplied schema s is rs t` holds if exactly one list of updates was applied by the inputs `is` with the
--- replies `rs`, and `t` is the join of the updates of `s` and of these: at each name the greatest entry among them.
+-- `LeavesApplied schema s is rs t` holds if the inputs `is` with the replies `rs` applied exactly one list of updates,
+-- and `t` is the join of the updates of `s` and these: at each name the greatest entry among them.
 pub record LeavesApplied (schema : StatedSchema) (s : Store) (is : List Input) (rs : List Reply) (t : Store) : Type 0
   where
     pub us : List Update
@@ -70,13 +71,14 @@ pub record LeavesApplied (schema : StatedSchema) (s : Store) (is : List Input) (
     pub greatest : IsStoreOf (updates s ++ us) t
     pub store : t ≡ store_of (updates s ++ us)
 
--- `RunsLeaveApplied`: each run of each site leaves the join of the updates that it had and of those that it applied.
+-- `RunsLeaveApplied`: each run of each site leaves the join of the updates that the site had and those that the run
+-- applied.
 abbrev pub RunsLeaveApplied : Type 0
 RunsLeaveApplied = (schema : StatedSchema) (n : List ℕ) (s : Store) (is : List Input) (rs : List Reply) (t : Store)
     → IsRun schema n s is rs t → LeavesApplied schema s is rs t
 
--- `Holds schema us t` holds if some run of some site of `schema` leaves the store `t`, and `us` are the updates that
--- the site had and those that it applied, for any name, first store, inputs and replies.
+-- `Holds schema us t` holds if some run of some site of `schema` leaves the store `t`, and `us` are the updates of the
+-- first store, followed by those that the run applied.
 pub record Holds (schema : StatedSchema) (us : List Update) (t : Store) : Type 0 where
   pub name : List ℕ
   pub first : Store
@@ -93,8 +95,8 @@ abbrev pub EqualUpdatesLeaveEqualStores : Type 0
 EqualUpdatesLeaveEqualStores = (schema : StatedSchema) (us vs : List Update) (s t : Store) → Holds schema us s
     → Holds schema vs t → ((u : Update) → Contains us u ↔ Contains vs u) → s ≡ t
 
--- `RunsReplyHarmlessly`: under a schema that bytes state, each policy error in a reply of a run is `EntityDoesNotExist`
--- or `ArithBoundsError`.
+-- `RunsReplyHarmlessly`: under a schema that bytes describe, each error of a policy in an answer of a run is
+-- `EntityDoesNotExist` or `ArithBoundsError`.
 abbrev pub RunsReplyHarmlessly : Type 0
 RunsReplyHarmlessly = (bytes : List ℕ) (schema : StatedSchema) → IsSchemaOf bytes schema → (n : List ℕ) (s : Store)
     (is : List Input) (rs : List Reply) (t : Store) → IsRun schema n s is rs t → ArePermittedReplies rs

@@ -1,4 +1,5 @@
--- Defines which updates each site of a system applied, by what JSON and bytes state, and that its store is their join.
+-- Defines which updates each site of a system applied, by what JSON and bytes describe, and that the site's store is
+-- their join.
 -- Rules of this product: sites have numbers from 1 and are empty at first; an event that names a site, a message or a
 -- summary that does not exist applies nothing, and neither does an event that makes a message or a summary.
 use Rattle.std.specs.Prelude.{◌≡◌, ℕ, List, [], ◌∷◌, ◌++◌, Option, Some}
@@ -14,20 +15,20 @@ use Rattle.site_theorems.specs.Steps.{IsStep}
 use Rattle.site_theorems.specs.Runs.{Applies}
 
 -- `AppliesIn schema i a us` holds if `us` are the updates that an event with the reply `a` applied at its site, where
--- `i` is its input to that site, if there is one.
+-- `i` is the input that the event gave the site, if it gave one.
 abbrev pub AppliesIn : StatedSchema → Option Input → EventReply → List Update → Type 0
 AppliesIn schema (Some i) (Replied r) us = Applies schema i r us
 AppliesIn schema _ _ us = us ≡ []
 
 -- `AppliesAt schema k w e a us` holds if `us` are the updates that the event `e` with the reply `a` applied at the site
--- with the number `k`, where `w` has the messages and summaries that were made.
+-- with the number `k`. The state `w` has the messages and summaries that were made.
 pub data AppliesAt (schema : StatedSchema) (k : ℕ) (w : World) (e : Event) (a : EventReply) (us : List Update) : Type 0
   where
     here : e.site ≡ k → AppliesIn schema (input_of w e.operation) a us → AppliesAt schema k w e a us
     elsewhere : (e.site ≡ k → ⊥) → us ≡ [] → AppliesAt schema k w e a us
 
 -- `AppliedAt schema k w es rs us` holds if `us` are the updates that the events `es` with the replies `rs` applied, in
--- their order, at the site with the number `k`, where `w` has the messages and summaries that were made.
+-- their order, at the site with the number `k`. The state `w` has the messages and summaries that were made.
 abbrev pub AppliedAt : StatedSchema → ℕ → World → List Event → List EventReply → List Update → Type 0
 AppliedAt schema k w [] [] us = us ≡ []
 AppliedAt schema k w [] (a ∷ rs) us = ⊥
@@ -49,7 +50,8 @@ pub record HoldsApplied (schema : StatedSchema) (k : ℕ) (es : List Event) (rs 
     pub greatest : IsStoreOf us t
     pub store : t ≡ store_of us
 
--- `SitesHoldApplied`: in each state of each system, the store of each site is the join of the updates that it applied.
+-- `SitesHoldApplied`: in each state of each system, the store of each site is the join of the updates that the site
+-- applied.
 abbrev pub SitesHoldApplied : Type 0
 SitesHoldApplied = (schema : StatedSchema) (sites : List SiteName) (es : List Event) (rs : List EventReply) (w : World)
     → IsWorld (IsStep schema) sites es rs w → (k : ℕ) (n : SiteName) → numbered sites k ≡ Some n

@@ -1,5 +1,5 @@
--- Defines the steps of a site by what JSON and bytes state: an input leads from a store to a store, with a reply.
--- Sources: Cedar reference guide 4.0, "Entities and context: JSON format" and "Authorization request"; docs/formats.md.
+-- Defines the steps of a site by what JSON and bytes describe: an input leads from a store to a store, with a reply.
+-- Source: Cedar reference guide 4.0, "Entities and context: JSON format" and "Authorization request"; docs/formats.md.
 -- Rules of this product: bytes that are not JSON have the error `BadShape`; the cycle is checked before the clock; a
 -- message is rejected whole or its updates are applied in order; rejected inputs and queries leave the store unchanged.
 use Rattle.std.specs.Prelude.{◌≡◌, ℕ, List, Option, Some, None, Result, Ok, Err}
@@ -37,22 +37,23 @@ use Rattle.site.specs.site_steps.sync_messages.StatedTexts.{StatesText}
 use Rattle.site.specs.site_steps.sync_messages.StatedSummaries.{StatesSummary, RefusesSummary}
 use Rattle.site.specs.site_steps.sync_messages.StatedMessages.{StatesMessage, RefusesMessage}
 
--- ---- JSON, where `None` is bytes that are not JSON
+-- ---- JSON, where `None` stands for bytes that are not JSON
 
--- `JsonStates States json x` holds if `json` is JSON that states `x`.
+-- `JsonStates States json x` holds if `json` is JSON that describes `x` by the relation `States`.
 abbrev pub JsonStates : {A : Type 0} → (Data → A → Type 0) → Option Data → A → Type 0
 JsonStates States None x = ⊥
 JsonStates States (Some d) x = States d x
 
--- `JsonRefused Refuses json f` holds if `json` is not JSON and `f` is `BadShape`, or is JSON with the error `f`.
+-- `JsonRefused Refuses json f` holds if `json` is not JSON and `f` is `BadShape`, or `json` is JSON with the error `f`
+-- by the relation `Refuses`.
 abbrev pub JsonRefused : (Data → EntityFault → Type 0) → Option Data → EntityFault → Type 0
 JsonRefused Refuses None f = f ≡ BadShape
 JsonRefused Refuses (Some d) f = Refuses d f
 
 -- ---- commands
 
--- `PutsEntity schema n s json r t` holds if, at the site named `n`, putting the entity that `json` states, as its
--- canonical text, may lead from the store `s` to `t` with result `r`.
+-- `PutsEntity schema n s json r t` holds if, at the site named `n`, putting the entity that `json` describes, as its
+-- canonical text, may lead from the store `s` to the store `t` with the result `r`.
 abbrev pub PutsEntity : StatedSchema → List ℕ → Store → Option Data → Result Stamp SiteFault → Store → Type 0
 PutsEntity schema n s json (Ok stamp) t =
     (e : Entity) × JsonStates (StatesEntity schema) json e × MakesNoCycle (StatesText schema) schema s e
@@ -72,8 +73,8 @@ IsNoMessageOf schema bytes fault.NoMemory = Unit {0}
 IsNoMessageOf schema bytes (fault.Message f) = RefusesMessage schema bytes f
 IsNoMessageOf schema bytes _ = ⊥
 
--- `TakesMessage schema s bytes r t` holds if the message `bytes` leads from the store `s` to `t` with result `r`: all
--- its updates are applied, or the first ones, or it is rejected whole.
+-- `TakesMessage schema s bytes r t` holds if the message `bytes` leads from the store `s` to the store `t` with the
+-- result `r`: all of its updates are applied, or the first ones, or the message is rejected whole.
 abbrev pub TakesMessage : StatedSchema → Store → List ℕ → Result Taken SiteFault → Store → Type 0
 TakesMessage schema s bytes (Ok taken) t =
     (us : List (Update Policy Entity)) × StatesMessage schema bytes us × TakesUpdates s (plain_updates us) taken t
@@ -81,8 +82,8 @@ TakesMessage schema s bytes (Err f) t = IsNoMessageOf schema bytes f × (t ≡ s
 
 -- ---- queries
 
--- `Answers schema s json r` holds if `r` is an answer over `s` to the request that `json` states, or its first error,
--- or `NoMemory`.
+-- `Answers schema s json r` holds if `r` is an answer over the store `s` to the request that `json` describes, or the
+-- first error of `json` as a request, or `NoMemory`.
 abbrev pub Answers : StatedSchema → Store → Option Data → Result Answer SiteFault → Type 0
 Answers schema s json (Ok a) =
     (q : Request) × JsonStates (DescribesRequest schema) json q
@@ -103,8 +104,8 @@ WritesDelta schema s summary (Err _) = ⊥
 
 -- ---- one step
 
--- `IsStep schema n s i r t` holds if, at the site named `n` with store `s`, input `i` may yield reply `r` and store
--- `t`.
+-- `IsStep schema n s i r t` holds if, at the site named `n` with the store `s`, the input `i` may yield the reply `r`
+-- and the store `t`.
 abbrev pub IsStep : StatedSchema → List ℕ → Store → Input → Reply → Store → Type 0
 IsStep schema n s (input.PutPolicy id text) (reply.Put r) t = PutsPolicy schema n s id text r t
 IsStep schema n s (input.DeletePolicy id) (reply.Stamped r) t = Deletes n s (policy_name id) r t

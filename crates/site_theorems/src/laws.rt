@@ -1,4 +1,4 @@
-//! Theorems over what JSON and bytes state, as functions that do nothing.
+//! Theorems over what JSON and bytes describe. The functions are no-ops.
 ghost use Rattle.site_theorems.specs.Laws.{StepsAreAsStated};
 ghost use Rattle.site_theorems.specs.Runs.{RunsLeaveApplied, EqualUpdatesLeaveEqualStores, RunsReplyHarmlessly};
 ghost use Rattle.site_theorems.specs.SiteStores.{SitesHoldApplied};
@@ -11,11 +11,11 @@ use site::{
     summaries_are_read_as_stated, updates_are_read_as_stated, worlds_keep_promises,
 };
 
-/// Proves that the contracts of a site cite exactly the steps that bytes state: `Step` and `IsStep` relate the same
-/// inputs, replies and stores. No-op.
+/// Proves that the contracts of a site cite exactly the steps that bytes describe: `Step`, of the contracts, and
+/// `IsStep`, over bytes, relate the same inputs, replies and stores. No-op.
 ///
-/// So each answer is over the entities and the request that JSON states, each applied update is one that a message
-/// states, and each error is the first that the bytes have.
+/// So each answer is over the entities and the request that JSON describes, each update applied from a message is one
+/// that the message describes, and each error is the first that the bytes have.
 pub fn steps_are_as_stated()
     ensures { StepsAreAsStated }
 {
@@ -26,13 +26,13 @@ pub fn steps_are_as_stated()
     messages_are_read_as_stated();
 }
 
-/// Proves what runs leave, over what bytes state: each run of each site, from any store. No-op.
+/// Proves what each run of each site leaves, from any store, by what bytes describe. No-op.
 ///
-/// - `leave`: exactly one list of updates was applied, and the store at the end is the join of the updates that the
-///   site had and of the applied ones: at each name the greatest entry.
+/// - `leave`: the run applied exactly one list of updates, and the store at the end is the join of the updates that the
+///   site had and the applied ones: at each name the greatest entry.
 /// - `equal`: sites that had and applied equal sets of updates hold equal stores, whatever the order, the repeats and
 ///   the grouping of the updates.
-/// - `harmless`: under a schema that bytes state, each policy error in a reply is `EntityDoesNotExist` or
+/// - `harmless`: under a schema that bytes describe, each error of a policy in an answer is `EntityDoesNotExist` or
 ///   `ArithBoundsError`: none is of a type, of an attribute or of an extension function.
 pub fn runs_leave_what_was_applied()
     ensures leave { RunsLeaveApplied }
@@ -47,7 +47,7 @@ pub fn runs_leave_what_was_applied()
 }
 
 /// Proves that in each system of sites, at every moment, each site's store is the join of the updates that the site
-/// applied. What bytes state determines exactly one list of these updates. No-op.
+/// applied. What bytes describe determines exactly one list of these updates. No-op.
 pub fn sites_hold_what_they_applied()
     ensures { SitesHoldApplied }
 {
@@ -57,9 +57,9 @@ pub fn sites_hold_what_they_applied()
     runs_leave_what_they_took();
 }
 
-/// Proves the promises of [`worlds_keep_promises`] over what bytes state. No-op.
+/// Proves the promises of [`worlds_keep_promises`] by what bytes describe. No-op.
 ///
-/// They hold in each system of sites with distinct names under a schema that bytes state, whatever was delivered, in
+/// They hold in each system of sites with distinct names under a schema that bytes describe, whatever was delivered, in
 /// whatever order and however often.
 pub fn worlds_keep_promises_as_stated()
     ensures { AllWorldsKeepPromises }
@@ -70,7 +70,7 @@ pub fn worlds_keep_promises_as_stated()
     updates_are_read_as_stated();
 }
 
-/// Proves together what sites keep, over what bytes state: all of [`runs_leave_what_was_applied`],
+/// Proves all promises about sites at once, by what bytes describe: those of [`runs_leave_what_was_applied`],
 /// [`sites_hold_what_they_applied`] and [`worlds_keep_promises_as_stated`]. No-op.
 pub fn sites_are_as_stated()
     ensures { SitesAreAsStated }

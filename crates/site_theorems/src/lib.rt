@@ -1,9 +1,9 @@
-//! Theorems over relations between bytes and what they state: the steps of a site, the updates that its runs apply with
-//! the store that they leave, and the promises of systems of sites.
+//! Theorems over relations between bytes and what they describe. They are about the steps of a site, the updates that
+//! runs apply, the stores that runs leave, and the promises of systems of sites.
 //!
-//! The relations state schemas, entities, requests, messages and summaries as the Cedar reference guide and
-//! docs/formats.md do, so that a reader can compare them. They cite no function that reads these from JSON, only
-//! `json_of`, which parses JSON. The crate has only theorems.
+//! The relations define schemas, entities, requests, messages and summaries as the Cedar reference guide and
+//! docs/formats.md do, so that a reader can compare them with these texts. They cite no function that reads schemas,
+//! entities, requests, messages or summaries from JSON, only `json_of`, which parses JSON. The crate has only theorems.
 #![tactic(auto)]
 
 mod laws;

@@ -21,7 +21,7 @@ use Rattle.values.specs.Names.{name_cmp, uid_cmp, text_cmp-IsAntisymmetric}
 use Rattle.values.specs.Names.{name_cmp-IsTotalOrder, name_cmp-IsAntisymmetric}
 use Rattle.stamped_store.specs.declared.entry.Entry.{Entry}
 use Rattle.stamped_store.specs.Joins.{option_joined, option_below}
-use Rattle.stamped_store.specs.EntryOrder.{PlainEntry, plain_entry, entry_cmp, entry_below, greater, greater_entry}
+use Rattle.stamped_store.specs.EntryOrder.{PlainEntry, plain_entry, entry_cmp, entry_at_most, greater, greater_entry}
 use Rattle.stamped_store.specs.Stored.{value_at, value_at_text, all_joined, joined_onto, IsBelow}
 use Rattle.stamped_store.specs.Greatest.{greatest_count, max_count}
 use Rattle.stamped_store.specs.Abstraction.{abstract_entry, abstract_entries}
@@ -74,7 +74,7 @@ pub greatest_count-joined : (s t : Store) → greatest_count (joined_stores s t)
 greatest_count-joined s t = greatest_count-store_of name_cmp-IsTotalOrder (updates s ++ updates t) ∙ max_count-append (updates s) (updates t)
 
 -- ---- below
-entries_below : {A : Type 0} (a b : Option (Entry A)) → option_below plain_below (option_map plain_entry a) (option_map plain_entry b) ≡ option_below entry_below a b
+entries_below : {A : Type 0} (a b : Option (Entry A)) → option_below plain_below (option_map plain_entry a) (option_map plain_entry b) ≡ option_below entry_at_most a b
 entries_below None b = refl
 entries_below (Some a) None = refl
 entries_below (Some a) (Some b) = refl
@@ -88,12 +88,12 @@ key_found (p ∷ ps) bytes a h =
       | false ↦ λ apart found. key_found ps bytes a found
     ] refl h
 
-below_at_text : {P : Type 0} (ps qs : List (String Global × Entry P)) → IsBelow string_cmp entry_below ps qs → (bytes : List ℕ) (a : Option (Entry P)) → value_at_text ps bytes ≡ a → option_below entry_below a (value_at_text qs bytes) ≡ true
+below_at_text : {P : Type 0} (ps qs : List (String Global × Entry P)) → IsBelow string_cmp entry_at_most ps qs → (bytes : List ℕ) (a : Option (Entry P)) → value_at_text ps bytes ≡ a → option_below entry_at_most a (value_at_text qs bytes) ≡ true
 below_at_text ps qs h bytes None e = refl
 below_at_text ps qs h bytes (Some a) e =
     let found = key_found ps bytes a e in
-    subst (λ x. option_below entry_below x (value_at_text qs bytes) ≡ true) e
-    (subst (λ b. option_below entry_below (value_at_text ps b) (value_at_text qs b) ≡ true) found.1 (h found.0))
+    subst (λ x. option_below entry_at_most x (value_at_text qs bytes) ≡ true) e
+    (subst (λ b. option_below entry_at_most (value_at_text ps b) (value_at_text qs b) ≡ true) found.1 (h found.0))
 
 module _ {P E : Type 0} where
   -- the updates of the first names
@@ -134,7 +134,7 @@ module _ {P E : Type 0} where
       ap (λ ps. kept ps m) (e ∙ ap (all_joined string_cmp greater s.policies) all)
       ∙ ap (kept (all_joined string_cmp greater s.policies (take k o.policies))) (f ∙ ap (λ i. all_joined uid_cmp greater s.entities (take i o.entities)) some)
 
-  store_below : (s o : StoreEntries P E) → IsBelow string_cmp entry_below s.policies o.policies → IsBelow uid_cmp entry_below s.entities o.entities → IsStoreBelow (abstract_store s) (abstract_store o)
+  store_below : (s o : StoreEntries P E) → IsBelow string_cmp entry_at_most s.policies o.policies → IsBelow uid_cmp entry_at_most s.entities o.entities → IsStoreBelow (abstract_store s) (abstract_store o)
   store_below s o h k (Policy bytes) =
       ap (λ a. option_below plain_below a (get (abstract_store o) (Policy bytes))) (get-policy s.policies s.entities bytes)
       ∙ ap (option_below plain_below (option_map plain_entry (value_at_text s.policies bytes))) (get-policy o.policies o.entities bytes)
@@ -146,21 +146,21 @@ module _ {P E : Type 0} where
       ∙ entries_below (value_at uid_cmp s.entities u) (value_at uid_cmp o.entities u)
       ∙ k u
 
-  policies_below : (s o : StoreEntries P E) → IsStoreBelow (abstract_store s) (abstract_store o) → IsBelow string_cmp entry_below s.policies o.policies
+  policies_below : (s o : StoreEntries P E) → IsStoreBelow (abstract_store s) (abstract_store o) → IsBelow string_cmp entry_at_most s.policies o.policies
   policies_below s o h k = sym (entries_below (value_at string_cmp s.policies k) (value_at string_cmp o.policies k))
       ∙ sym (ap (λ a. option_below plain_below a (get (abstract_store o) (id_name k))) (get-policy s.policies s.entities (string_bytes k)) ∙ ap (option_below plain_below (option_map plain_entry (value_at string_cmp s.policies k))) (get-policy o.policies o.entities (string_bytes k)))
       ∙ h (id_name k)
 
-  entities_below : (s o : StoreEntries P E) → IsStoreBelow (abstract_store s) (abstract_store o) → IsBelow uid_cmp entry_below s.entities o.entities
+  entities_below : (s o : StoreEntries P E) → IsStoreBelow (abstract_store s) (abstract_store o) → IsBelow uid_cmp entry_at_most s.entities o.entities
   entities_below s o h u = sym (entries_below (value_at uid_cmp s.entities u) (value_at uid_cmp o.entities u))
       ∙ sym (ap (λ a. option_below plain_below a (get (abstract_store o) (Entity u))) (get-entity s.policies s.entities u) ∙ ap (option_below plain_below (option_map plain_entry (value_at uid_cmp s.entities u))) (get-entity o.policies o.entities u))
       ∙ h (entity_name u)
 
   -- both parts are asked, the entities only where the policies are below
-  pub below_if_both : (s o : StoreEntries P E) (p e : Bool) → IsTrue p ↔ IsBelow string_cmp entry_below s.policies o.policies → IsTrue e ↔ IsBelow uid_cmp entry_below s.entities o.entities → p ≡ true → IsTrue e ↔ IsStoreBelow (abstract_store s) (abstract_store o)
+  pub below_if_both : (s o : StoreEntries P E) (p e : Bool) → IsTrue p ↔ IsBelow string_cmp entry_at_most s.policies o.policies → IsTrue e ↔ IsBelow uid_cmp entry_at_most s.entities o.entities → p ≡ true → IsTrue e ↔ IsStoreBelow (abstract_store s) (abstract_store o)
   below_if_both s o p e h k first = ((λ is. store_below s o (h.0 first) (k.0 is)), (λ b. k.1 (entities_below s o b)))
 
-  pub below_if_not : (s o : StoreEntries P E) (p : Bool) → IsTrue p ↔ IsBelow string_cmp entry_below s.policies o.policies → p ≡ false → IsTrue p ↔ IsStoreBelow (abstract_store s) (abstract_store o)
+  pub below_if_not : (s o : StoreEntries P E) (p : Bool) → IsTrue p ↔ IsBelow string_cmp entry_at_most s.policies o.policies → p ≡ false → IsTrue p ↔ IsStoreBelow (abstract_store s) (abstract_store o)
   below_if_not s o p h apart = ((λ is. let both : p ≡ true = is in absurd (cc)), (λ b. h.1 (policies_below s o b)))
 
 -- ---- laws of the join

@@ -1,4 +1,5 @@
--- Defines the proof that the order of entries is total, and that the greater of two entries is their join.
+-- Defines the proof that the order of entries is total, and that the greater of two entries is their join. It is in
+-- specs/ because the implementations of the traits `Ord` and `Join` for entries cite its lemmas.
 use Rattle.std.specs.Prelude.{◌≡◌, ℕ, List, Bool, true, false, Option, Some, None, refl, if◌then◌else◌}
 use Rattle.std.proofs.Common.{◌∙◌, ap}
 use Rattle.std.specs.Ordering.{is_le, is_gt, ordering_reverse}
@@ -8,7 +9,7 @@ use Rattle.std.specs.declared.cmp.Ordering.{Ordering}
 use Rattle.std.specs.declared.cmp.Ordering.TheVariants.{Less, Equal, Greater}
 use Rattle.stamped_store.specs.declared.entry.Entry.{Entry}
 use Rattle.stamped_store.specs.Joins.{IsJoin, join_from_least}
-use Rattle.stamped_store.specs.EntryOrder.{plain_entry, entry_cmp, entry_cmp_by, body_cmp, entry_below}
+use Rattle.stamped_store.specs.EntryOrder.{plain_entry, entry_cmp, entry_cmp_by, body_cmp, entry_at_most}
 use Rattle.stamped_store.specs.EntryOrder.{greater_of, greater, read_cmp}
 
 body_antisymm : (a b : Option (List ℕ)) → body_cmp a b ≡ ordering_reverse (body_cmp b a)
@@ -32,15 +33,18 @@ body_congr (Some a) None c h = absurd (cc)
 body_congr (Some a) (Some b) None h = refl
 body_congr (Some a) (Some b) (Some c) h = nat_list_cmp_total.congr a b c h
 
+-- The order of bodies is total.
 pub body_cmp_total : IsTotalOrder body_cmp
 body_cmp_total = record { antisymm = body_antisymm; trans = body_trans; congr = body_congr }
 
+-- The order of entries is total if the order `sites` of their sites is.
 pub entry_cmp_by_total : {Site : Type 0} {sites : Site → Site → Ordering} → IsTotalOrder sites
     → IsTotalOrder (entry_cmp_by sites)
 entry_cmp_by_total o = then_total
     (then_total (on_total (λ p. p.count) nat_cmp_total) (on_total (λ p. p.site) o))
     (on_total (λ p. p.body) body_cmp_total)
 
+-- The order of entries of named sites is total.
 pub entry_cmp_total : IsTotalOrder entry_cmp
 entry_cmp_total = entry_cmp_by_total nat_list_cmp_total
 
@@ -83,8 +87,9 @@ module _ {V : Type 0} (R : V → V → Ordering) (o : IsTotalOrder R) where
       (λ a b. by_test (λ x. le_by b x ≡ true) a b (le_by b a) (λ h. h) (λ _. le_itself b))
       (λ a b c h k. by_test (λ x. le_by x c ≡ true) a b (le_by b a) (λ _. h) (λ _. k))
 
+-- The order of entries with parsed forms is total, and the greater of two is their join.
 pub read_cmp_total : {P : Type 0} → IsTotalOrder (read_cmp {P = P})
 read_cmp_total = on_total plain_entry entry_cmp_total
 
-pub greater_is_join : {P : Type 0} → IsJoin (λ (a b : Entry P). entry_below a b ≡ true) greater
+pub greater_is_join : {P : Type 0} → IsJoin (λ (a b : Entry P). entry_at_most a b ≡ true) greater
 greater_is_join = greater_by_is_join read_cmp read_cmp_total

@@ -66,6 +66,6 @@ read_cmp a b = entry_cmp (plain_entry a) (plain_entry b)
 abbrev pub greater : {P : Type 0} → Entry P → Entry P → Entry P
 greater a b = greater_of read_cmp a b
 
--- `entry_below a b` tests whether the entry `a` is at most `b`; the parsed forms do not matter.
-abbrev pub entry_below : {P : Type 0} → Entry P → Entry P → Bool
-entry_below a b = is_le (read_cmp a b)
+-- `entry_at_most a b` tests whether the entry `a` is at most `b`; the parsed forms do not matter.
+abbrev pub entry_at_most : {P : Type 0} → Entry P → Entry P → Bool
+entry_at_most a b = is_le (read_cmp a b)

@@ -61,7 +61,7 @@ HaveSiteNumbers us = AllByRecursion (λ u. IsSiteNumber u.1.site) us
 
 -- ---- translation to named sites
 
--- `raise_entry e` is the entry `e`, with its site's number replaced by its five digits.
+-- `raise_entry e` is the entry `e`, with the number of its site replaced by that number's five digits.
 abbrev pub raise_entry : NumberedEntry → PlainEntry
 raise_entry e = record { count = e.count; site = five_digits e.site; body = e.body }
 

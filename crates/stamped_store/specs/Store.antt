@@ -37,10 +37,10 @@ Update = UpdateAt (List ℕ)
 abbrev pub updates : Store → List Update
 updates s = map.entries s
 
--- `store_of us` is the store of the updates `us`, their join (last writer wins). At each name it has the greatest of
--- the entries that they have for it, by count, then site, then body, where a tombstone is the least body (EntryOrder).
--- It is built by one update after another (Greatest); the theorem `updates_have_one_store` states that it has the
--- greatest entries, whatever the order of the updates.
+-- `store_of us` is the store of the updates `us`, their join (last writer wins). At each name the store has the
+-- greatest of the entries that the updates have for the name, by count, then site, then body, where a tombstone is the
+-- least body (EntryOrder). The definition applies one update after another (Greatest); the theorem
+-- `updates_have_one_store` states that the store has the greatest entries, whatever the order of the updates.
 abbrev pub store_of : List Update → Store
 store_of us = updates_of.store_of entry_cmp name_cmp us
 

@@ -1,4 +1,5 @@
--- Defines a map whose values are joined, as the list of its entries in the order of the keys.
+-- Defines a map whose values are joined, as the list of its entries in the order of the keys. In this file `cmp` is the
+-- order of the keys, `join v w` the join of two values, and `below v w` tests whether `v` is at most `w`.
 use Rattle.std.specs.Prelude.{◌≡◌, ◌≢◌, Bool, true, List, [], ◌∷◌, Option, Some, None, ℕ, string_bytes}
 use Rattle.std.specs.BTreeMap.{insert_entry, is_at}
 use Rattle.std.specs.Map.{lookup}
@@ -16,7 +17,7 @@ joined_onto join None v = v
 joined_onto join (Some held) v = join held v
 
 module _ {K V : Type 0} where
-  -- `IsBelowAt below f g` holds if at each key the value of `f` is at most that of `g`.
+  -- `IsBelowAt below f g` holds if at each key the value of the function `f` is at most that of `g`; `None` is least.
   abbrev pub IsBelowAt : (V → V → Bool) → (K → Option V) → (K → Option V) → Type 0
   IsBelowAt below f g = (q : K) → option_below below (f q) (g q) ≡ true
 
@@ -28,7 +29,7 @@ module _ {K V : Type 0} where
   abbrev pub value_at : (K → K → Ordering) → List (K × V) → K → Option V
   value_at cmp s q = lookup (is_at (cmp q)) s
 
-  -- `KeepsOthers cmp k old new` holds if each key other than `k` keeps its value.
+  -- `KeepsOthers cmp k old new` holds if `new` has the value of `old` at each key other than `k`.
   abbrev pub KeepsOthers : (K → K → Ordering) → K → List (K × V) → List (K × V) → Type 0
   KeepsOthers cmp k old new = (q : K) → cmp q k ≢ Equal → value_at cmp new q ≡ value_at cmp old q
 
@@ -36,7 +37,7 @@ module _ {K V : Type 0} where
   abbrev pub taken : (K → K → Ordering) → (V → V → V) → List (K × V) → K → V → List (K × V)
   taken cmp join s k v = insert_entry cmp s k (joined_onto join (value_at cmp s k) v)
 
-  -- `all_joined cmp join s es` is the list `s` with each of the pairs `es` joined in turn.
+  -- `all_joined cmp join s es` is the list `s` with the value of each of the pairs `es` joined at its key, in turn.
   abbrev pub all_joined : (K → K → Ordering) → (V → V → V) → List (K × V) → List (K × V) → List (K × V)
   all_joined cmp join s [] = s
   all_joined cmp join s (e ∷ es) = all_joined cmp join (taken cmp join s e.0 e.1) es

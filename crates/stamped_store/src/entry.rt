@@ -3,7 +3,7 @@ ghost use Rattle.std.specs.Prelude.{Some, refl};
 ghost use Rattle.std.specs.Ordering.{is_eq};
 ghost use Rattle.std.specs.Cmp.{partial_equiv_from_equiv, partial_order_from_agreeing_total};
 ghost use Rattle.std.proofs.lemmas.Cmp.{eq_by_cmp_equiv};
-ghost use Rattle.stamped_store.specs.EntryOrder.{entry_below, greater, read_cmp};
+ghost use Rattle.stamped_store.specs.EntryOrder.{entry_at_most, greater, read_cmp};
 ghost use Rattle.stamped_store.specs.EntryJoins.{greater_is_join, read_cmp_total};
 
 use crate::{Join, SiteName};
@@ -13,7 +13,7 @@ use std::cmp::Ordering;
 /// When and where an entry was issued: a Lamport timestamp. Ordered by count, then by the bytes of the site's name.
 #[derive(Clone, Copy, PartialEq, Eq, PartialOrd, Ord)]
 pub struct Stamp {
-    /// The count. Any is allowed here; a message with one outside 1 to 10^18 is rejected when it is parsed.
+    /// The count. Any count is allowed here; a message with a count outside 1 to 10^18 is rejected when it is parsed.
     pub count: u64,
     /// The name of the site.
     pub site: SiteName,
@@ -89,7 +89,7 @@ impl<P> Ord for Entry<P> {
 
 /// The join of two entries is the greater.
 impl<P: Drop> Join for Entry<P> {
-    ghost is_below = { entry_below };
+    ghost is_below = { entry_at_most };
 
     ghost joined = { greater };
 

@@ -14,7 +14,7 @@ ghost use Rattle.values.specs.declared.entity_uid.EntityUid.{EntityUid};
 ghost use Rattle.values.specs.Names.{name_cmp, uid_cmp};
 ghost use Rattle.stamped_store.specs.Joins.{IsJoin, IsLeastAbove};
 ghost use Rattle.stamped_store.specs.EntryOrder.{PlainEntry, plain_entry, entry_cmp, greater_entry, greater};
-ghost use Rattle.stamped_store.specs.EntryOrder.{entry_below, site_cmp};
+ghost use Rattle.stamped_store.specs.EntryOrder.{entry_at_most, site_cmp};
 ghost use Rattle.stamped_store.specs.SiteNames.{SiteTestIsExact, SiteNamesAreTexts, SiteDigitsAreNames, five_digits};
 ghost use Rattle.stamped_store.specs.Stored.{IsBelowAt, joined_at, value_at, taken};
 ghost use Rattle.stamped_store.specs.Greatest.{greatest_count};
@@ -45,9 +45,9 @@ pub fn entries_are_joined()
 /// Proves that the parsed forms of texts do not matter: entries are joined by their stamps and bodies, and two entries
 /// are at most each other if and only if their stamps and bodies are equal. No-op.
 pub fn read_entries_are_joined<P: Drop>()
-    ensures laws { IsJoin (λ (a b : Entry P). entry_below a b ≡ true) greater }
+    ensures laws { IsJoin (λ (a b : Entry P). entry_at_most a b ≡ true) greater }
     ensures plain { (a b : Entry P) → plain_entry (greater a b) ≡ greater_entry (plain_entry a) (plain_entry b) }
-    ensures equal { (a b : Entry P) → (entry_below a b ≡ true) × (entry_below b a ≡ true)
+    ensures equal { (a b : Entry P) → (entry_at_most a b ≡ true) × (entry_at_most b a ≡ true)
         ↔ (plain_entry a ≡ plain_entry b) }
 {}
 
@@ -94,7 +94,7 @@ pub fn stores_are_joined()
 ///
 /// - `greatest`, `reached`: the greatest count is at least that of each entry, and is that of some entry unless it is
 ///   0.
-/// - `joined`: the greatest count of a join is the greater of the two.
+/// - `joined`: the greatest count of a join is the greater of the greatest counts of the two stores.
 /// - `stays`: an entry with an issued stamp wins at its name.
 pub fn stamps_are_issued()
     ensures greatest { (s : Store) (u : Update) → Contains (updates s) u → u.1.count ≤ greatest_count s }
@@ -134,7 +134,7 @@ pub fn deltas_are_joined()
 ///
 /// The empty store has it; and so has a store after a policy or an entity with a permitted parsed form is applied, and
 /// after a merge of two stores that have it, whole or cut short.
-pub fn readings_are_kept<P: Drop, E: Drop, R: Readings<P, E>>()
+pub fn readings_are_preserved<P: Drop, E: Drop, R: Readings<P, E>>()
     ensures empty { (r : R) → AreEntriesRead {P = P} {E = E} (R.reads_policy r) (R.reads_entity r) (kept [] []) }
     ensures policy { (r : R) (k : StoreEntries P E) (id : String Global) (entry : Entry P)
         → AreEntriesRead (R.reads_policy r) (R.reads_entity r) k
@@ -154,9 +154,9 @@ pub fn readings_are_kept<P: Drop, E: Drop, R: Readings<P, E>>()
         → AreEntriesRead (R.reads_policy r) (R.reads_entity r) (all_kept k (first_kept n l)) }
 {}
 
-/// Proves that the test accepts exactly the names of sites, and that such a name is valid UTF-8; that the five digits
-/// of a number are a name; and that these names are ordered as the numbers are, and are equal only for equal numbers.
-/// No-op.
+/// Proves that the test `is_site_name` accepts exactly the names of sites, and that such a name is valid UTF-8; that
+/// the five digits of a number below 100,000 are a name; and that these names are ordered as the numbers are, and are
+/// equal only for equal numbers. No-op.
 pub fn site_names_are_recognized()
     ensures tested { SiteTestIsExact }
     ensures texts { SiteNamesAreTexts }

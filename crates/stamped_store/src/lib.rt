@@ -1,7 +1,7 @@
 //! Stamps, entries, joins, and stores that keep the greatest entry at each name.
 //!
 //! An entry is a stamp and a body: a text or a tombstone. Entries are ordered, and a store joins each applied entry
-//! with the one at its name, which keeps the greater of the two. So the store of a set of updates does not depend on
+//! with the entry at its name: it keeps the greater of the two. So the store of a set of updates does not depend on
 //! their order, repeats or grouping.
 #![tactic(auto)]
 

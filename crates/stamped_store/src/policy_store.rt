@@ -9,7 +9,7 @@ ghost use Rattle.std.specs.Map.Iter.{ShowsInOrder, deref_pair};
 ghost use Rattle.std.specs.String.{string_cmp};
 ghost use Rattle.std.specs.List.Sorted.{IsStrictlySortedBy};
 ghost use Rattle.values.specs.Names.{uid_cmp};
-ghost use Rattle.stamped_store.specs.EntryOrder.{plain_entry, greater, entry_below};
+ghost use Rattle.stamped_store.specs.EntryOrder.{plain_entry, greater, entry_at_most};
 ghost use Rattle.stamped_store.specs.Greatest.{greatest_count};
 ghost use Rattle.stamped_store.specs.Abstraction.{greatest_kept};
 ghost use Rattle.stamped_store.specs.Stored.{value_at, value_at_text, taken, IsBelow};
@@ -223,7 +223,7 @@ fn all_below<K: Ord + Drop, P: Drop>(
     first: &Stamped<K, Entry<P>>,
     second: &Stamped<K, Entry<P>>,
 ) -> bool
-    ensures { IsTrue result ↔ IsBelow K.cmp entry_below first.now second.now }
+    ensures { IsTrue result ↔ IsBelow K.cmp entry_at_most first.now second.now }
 {
     first.below(second)
 }

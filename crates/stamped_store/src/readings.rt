@@ -4,9 +4,9 @@ ghost use Rattle.values.specs.declared.entity_uid.EntityUid.{EntityUid};
 
 /// The possible parsed forms of a store's texts: a relation between a name, a text and its parsed form.
 ///
-/// The trait has no methods. A contract cannot range over relations, so [`crate::laws::readings_are_kept`] ranges over
-/// the implementations of this trait. A crate that maintains such a relation implements the trait for a type of its
-/// own, whose values may have what the relation depends on, such as a schema, and uses the theorem.
+/// The trait has no methods. A contract cannot range over relations, so [`crate::laws::readings_are_preserved`] ranges
+/// over the implementations of this trait. A crate that maintains such a relation implements the trait for a type of
+/// its own, whose values may have what the relation depends on, such as a schema, and uses the theorem.
 pub trait Readings<P, E> {
     /// Whether the policy with this id (the first list) and this text (the second) may have this parsed form.
     ghost reads_policy: { Self → List ℕ → List ℕ → P → Type 0 };

@@ -12,7 +12,7 @@ use plain::words::{digit, letter};
 use std::cmp::Ordering;
 use std::marker::Model;
 
-/// The most bytes of a site's name.
+/// The greatest length of a site's name, in bytes.
 const NAME_MAX: usize = 32;
 
 /// The name of a site: 1 to 32 bytes, each an ASCII letter, a digit, `-`, `_` or `.`. Contracts see its bytes.

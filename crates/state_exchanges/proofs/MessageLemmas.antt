@@ -43,16 +43,16 @@ none_sendable s = record {
 }
 
 pub joined_sendable : (s : StatedSchema) (m t : Store) (bytes : List ℕ) (k : ℕ) → IsSendable s m → (j : Joins s m bytes t k)
-    → AreValid (λ id. ReadsPolicy s) (ReadsEntity s) (plain_updates j.came) → IsSendable s t
+    → AreValid (λ id. ReadsPolicy s) (ReadsEntity s) (plain_updates j.received_updates) → IsSendable s t
 joined_sendable s m t bytes k h j valid = record {
   in_range =
       subst (λ (x : Store). AreInRange (updates x)) (sym j.store_is)
-      (store_all (λ u. IsStamped (stamped u)) (updates m ++ plain_updates j.came)
-      (append_all (λ u. IsStamped (stamped u)) (updates m) (plain_updates j.came) h.in_range j.message.in_range));
+      (store_all (λ u. IsStamped (stamped u)) (updates m ++ plain_updates j.received_updates)
+      (append_all (λ u. IsStamped (stamped u)) (updates m) (plain_updates j.received_updates) h.in_range j.message.in_range));
   valid =
       subst (λ (x : Store). AreValid (λ id. ReadsPolicy s) (ReadsEntity s) (updates x)) (sym j.store_is)
-      (store_all (IsValid (λ id. ReadsPolicy s) (ReadsEntity s)) (updates m ++ plain_updates j.came)
-      (append_all (IsValid (λ id. ReadsPolicy s) (ReadsEntity s)) (updates m) (plain_updates j.came) h.valid valid));
+      (store_all (IsValid (λ id. ReadsPolicy s) (ReadsEntity s)) (updates m ++ plain_updates j.received_updates)
+      (append_all (IsValid (λ id. ReadsPolicy s) (ReadsEntity s)) (updates m) (plain_updates j.received_updates) h.valid valid));
 }
 
 -- what is written of a store whose updates are sendable is read back
@@ -71,9 +71,9 @@ read_back k label bytes m named law back h =
 
 -- the store of the updates that a message adds to an empty store
 alone : (s : StatedSchema) (e x : Store) (bytes : List ℕ) (k : ℕ) → e ≡ store_of [] → (j : Joins s e bytes x k)
-    → x ≡ store_of (plain_updates j.came)
+    → x ≡ store_of (plain_updates j.received_updates)
 alone s e x bytes k none j =
-    j.store_is ∙ ap (λ l. store_of (l ++ plain_updates j.came)) (ap updates none ∙ none_of_empty)
+    j.store_is ∙ ap (λ l. store_of (l ++ plain_updates j.received_updates)) (ap updates none ∙ none_of_empty)
 
 module _
     (own : (s : Store) → store_of (updates s) ≡ s)
@@ -106,13 +106,13 @@ module _
       → Joins s e f x i → (IsSendable s e → IsSendable s x) → Joins s d g y j → (IsSendable s d → IsSendable s y)
       → IsStoreJoin x y t → text ≡ state_text s.label t → (IsSendable s t → IsReadBack s t text) → IsMergedUnder s f g text
   merged_under s e d x y t f g text i j none nothing first first_sends second second_sends join is back =
-      let us = plain_updates first.came in
-      let vs = plain_updates second.came in
+      let us = plain_updates first.received_updates in
+      let vs = plain_updates second.received_updates in
       record {
         store = t;
         both = record {
-          first = first.came;
-          second = second.came;
+          first = first.received_updates;
+          second = second.received_updates;
           first_read = first.message;
           second_read = second.message;
           store_is = both_of us vs x y t (alone s e x f i none first) (alone s d y g j nothing second) join;

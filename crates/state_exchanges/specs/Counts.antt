@@ -1,5 +1,5 @@
 -- Defines the line with which a site answers a merge.
--- Source: docs/formats.md, the routes of a site.
+-- Source: docs/formats.md, "Routes of a site".
 -- Rules of this product: compact JSON with one key; the count has decimal digits.
 use Rattle.std.specs.Prelude.{◌≡◌, ℕ, ◌<◌, ◌++◌, List, length, true, codes}
 use Rattle.std.specs.Char.{is_ascii_digit}

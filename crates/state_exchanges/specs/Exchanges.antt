@@ -10,24 +10,27 @@ use Rattle.http_streams.specs.Reads.{EndsByOneRead}
 use Rattle.state_exchanges.specs.declared.fault.NetworkFault.{NetworkFault}
 use Rattle.state_exchanges.specs.declared.fault.NetworkFault.TheVariants as network
 
--- `ReportsNoHost host fault` holds if `fault` is `NoHost` exactly if `host` is not a host.
+-- `ReportsNoHost host fault`: `fault` is `NoHost` if and only if `host` is not a host (visible ASCII bytes).
 abbrev pub ReportsNoHost : List ℕ → NetworkFault → Type 0
 ReportsNoHost host fault = (fault ≡ network.NoHost) ↔ IsFalse (is_host host)
 
--- `ReportsTooLarge host size fault` holds if `fault` is `TooLarge` exactly if `host` is a host and a body of `size`
--- bytes is longer than a site accepts.
+-- `ReportsTooLarge host size fault`: `fault` is `TooLarge` if and only if `host` is a host and a body of `size` bytes
+-- is longer than a site accepts.
 abbrev pub ReportsTooLarge : List ℕ → ℕ → NetworkFault → Type 0
 ReportsTooLarge host size fault = (fault ≡ network.TooLarge) ↔ (IsTrue (is_host host) × (MAX_BODY < size))
 
 -- In each module a call leads from the reader `r` and the writer `w` to `r2` and `w2`. Of a reader, `left` gives the
--- bytes left; of a writer, `holds` gives the accepted bytes.
+-- bytes left, `reads` and `read_fails` relate the states around a call and around a failed one, and `read_failed` gives
+-- the number of failures. Of a writer, `holds` gives the accepted bytes, `write_fails` relates the states around a
+-- failed call, and `write_failed` gives the number of failures.
 module _ {R W : Type 0} (left : R → Option (List ℕ)) (holds : W → Option (List ℕ)) where
   -- `IsSent request r r2 w w2 bytes` holds if `request` was written and `bytes` were read.
   pub record IsSent (request : List ℕ) (r r2 : R) (w w2 : W) (bytes : List ℕ) : Type 0 where
     pub read : Consumes (left r) (left r2) bytes
     pub written : Appends (holds w) (holds w2) request
 
-  -- `IsRequestBegun request r r2 w w2` holds if a prefix of `request`, perhaps empty or all of it, was written.
+  -- `IsRequestBegun request r r2 w w2` holds if a prefix of `request`, perhaps empty or all of it, was written, and
+  -- some bytes, perhaps none, were read.
   pub record IsRequestBegun (request : List ℕ) (r r2 : R) (w w2 : W) : Type 0 where
     pub bytes : List ℕ
     pub front : List ℕ
@@ -38,8 +41,8 @@ module _ {R W : Type 0} (left : R → Option (List ℕ)) (holds : W → Option (
 
 module _ {R W : Type 0} (left : R → Option (List ℕ)) (reads : R → ℕ → List ℕ → R → Type 0)
     (holds : W → Option (List ℕ)) where
-  -- `IsAnswered request r r2 w w2 status body` holds if `request` was written, and what was read begins with a reply of
-  -- this status and body, which was not complete before the last read.
+  -- `IsAnswered request r r2 w w2 status body` holds if `request` was written, and the bytes read begin with a reply of
+  -- this status and body. The reply was not complete before the last read.
   pub record IsAnswered (request : List ℕ) (r r2 : R) (w w2 : W) (status : ℕ) (body : List ℕ) : Type 0 where
     pub bytes : List ℕ
     pub front : List ℕ
@@ -57,7 +60,7 @@ module _ {R W : Type 0} (left : R → Option (List ℕ)) (reads : R → ℕ → 
   -- - NoHost, TooLarge: nothing was sent.
   -- - Read: the last read failed, before the reply was complete.
   -- - Write: the last write failed, and nothing was read.
-  -- - BadReply: what was read cannot begin a reply; before the last read it was less than a reply.
+  -- - BadReply: the bytes read cannot begin a reply; those before the last read were less than a reply.
   -- - Ended: the last read reported the end of the input, before the reply was complete.
   -- - OtherStatus: the reply has another status.
   abbrev pub IsUnanswered : List ℕ → R → R → W → W → NetworkFault → Type 0

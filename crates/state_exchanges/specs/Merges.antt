@@ -25,7 +25,8 @@ pub record IsStoreOfBoth (s : StatedSchema) (f g : List ℕ) (m : Store) : Type 
   pub second_read : IsMessageOf s g second
   pub store_is : m ≡ store_of (plain_updates first ++ plain_updates second)
 
--- `IsSecondRefused s f g refusal` holds if `f` is a message of the schema `s`, and `g` is rejected by `refusal`.
+-- `IsSecondRefused s f g refusal` holds if `f` is a message of the schema `s`, and `g` is rejected with the error
+-- `refusal`.
 pub record IsSecondRefused (s : StatedSchema) (f g : List ℕ) (refusal : Refusal) : Type 0 where
   pub first : List (SentUpdate Policy Entity)
   pub first_read : IsMessageOf s f first
@@ -38,8 +39,8 @@ AreRefusedUnder s f g refusal = IsMessageRefused s f refusal ⊎ IsSecondRefused
 
 -- ---- the three texts
 
--- `IsMerged schema f g text` holds if `schema` states a schema, `f` and `g` are messages of it, and `text` is the state
--- of the store of the updates of both.
+-- `IsMerged schema f g text` holds if the text `schema` describes a schema, `f` and `g` are messages of this schema,
+-- and `text` is the state of the store of the updates of both.
 pub record IsMerged (schema f g text : List ℕ) : Type 0 where
   pub stated : StatedSchema
   pub schema_is : IsSchemaOf schema stated
@@ -47,17 +48,18 @@ pub record IsMerged (schema f g text : List ℕ) : Type 0 where
   pub both : IsStoreOfBoth stated f g store
   pub text_is : text ≡ state_text stated.label store
 
--- `IsMergedBack m` holds if the merged state is parsed again as a message, with the updates of the store.
+-- `IsMergedBack m` holds if the state of the merge `m` is parsed as a message with the updates of the store of `m`.
 abbrev pub IsMergedBack : {schema f g text : List ℕ} → IsMerged schema f g text → Type 0
 IsMergedBack {schema} {f} {g} {text} m = IsReadBack m.stated m.store text
 
--- `IsMessageErrorUnder schema f g refusal` holds if `schema` states a schema, and `refusal` is the error of the first
--- of `f` and `g` that is not a message of it.
+-- `IsMessageErrorUnder schema f g refusal` holds if the text `schema` describes a schema, and `refusal` is the error of
+-- the first of `f` and `g` that is not a message of this schema.
 pub record IsMessageErrorUnder (schema f g : List ℕ) (refusal : Refusal) : Type 0 where
   pub stated : StatedSchema
   pub schema_is : IsSchemaOf schema stated
   pub refused : AreRefusedUnder stated f g refusal
 
--- `AreRefused schema f g refusal` holds if `refusal` is the error of the first of the three texts that is not accepted.
+-- `AreRefused schema f g refusal` holds if `refusal` is the error of the first of `schema`, `f` and `g` that is not
+-- accepted.
 abbrev pub AreRefused : List ℕ → List ℕ → List ℕ → Refusal → Type 0
 AreRefused schema f g refusal = IsSchemaRefused schema refusal ⊎ IsMessageErrorUnder schema f g refusal

@@ -1,6 +1,6 @@
 -- Defines messages of a schema, and the stores into which they are joined.
 -- Source: docs/formats.md, "Messages between sites".
--- Rules of this product: a message, a state or a delta, is rejected whole, with its first error, or all its updates are
+-- Rules of this product: a message (a state or a delta) is rejected whole, with its first error, or all its updates are
 -- applied in order, including those that lose; an error has a code, a place and the code of an error inside.
 use Rattle.std.specs.Prelude.{◌≡◌, ℕ, List, ◌++◌, length}
 use Rattle.schema_decisions.specs.policy_grammar.declared.policy.Policy.{Policy}
@@ -17,7 +17,8 @@ use Rattle.schema_decisions.specs.answer_lines.declared.refusal.Refusal.{Refusal
 
 -- ---- messages
 
--- `message_refusal f` is the error of a message as it is reported.
+-- `message_refusal f` is the report of the error `f` of a message: its code, its place and the code of the error
+-- inside.
 abbrev pub message_refusal : MessageFault → Refusal
 message_refusal f = record { code = code_of f; place = place_of f; within = within_of f }
 
@@ -30,14 +31,15 @@ pub record IsMessageRefused (s : StatedSchema) (bytes : List ℕ) (refusal : Ref
 -- ---- stores
 
 -- `Joins s m bytes t count` holds if `bytes` are a message of the schema `s` with `count` updates, and `t` is the store
--- of these and of the updates of the store `m`.
+-- of these updates and those of the store `m`.
 pub record Joins (s : StatedSchema) (m : Store) (bytes : List ℕ) (t : Store) (count : ℕ) : Type 0 where
-  pub came : List (SentUpdate Policy Entity)
-  pub message : IsMessageOf s bytes came
-  pub store_is : t ≡ store_of (updates m ++ plain_updates came)
-  pub count_is : count ≡ length came
+  pub received_updates : List (SentUpdate Policy Entity)
+  pub message : IsMessageOf s bytes received_updates
+  pub store_is : t ≡ store_of (updates m ++ plain_updates received_updates)
+  pub count_is : count ≡ length received_updates
 
--- `IsSendable s m` holds if each update of the store `m` may occur in a message of the schema `s`.
+-- `IsSendable s m` holds if each update of the store `m` is in its ranges and valid under the schema `s`, and so may
+-- occur in a message of `s`.
 pub record IsSendable (s : StatedSchema) (m : Store) : Type 0 where
   pub in_range : AreInRange (updates m)
   pub valid : AreValid (λ id. ReadsPolicy s) (ReadsEntity s) (updates m)

@@ -1,4 +1,5 @@
--- Defines the theorems that a merge has exactly one outcome, and that neither order, repeats nor grouping matter.
+-- Defines the theorems that a merge has exactly one outcome, and that the order, repeats and grouping of merges do not
+-- matter.
 -- Source: "Conflict-free Replicated Data Types" (Shapiro, Preguiça, Baquero, Zawirski 2011), state-based objects.
 use Rattle.std.specs.Prelude.{◌≡◌, ℕ, List}
 use Rattle.schema_decisions.specs.answer_lines.declared.refusal.Refusal.{Refusal}
@@ -25,7 +26,8 @@ abbrev pub OrderDoesNotMatter : Type 0
 OrderDoesNotMatter = (schema f g text other : List ℕ) → IsMerged schema f g text → IsMerged schema g f other
     → other ≡ text
 
--- `RepeatsDoNotMatter`: merging the result again with the first or the second message leaves it the same.
+-- `RepeatsDoNotMatter`: if the result of a merge is parsed back, merging it again with the first or the second message
+-- gives the same result.
 abbrev pub RepeatsDoNotMatter : Type 0
 RepeatsDoNotMatter = (schema f g text other : List ℕ) (m : IsMerged schema f g text) → IsMergedBack m
     → (IsMerged schema text f other → other ≡ text) × (IsMerged schema text g other → other ≡ text)

@@ -1,7 +1,7 @@
 -- Defines the outcome of a pull: the state with the updates that another site sent, or an error.
 -- Source: docs/operating.md.
 -- Rules of this product: the schema is checked first, then the state, both before the network is used, then the
--- received message; there is a new state only if none is rejected.
+-- received message; there is a new state only if none of the three is rejected.
 use Rattle.std.specs.Prelude.{◌≡◌, ◌⊎◌, ℕ, List, Option, Some, None}
 use Rattle.sync_messages.specs.schema.Schemas.{StatedSchema, IsSchemaOf}
 use Rattle.sync_messages.specs.stamped_store.Store.{Store}
@@ -10,8 +10,8 @@ use Rattle.schema_decisions.specs.answer_lines.declared.refusal.Refusal.{Refusal
 use Rattle.schema_decisions.specs.Checks.{IsSchemaRefused}
 use Rattle.state_exchanges.specs.Messages.{IsMessageRefused, IsReadBack, Joins}
 
--- `IsPulled s m message state taken` holds if `message` has `taken` updates, and `state` is the state of the store of
--- these and of the updates of `m`, and is parsed again as exactly the updates of that store.
+-- `IsPulled s m message state taken` holds if `message`, of the schema `s`, has `taken` updates, and `state` is the
+-- state of the store of these updates and those of `m`. `state` is parsed again as exactly the updates of that store.
 pub record IsPulled (s : StatedSchema) (m : Store) (message state : List ℕ) (taken : ℕ) : Type 0 where
   pub store : Store
   pub joins : Joins s m message store taken
@@ -24,8 +24,8 @@ abbrev pub IsStateRefused : StatedSchema → Option (List ℕ) → Refusal → T
 IsStateRefused s None refusal = ⊥
 IsStateRefused s (Some bytes) refusal = IsMessageRefused s bytes refusal
 
--- `IsStateErrorUnder schema state refusal` holds if `schema` states a schema, and `refusal` is the error of `state`
--- under it.
+-- `IsStateErrorUnder schema state refusal` holds if the text `schema` describes a schema, and `refusal` is the error of
+-- `state` under this schema.
 pub record IsStateErrorUnder (schema : List ℕ) (state : Option (List ℕ)) (refusal : Refusal) : Type 0 where
   pub stated : StatedSchema
   pub schema_is : IsSchemaOf schema stated

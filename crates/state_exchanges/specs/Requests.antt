@@ -1,4 +1,5 @@
--- Defines the requests of a pull and of an exchange: for a summary, for the entries that a site lacks, and for a merge.
+-- Defines the requests of a pull and of an exchange: for a summary, for the entries that a store lacks, and for a
+-- merge.
 -- Source: RFC 9112, section 3; RFC 9110, sections 7.2, 7.6.1 and 8.6.
 -- Rules of this product: the summary of a store is posted to /v1/delta; an absent state is an empty store.
 use Rattle.std.specs.Prelude.{◌≡◌, ℕ, List, [], ◌++◌, Option, Some, None, length, codes, decimal}
@@ -44,13 +45,13 @@ call_method call.Summary = codes "GET"
 call_method call.Delta = codes "POST"
 call_method call.Merge = codes "POST"
 
--- `call_path call` is its path.
+-- `call_path call` is the path of the request of `call`.
 abbrev pub call_path : ExchangeCall → List ℕ
 call_path call.Summary = codes "/v1/summary"
 call_path call.Delta = codes "/v1/delta"
 call_path call.Merge = codes "/v1/merge"
 
--- `call_body call body` is the body that it sends: `body`, or `None` for a summary.
+-- `call_body call body` is the body that the request of `call` sends: `body`, or `None` if `call` asks for a summary.
 abbrev pub call_body : {A : Type 0} → ExchangeCall → A → Option A
 call_body call.Summary body = None
 call_body call.Delta body = Some body
@@ -62,7 +63,7 @@ call_size call.Summary body = 0
 call_size call.Delta body = length body
 call_size call.Merge body = length body
 
--- `call_request call host body` is the request of `call` at `host`, with `body` unless it asks for a summary.
+-- `call_request call host body` is the request of `call` at `host`, with `body` unless `call` asks for a summary.
 abbrev pub call_request : ExchangeCall → List ℕ → List ℕ → List ℕ
 call_request call.Summary host body = summary_request host
 call_request call.Delta host body = delta_request host body
@@ -72,11 +73,11 @@ call_request call.Merge host body = merge_request host body
 abbrev pub request_for : List ℕ → StatedSchema → Store → List ℕ
 request_for host s m = delta_request host (summary_text s.label (summary_of m))
 
--- `summary_size s m` is the length of the summary of the store `m`, the body of that request.
+-- `summary_size s m` is the length of the summary of the store `m`, the body of the request `request_for host s m`.
 abbrev pub summary_size : StatedSchema → Store → ℕ
 summary_size s m = length (summary_text s.label (summary_of m))
 
--- `IsReady schema state s m` holds if `schema` states `s`, and `m` is the store of `state`.
+-- `IsReady schema state s m` holds if the text `schema` describes the schema `s`, and `m` is the store of `state`.
 pub record IsReady (schema : List ℕ) (state : Option (List ℕ)) (s : StatedSchema) (m : Store) : Type 0 where
   pub schema_is : IsSchemaOf schema s
   pub state_is : Holds s state m

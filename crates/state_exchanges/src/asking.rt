@@ -74,7 +74,7 @@ fn call_body(call: ExchangeCall, body: &[u8]) -> Option<&[u8]>
     }
 }
 
-/// Returns the length in bytes of the body that a call sends.
+/// Returns the length in bytes of the body that a call sends: 0 if the call sends none.
 fn call_size(call: ExchangeCall, body: &[u8]) -> usize
     ensures { result ≡ call_size call body.now }
 {
@@ -85,7 +85,7 @@ fn call_size(call: ExchangeCall, body: &[u8]) -> usize
     }
 }
 
-/// Makes one call to the site at a reader and a writer, and returns the body of the reply, which has status 200.
+/// Makes one call to a site over a reader and a writer, and returns the body of the reply, whose status is 200.
 ///
 /// `host` is the value of the field `Host`. `body` is the summary or the message that the call sends; a call for a
 /// summary sends none. After an error nothing, a first part of the request, or all of it was sent.
@@ -95,7 +95,7 @@ fn call_size(call: ExchangeCall, body: &[u8]) -> usize
 /// - `Network(NoHost)` (75): `host` is not a host. Nothing was sent.
 /// - `Network(TooLarge)` (77): the body is longer than a site accepts, 8,388,608 bytes. Nothing was sent.
 /// - `Refused` with code 1: out of memory, at any point.
-/// - `Network` (70 to 74): there is no reply of status 200.
+/// - `Network` (70 to 74): the network failed, or the reply has a status other than 200.
 pub fn ask<R: Source, W: Sink>(
     alloc: Global,
     call: ExchangeCall,

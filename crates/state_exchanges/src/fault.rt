@@ -7,7 +7,7 @@ use plain::NoMemory;
 use schema_decisions::Refusal;
 use thiserror::Error;
 
-/// Why there is no reply of status 200.
+/// The reason why there is no reply of status 200.
 #[derive(Clone, Copy, PartialEq, Eq, Debug, Error)]
 pub enum NetworkFault {
     /// The reader failed (70).

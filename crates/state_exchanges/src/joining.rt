@@ -50,22 +50,22 @@ fn take_one(
 /// Joins updates into a store in order, and counts them.
 fn take_all(
     store: &mut StampedStore<Policy, Entity>,
-    came: Vec<Update<Policy, Entity>>,
+    received_updates: Vec<Update<Policy, Entity>>,
 ) -> Result<usize, NoMemory>
     ensures store { OnOk result (abstract_store store.new
-        ≡ store_of (updates (abstract_store store.old) ++ plain_updates came.items)) }
-    ensures count { IfOk result (λ n. n ≡ length came.items) }
+        ≡ store_of (updates (abstract_store store.old) ++ plain_updates received_updates.items)) }
+    ensures count { IfOk result (λ n. n ≡ length received_updates.items) }
 {
     updates_have_one_store();
     let mut taken = 0;
-    for update in came {
+    for update in received_updates {
         take_one(store, update)?;
         taken += 1;
     }
     Ok(taken)
 }
 
-/// A store into which a message was joined, and the number of its updates.
+/// A store into which a message was joined, and the number of the message's updates.
 #[derive(Drop)]
 pub struct Joined {
     /// The store of the updates of both, the earlier store and the message.
@@ -78,7 +78,7 @@ pub struct Joined {
 ///
 /// # Errors
 ///
-/// In both cases the store is dropped, so nothing is left half joined.
+/// After any error the store is dropped, so no store has only some of the updates.
 ///
 /// - The message is rejected whole, with its first error (50 to 56, with its place and the code of the error inside).
 /// - Out of memory (1), at any point.

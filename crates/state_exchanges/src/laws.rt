@@ -1,4 +1,4 @@
-//! Theorems about merged states, as functions that do nothing.
+//! Theorems about merged states. The functions are no-ops.
 ghost use Rattle.std.specs.Prelude.{ℕ, List};
 ghost use Rattle.schema_decisions.specs.schema_types.declared.fault.SchemaFault.{SchemaFault};
 ghost use Rattle.sync_messages.specs.schema.SchemaEntries.{SchemaEntries as SchemaKept};
@@ -24,8 +24,8 @@ pub fn order_and_repeats_do_not_matter()
     bytes_have_one_outcome();
 }
 
-/// Proves that the texts of a schema and of two messages have exactly one outcome, a state or an error, whether the
-/// first text states a schema or not. No-op.
+/// Proves that merging two messages under a schema, all given as texts, has exactly one outcome, a state or an error,
+/// whether the first text describes a schema or not. No-op.
 pub fn merges_have_one_outcome()
     ensures stated { (bytes f g : List ℕ) (schema : SchemaKept) → IsSchemaOf bytes (schema_view schema)
         → HaveOneOutcome bytes f g }

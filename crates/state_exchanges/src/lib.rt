@@ -1,9 +1,9 @@
 //! Merges and exchanges without a site.
 //!
-//! - A merge: from the bytes of a schema and of two messages to the state with the updates of both, or to the first
-//!   error.
-//! - A pull: asks another site over HTTP for the entries that a state lacks, and joins them into the state.
-//! - The calls of an exchange between two sites.
+//! - A merge takes the bytes of a schema and of two messages, and gives the state with the updates of both, or the
+//!   first error.
+//! - A pull asks another site over HTTP for the entries that a state lacks, and joins them into the state.
+//! - An exchange between two sites is made of calls, each one request and its reply.
 //!
 //! Nothing here opens a socket or a file: the reader and the writer are any values of the traits `Source` and `Sink`,
 //! and the state is bytes.

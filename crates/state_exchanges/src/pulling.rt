@@ -32,7 +32,7 @@ pub struct Pulled {
     pub taken: usize,
 }
 
-/// Returns the store of `state`, or the empty store otherwise.
+/// Returns the store of `state`, or the empty store if there is no state.
 fn store_in(
     alloc: Global,
     schema: &Schema,
@@ -74,8 +74,8 @@ fn take_reply(
     Ok(Pulled { state, taken })
 }
 
-/// Returns the result of joining a reply, with its error as that of a pull.
-fn told(pulled: Result<Pulled, Refusal>) -> Result<Pulled, PullFault>
+/// Returns the result of joining a reply, with the error as that of a pull.
+fn pull_result(pulled: Result<Pulled, Refusal>) -> Result<Pulled, PullFault>
     ensures { MatchResult pulled (λ p. result ≡ Ok p) (λ r. result ≡ Err (PullFault.Refused r)) }
 {
     match pulled {
@@ -151,17 +151,17 @@ fn pull_under<R: Source, W: Sink>(
     ensures writes { result ≢ Err (PullFault.Network NetworkFault.Write) → W.failed writer.new ≡ W.failed writer.old }
 {
     match fetch_missing_entries(alloc, schema, &store, host, reader, writer) {
-        Ok(body) => told(take_reply(alloc, schema, store, &body)),
+        Ok(body) => pull_result(take_reply(alloc, schema, store, &body)),
         Err(fault) => Err(fault),
     }
 }
 
-/// Asks the site at a reader and a writer for the entries that a state lacks, and joins them.
+/// Asks a site over a reader and a writer for the entries that a state lacks, and joins them into the state.
 ///
 /// `schema` is the text of the schema, `state` a state or a delta under it, absent for an empty store, and `host` the
 /// value of the field `Host`. One request is written, `POST /v1/delta` with the summary of the state, and its reply is
-/// read. The updates of the reply's body are joined; the result has the new state and their number. No site is involved
-/// on this side, so no stamp is issued.
+/// read. The updates of the reply's body are joined; the result has the new state and the number of these updates. No
+/// site is involved on this side, so no stamp is issued.
 ///
 /// # Errors
 ///
@@ -171,7 +171,7 @@ fn pull_under<R: Source, W: Sink>(
 /// - 50 to 56, with the place and the code of the error inside: the state is rejected.
 /// - 75: `host` is not a host.
 /// - 77: the summary is longer than a site accepts.
-/// - 70 to 74: the network failed, or the reply has another status than 200.
+/// - 70 to 74: the network failed, or the reply has a status other than 200.
 /// - 50 to 56: the received message is rejected.
 /// - 1, at any point: out of memory.
 pub fn pull_over<R: Source, W: Sink>(
@@ -210,8 +210,8 @@ pub fn pull_over<R: Source, W: Sink>(
         ⊎ ((s : StatedSchema) × (m : Store) × IsReady schema.now (option_map (λ b. b.now) state.entry) s m
         × IsRequestBegun R.left W.holds (request_for host.now s m) reader.old reader.new writer.old writer.new)) }
 
-    // `NoHost` exactly if `host` is not a host, and `TooLarge` exactly if it is one and the summary is longer than a
-    // site accepts.
+    // The error is `NoHost` if and only if `host` is not a host, and `TooLarge` if and only if `host` is a host and the
+    // summary is longer than a site accepts.
     ensures host { IfOk result (λ _. IsTrue (is_host host.now)) }
     ensures no_host { (f : NetworkFault) → result ≡ Err (PullFault.Network f) → ReportsNoHost host.now f }
     ensures too_large { (f : NetworkFault) → result ≡ Err (PullFault.Network f) → (s : StatedSchema) × (m : Store)

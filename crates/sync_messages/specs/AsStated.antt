@@ -1,5 +1,5 @@
--- Defines the theorems that the functions which parse messages give exactly what the relations on bytes say, and that
--- bytes have exactly one outcome.
+-- Defines the theorems that the parsing functions of messages agree with the relations on bytes, and that bytes have
+-- exactly one outcome.
 use Rattle.std.specs.Prelude.{◌≡◌, ◌↔◌, ◌⊎◌, ℕ, List, Some, Ok, codes}
 use Rattle.serde_json.specs.Data.{Data}
 use Rattle.json_words.specs.Json.{json_of}
@@ -24,8 +24,8 @@ use Rattle.sync_messages.specs.StatedMessages.{StatesMessage, RefusesMessage}
 
 -- ---- states and deltas, before their texts are parsed
 
--- `UpdatesAreRead`: `updates_stated` gives the updates that bytes describe for the schema with this label, or the error
--- of bytes that describe none.
+-- `UpdatesAreRead`: `updates_stated label bytes` gives the updates that `bytes` describe for the schema with the label
+-- `label`, or the error if `bytes` describe none.
 abbrev pub UpdatesAreRead : Type 0
 UpdatesAreRead = (label bytes : List ℕ)
     → Gives (updates_stated label bytes) (StatesUpdates label bytes) (RefusesUpdates label bytes)
@@ -36,8 +36,8 @@ abbrev pub UpdatesHaveOneOutcome : Type 0
 UpdatesHaveOneOutcome = (label bytes : List ℕ)
     → HasOneOutcome (StatesUpdates label bytes) (RefusesUpdates label bytes)
 
--- `UpdatesAreWritten`: bytes of version 2 that are parsed as updates are JSON with exactly the keys and values that are
--- written for these updates, as a state or as a delta.
+-- `UpdatesAreWritten`: if bytes of version 2 are parsed as updates, their JSON has exactly the keys and values with
+-- which a state or a delta of these updates is written.
 abbrev pub UpdatesAreWritten : Type 0
 UpdatesAreWritten = (label bytes : List ℕ) (d : Data) (us : List PlainUpdate) → json_of bytes ≡ Some d → HasVersion d 2
     → updates_stated label bytes ≡ Ok us
@@ -45,8 +45,8 @@ UpdatesAreWritten = (label bytes : List ℕ) (d : Data) (us : List PlainUpdate) 
 
 -- ---- summaries
 
--- `SummariesAreRead`: `summary_stated` gives the summary that bytes describe for the schema with this label, or the
--- error of bytes that describe none.
+-- `SummariesAreRead`: `summary_stated label bytes` gives the summary that `bytes` describe for the schema with the
+-- label `label`, or the error if `bytes` describe none.
 abbrev pub SummariesAreRead : Type 0
 SummariesAreRead = (label bytes : List ℕ)
     → Gives (summary_stated label bytes) (StatesSummary label bytes) (RefusesSummary label bytes)
@@ -57,15 +57,16 @@ abbrev pub SummariesHaveOneOutcome : Type 0
 SummariesHaveOneOutcome = (label bytes : List ℕ)
     → HasOneOutcome (StatesSummary label bytes) (RefusesSummary label bytes)
 
--- `SummariesAreWritten`: bytes of version 2 that are parsed as a summary are JSON with exactly the keys and values that
--- are written for it.
+-- `SummariesAreWritten`: if bytes of version 2 are parsed as a summary, their JSON has exactly the keys and values with
+-- which this summary is written.
 abbrev pub SummariesAreWritten : Type 0
 SummariesAreWritten = (label bytes : List ℕ) (d : Data) (m : Summary) → json_of bytes ≡ Some d → HasVersion d 2
     → summary_stated label bytes ≡ Ok m → d ≡ summary_json label m
 
 -- ---- texts of entities
 
--- `TextsAreRead`: `entity_of_text` gives the entity that has a text as its canonical text, or the error of the text.
+-- `TextsAreRead`: `entity_of_text s uid text` gives the entity that has the uid `uid` and the canonical text `text`
+-- under the schema `s`, or the error of `text`.
 abbrev pub TextsAreRead : Type 0
 TextsAreRead = (s : StatedSchema) (uid : EntityUid) (text : List ℕ)
     → Gives (entity_of_text s uid text) (StatesText s uid text) (RefusesText s uid text)

@@ -28,8 +28,8 @@ EntitiesHaveOneReading = (s : StatedSchema) (uid : EntityUid) (text : List ℕ)
 abbrev pub PoliciesHaveNoOtherName : Type 0
 PoliciesHaveNoOtherName = (s : StatedSchema) (text : List ℕ) → RefusesPolicy s text OtherName → ⊥
 
--- `CanonicalTextsAreRead`: the canonical text of an entity that was parsed from bytes is parsed as that entity, under
--- its uid.
+-- `CanonicalTextsAreRead`: if an entity was parsed from bytes under a well-formed schema, its canonical text is parsed
+-- as the same entity, under the entity's uid.
 abbrev pub CanonicalTextsAreRead : Type 0
 CanonicalTextsAreRead = (s : StatedSchema) (bytes : List ℕ) (e : Entity) → IsWellFormed s → IsReadFrom s bytes e
     → ReadsEntity s e.uid (canonical_text e) e

@@ -1,7 +1,8 @@
 -- Defines the parts of messages as JSON, and the error of bytes that do not have the form of a message.
 -- Source: docs/formats.md, "Messages between sites".
--- Rules of this product: in version 2 a site is its name, in version 1 a number from 1 to 65,535, parsed as its five
--- digits; the order of the errors: not JSON, the version, the rest of the form, the label of another schema.
+-- Rules of this product: in version 2 a site is given by its name, in version 1 by a number from 1 to 65,535, whose
+-- five digits are the site's name; the order of the errors: not JSON, the version, the rest of the form, the label of
+-- another schema.
 use Rattle.std.specs.Prelude.{◌≡◌, ℕ, List, Some, None, codes}
 use Rattle.serde_json.specs.Data.{Data, number, unsigned, string}
 use Rattle.serde_json.specs.Find.{get}
@@ -19,13 +20,14 @@ use Rattle.message_format.specs.Summaries.{name_json}
 
 -- ---- parts
 
--- `StatesName d name` holds if `d` is the JSON of `name`: {"policy":id}, or {"entity":{"id":..,"type":..}} with a Path
--- as the type.
+-- `StatesName d name` holds if `d` is the JSON of `name`: {"policy":id}, or {"entity":{"id":..,"type":..}} with a type
+-- that is a path, such as `Photos::Album`.
 abbrev pub StatesName : Data → Name → Type 0
 StatesName d (Policy id) = d ≡ name_json (Policy id)
 StatesName d (Entity uid) = (d ≡ name_json (Entity uid)) × IsPath uid.type_name
 
--- `StatesSite version d site` holds if `d` is the JSON of the site with the name `site` in messages of `version`.
+-- `StatesSite version d site` holds if `d` is the JSON of the site with the name `site` in messages of `version`: in
+-- version 1 a number, in version 2 a string.
 pub data StatesSite : MessageVersion → Data → List ℕ → Type 0 where
   by_number : (n : ℕ) → IsSiteNumber n → StatesSite One (number (unsigned n)) (five_digits n)
   by_name : (site : List ℕ) → IsSiteName site → StatesSite Two (string site) site
@@ -53,8 +55,8 @@ pub record StatesForm {A : Type 0} (Form : Data → List ℕ → A → Type 0) (
     pub form : Form value label content
 
 -- `RefusesForm Form label bytes fault` holds if `bytes` are not such a message, and `fault` is the first error: not
--- JSON; no version in unsigned 64 bits; another version than 1 and 2; another form, whatever the label and the content;
--- or another label.
+-- JSON; no `version` that is an integer in unsigned 64 bits; a version other than 1 and 2; another form, whatever the
+-- label and the content; or another label.
 pub data RefusesForm {A : Type 0} (Form : Data → List ℕ → A → Type 0) (label bytes : List ℕ) : MessageFault → Type 0
   where
     not_json : json_of bytes ≡ None → RefusesForm Form label bytes NotJson

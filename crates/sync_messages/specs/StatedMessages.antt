@@ -18,8 +18,8 @@ use Rattle.sync_messages.specs.StatedUpdates.{StatesUpdates, RefusesUpdates}
 use Rattle.sync_messages.specs.StatedSummaries.{Fits, RefusesRanges}
 use Rattle.sync_messages.specs.StatedTexts.{StatesText, RefusesText}
 
--- `HasTextsOf s us` holds if each text of `us` is that of the policy or entity in its update, under the schema `s`: a
--- policy that passes validation, or the canonical text of an entity with the uid in the name.
+-- `HasTextsOf s us` holds if each update of `us` that has a text has the value of that text under the schema `s`: a
+-- policy that passes validation, or the entity that has this canonical text and the uid in the update's name.
 abbrev pub HasTextsOf : StatedSchema → List (Update Policy Entity) → Type 0
 HasTextsOf s us = AllByRecursion (IsUpdateRead (λ id. ReadsPolicy s) (StatesText s)) us
 
@@ -27,8 +27,8 @@ HasTextsOf s us = AllByRecursion (IsUpdateRead (λ id. ReadsPolicy s) (StatesTex
 abbrev pub HasBody : StatedSchema → PlainUpdate → Type 0
 HasBody s u = IsValid (λ id. ReadsPolicy s) (StatesText s) u
 
--- `RefusesBody s u fault` holds if the body of the update `u` is a text with the error `fault` under the schema `s` and
--- the name of `u`.
+-- `RefusesBody s u fault` holds if the body of the update `u` is a text that is rejected with the error `fault` under
+-- the schema `s` and the name of `u`.
 abbrev pub RefusesBody : StatedSchema → PlainUpdate → BodyFault → Type 0
 RefusesBody s u fault = IsUnreadable (λ id. RefusesPolicy s) (RefusesText s) u.0 u.1.body fault
 

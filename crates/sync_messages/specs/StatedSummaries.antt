@@ -1,8 +1,8 @@
 -- Defines the summary that bytes describe, and the error of bytes that describe none.
 -- Source: docs/formats.md, "Messages between sites".
--- Rules of this product: a summary and each of its stamps have exactly the keys below (the keys of parsed JSON ascend,
--- whatever their order in the bytes: `json_keys_ascend`); names ascend strictly. If all this holds, the error is that
--- of the first stamp that is out of its ranges: of its count, else of its name.
+-- Rules of this product: a summary and each of its stamps have exactly the keys below, in any order
+-- (those of parsed JSON ascend: `json_keys_ascend`); names ascend strictly. In a summary of this form the error is that
+-- of the first stamp whose count or name is out of its range: that of the count, else that of the name.
 use Rattle.std.specs.Prelude.{◌≡◌, ◌≤◌, ℕ, suc, List, ◌∷◌, ⊤, length, map, codes}
 use Rattle.std.specs.List.{AllZip, AllByRecursion}
 use Rattle.std.specs.List.Sorted.{IsStrictlySortedBy}
@@ -58,13 +58,13 @@ abbrev pub IdFits : Name → Type 0
 IdFits (Policy id) = (1 ≤ length id) × (length id ≤ 256)
 IdFits (Entity uid) = ⊤
 
--- `Fits u` holds if the count and the name of the name and stamp `u` are in their ranges.
+-- `Fits u` holds if `u`, a name with its stamp, has a count and a name in their ranges.
 pub record Fits (u : Name × Stamp) : Type 0 where
   pub count : CountFits u.1.count
   pub id : IdFits u.0
 
 -- `RefusesRanges place u fault` holds if the count or the name of `u` is out of its range, and `fault` is the error of
--- `u` at the index `place`: that of its count, else that of its name, with 19 within, the code of a bad id.
+-- `u` at the index `place`: that of the count, else that of the name, with the inner code 19 (bad id).
 pub data RefusesRanges (place : ℕ) (u : Name × Stamp) : MessageFault → Type 0 where
   bad_count : (CountFits u.1.count → ⊥) → RefusesRanges place u (CountRange place)
   bad_id : CountFits u.1.count → (IdFits u.0 → ⊥) → RefusesRanges place u (BadEntry place 19)
@@ -79,8 +79,8 @@ pub data RefusesStamps : ℕ → Summary → MessageFault → Type 0 where
 
 -- ---- bytes
 
--- `StatesSummary label bytes m` holds if `bytes` are the summary `m` for the schema with this label, and each of its
--- stamps is in its ranges.
+-- `StatesSummary label bytes m` holds if `bytes` are the summary `m` for the schema with this label, and each count and
+-- name of `m` is in its range.
 pub record StatesSummary (label bytes : List ℕ) (m : Summary) : Type 0 where
   pub states : StatesForm IsSummary label bytes m
   pub fit : AllByRecursion Fits m

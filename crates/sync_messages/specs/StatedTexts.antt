@@ -1,7 +1,8 @@
--- Defines which text is the canonical text of which entity, and the error of other texts.
+-- Defines when a text is the canonical text of an entity, and the error of other texts.
 -- Source: Cedar reference guide 4.0, "Entities and context: JSON format".
--- Rules of this product: the order of the errors: 30 for a text that is not JSON; the error of the entity; 57 for
--- another spelling than the canonical one; and last `OtherName`, for another uid.
+-- Rules of this product: the order of the errors: 30 for a text that is not JSON; the error of JSON that does not
+-- describe an entity of the schema; 57 for a spelling other than the canonical one; and last `OtherName` (56), for
+-- another uid.
 use Rattle.std.specs.Prelude.{◌≡◌, ℕ, List, Some, None}
 use Rattle.serde_json.specs.Data.{Data}
 use Rattle.json_words.specs.Json.{json_of}
@@ -24,7 +25,8 @@ pub record StatesText (s : StatedSchema) (uid : EntityUid) (text : List ℕ) (e 
   pub canonical : canonical_text e ≡ text
   pub named : e.uid ≡ uid
 
--- `RefusesText s uid text fault` holds if `text` is not such a text for any entity, and `fault` is its first error.
+-- `RefusesText s uid text fault` holds if `text` is not the canonical text of an entity with the uid `uid` under the
+-- schema `s`, and `fault` is the first error of `text`.
 pub data RefusesText (s : StatedSchema) (uid : EntityUid) (text : List ℕ) : BodyFault → Type 0 where
   not_json : json_of text ≡ None → RefusesText s uid text (Refused 30)
   no_entity : (d : Data) (fault : EntityFault) → json_of text ≡ Some d → RefusesEntity s d fault

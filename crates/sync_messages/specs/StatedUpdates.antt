@@ -38,10 +38,11 @@ pub record IsUpdates (d : Data) (schema : List ℕ) (us : List Update) : Type 0 
   pub state : AllZip (StatesEntry version) (list_of entries) us
 
 -- `StatesUpdates label bytes us` holds if `bytes` have the form of a state or delta for the schema with this label,
--- with the updates `us`, whatever their ranges and texts.
+-- with the updates `us`. Whether the counts and names are in their ranges and the texts are valid does not matter.
 abbrev pub StatesUpdates : List ℕ → List ℕ → List Update → Type 0
 StatesUpdates label bytes us = StatesForm IsUpdates label bytes us
 
--- `RefusesUpdates label bytes fault` holds if `bytes` do not have this form, and `fault` is the first error.
+-- `RefusesUpdates label bytes fault` holds if `bytes` do not have the form of a state or delta for the schema with this
+-- label, and `fault` is the first error.
 abbrev pub RefusesUpdates : List ℕ → List ℕ → MessageFault → Type 0
 RefusesUpdates label bytes fault = RefusesForm IsUpdates label bytes fault

@@ -1,8 +1,8 @@
--- Defines what a text of a store is parsed as under a schema, and with which error it is rejected.
+-- Defines the policy or entity that a text of a store is parsed as under a schema, and the error of a rejected text.
 -- Source: Cedar reference guide 4.0, "Policy validation" and "Entities and context: JSON format".
 -- Rules of this product: a policy's text must be that of a policy that passes validation; an entity's must be the one
--- canonical text of an entity that the schema allows, under that entity's uid. This does not depend on a store, so
--- the order of arrival does not matter.
+-- canonical text of an entity that the schema allows, under that entity's uid. Whether a text is accepted does not
+-- depend on a store, so the order in which texts arrive does not matter.
 use Rattle.std.specs.Prelude.{◌≡◌, ℕ, List, Result, Ok, Err}
 use Rattle.std.specs.Str.{bytes_eq}
 use Rattle.json_words.specs.ReadsAs.{◌>>=◌, or_fault, demand}
@@ -41,14 +41,14 @@ pub data RefusesPolicy (s : StatedSchema) (text : List ℕ) : BodyFault → Type
 
 -- ---- entities
 
--- `refused_by r` is the entity in `r`, or the error in `r` by its code.
+-- `refused_by r` is the entity in `r`, or `Refused` with the code of the error in `r`.
 abbrev pub refused_by : Result Entity EntityFault → Result Entity BodyFault
 refused_by (Ok e) = Ok e
 refused_by (Err f) = Err (Refused (entities.code_of f))
 
 -- `entity_of_text s uid text` is the entity under the schema `s` with the canonical text `text` and the uid `uid`, or
--- the first error: 30 if `text` is not JSON, the error of the entity, 57 if its canonical text is another one,
--- `OtherName` if its uid is another one.
+-- the first error: 30 if `text` is not JSON; the error of JSON that does not describe an entity; 57 if the entity has
+-- another canonical text; `OtherName` if it has another uid.
 unfoldable pub entity_of_text : StatedSchema → EntityUid → List ℕ → Result Entity BodyFault
 entity_of_text s uid text = do
   json ← or_fault (Refused 30) (json_of text)

@@ -1,4 +1,4 @@
-//! Theorems: the parsing of messages gives what the relations on bytes say. The functions are no-ops.
+//! Theorems: the parsing of messages agrees with the relations on bytes. The functions are no-ops.
 ghost use Rattle.sync_messages.specs.AsStated.{UpdatesAreRead, UpdatesHaveOneOutcome, UpdatesAreWritten};
 ghost use Rattle.sync_messages.specs.AsStated.{SummariesAreRead, SummariesHaveOneOutcome, SummariesAreWritten};
 ghost use Rattle.sync_messages.specs.AsStated.{TextsAreRead, MessagesAreRead, MessagesHaveOneOutcome};
@@ -12,8 +12,8 @@ use validator::entities_are_read_as_stated;
 /// Proves that parsing the form of a state or delta gives the updates that bytes describe, or the first error. No-op.
 ///
 /// Ranges and texts of entries are not checked here. Bytes describe exactly one list of updates or are rejected with
-/// exactly one error, never both. Bytes of version 2 that are parsed as updates are JSON with exactly the keys and
-/// values that are written for these updates.
+/// exactly one error, never both. If bytes of version 2 are parsed as updates, their JSON has exactly the keys and
+/// values with which these updates are written.
 pub fn updates_are_read_as_stated()
     ensures read { UpdatesAreRead }
     ensures one { UpdatesHaveOneOutcome }
@@ -27,8 +27,8 @@ pub fn updates_are_read_as_stated()
 
 /// Proves that parsing a summary gives the summary that bytes describe, or the first error. No-op.
 ///
-/// Bytes describe exactly one summary or are rejected with exactly one error, never both. Bytes of version 2 that are
-/// parsed as a summary are JSON with exactly the keys and values that are written for it.
+/// Bytes describe exactly one summary or are rejected with exactly one error, never both. If bytes of version 2 are
+/// parsed as a summary, their JSON has exactly the keys and values with which this summary is written.
 pub fn summaries_are_read_as_stated()
     ensures read { SummariesAreRead }
     ensures one { SummariesHaveOneOutcome }
@@ -48,8 +48,8 @@ pub fn entity_texts_are_read_as_stated()
     entities_are_read_as_stated();
 }
 
-/// Proves that parsing a message of a schema gives the updates that bytes describe, their texts parsed, or the first
-/// error. No-op.
+/// Proves that parsing a message of a schema gives the updates that bytes describe, with their texts parsed, or the
+/// first error. No-op.
 ///
 /// Bytes describe exactly one list of updates or are rejected with exactly one error, never both.
 pub fn messages_are_read_as_stated()

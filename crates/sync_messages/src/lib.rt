@@ -1,7 +1,7 @@
-//! Messages between sites under a schema, whose texts are policies that pass validation and entities in their canonical
-//! text.
+//! Messages between sites under a schema. Each text in a message is a policy that passes validation, or the canonical
+//! text of an entity.
 //!
-//! [`SchemaTexts`] parses these texts. What it accepts does not depend on a store.
+//! [`SchemaTexts`] parses these texts. Which texts it accepts does not depend on a store.
 #![tactic(auto)]
 
 mod as_stated;

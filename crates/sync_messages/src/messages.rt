@@ -17,7 +17,7 @@ use validator::{Entity, Schema};
 
 /// Parses a state or a delta of a schema.
 ///
-/// Returns its updates in their order, each text parsed under the schema.
+/// Returns the message's updates in their order, with each text parsed under the schema.
 ///
 /// # Errors
 ///
@@ -44,7 +44,7 @@ pub fn read_updates(
 
 /// Parses a summary of the schema with this label.
 ///
-/// In version 1, each site's number is parsed as the site whose name is its five digits.
+/// In version 1, a site's number stands for the site whose name is the five digits of the number.
 ///
 /// # Errors
 ///

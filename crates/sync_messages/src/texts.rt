@@ -48,7 +48,7 @@ impl Readings<Policy, Entity> for SchemaTexts<'_> {
     ghost reads_entity = { λ t uid text e. ReadsEntity (schema_view t.schema.now) uid text e };
 }
 
-/// Converts the error of a text that is not the text of a policy, by its code.
+/// Converts the error of a text that is not a policy to the body's error with the same code.
 fn grammar_fault(fault: ReadFault) -> BodyFault
     ensures memory { fault ≡ ReadFault.NoMemory → result ≡ BodyFault.NoMemory }
     ensures refused { fault ≢ ReadFault.NoMemory → result ≡ BodyFault.Refused (grammar.code_of fault) }
@@ -59,7 +59,7 @@ fn grammar_fault(fault: ReadFault) -> BodyFault
     }
 }
 
-/// Converts the error of a policy that does not pass validation, by its code.
+/// Converts the error of a policy that does not pass validation to the body's error with the same code.
 fn validation_fault(fault: TypeFault) -> BodyFault
     ensures memory { fault ≡ TypeFault.NoMemory → result ≡ BodyFault.NoMemory }
     ensures refused { fault ≢ TypeFault.NoMemory → result ≡ BodyFault.Refused (validation.code_of fault) }
@@ -116,7 +116,7 @@ fn json_in(alloc: Global, scratch: &mut Scratch, text: &str) -> Result<Value, Bo
     }
 }
 
-/// Returns the entity that a JSON value describes under the schema, or the value's error by its code.
+/// Returns the entity that a JSON value describes under the schema, or `Refused` with the code of the value's error.
 fn allowed_entity(alloc: Global, schema: &Schema, json: &Value) -> Result<Entity, BodyFault>
     ensures { ReadsAs BodyFault.NoMemory (λ e. e) result
         (refused_by (entity_stated_in (schema_view schema.now) (view json.now))) }
@@ -141,7 +141,7 @@ fn demand_canonical(alloc: Global, entity: &Entity, text: &str) -> Result<(), Bo
     }
 }
 
-/// Checks that an entity has this uid. An entity with another one has the error `OtherName`.
+/// Checks that an entity has this uid. An entity with another uid has the error `OtherName`.
 fn demand_uid(entity: &Entity, uid: &EntityUid) -> Result<(), BodyFault>
     ensures { AlwaysReadsAs (λ u. u) result (demand BodyFault.OtherName (is_same entity.now.uid uid.now)) }
 {

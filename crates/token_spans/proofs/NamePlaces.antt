@@ -50,7 +50,7 @@ use Rattle.token_spans.specs.Places.{NodePlace, in_entity, in_action}
 use Rattle.token_spans.specs.Places.{at_conditions, by_word, unless_at, from_resource, from_action, from_effect}
 use Rattle.token_spans.specs.Names.{named as names_at, uid_tokens}
 use Rattle.token_spans.proofs.LanguageCounts.{path_fits, uid_fits}
-use Rattle.token_spans.specs.NameWritten.{OwnName, entity, tested_type, name_of, IsNameWriting, as_uid, as_path, NameStandsIn}
+use Rattle.token_spans.specs.NameWritten.{OwnName, entity, tested_type, name_of, IsNameWriting, as_uid, as_path, NameHasTokensIn}
 use Rattle.token_spans.proofs.Languages.{Shows, both_shows, past_shows, end_shows, nothing_shows, or_shows}
 use Rattle.token_spans.proofs.Lists.{Ends, ends_here, ends_later, past, some_same, none_some, swapped}
 use Rattle.token_spans.proofs.Rows.{row_placed, mapped}
@@ -490,7 +490,7 @@ module _ (text : List ℕ) (tree : PolicyTree) (whole : Policy) (core_is : IsCor
   policy_named (suc (suc i) ∷ path) h = absurd (follow_off _ _ i path e h)
 
   pub name_stands_in : (path : List ℕ) → IsLexed text ts → follow path (expression_of whole) ≡ Some e
-      → NameStandsIn text tree path n ts
+      → NameHasTokensIn text tree path n ts
   name_stands_in path lexed h =
       let a = policy_named path h in
       let m = a.within.0 in

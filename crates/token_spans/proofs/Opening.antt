@@ -8,23 +8,23 @@ use Rattle.grammar_trees.specs.declared.tree.ExprTree.{ExprTree, out-ExprTree, r
 use Rattle.grammar_trees.specs.declared.tree.ExprTree.TheVariants as t
 use Rattle.grammar_trees.specs.declared.tree.ExprTree.TheOpen.{ExprTree-F as tree}
 use Rattle.token_spans.specs.TokenCounts.{tree_count}
-use Rattle.token_spans.specs.Forms.{Form, operand_step, behind_step, behind_minus, one_at}
+use Rattle.token_spans.specs.Forms.{Form, operand_step, tokens_after_step, minus_operand, one_at}
 
 -- an operand of a form whose tree is this one
 pub seen : (x v : ExprTree) (y : tree ExprTree) (f : Form) (i : ℕ) → x ≡ v → out-ExprTree v ≡ y → operand_step y f i ≡ operand_step (out-ExprTree x) f i
 seen x v y f i is outs = ap (λ z. operand_step z f i) (sym (ap out-ExprTree is ∙ outs))
 
 -- the tokens behind it
-pub seen_behind : (x v : ExprTree) (y : tree ExprTree) (f : Form) → x ≡ v → out-ExprTree v ≡ y → behind_step y f ≡ behind_step (out-ExprTree x) f
-seen_behind x v y f is outs = ap (λ z. behind_step z f) (sym (ap out-ExprTree is ∙ outs))
+pub seen_behind : (x v : ExprTree) (y : tree ExprTree) (f : Form) → x ≡ v → out-ExprTree v ≡ y → tokens_after_step y f ≡ tokens_after_step (out-ExprTree x) f
+seen_behind x v y f is outs = ap (λ z. tokens_after_step z f) (sym (ap out-ExprTree is ∙ outs))
 
 -- a tree that is no number
-no_number : (y : tree ExprTree) (a : ExprTree) (ts : List Token) (i : ℕ) → ((token : Token) → y ≡ tree.Number token → ⊥) → one_at a ts i ≡ behind_minus y a ts i
+no_number : (y : tree ExprTree) (a : ExprTree) (ts : List Token) (i : ℕ) → ((token : Token) → y ≡ tree.Number token → ⊥) → one_at a ts i ≡ minus_operand y a ts i
 no_number (tree.Number token) a ts i other = absurd (other token refl)
 no_number y a ts i other = refl
 
-pub behind_minus-other : (a : ExprTree) (ts : List Token) (i : ℕ) → ((token : Token) → a ≡ t.Number token → ⊥) → one_at a ts i ≡ behind_minus (out-ExprTree a) a ts i
-behind_minus-other a ts i other =
+pub minus_operand-other : (a : ExprTree) (ts : List Token) (i : ℕ) → ((token : Token) → a ≡ t.Number token → ⊥) → one_at a ts i ≡ minus_operand (out-ExprTree a) a ts i
+minus_operand-other a ts i other =
     no_number (out-ExprTree a) a ts i (λ token h. other token (sym (roll-out-ExprTree a) ∙ ap roll-ExprTree h ∙ t.rolls-Number token))
 
 -- a tree that is no chain, and no test
@@ -35,7 +35,7 @@ no_chain : (y : tree ExprTree) (f : Form)
     → ((a : ExprTree) (more : List ExprTree) → y ≡ tree.And a more → ⊥)
     → ((a : ExprTree) (more : List ExprTree) → y ≡ tree.Or a more → ⊥)
     → ((a : ExprTree) (path : PathTree) (b : ExprTree) → y ≡ tree.IsIn a path b → ⊥)
-    → drop (tree_count f.tree) f.tokens ≡ behind_step y f
+    → drop (tree_count f.tree) f.tokens ≡ tokens_after_step y f
 no_chain (tree.Member a more) f m p s n o i = absurd (m a more refl)
 no_chain (tree.Product a more) f m p s n o i = absurd (p a more refl)
 no_chain (tree.Sum a more) f m p s n o i = absurd (s a more refl)
@@ -54,7 +54,7 @@ pub behind-other : (f : Form)
     → ((a : ExprTree) (more : List ExprTree) → f.tree ≡ t.And a more → ⊥)
     → ((a : ExprTree) (more : List ExprTree) → f.tree ≡ t.Or a more → ⊥)
     → ((a : ExprTree) (path : PathTree) (b : ExprTree) → f.tree ≡ t.IsIn a path b → ⊥)
-    → drop (tree_count f.tree) f.tokens ≡ behind_step (out-ExprTree f.tree) f
+    → drop (tree_count f.tree) f.tokens ≡ tokens_after_step (out-ExprTree f.tree) f
 behind-other f m p s n o i =
     no_chain (out-ExprTree f.tree) f
     (λ a more h. m a more (again f.tree (t.Member a more) (tree.Member a more) (t.rolls-Member a more) h))

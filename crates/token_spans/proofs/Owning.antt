@@ -21,7 +21,7 @@ use Rattle.token_spans.proofs.Counts.{count-Member, count-Product, count-Sum, co
 use Rattle.policy_grammar.specs.grammar_desugaring.Core.{core_of, accessed, added, in_access, in_term}
 use Rattle.policy_grammar.proofs.of_grammar_desugaring.Cores as cores
 use Rattle.token_spans.specs.inner.Nodes as part
-use Rattle.token_spans.specs.Forms.{Form, kept, up_to, own_tokens, behind_step, behind_test}
+use Rattle.token_spans.specs.Forms.{Form, kept, up_to, own_tokens, tokens_after_step, tokens_after_test}
 use Rattle.token_spans.proofs.LanguageCounts.{path_fits}
 use Rattle.token_spans.specs.Written.{IsWritingOf, itself, negated, tested}
 use Rattle.token_spans.proofs.Lifting.{relation_up, sum_up, product_up, unary_up, member_up, primary_up, and_up, or_up}
@@ -51,7 +51,7 @@ up_to_is ts mine behind e =
     ∙ take-append_seam mine behind
 
 own_is : (f : Form) (mine behind : List Token) → f.tokens ≡ mine ++ behind
-    → behind_step (out-ExprTree f.tree) f ≡ behind → own_tokens f ≡ mine
+    → tokens_after_step (out-ExprTree f.tree) f ≡ behind → own_tokens f ≡ mine
 own_is f mine behind written e = ap (up_to f.tokens) e ∙ up_to_is f.tokens mine behind written
 
 -- ## Whole forms
@@ -60,7 +60,7 @@ two_drops : (m n : ℕ) (ts : List Token) (k : ℕ) → k ≡ m + n → drop n (
 two_drops m n ts k e = drop-drop n m ts ∙ ap (λ i. drop i ts) (sym e)
 
 whole_behind : (x : ExprTree) (y : tree ExprTree) → roll-ExprTree y ≡ x → (ts : List Token)
-    → behind_step y (record { tree = x; part = part.Whole; tokens = ts }) ≡ drop (tree_count x) ts
+    → tokens_after_step y (record { tree = x; part = part.Whole; tokens = ts }) ≡ drop (tree_count x) ts
 whole_behind x (tree.Member a more) e ts =
     ap (λ xs. drop (total (map access_tree_count xs)) (drop (tree_count a) ts)) (take-length more)
     ∙ two_drops (tree_count a) _ ts (tree_count x)
@@ -90,7 +90,7 @@ whole_owned text f e mine behind is written d meant = record {
   behind = behind;
   written = written;
   own = own_is f mine behind written
-      (ap (λ p. behind_step (out-ExprTree f.tree) (record { tree = f.tree; part = p; tokens = f.tokens })) is
+      (ap (λ p. tokens_after_step (out-ExprTree f.tree) (record { tree = f.tree; part = p; tokens = f.tokens })) is
       ∙ whole_behind f.tree (out-ExprTree f.tree) (roll-out-ExprTree f.tree) f.tokens
       ∙ past f.tokens mine behind (tree_count f.tree) written (any_count mine f.tree d));
   tree = f.tree;
@@ -103,7 +103,7 @@ whole_owned text f e mine behind is written d meant = record {
 module _ {A : Type 0} (L : Lang ExprTree) (M : Lang A) (make : ExprTree → List A → ExprTree) (step : Expr → A → Expr)
     (text : List ℕ) (count : List A → ℕ)
     (core : (a : ExprTree) (more : List A) → core_of text (make a more) ≡ fold step (core_of text a) more)
-    (behind_is : (a : ExprTree) (more : List A) (f : Form) → behind_step (out-ExprTree (make a more)) f
+    (behind_is : (a : ExprTree) (more : List A) (f : Form) → tokens_after_step (out-ExprTree (make a more)) f
     ≡ drop (count (take (kept f.part (length more)) more)) (drop (tree_count a) f.tokens))
     (counted : (ts : List Token) (xs : List A) → many M ts xs → length ts ≡ count xs)
     (head_up : (ts : List Token) (x : ExprTree) → L ts x → any_expr ts x)
@@ -130,7 +130,7 @@ module _ {A : Type 0} (L : Lang ExprTree) (M : Lang A) (make : ExprTree → List
         behind = c.behind;
         written = written;
         own = own_is f mine c.behind written
-            (ap (λ x. behind_step (out-ExprTree x) f) c.form ∙ behind_is c.head more f
+            (ap (λ x. tokens_after_step (out-ExprTree x) f) c.form ∙ behind_is c.head more f
             ∙ ap (λ xs. drop (count xs) (drop (tree_count c.head) f.tokens))
             (front_of c.init c.last c.later (kept f.part (length more)) c.pieces)
             ∙ ap (drop (count (c.init ++ c.last ∷ [])))
@@ -201,9 +201,9 @@ module _ (text : List ℕ) (levels : ℕ) where
         behind = behind;
         written = written;
         own = own_is f mine behind written
-            (ap (λ x. behind_step (out-ExprTree x) f) w.form
-            ∙ ap (λ y. behind_step y f) (t.outs-IsIn w.head w.name w.tail)
-            ∙ ap (λ p. behind_test p f w.head w.name w.tail) is
+            (ap (λ x. tokens_after_step (out-ExprTree x) f) w.form
+            ∙ ap (λ y. tokens_after_step y f) (t.outs-IsIn w.head w.name w.tail)
+            ∙ ap (λ p. tokens_after_test p f w.head w.name w.tail) is
             ∙ ap (λ ts. drop (path_count w.name) (drop 1 ts))
             (past f.tokens w.of_head (w.is_token ∷ (w.of_name ++ behind)) (tree_count w.head) w.written
             (any_count w.of_head w.head (sum_up levels w.of_head w.head w.head_derives)))
@@ -255,7 +255,7 @@ module _ (text : List ℕ) (levels : ℕ) where
 
   -- a form of which an inner node is meant
   inner_owned : (f : Form) (e : Expr) (x : ExprTree) (mine behind : List Token) → f.tree ≡ x
-      → f.tokens ≡ mine ++ behind → any_expr mine x → behind_step (out-ExprTree f.tree) f ≡ drop (tree_count f.tree) f.tokens
+      → f.tokens ≡ mine ++ behind → any_expr mine x → tokens_after_step (out-ExprTree f.tree) f ≡ drop (tree_count f.tree) f.tokens
       → IsWritingOf text x e → Owned text f e
   inner_owned f e x mine behind is written d step meant = record {
     mine = mine;
@@ -277,9 +277,9 @@ module _ (text : List ℕ) (levels : ℕ) where
       ∙ ap (λ us. w.of_head ++ w.is_token ∷ us) (sym (append_assoc w.of_name (w.in_token ∷ w.of_tail) w.behind))
       ∙ sym (append_assoc w.of_head (w.is_token ∷ (w.of_name ++ w.in_token ∷ w.of_tail)) w.behind))
       (is_in_derives f w)
-      (ap (λ x. behind_step (out-ExprTree x) f) w.form
-      ∙ ap (λ y. behind_step y f) (t.outs-IsIn w.head w.name w.tail)
-      ∙ ap (λ p. behind_test p f w.head w.name w.tail) is)
+      (ap (λ x. tokens_after_step (out-ExprTree x) f) w.form
+      ∙ ap (λ y. tokens_after_step y f) (t.outs-IsIn w.head w.name w.tail)
+      ∙ ap (λ p. tokens_after_test p f w.head w.name w.tail) is)
       (tested w.head w.name w.tail _ refl
       (cores.core-IsIn text w.head w.name w.tail ∙ ap (core.And _) (sym meant)))
 
@@ -314,8 +314,8 @@ module _ (text : List ℕ) (levels : ℕ) where
   negated_owned f e w is meant =
       inner_owned f e (t.Compare w.left w.operator w.right) (w.of_left ++ w.token ∷ w.of_right) w.behind w.form
       (w.written ∙ sym (append_assoc w.of_left (w.token ∷ w.of_right) w.behind)) (compare_derives f w)
-      (ap (λ x. behind_step (out-ExprTree x) f) w.form
-      ∙ ap (λ y. behind_step y f) (t.outs-Compare w.left w.operator w.right))
+      (ap (λ x. tokens_after_step (out-ExprTree x) f) w.form
+      ∙ ap (λ y. tokens_after_step y f) (t.outs-Compare w.left w.operator w.right))
       (negated w.left w.operator w.right refl meant)
 
 pub owned : (text : List ℕ) (f : Form) (e : Expr) → Stands text f e → Owned text f e
@@ -323,30 +323,30 @@ owned text f e (whole_stands mine behind is written d meant) = whole_owned text 
 owned text f e (member_stands levels c) =
     chain_owned _ _ t.Member (access_step text) text (λ xs. total (map access_tree_count xs))
     (λ a more. cores.core-Member text a more ∙ fold-map (accessed text) (in_access (core_of text)) (core_of text a) more)
-    (λ a more g. ap (λ y. behind_step y g) (t.outs-Member a more)) (accesses_count levels) (primary_up levels)
+    (λ a more g. ap (λ y. tokens_after_step y g) (t.outs-Member a more)) (accesses_count levels) (primary_up levels)
     (member_up levels) f e c
 owned text f e (product_stands levels c) =
     chain_owned _ _ t.Product (factor_step text) text (λ xs. each_count (map tree_count xs))
     (λ a more. cores.core-Product text a more ∙ fold-map (core.Binary Multiply) (core_of text) (core_of text a) more)
-    (λ a more g. ap (λ y. behind_step y g) (t.outs-Product a more))
+    (λ a more g. ap (λ y. tokens_after_step y g) (t.outs-Product a more))
     (many_count _ tree_count (piece_count _ _ _ _ text (λ x. x) (is_product text levels))) (unary_up levels)
     (product_up levels) f e c
 owned text f e (sum_stands levels c) =
     chain_owned _ _ t.Sum (term_step text) text (λ xs. each_count (map term_count xs))
     (λ a more. cores.core-Sum text a more ∙ fold-map added (in_term (core_of text)) (core_of text a) more)
-    (λ a more g. ap (λ y. behind_step y g) (t.outs-Sum a more))
+    (λ a more g. ap (λ y. tokens_after_step y g) (t.outs-Sum a more))
     (many_count _ term_count (piece_count _ _ _ _ text (λ x. x.operand) (is_sum text levels))) (product_up levels)
     (sum_up levels) f e c
 owned text f e (and_stands levels c) =
     chain_owned _ _ t.And (and_step text) text (λ xs. each_count (map tree_count xs))
     (λ a more. cores.core-And text a more ∙ fold-map core.And (core_of text) (core_of text a) more)
-    (λ a more g. ap (λ y. behind_step y g) (t.outs-And a more))
+    (λ a more g. ap (λ y. tokens_after_step y g) (t.outs-And a more))
     (many_count _ tree_count (piece_count _ _ _ _ text (λ x. x) (is_and text levels))) (relation_up levels)
     (and_up levels) f e c
 owned text f e (or_stands levels c) =
     chain_owned _ _ t.Or (or_step text) text (λ xs. each_count (map tree_count xs))
     (λ a more. cores.core-Or text a more ∙ fold-map core.Or (core_of text) (core_of text a) more)
-    (λ a more g. ap (λ y. behind_step y g) (t.outs-Or a more))
+    (λ a more g. ap (λ y. tokens_after_step y g) (t.outs-Or a more))
     (many_count _ tree_count (piece_count _ _ _ _ text (λ x. x) (is_or text levels))) (and_up levels)
     (or_up levels) f e c
 owned text f e (test_stands levels w is meant) =

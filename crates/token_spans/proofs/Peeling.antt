@@ -7,7 +7,7 @@ use Rattle.grammar_trees.specs.declared.tree.ExprTree.{fold_out-ExprTree}
 use Rattle.grammar_trees.specs.declared.tree.ExprTree.TheVariants as t
 use Rattle.grammar_trees.specs.declared.tree.ExprTree.TheOpen.{ExprTree-F as tree}
 use Rattle.grammar_trees.specs.declared.tree.ExprTree.TheFolds.{fold-roll-ExprTree}
-use Rattle.token_spans.specs.declared.forms.Part.{Part}
+use Rattle.token_spans.specs.declared.forms.FormNode.{FormNode}
 use Rattle.token_spans.specs.Forms.{Form, depth, depth_step, inside, peeled}
 
 pub depth-Parentheses : (a : ExprTree) → depth (t.Parentheses a) ≡ suc (depth a)
@@ -35,9 +35,9 @@ depth-other x other =
     ∙ no_pair (out-ExprTree x) (λ a h. other a (sym (roll-out-ExprTree x) ∙ ap roll-ExprTree h ∙ t.rolls-Parentheses a))
 
 -- forms of equal parts
-abbrev made : ExprTree → Part → List Token → Form
+abbrev made : ExprTree → FormNode → List Token → Form
 made x p ts = record { tree = x; part = p; tokens = ts }
 
-pub formed : (x y : ExprTree) (ts us : List Token) (p : Part) → x ≡ y → ts ≡ us
+pub formed : (x y : ExprTree) (ts us : List Token) (p : FormNode) → x ≡ y → ts ≡ us
     → ◌≡◌ {A = Form} (record { tree = x; part = p; tokens = ts }) (record { tree = y; part = p; tokens = us })
 formed x y ts us p e f = ap (λ z. made z p ts) e ∙ ap (made y p) f

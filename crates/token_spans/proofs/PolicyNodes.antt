@@ -32,7 +32,7 @@ use Rattle.token_spans.specs.Forms.{whole, unwrapped, own_tokens, up_to}
 use Rattle.token_spans.specs.Places.{to, part_count, action_count, condition_count}
 use Rattle.token_spans.specs.Places.{NodePlace, whole_policy, in_entity, in_action, in_expression}
 use Rattle.token_spans.specs.Places.{at_conditions, by_word, unless_at, from_resource, from_action, from_effect, from_byte, place_at, written}
-use Rattle.token_spans.specs.Written.{IsWritingOf, IsPlacedIn, of_expression, of_unless, of_principal, of_action, of_resource, of_policy, StandsIn}
+use Rattle.token_spans.specs.Written.{IsWritingOf, IsPlacedIn, of_expression, of_unless, of_principal, of_action, of_resource, of_policy, HasTokensIn}
 use Rattle.token_spans.proofs.Lifting.{any_inner}
 use Rattle.token_spans.proofs.Lists.{Ends, ends_here, ends_later, past, some_same, none_some, swapped}
 use Rattle.token_spans.proofs.Chains.{any_count}
@@ -444,7 +444,7 @@ module _ (text : List ℕ) (tree : PolicyTree) (whole : Policy) (core_is : IsCor
       ∙ drop-drop n (length l.before) ts ∙ ap (λ m. drop m ts) (swapped (length l.before) n)
 
   pub stands_in : (path : List ℕ) → IsLexed text ts → follow path (expression_of whole) ≡ Some e
-      → StandsIn text tree path e ts
+      → HasTokensIn text tree path e ts
   stands_in path lexed h =
       elim (from_effect_found path h) [
         | inl j ↦ record {

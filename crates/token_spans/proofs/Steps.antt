@@ -29,7 +29,7 @@ use Rattle.token_spans.specs.inner.Nodes.{Node}
 use Rattle.token_spans.specs.inner.Nodes as part
 use Rattle.token_spans.specs.Forms.{Form, whole, part_of, operand, operand_step, is_negated, is_outer, both, compared_at, in_test_at}
 use Rattle.token_spans.proofs.LanguageCounts.{path_fits}
-use Rattle.token_spans.proofs.Opening.{behind_minus-other}
+use Rattle.token_spans.proofs.Opening.{minus_operand-other}
 use Rattle.token_spans.proofs.Lifting.{sum_up}
 use Rattle.token_spans.proofs.Lists.{Ends, ends_here, ends_later, past, in_one, in_two, in_three}
 use Rattle.token_spans.proofs.Chains.{any_count}
@@ -136,7 +136,7 @@ module _ (text : List ℕ) where
             (λ behind. let f = whole (t.Minus a) (sign ∷ (us ++ behind)) in
             in_one (Next text f) _
             (next text f 0 a (us ++ behind) us behind
-            (found_in f _ 0 _ (t.outs-Minus a) (sym (behind_minus-other a (us ++ behind) 0 n))) refl d (1, refl)))
+            (found_in f _ 0 _ (t.outs-Minus a) (sym (minus_operand-other a (us ++ behind) 0 n))) refl d (1, refl)))
       ]
 
   pub minus_shown : (sign : Token) (us : List Token) (a : ExprTree) → any_expr us a

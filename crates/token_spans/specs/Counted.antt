@@ -4,7 +4,7 @@ use Rattle.std.specs.Prelude.{◌≡◌, ℕ, List, length}
 use Rattle.grammar_trees.specs.grammar_tokens.declared.token.Token.{Token}
 use Rattle.grammar_trees.specs.grammar_tokens.Lang.{Lang}
 
--- `IsCounted L count` holds if each list of tokens that derives a value in the language L has the length that `count`
+-- `IsCounted L count` holds if each list of tokens that derives a value in the language `L` has the length that `count`
 -- gives for the value.
 abbrev pub IsCounted : {A : Type 0} → Lang A → (A → ℕ) → Type 0
 IsCounted L count = (ts : List Token) (x : _) → L ts x → length ts ≡ count x

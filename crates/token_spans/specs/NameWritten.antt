@@ -46,14 +46,14 @@ name_of (Expr-F.Literal l) = name_of_literal l
 name_of (Expr-F.Unary op a) = name_of_operator op
 name_of y = None
 
--- `IsNameWriting text mine n` holds if the tokens `mine` by themselves derive the name n, as a Uid or a Path.
+-- `IsNameWriting text mine n` holds if the tokens `mine` by themselves derive the name `n`, as a Uid or a Path.
 pub data IsNameWriting (text : List ℕ) (mine : List Token) : OwnName → Type 0 where
   as_uid : (tree : UidTree) → uid mine tree → IsNameWriting text mine (entity (uid_of text tree))
   as_path : (tree : PathTree) → path mine tree → IsNameWriting text mine (tested_type (path_name text tree))
 
--- `NameStandsIn text tree path n ts` holds if the tokens ts of a policy's text consist of tokens before, one or more
--- tokens of the name n of the core node at `path`, and tokens after.
-pub record NameStandsIn (text : List ℕ) (tree : PolicyTree) (path : List ℕ) (n : OwnName) (ts : List Token) :
+-- `NameHasTokensIn text tree path n ts` holds if the tokens `ts` of a policy's text consist of tokens before, one or
+-- more tokens of the name `n` of the core node at `path`, and tokens after.
+pub record NameHasTokensIn (text : List ℕ) (tree : PolicyTree) (path : List ℕ) (n : OwnName) (ts : List Token) :
     Type 0 where
   pub before : List Token
   pub first : Token
@@ -65,9 +65,9 @@ pub record NameStandsIn (text : List ℕ) (tree : PolicyTree) (path : List ℕ) 
 
 -- ## Theorem
 
--- `NamesStand`: the name of each core node of the whole expression of a policy has a place in the policy's tokens.
-abbrev pub NamesStand : Type 0
-NamesStand =
+-- `NamesHaveTokens`: the name of each core node of the whole expression of a policy has a place in the policy's tokens.
+abbrev pub NamesHaveTokens : Type 0
+NamesHaveTokens =
     (text : List ℕ) (ts : List Token) (tree : PolicyTree) (whole : Policy) (path : List ℕ) (e : Expr) (n : OwnName)
     → IsLexed text ts → policy nesting_limit ts tree → IsCoreOf text tree whole
-    → follow path (expression_of whole) ≡ Some e → name_of (out-Expr e) ≡ Some n → NameStandsIn text tree path n ts
+    → follow path (expression_of whole) ≡ Some e → name_of (out-Expr e) ≡ Some n → NameHasTokensIn text tree path n ts

@@ -39,7 +39,7 @@ abstract_turn (coded.Left path) = left path.now
 abstract_turn (coded.Right path) = right path.now
 abstract_turn coded.Off = off
 
--- `to i path` is the turn to operand i, from which `path` leads on.
+-- `to i path` is the turn to operand `i`, from which `path` leads on.
 abbrev pub to : ℕ → List ℕ → Turn
 to i path = if i == 0 then left path else (if i == 1 then right path else off)
 
@@ -50,8 +50,8 @@ turn (i ∷ path) = to i path
 
 -- ## Counts
 
--- `part_count p` is how many tokens `principal ..` or `resource ..` is written with, `action_count` how many
--- `action ..`.
+-- `part_count p` is how many tokens the scope's constraint `p` on the principal or the resource is written with, and
+-- `action_count p` how many the constraint `p` on the action.
 abbrev pub part_count : PartTree → ℕ
 part_count part.Any = 1
 part_count (part.Equal uid) = 2 + uid_count uid
@@ -65,7 +65,8 @@ action_count (action.Equal uid) = 2 + uid_count uid
 action_count (action.In uid) = 2 + uid_count uid
 action_count (action.InList uids) = 3 + row_count (map uid_count uids)
 
--- `condition_count c` is how many tokens the condition `c` is written with: three more than its expression.
+-- `condition_count c` is how many tokens the condition `c` is written with: three more than its expression, for the
+-- word and two braces.
 abbrev pub condition_count : Condition → ℕ
 condition_count c = 2 + tree_count c.expression + 1
 
@@ -95,8 +96,9 @@ place_of (coded_place.Unless c ts) = in_unless c.now ts.now
 place_of (coded_place.Expression x ts path) = in_expression x.now ts.now path.now
 place_of coded_place.Nowhere = nowhere
 
--- `joint_at t policy here there` is the place in a conjunction of parts or conditions: the policy if the path ends
--- here, else what `here` gives for the first operand, or `there` for the second.
+-- `joint_at t policy here there` is the place to which a path with the first turn `t` leads in a conjunction of parts
+-- or conditions: the policy if the path ends at the conjunction, else what `here` gives for the first operand, or
+-- `there` for the second. `policy` are the policy's tokens from its effect on.
 abbrev pub joint_at : Turn → List Token → (List ℕ → NodePlace) → (List ℕ → NodePlace) → NodePlace
 joint_at stop policy here there = whole_policy policy
 joint_at (left path) policy here there = here path
@@ -105,32 +107,34 @@ joint_at off policy here there = nowhere
 
 -- ## Conditions
 
--- `unless_at t c ts` is the place in `unless { e }`, which means `!e`: that negation has the whole condition's tokens.
+-- `unless_at t c ts` is the place to which a path with the first turn `t` leads in the condition `c`, an
+-- `unless { e }`, which means `!e`: that negation has the whole condition's tokens. The tokens `ts` begin with `c`.
 abbrev pub unless_at : Turn → Condition → List Token → NodePlace
 unless_at stop c ts = in_unless c ts
 unless_at (left path) c ts = in_expression c.expression (drop 2 ts) path
 unless_at (right path) c ts = nowhere
 unless_at off c ts = nowhere
 
--- `by_word word c ts path` is the place at a path of the condition c, which begins with `word`.
+-- `by_word word c ts path` is the place at `path` of the condition `c`, whose first word is `word`; the tokens `ts`
+-- begin with `c`.
 abbrev pub by_word : ConditionWord → Condition → List Token → List ℕ → NodePlace
 by_word word.When c ts path = in_expression c.expression (drop 2 ts) path
 by_word word.Unless c ts path = unless_at (turn path) c ts
 
--- `at_condition c ts path` is the place of the node at a path of the expression of the condition c; the tokens ts
--- begin with c.
+-- `at_condition c ts path` is the place of the node at `path` of the expression that the condition `c` means; the
+-- tokens `ts` begin with `c`.
 abbrev pub at_condition : Condition → List Token → List ℕ → NodePlace
 at_condition c ts path = by_word c.word c ts path
 
--- `if_stop t policy` is the policy if the path ends here, and `nowhere` if it goes on.
+-- `if_stop t policy` is the policy if the path with the first turn `t` ends, and `nowhere` if it goes on.
 abbrev pub if_stop : Turn → List Token → NodePlace
 if_stop stop policy = whole_policy policy
 if_stop (left path) policy = nowhere
 if_stop (right path) policy = nowhere
 if_stop off policy = nowhere
 
--- `at_conditions policy cs ts path` is the place of the node at a path of conditions, joined to the right; the tokens
--- ts begin with them.
+-- `at_conditions policy cs ts path` is the place of the node at `path` of the conjunction of the conditions `cs`,
+-- joined to the right; the tokens `ts` begin with `cs`.
 abbrev pub at_conditions : List Token → List Condition → List Token → List ℕ → NodePlace
 at_conditions policy [] ts path = if_stop (turn path) policy
 at_conditions policy (c ∷ []) ts path = at_condition c ts path
@@ -139,8 +143,9 @@ at_conditions policy (c ∷ (d ∷ cs)) ts path =
 
 -- ## The policy
 
--- `from_resource policy tree ts path` is the place of the node at a path of `resource && conditions`, and
--- `from_action policy tree ts path` that of `action && (resource && conditions)`. The tokens ts begin with these.
+-- `from_resource policy tree ts path` is the place of the node at `path` of `resource && conditions` of the policy
+-- `tree`, and `from_action policy tree ts path` that of the node at `path` of `action && (resource && conditions)`. The
+-- tokens `ts` begin with the constraint on the resource, or on the action.
 abbrev pub from_resource : List Token → PolicyTree → List Token → List ℕ → NodePlace
 from_resource policy tree ts path =
     joint_at (turn path) policy (in_entity tree.resource ts)
@@ -151,25 +156,25 @@ from_action policy tree ts path =
     joint_at (turn path) policy (in_action tree.action ts)
     (from_resource policy tree (drop 1 (drop (action_count tree.action) ts)))
 
--- `from_effect policy tree path` is the place of the node at a path of a policy's expression. The tokens `policy` begin
--- with the policy's effect; `principal` follows the effect and a parenthesis.
+-- `from_effect policy tree path` is the place of the node at `path` of the expression of the policy `tree`. The tokens
+-- `policy` begin with the policy's effect; `principal` follows the effect and a parenthesis.
 abbrev pub from_effect : List Token → PolicyTree → List ℕ → NodePlace
 from_effect policy tree path =
     joint_at (turn path) policy (in_entity tree.principal (drop 2 policy))
     (from_action policy tree (drop 1 (drop (part_count tree.principal) (drop 2 policy))))
 
--- `from_byte at ts` is the tokens from the one that starts at the byte `at`; none if no token does.
+-- `from_byte at ts` are the tokens from the one that starts at the byte `at`; none if no token does.
 abbrev pub from_byte : ℕ → List Token → List Token
 from_byte at ts = drop (unwrap_or (position (λ t. t.start == at) ts) (length ts)) ts
 
--- `place_at ts tree path` is the place of the node at a path of a policy's expression, where ts are all tokens of the
--- policy's text. Annotations precede its effect.
+-- `place_at ts tree path` is the place of the node at `path` of the expression of the policy `tree`, where `ts` are all
+-- tokens of the policy's text. Annotations precede the policy's effect.
 abbrev pub place_at : List Token → PolicyTree → List ℕ → NodePlace
 place_at ts tree path = from_effect (from_byte tree.effect.start ts) tree path
 
 -- ## What is written there
 
--- `written place` is the tokens of the least written form around the node at a place.
+-- `written place` are the tokens of the least written form around the node at `place`.
 abbrev pub written : NodePlace → Option (List Token)
 written (whole_policy ts) = Some ts
 written (in_entity part ts path) = Some (up_to ts (drop (part_count part) ts))
@@ -178,7 +183,7 @@ written (in_unless c ts) = Some (up_to ts (drop (condition_count c) ts))
 written (in_expression x ts path) = tokens_at x ts path
 written nowhere = None
 
--- `written_at ts tree path` is the tokens of the node at a path of a policy's expression, where ts are all tokens of
--- its text.
+-- `written_at ts tree path` are the tokens of the node at `path` of the expression of the policy `tree`, where `ts` are
+-- all tokens of the policy's text.
 abbrev pub written_at : List Token → PolicyTree → List ℕ → Option (List Token)
 written_at ts tree path = written (place_at ts tree path)

@@ -1,6 +1,6 @@
 -- Defines spans of tokens, and the span of a core node, a name or a token of a text.
--- Source: this product's docs, "Codes".
--- Rules of this product: a span is a first byte and the byte after the last one.
+-- Source: docs/codes.md.
+-- Rules of this product: a span is the offset of a first byte, and the offset after that of a last byte.
 use Rattle.std.specs.Prelude.{◌≡◌, ◌⊎◌, ℕ, ◌-◌, ◌==◌, List, length, slice_get}
 use Rattle.std.specs.Prelude.{Option, Some, None, find, option_and_then}
 use Rattle.grammar_policies.specs.grammar_tokens.declared.token.Token.{Token}

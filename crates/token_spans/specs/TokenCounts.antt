@@ -32,7 +32,8 @@ abbrev pub each_count : List ℕ → ℕ
 each_count [] = 0
 each_count (n ∷ ns) = (n + 1) + each_count ns
 
--- `lone_count n` counts the closing bracket of a list of `n` items if it follows no item: one if the list is empty.
+-- `lone_count n` is how many tokens of a list of `n` items follow its opening bracket and belong to no item: 1, the
+-- closing bracket, if the list is empty; else 0, since `each_count` counts the closing bracket with the last item.
 abbrev pub lone_count : ℕ → ℕ
 lone_count zero = 1
 lone_count (suc n) = 0

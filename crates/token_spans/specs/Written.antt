@@ -1,7 +1,7 @@
 -- Defines what the tokens of a core node derive.
 -- Source: Cedar reference guide 4.0, "Grammar specification for Cedar policy syntax" and "Operators and functions".
--- Rules of this product: a core node comes from the least expression that desugars to it. Where desugaring makes two
--- nodes of one expression, as `!(a <= b)` of `a > b`, the inner one has no expression of its own.
+-- Rules of this product: a core node comes from the least expression that desugars to it. If desugaring makes two nodes
+-- of one expression, as `!(a <= b)` of `a > b`, the inner one has no expression of its own.
 use Rattle.std.specs.Prelude.{◌≡◌, ℕ, List, [], ◌∷◌, ◌++◌, Some}
 use Rattle.std.specs.List.{AllByRecursion}
 use Rattle.grammar_trees.specs.grammar_tokens.declared.token.Token.{Token}
@@ -28,19 +28,19 @@ use Rattle.policy_grammar.specs.Whole.{expression_of}
 use Rattle.typing.specs.Places.{follow}
 use Rattle.token_spans.specs.Places.{written_at}
 
--- `IsWritingOf text x e` holds if x is the least expression with which the core node e is written.
+-- `IsWritingOf text x e` holds if `x` is the least expression with which the core node `e` is written.
 pub data IsWritingOf (text : List ℕ) (x : ExprTree) (e : Expr) : Type 0 where
-  -- e is what x means
+  -- `e` is what `x` means
   itself : e ≡ core_of text x → IsWritingOf text x e
-  -- e is what `!` negates in the meaning of `a > b`, `a >= b` or `a != b`
+  -- `e` is what `!` negates in the meaning of `a > b`, `a >= b` or `a != b`
   negated : (a : ExprTree) (operator : Comparison) (b : ExprTree) → x ≡ tree.Compare a operator b
       → core_of text x ≡ core.Unary Not e → IsWritingOf text x e
-  -- e is `a in b` in the meaning of `a is T in b`
+  -- `e` is `a in b` in the meaning of `a is T in b`
   tested : (a : ExprTree) (path : PathTree) (b : ExprTree) (test : Expr) → x ≡ tree.IsIn a path b
       → core_of text x ≡ core.And test e → IsWritingOf text x e
 
 -- `IsPlacedIn text tree path e before mine behind` holds if the tokens `mine` of a policy, which follow `before` and
--- precede `behind`, are those with which the core node e at `path` of the whole expression is written. Each case says
+-- precede `behind`, are those with which the core node `e` at `path` of the whole expression is written. Each case says
 -- what these tokens derive.
 pub data IsPlacedIn (text : List ℕ) (tree : PolicyTree) (path : List ℕ) (e : Expr) (before mine behind : List Token) :
     Type 0 where
@@ -61,9 +61,9 @@ pub data IsPlacedIn (text : List ℕ) (tree : PolicyTree) (path : List ℕ) (e :
   of_policy : AllByRecursion (λ i. i ≡ 1) path → many annotation before tree.annotations → behind ≡ []
       → IsPlacedIn text tree path e before mine behind
 
--- `StandsIn text tree path e ts` holds if the tokens ts of a policy's text consist of tokens before, one or more tokens
--- of the core node e at `path` of the whole expression, and tokens after.
-pub record StandsIn (text : List ℕ) (tree : PolicyTree) (path : List ℕ) (e : Expr) (ts : List Token) : Type 0 where
+-- `HasTokensIn text tree path e ts` holds if the tokens `ts` of a policy's text consist of tokens before, one or more
+-- tokens of the core node `e` at `path` of the whole expression, and tokens after.
+pub record HasTokensIn (text : List ℕ) (tree : PolicyTree) (path : List ℕ) (e : Expr) (ts : List Token) : Type 0 where
   pub before : List Token
   pub first : Token
   pub mine : List Token
@@ -74,9 +74,10 @@ pub record StandsIn (text : List ℕ) (tree : PolicyTree) (path : List ℕ) (e :
 
 -- ## Theorem
 
--- `SpansStand`: each core node of the whole expression of a policy has such a place in the tokens of the policy's text.
-abbrev pub SpansStand : Type 0
-SpansStand =
+-- `NodesHaveTokens`: each core node of the whole expression of a policy has a place, as `HasTokensIn` says, in the
+-- tokens of the policy's text.
+abbrev pub NodesHaveTokens : Type 0
+NodesHaveTokens =
     (text : List ℕ) (ts : List Token) (tree : PolicyTree) (whole : Policy) (path : List ℕ) (e : Expr) → IsLexed text ts
     → policy nesting_limit ts tree → IsCoreOf text tree whole → follow path (expression_of whole) ≡ Some e
-    → StandsIn text tree path e ts
+    → HasTokensIn text tree path e ts

@@ -1,17 +1,17 @@
-//! The tokens after an expression with which tokens begin.
+//! What follows an expression: the tokens after it, given the tokens that begin with it and its tree.
 ghost use Rattle.std.specs.Prelude.{◌≡◌, ◌+◌, drop, length, map};
 ghost use Rattle.token_spans.specs.TokenCounts.{tree_count, access_tree_count, term_count, entry_count};
 ghost use Rattle.token_spans.specs.TokenCounts.{each_count, total, lone_count};
 
-use crate::leaves::{behind_opened, behind_path, skip};
+use crate::leaves::{skip, tokens_after_opened, tokens_after_path};
 use grammar_trees::{Access, ExprTree, KeyTree, RecordEntry, Term, Token};
 use plain::Items;
 
-/// Returns the tokens after the expression that `tokens` begin with, of which `tree` is the tree.
+/// Returns the tokens after the expression with the tree `tree`, which `tokens` begin with.
 ///
 /// O(nodes of `tree`). Does not allocate.
 #[cycle(behind)]
-pub(crate) fn behind_tree<'t>(tree: &ExprTree, tokens: &'t [Token]) -> &'t [Token]
+pub(crate) fn tokens_after_tree<'t>(tree: &ExprTree, tokens: &'t [Token]) -> &'t [Token]
     ensures { result.now ≡ drop (tree_count tree.now) tokens.entry.now }
 {
     match tree {
@@ -19,90 +19,90 @@ pub(crate) fn behind_tree<'t>(tree: &ExprTree, tokens: &'t [Token]) -> &'t [Toke
         ExprTree::Number(_) => skip(tokens, 1),
         ExprTree::Text(_) => skip(tokens, 1),
         ExprTree::Variable(_) => skip(tokens, 1),
-        ExprTree::Uid(uid) => skip(behind_path(&uid.path, tokens), 2),
+        ExprTree::Uid(uid) => skip(tokens_after_path(&uid.path, tokens), 2),
         ExprTree::Call(path, arguments) => {
-            behind_row(arguments, skip(behind_path(path, tokens), 1))
+            tokens_after_row(arguments, skip(tokens_after_path(path, tokens), 1))
         }
-        ExprTree::Parentheses(inner) => skip(behind_tree(inner.get(), skip(tokens, 1)), 1),
-        ExprTree::Set(members) => behind_row(members, skip(tokens, 1)),
+        ExprTree::Parentheses(inner) => skip(tokens_after_tree(inner, skip(tokens, 1)), 1),
+        ExprTree::Set(members) => tokens_after_row(members, skip(tokens, 1)),
         ExprTree::Record(entries) => {
-            let row = behind_opened(entries.len(), skip(tokens, 1));
-            behind_entries(entries.as_slice(), row)
+            let row = tokens_after_opened(entries.len(), skip(tokens, 1));
+            tokens_after_entries(entries.as_slice(), row)
         }
         ExprTree::Member(inner, accesses) => {
-            behind_accesses(accesses.as_slice(), behind_tree(inner.get(), tokens))
+            tokens_after_accesses(accesses.as_slice(), tokens_after_tree(inner, tokens))
         }
-        ExprTree::Not(inner) => behind_tree(inner.get(), skip(tokens, 1)),
-        ExprTree::Minus(inner) => behind_tree(inner.get(), skip(tokens, 1)),
+        ExprTree::Not(inner) => tokens_after_tree(inner, skip(tokens, 1)),
+        ExprTree::Minus(inner) => tokens_after_tree(inner, skip(tokens, 1)),
         ExprTree::Product(first, more) => {
-            behind_each(more.as_slice(), behind_tree(first.get(), tokens))
+            tokens_after_each(more.as_slice(), tokens_after_tree(first, tokens))
         }
         ExprTree::Sum(first, terms) => {
-            behind_terms(terms.as_slice(), behind_tree(first.get(), tokens))
+            tokens_after_terms(terms.as_slice(), tokens_after_tree(first, tokens))
         }
         ExprTree::Compare(left, _, right) => {
-            behind_tree(right.get(), skip(behind_tree(left.get(), tokens), 1))
+            tokens_after_tree(right, skip(tokens_after_tree(left, tokens), 1))
         }
-        ExprTree::Has(inner, _) => skip(behind_tree(inner.get(), tokens), 2),
-        ExprTree::Like(inner, _) => skip(behind_tree(inner.get(), tokens), 2),
+        ExprTree::Has(inner, _) => skip(tokens_after_tree(inner, tokens), 2),
+        ExprTree::Like(inner, _) => skip(tokens_after_tree(inner, tokens), 2),
         ExprTree::Is(inner, path) => {
-            behind_path(path, skip(behind_tree(inner.get(), tokens), 1))
+            tokens_after_path(path, skip(tokens_after_tree(inner, tokens), 1))
         }
         ExprTree::IsIn(inner, path, outer) => {
-            let tested = behind_path(path, skip(behind_tree(inner.get(), tokens), 1));
-            behind_tree(outer.get(), skip(tested, 1))
+            let tested = tokens_after_path(path, skip(tokens_after_tree(inner, tokens), 1));
+            tokens_after_tree(outer, skip(tested, 1))
         }
         ExprTree::And(first, more) => {
-            behind_each(more.as_slice(), behind_tree(first.get(), tokens))
+            tokens_after_each(more.as_slice(), tokens_after_tree(first, tokens))
         }
         ExprTree::Or(first, more) => {
-            behind_each(more.as_slice(), behind_tree(first.get(), tokens))
+            tokens_after_each(more.as_slice(), tokens_after_tree(first, tokens))
         }
         ExprTree::If(test, consequent, alternative) => {
-            let tested = behind_tree(test.get(), skip(tokens, 1));
-            let chosen = behind_tree(consequent.get(), skip(tested, 1));
-            behind_tree(alternative.get(), skip(chosen, 1))
+            let tested = tokens_after_tree(test, skip(tokens, 1));
+            let chosen = tokens_after_tree(consequent, skip(tested, 1));
+            tokens_after_tree(alternative, skip(chosen, 1))
         }
     }
 }
 
 /// Returns the tokens after a list's closing bracket; `tokens` are those after its opening one.
 #[cycle(behind)]
-fn behind_row<'t>(items: &Items<ExprTree>, tokens: &'t [Token]) -> &'t [Token]
+fn tokens_after_row<'t>(items: &Items<ExprTree>, tokens: &'t [Token]) -> &'t [Token]
     ensures { result.now
         ≡ drop (lone_count (length items.now) + each_count (map tree_count items.now)) tokens.entry.now }
 {
     let trees = items.as_slice();
-    behind_each(trees, behind_opened(trees.len(), tokens))
+    tokens_after_each(trees, tokens_after_opened(trees.len(), tokens))
 }
 
-/// Returns the tokens after expressions, each of which has one further token before or after it, as a comma.
+/// Returns the tokens after expressions, each of which has one further token before or after it, such as a comma.
 #[cycle(behind)]
-pub(crate) fn behind_each<'t>(trees: &[ExprTree], tokens: &'t [Token]) -> &'t [Token]
+pub(crate) fn tokens_after_each<'t>(trees: &[ExprTree], tokens: &'t [Token]) -> &'t [Token]
     ensures { result.now ≡ drop (each_count (map tree_count trees.now)) tokens.entry.now }
 {
     let mut rest = tokens;
     for tree in trees {
-        rest = skip(behind_tree(tree, rest), 1);
+        rest = skip(tokens_after_tree(tree, rest), 1);
     }
     rest
 }
 
 /// Returns the tokens after further terms of a sum, each with its sign.
 #[cycle(behind)]
-pub(crate) fn behind_terms<'t>(terms: &[Term<ExprTree>], tokens: &'t [Token]) -> &'t [Token]
+pub(crate) fn tokens_after_terms<'t>(terms: &[Term<ExprTree>], tokens: &'t [Token]) -> &'t [Token]
     ensures { result.now ≡ drop (each_count (map term_count terms.now)) tokens.entry.now }
 {
     let mut rest = tokens;
     for term in terms {
-        rest = skip(behind_tree(&term.operand, rest), 1);
+        rest = skip(tokens_after_tree(&term.operand, rest), 1);
     }
     rest
 }
 
 /// Returns the tokens after entries of a record, each with its key, its colon, and a comma or bracket after it.
 #[cycle(behind)]
-pub(crate) fn behind_entries<'t>(
+pub(crate) fn tokens_after_entries<'t>(
     entries: &[RecordEntry<ExprTree>],
     tokens: &'t [Token],
 ) -> &'t [Token]
@@ -110,14 +110,14 @@ pub(crate) fn behind_entries<'t>(
 {
     let mut rest = tokens;
     for entry in entries {
-        rest = skip(behind_tree(&entry.value, skip(rest, 2)), 1);
+        rest = skip(tokens_after_tree(&entry.value, skip(rest, 2)), 1);
     }
     rest
 }
 
 /// Returns the tokens after accesses, such as `.name` or `.name(..)`.
 #[cycle(behind)]
-pub(crate) fn behind_accesses<'t>(
+pub(crate) fn tokens_after_accesses<'t>(
     accesses: &[Access<Items<ExprTree>>],
     tokens: &'t [Token],
 ) -> &'t [Token]
@@ -125,19 +125,19 @@ pub(crate) fn behind_accesses<'t>(
 {
     let mut rest = tokens;
     for access in accesses {
-        rest = behind_access(access, rest);
+        rest = tokens_after_access(access, rest);
     }
     rest
 }
 
 /// Returns the tokens after one access.
 #[cycle(behind)]
-fn behind_access<'t>(access: &Access<Items<ExprTree>>, tokens: &'t [Token]) -> &'t [Token]
+fn tokens_after_access<'t>(access: &Access<Items<ExprTree>>, tokens: &'t [Token]) -> &'t [Token]
     ensures { result.now ≡ drop (access_tree_count access.now) tokens.entry.now }
 {
     match access {
         Access::Field(KeyTree::Word(_)) => skip(tokens, 2),
         Access::Field(KeyTree::Quoted(_)) => skip(tokens, 3),
-        Access::Method(_, arguments) => behind_row(arguments, skip(tokens, 3)),
+        Access::Method(_, arguments) => tokens_after_row(arguments, skip(tokens, 3)),
     }
 }

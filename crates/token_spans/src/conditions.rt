@@ -2,17 +2,17 @@
 ghost use Rattle.std.specs.Prelude.{◌≡◌, drop};
 ghost use Rattle.token_spans.specs.Places as spec;
 
-use crate::behind::behind_tree;
+use crate::behind::tokens_after_tree;
 use crate::leaves::skip;
 use crate::places::NodePlace;
 use crate::turns::{Turn, first_turn};
 use grammar_policies::{Condition, ConditionWord, Token};
 
-/// Returns the tokens after a condition that they begin with.
-pub(crate) fn behind_condition<'t>(condition: &Condition, tokens: &'t [Token]) -> &'t [Token]
+/// Returns the tokens after `condition`, which `tokens` begin with.
+pub(crate) fn tokens_after_condition<'t>(condition: &Condition, tokens: &'t [Token]) -> &'t [Token]
     ensures { result.now ≡ drop (spec.condition_count condition.now) tokens.entry.now }
 {
-    skip(behind_tree(&condition.expression, skip(tokens, 2)), 1)
+    skip(tokens_after_tree(&condition.expression, skip(tokens, 2)), 1)
 }
 
 /// Returns the place at a path of an `unless { .. }`, which means a negation.
@@ -69,7 +69,7 @@ pub(crate) fn at_conditions<'t, 'p>(
             Turn::Stop => NodePlace::Policy(policy),
             Turn::Left(rest) => at_condition(first, tokens, rest),
             Turn::Right(rest) => {
-                at_conditions(policy, others, behind_condition(first, tokens), rest)
+                at_conditions(policy, others, tokens_after_condition(first, tokens), rest)
             }
             Turn::Off => NodePlace::Nowhere,
         },

@@ -7,17 +7,20 @@ ghost use Rattle.grammar_trees.specs.declared.tree.ExprTree.{ExprTree};
 ghost use Rattle.grammar_trees.specs.declared.tree.ExprTree.TheViews.{out-ExprTree};
 ghost use Rattle.token_spans.specs.Forms as spec;
 
-use crate::behind::{behind_accesses, behind_each, behind_entries, behind_terms, behind_tree};
-use crate::leaves::{behind_path, skip};
+use crate::behind::{
+    tokens_after_accesses, tokens_after_each, tokens_after_entries, tokens_after_terms,
+    tokens_after_tree,
+};
+use crate::leaves::{skip, tokens_after_path};
 use grammar_trees::{Access, Comparison, ExprTree, PathTree, RecordEntry, Term, Token};
 use plain::Items;
 
 /// Which core node of a written form is meant.
 #[derive(Clone, Copy)]
-pub(crate) enum Part {
-    /// That of the form itself.
+pub(crate) enum FormNode {
+    /// The node of the whole form.
     Whole,
-    /// In a chain, that of its first operand with this many further pieces.
+    /// In a chain, the node of its first operand with this many further pieces.
     First(usize),
     /// `e is T` of `e is T in f`.
     Test,
@@ -29,7 +32,7 @@ pub(crate) enum Part {
 #[derive(Clone, Copy)]
 pub(crate) struct Form<'a> {
     pub(crate) tree: &'a ExprTree,
-    pub(crate) part: Part,
+    pub(crate) part: FormNode,
     /// The tokens from the form's first one on.
     pub(crate) tokens: &'a [Token],
 }
@@ -59,7 +62,7 @@ pub(crate) fn whole<'a>(tree: &'a ExprTree, tokens: &'a [Token]) -> Form<'a>
 {
     Form {
         tree,
-        part: Part::Whole,
+        part: FormNode::Whole,
         tokens,
     }
 }
@@ -71,7 +74,7 @@ pub(crate) fn unwrapped<'a>(form: &Form<'a>) -> Form<'a>
     let mut tree = form.tree;
     let mut tokens = form.tokens;
     while let ExprTree::Parentheses(inner) = tree {
-        tree = inner.get();
+        tree = inner;
         tokens = skip(tokens, 1);
     }
     Form {
@@ -82,18 +85,18 @@ pub(crate) fn unwrapped<'a>(form: &Form<'a>) -> Form<'a>
 }
 
 /// Returns how many of all further pieces of a chain belong to one of its nodes.
-fn kept(part: Part, all: usize) -> usize
+fn kept(part: FormNode, all: usize) -> usize
     ensures { result ≡ spec.kept part all }
 {
     match part {
-        Part::Whole => all,
-        Part::First(count) => count,
-        Part::Test => all,
-        Part::Inner => all,
+        FormNode::Whole => all,
+        FormNode::First(count) => count,
+        FormNode::Test => all,
+        FormNode::Inner => all,
     }
 }
 
-/// Returns the left operand of a chain; `before` further pieces are in this operand.
+/// Returns the left operand of a node of a chain; `before` further pieces are in this operand.
 fn left_operand<'a>(form: &Form<'a>, first: &'a ExprTree, before: usize) -> Form<'a>
     ensures { spec.form_of result ≡ spec.left_at (spec.form_of form.now) first.entry.now before }
 {
@@ -102,7 +105,7 @@ fn left_operand<'a>(form: &Form<'a>, first: &'a ExprTree, before: usize) -> Form
     } else {
         Form {
             tree: form.tree,
-            part: Part::First(before),
+            part: FormNode::First(before),
             tokens: form.tokens,
         }
     }
@@ -119,7 +122,7 @@ fn piece_at<'a>(
         ≡ spec.piece_at first.entry.now more.entry.now tokens.entry.now index }
 {
     let operand = item_at(more, index)?;
-    let behind = behind_each(front(more, index), behind_tree(first, tokens));
+    let behind = tokens_after_each(front(more, index), tokens_after_tree(first, tokens));
     Some(whole(operand, skip(behind, 1)))
 }
 
@@ -134,7 +137,7 @@ fn term_at<'a>(
         ≡ spec.term_at first.entry.now terms.entry.now tokens.entry.now index }
 {
     let term = item_at(terms, index)?;
-    let behind = behind_terms(front(terms, index), behind_tree(first, tokens));
+    let behind = tokens_after_terms(front(terms, index), tokens_after_tree(first, tokens));
     Some(whole(&term.operand, skip(behind, 1)))
 }
 
@@ -182,15 +185,15 @@ fn sum_operand<'a>(
     None
 }
 
-/// Returns an item of a list, which `tokens` begin with except for its opening bracket.
+/// Returns an item of a list, whose opening bracket precedes `tokens`.
 fn row_operand<'a>(items: &'a [ExprTree], tokens: &'a [Token], index: usize) -> Option<Form<'a>>
     ensures { option_map spec.form_of result ≡ spec.row_at items.entry.now tokens.entry.now index }
 {
     let item = item_at(items, index)?;
-    Some(whole(item, behind_each(front(items, index), tokens)))
+    Some(whole(item, tokens_after_each(front(items, index), tokens)))
 }
 
-/// Returns the value of an entry of a record.
+/// Returns the value of an entry of a record, whose opening brace precedes `tokens`.
 fn entry_operand<'a>(
     entries: &'a [RecordEntry<ExprTree>],
     tokens: &'a [Token],
@@ -199,7 +202,7 @@ fn entry_operand<'a>(
     ensures { option_map spec.form_of result ≡ spec.entry_at entries.entry.now tokens.entry.now index }
 {
     let entry = item_at(entries, index)?;
-    let before = behind_entries(front(entries, index), tokens);
+    let before = tokens_after_entries(front(entries, index), tokens);
     Some(whole(&entry.value, skip(before, 2)))
 }
 
@@ -229,11 +232,12 @@ fn access_operand<'a>(
         ≡ spec.access_at first.entry.now accesses.entry.now tokens.entry.now place index }
 {
     let access = item_at(accesses, place)?;
-    let before = behind_accesses(front(accesses, place), behind_tree(first, tokens));
+    let before = tokens_after_accesses(front(accesses, place), tokens_after_tree(first, tokens));
     argument(access, before, index)
 }
 
-/// Returns an operand of the node that accesses reach.
+/// Returns an operand of a node of a chain of accesses: the expression before the node's last access, or an argument of
+/// that access.
 fn member_operand<'a>(
     form: &Form<'a>,
     first: &'a ExprTree,
@@ -264,7 +268,7 @@ fn one_operand<'a>(tree: &'a ExprTree, tokens: &'a [Token], index: usize) -> Opt
 /// Returns the operand of a minus; `None` if the minus is part of a number.
 fn negated_operand<'a>(tree: &'a ExprTree, tokens: &'a [Token], index: usize) -> Option<Form<'a>>
     ensures { option_map spec.form_of result
-        ≡ spec.behind_minus (out-ExprTree tree.entry.now) tree.entry.now tokens.entry.now index }
+        ≡ spec.minus_operand (out-ExprTree tree.entry.now) tree.entry.now tokens.entry.now index }
 {
     match tree {
         ExprTree::Number(_) => None,
@@ -273,7 +277,7 @@ fn negated_operand<'a>(tree: &'a ExprTree, tokens: &'a [Token], index: usize) ->
 }
 
 /// Returns a node of a form.
-fn part_of<'a>(form: &Form<'a>, part: Part) -> Form<'a>
+fn part_of<'a>(form: &Form<'a>, part: FormNode) -> Form<'a>
     ensures { spec.form_of result ≡ spec.part_of (spec.form_of form.now) part }
 {
     Form {
@@ -308,19 +312,19 @@ fn is_negated(operator: Comparison) -> bool
 }
 
 /// Returns whether a node is not the inner one.
-fn is_outer(part: Part) -> bool
+fn is_outer(part: FormNode) -> bool
     ensures { result ≡ spec.is_outer part }
 {
     match part {
-        Part::Whole => true,
-        Part::First(_) => true,
-        Part::Test => true,
-        Part::Inner => false,
+        FormNode::Whole => true,
+        FormNode::First(_) => true,
+        FormNode::Test => true,
+        FormNode::Inner => false,
     }
 }
 
 /// Returns whether a node of a comparison's form is the negation of another comparison.
-fn is_negation(part: Part, operator: Comparison) -> bool
+fn is_negation(part: FormNode, operator: Comparison) -> bool
     ensures { result ≡ spec.both (spec.is_outer part) (spec.is_negated operator) }
 {
     if is_outer(part) {
@@ -342,20 +346,20 @@ fn compared_operand<'a>(
         ≡ spec.compared_at negated (spec.form_of form.now) left.entry.now right.entry.now index }
 {
     if !negated {
-        let behind = skip(behind_tree(left, form.tokens), 1);
+        let behind = skip(tokens_after_tree(left, form.tokens), 1);
         return two_operands(whole(left, form.tokens), whole(right, behind), index);
     }
     if index == 0 {
-        return Some(part_of(form, Part::Inner));
+        return Some(part_of(form, FormNode::Inner));
     }
     None
 }
 
 /// Returns the tokens after `operand is path`.
-fn behind_test<'a>(operand: &ExprTree, path: &PathTree, tokens: &'a [Token]) -> &'a [Token]
+fn tokens_after_test<'a>(operand: &ExprTree, path: &PathTree, tokens: &'a [Token]) -> &'a [Token]
     ensures { result.now ≡ drop (path_count path.now) (drop 1 (drop (tree_count operand.now) tokens.entry.now)) }
 {
-    behind_path(path, skip(behind_tree(operand, tokens), 1))
+    tokens_after_path(path, skip(tokens_after_tree(operand, tokens), 1))
 }
 
 /// Returns an operand of a node of `operand is path in ancestor`.
@@ -370,11 +374,15 @@ fn test_operand<'a>(
         ≡ spec.in_test_at form.now.part (spec.form_of form.now) operand.entry.now path.now ancestor.entry.now index }
 {
     match form.part {
-        Part::Whole => two_operands(part_of(form, Part::Test), part_of(form, Part::Inner), index),
-        Part::First(_) => None,
-        Part::Test => one_operand(operand, form.tokens, index),
-        Part::Inner => {
-            let behind = skip(behind_test(operand, path, form.tokens), 1);
+        FormNode::Whole => two_operands(
+            part_of(form, FormNode::Test),
+            part_of(form, FormNode::Inner),
+            index,
+        ),
+        FormNode::First(_) => None,
+        FormNode::Test => one_operand(operand, form.tokens, index),
+        FormNode::Inner => {
+            let behind = skip(tokens_after_test(operand, path, form.tokens), 1);
             two_operands(whole(operand, form.tokens), whole(ancestor, behind), index)
         }
     }
@@ -398,11 +406,11 @@ fn if_operand<'a>(
     if index == 0 {
         return Some(whole(test, first));
     }
-    let second = skip(behind_tree(test, first), 1);
+    let second = skip(tokens_after_tree(test, first), 1);
     if index == 1 {
         return Some(whole(consequent, second));
     }
-    let third = skip(behind_tree(consequent, second), 1);
+    let third = skip(tokens_after_tree(consequent, second), 1);
     if index == 2 {
         return Some(whole(alternative, third));
     }
@@ -421,39 +429,31 @@ fn operand<'a>(form: &Form<'a>, index: usize) -> Option<Form<'a>>
         ExprTree::Variable(_) => None,
         ExprTree::Uid(_) => None,
         ExprTree::Call(path, arguments) => {
-            let row = skip(behind_path(path, tokens), 1);
+            let row = skip(tokens_after_path(path, tokens), 1);
             row_operand(arguments.as_slice(), row, index)
         }
         ExprTree::Parentheses(_) => None,
         ExprTree::Set(members) => row_operand(members.as_slice(), skip(tokens, 1), index),
         ExprTree::Record(entries) => entry_operand(entries.as_slice(), skip(tokens, 1), index),
         ExprTree::Member(first, accesses) => {
-            member_operand(form, first.get(), accesses.as_slice(), index)
+            member_operand(form, first, accesses.as_slice(), index)
         }
-        ExprTree::Not(inner) => one_operand(inner.get(), skip(tokens, 1), index),
-        ExprTree::Minus(inner) => negated_operand(inner.get(), skip(tokens, 1), index),
-        ExprTree::Product(first, more) => chain_operand(form, first.get(), more.as_slice(), index),
-        ExprTree::Sum(first, terms) => sum_operand(form, first.get(), terms.as_slice(), index),
+        ExprTree::Not(inner) => one_operand(inner, skip(tokens, 1), index),
+        ExprTree::Minus(inner) => negated_operand(inner, skip(tokens, 1), index),
+        ExprTree::Product(first, more) => chain_operand(form, first, more.as_slice(), index),
+        ExprTree::Sum(first, terms) => sum_operand(form, first, terms.as_slice(), index),
         ExprTree::Compare(left, operator, right) => {
             let negated = is_negation(form.part, *operator);
-            compared_operand(form, negated, left.get(), right.get(), index)
+            compared_operand(form, negated, left, right, index)
         }
-        ExprTree::Has(inner, _) => one_operand(inner.get(), tokens, index),
-        ExprTree::Like(inner, _) => one_operand(inner.get(), tokens, index),
-        ExprTree::Is(inner, _) => one_operand(inner.get(), tokens, index),
-        ExprTree::IsIn(inner, path, outer) => {
-            test_operand(form, inner.get(), path, outer.get(), index)
-        }
-        ExprTree::And(first, more) => chain_operand(form, first.get(), more.as_slice(), index),
-        ExprTree::Or(first, more) => chain_operand(form, first.get(), more.as_slice(), index),
+        ExprTree::Has(inner, _) => one_operand(inner, tokens, index),
+        ExprTree::Like(inner, _) => one_operand(inner, tokens, index),
+        ExprTree::Is(inner, _) => one_operand(inner, tokens, index),
+        ExprTree::IsIn(inner, path, outer) => { test_operand(form, inner, path, outer, index) }
+        ExprTree::And(first, more) => chain_operand(form, first, more.as_slice(), index),
+        ExprTree::Or(first, more) => chain_operand(form, first, more.as_slice(), index),
         ExprTree::If(test, consequent, alternative) => {
-            if_operand(
-                test.get(),
-                consequent.get(),
-                alternative.get(),
-                tokens,
-                index,
-            )
+            if_operand(test, consequent, alternative, tokens, index)
         }
     }
 }
@@ -471,45 +471,45 @@ pub(crate) fn node_at<'a>(form: &Form<'a>, path: &[usize]) -> Option<Form<'a>>
 }
 
 /// Returns the tokens after the pieces of a chain that belong to the form's node.
-fn behind_chain<'a>(form: &Form<'a>, first: &ExprTree, more: &[ExprTree]) -> &'a [Token]
+fn tokens_after_chain<'a>(form: &Form<'a>, first: &ExprTree, more: &[ExprTree]) -> &'a [Token]
     ensures { let pieces = take (spec.kept form.now.part (length more.now)) more.now in
         result.now ≡ drop (each_count (map tree_count pieces)) (drop (tree_count first.now) form.now.tokens.now) }
 {
     let pieces = front(more, kept(form.part, more.len()));
-    behind_each(pieces, behind_tree(first, form.tokens))
+    tokens_after_each(pieces, tokens_after_tree(first, form.tokens))
 }
 
 /// Returns the tokens after a node of `operand is path in ancestor`.
-fn behind_in_test<'a>(form: &Form<'a>, operand: &ExprTree, path: &PathTree) -> &'a [Token]
+fn tokens_after_in_test<'a>(form: &Form<'a>, operand: &ExprTree, path: &PathTree) -> &'a [Token]
     ensures { (b : ExprTree) → result.now
-        ≡ spec.behind_test form.now.part (spec.form_of form.now) operand.now path.now b }
+        ≡ spec.tokens_after_test form.now.part (spec.form_of form.now) operand.now path.now b }
 {
     match form.part {
-        Part::Whole => behind_tree(form.tree, form.tokens),
-        Part::First(_) => behind_tree(form.tree, form.tokens),
-        Part::Test => behind_test(operand, path, form.tokens),
-        Part::Inner => behind_tree(form.tree, form.tokens),
+        FormNode::Whole => tokens_after_tree(form.tree, form.tokens),
+        FormNode::First(_) => tokens_after_tree(form.tree, form.tokens),
+        FormNode::Test => tokens_after_test(operand, path, form.tokens),
+        FormNode::Inner => tokens_after_tree(form.tree, form.tokens),
     }
 }
 
 /// Returns the tokens after a form.
-fn behind_form<'a>(form: &Form<'a>) -> &'a [Token]
-    ensures { result.now ≡ spec.behind_step (out-ExprTree form.now.tree.now) (spec.form_of form.now) }
+fn tokens_after_form<'a>(form: &Form<'a>) -> &'a [Token]
+    ensures { result.now ≡ spec.tokens_after_step (out-ExprTree form.now.tree.now) (spec.form_of form.now) }
 {
     match form.tree {
         ExprTree::Member(first, accesses) => {
             let pieces = front(accesses.as_slice(), kept(form.part, accesses.len()));
-            behind_accesses(pieces, behind_tree(first.get(), form.tokens))
+            tokens_after_accesses(pieces, tokens_after_tree(first, form.tokens))
         }
-        ExprTree::Product(first, more) => behind_chain(form, first.get(), more.as_slice()),
+        ExprTree::Product(first, more) => tokens_after_chain(form, first, more.as_slice()),
         ExprTree::Sum(first, terms) => {
             let pieces = front(terms.as_slice(), kept(form.part, terms.len()));
-            behind_terms(pieces, behind_tree(first.get(), form.tokens))
+            tokens_after_terms(pieces, tokens_after_tree(first, form.tokens))
         }
-        ExprTree::And(first, more) => behind_chain(form, first.get(), more.as_slice()),
-        ExprTree::Or(first, more) => behind_chain(form, first.get(), more.as_slice()),
-        ExprTree::IsIn(inner, path, _) => behind_in_test(form, inner.get(), path),
-        _ => behind_tree(form.tree, form.tokens),
+        ExprTree::And(first, more) => tokens_after_chain(form, first, more.as_slice()),
+        ExprTree::Or(first, more) => tokens_after_chain(form, first, more.as_slice()),
+        ExprTree::IsIn(inner, path, _) => tokens_after_in_test(form, inner, path),
+        _ => tokens_after_tree(form.tree, form.tokens),
     }
 }
 
@@ -530,5 +530,5 @@ pub(crate) fn tokens_at<'a>(
     ensures { option_map (λ ts. ts.now) result ≡ spec.tokens_at tree.entry.now tokens.entry.now path.now }
 {
     let form = node_at(&unwrapped(&whole(tree, tokens)), path)?;
-    Some(up_to(form.tokens, behind_form(&form)))
+    Some(up_to(form.tokens, tokens_after_form(&form)))
 }

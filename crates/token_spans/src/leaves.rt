@@ -15,17 +15,17 @@ pub(crate) fn skip(tokens: &[Token], count: usize) -> &[Token]
     }
 }
 
-/// Returns the tokens after a Path that they begin with.
-pub(crate) fn behind_path<'t>(path: &PathTree, tokens: &'t [Token]) -> &'t [Token]
+/// Returns the tokens after the Path `path`, which `tokens` begin with.
+pub(crate) fn tokens_after_path<'t>(path: &PathTree, tokens: &'t [Token]) -> &'t [Token]
     ensures { result.now ≡ drop (path_count path.now) tokens.entry.now }
 {
     let more = path.more.len();
     skip(skip(skip(tokens, 1), more), more)
 }
 
-/// Returns the tokens after the closing bracket of a list if it has no items (`count` is 0), and all tokens if it has
-/// some; then the bracket counts with the last item.
-pub(crate) fn behind_opened(count: usize, tokens: &[Token]) -> &[Token]
+/// Returns the tokens after the closing bracket of a list if it has no items (`count` is 0); else all tokens, since the
+/// closing bracket counts with the last item.
+pub(crate) fn tokens_after_opened(count: usize, tokens: &[Token]) -> &[Token]
     ensures { result.now ≡ drop (lone_count count) tokens.now }
 {
     if count == 0 { skip(tokens, 1) } else { tokens }

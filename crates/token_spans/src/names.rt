@@ -3,42 +3,42 @@ ghost use Rattle.std.specs.Prelude.{◌≡◌, option_map};
 ghost use Rattle.token_spans.specs.Forms as forms;
 ghost use Rattle.token_spans.specs.Names as spec;
 
-use crate::behind::behind_tree;
-use crate::forms::{Form, Part, node_at, unwrapped, up_to, whole};
-use crate::leaves::{behind_path, skip};
-use crate::parts::behind_uid;
+use crate::behind::tokens_after_tree;
+use crate::forms::{Form, FormNode, node_at, unwrapped, up_to, whole};
+use crate::leaves::{skip, tokens_after_path};
+use crate::parts::tokens_after_uid;
 use grammar_trees::{ExprTree, PathTree, Token, UidTree};
 
 /// Returns the tokens of `path`, which `tokens` begin with.
 pub(crate) fn path_tokens<'t>(path: &PathTree, tokens: &'t [Token]) -> &'t [Token]
     ensures { result.now ≡ spec.path_tokens path.now tokens.entry.now }
 {
-    up_to(tokens, behind_path(path, tokens))
+    up_to(tokens, tokens_after_path(path, tokens))
 }
 
 /// Returns the tokens of `uid`, which `tokens` begin with.
 pub(crate) fn uid_tokens<'t>(uid: &UidTree, tokens: &'t [Token]) -> &'t [Token]
     ensures { result.now ≡ spec.uid_tokens uid.now tokens.entry.now }
 {
-    up_to(tokens, behind_uid(uid, tokens))
+    up_to(tokens, tokens_after_uid(uid, tokens))
 }
 
 /// Returns the tokens of the type `path` after `operand is`; `tokens` begin with the operand.
 fn tested<'t>(operand: &ExprTree, path: &PathTree, tokens: &'t [Token]) -> &'t [Token]
     ensures { result.now ≡ spec.tested operand.now path.now tokens.entry.now }
 {
-    path_tokens(path, skip(behind_tree(operand, tokens), 1))
+    path_tokens(path, skip(tokens_after_tree(operand, tokens), 1))
 }
 
 /// Returns `tokens`, those of the type in `operand is path in ancestor`, if `part` is the test.
-fn in_test<'t>(part: Part, tokens: &'t [Token]) -> Option<&'t [Token]>
+fn in_test<'t>(part: FormNode, tokens: &'t [Token]) -> Option<&'t [Token]>
     ensures { option_map (λ ts. ts.now) result ≡ spec.in_test part tokens.entry.now }
 {
     match part {
-        Part::Whole => None,
-        Part::First(_) => None,
-        Part::Test => Some(tokens),
-        Part::Inner => None,
+        FormNode::Whole => None,
+        FormNode::First(_) => None,
+        FormNode::Test => Some(tokens),
+        FormNode::Inner => None,
     }
 }
 
@@ -48,9 +48,9 @@ fn own_name<'a>(form: &Form<'a>) -> Option<&'a [Token]>
 {
     match form.tree {
         ExprTree::Uid(uid) => Some(uid_tokens(uid, form.tokens)),
-        ExprTree::Is(operand, path) => Some(tested(operand.get(), path, form.tokens)),
+        ExprTree::Is(operand, path) => Some(tested(operand, path, form.tokens)),
         ExprTree::IsIn(operand, path, _) => {
-            in_test(form.part, tested(operand.get(), path, form.tokens))
+            in_test(form.part, tested(operand, path, form.tokens))
         }
         _ => None,
     }

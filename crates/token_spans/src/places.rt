@@ -4,7 +4,7 @@ ghost use Rattle.token_spans.specs.Places as spec;
 
 use crate::conditions::at_conditions;
 use crate::leaves::skip;
-use crate::parts::{behind_action, behind_part};
+use crate::parts::{tokens_after_action, tokens_after_part};
 use crate::turns::{Turn, first_turn};
 use grammar_policies::{ActionTree, Condition, PartTree, PolicyTree, Token};
 use grammar_trees::ExprTree;
@@ -26,7 +26,7 @@ pub(crate) enum NodePlace<'t, 'p> {
     Nowhere,
 }
 
-/// Returns the place at a path of `resource && conditions`, which `tokens` begin with.
+/// Returns the place at a path of `resource && conditions`; `tokens` begin with the constraint on the resource.
 fn from_resource<'t, 'p>(
     policy: &'t [Token],
     tree: &'t PolicyTree,
@@ -40,14 +40,15 @@ fn from_resource<'t, 'p>(
         Turn::Stop => NodePlace::Policy(policy),
         Turn::Left(rest) => NodePlace::Entity(&tree.resource, tokens, rest),
         Turn::Right(rest) => {
-            let behind = behind_part(&tree.resource, tokens);
+            let behind = tokens_after_part(&tree.resource, tokens);
             at_conditions(policy, tree.conditions.as_slice(), skip(behind, 1), rest)
         }
         Turn::Off => NodePlace::Nowhere,
     }
 }
 
-/// Returns the place at a path of `action && (resource && conditions)`, which `tokens` begin with.
+/// Returns the place at a path of `action && (resource && conditions)`; `tokens` begin with the constraint on the
+/// action.
 fn from_action<'t, 'p>(
     policy: &'t [Token],
     tree: &'t PolicyTree,
@@ -61,14 +62,14 @@ fn from_action<'t, 'p>(
         Turn::Stop => NodePlace::Policy(policy),
         Turn::Left(rest) => NodePlace::Action(&tree.action, tokens, rest),
         Turn::Right(rest) => {
-            let behind = behind_action(&tree.action, tokens);
+            let behind = tokens_after_action(&tree.action, tokens);
             from_resource(policy, tree, skip(behind, 1), rest)
         }
         Turn::Off => NodePlace::Nowhere,
     }
 }
 
-/// Returns the place at a path of a policy's expression; `policy` is the tokens from its effect on.
+/// Returns the place at a path of a policy's expression; `policy` are the tokens from its effect on.
 fn from_effect<'t, 'p>(
     policy: &'t [Token],
     tree: &'t PolicyTree,
@@ -81,7 +82,7 @@ fn from_effect<'t, 'p>(
         Turn::Stop => NodePlace::Policy(policy),
         Turn::Left(rest) => NodePlace::Entity(&tree.principal, tokens, rest),
         Turn::Right(rest) => {
-            let behind = behind_part(&tree.principal, tokens);
+            let behind = tokens_after_part(&tree.principal, tokens);
             from_action(policy, tree, skip(behind, 1), rest)
         }
         Turn::Off => NodePlace::Nowhere,

@@ -3,10 +3,10 @@ ghost use Rattle.std.specs.Prelude.{◌≡◌, option_map};
 ghost use Rattle.token_spans.specs.Places as spec;
 ghost use Rattle.token_spans.specs.Names as names;
 
-use crate::conditions::behind_condition;
+use crate::conditions::tokens_after_condition;
 use crate::forms::{tokens_at, up_to};
 use crate::names::name_in;
-use crate::parts::{behind_action, behind_part};
+use crate::parts::{tokens_after_action, tokens_after_part};
 use crate::places::{NodePlace, place_at};
 use crate::scopes::{action_name, entity_name};
 use grammar_policies::{PolicyTree, Token};
@@ -24,9 +24,12 @@ pub fn written_at<'t>(
 {
     match place_at(tokens, tree, path) {
         NodePlace::Policy(policy) => Some(policy),
-        NodePlace::Entity(part, from, _) => Some(up_to(from, behind_part(part, from))),
-        NodePlace::Action(part, from, _) => Some(up_to(from, behind_action(part, from))),
-        NodePlace::Unless(condition, from) => Some(up_to(from, behind_condition(condition, from))),
+        NodePlace::Entity(part, from, _) => Some(up_to(from, tokens_after_part(part, from))),
+        NodePlace::Action(part, from, _) => Some(up_to(from, tokens_after_action(part, from))),
+        NodePlace::Unless(condition, from) => Some(up_to(
+            from,
+            tokens_after_condition(condition, from),
+        )),
         NodePlace::Expression(expression, from, rest) => tokens_at(expression, from, rest),
         NodePlace::Nowhere => None,
     }

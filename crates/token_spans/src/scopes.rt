@@ -4,13 +4,13 @@ ghost use Rattle.token_spans.specs.Names as spec;
 ghost use Rattle.token_spans.specs.Places.{turn};
 
 use crate::forms::{front, item_at};
-use crate::leaves::{behind_path, skip};
+use crate::leaves::{skip, tokens_after_path};
 use crate::names::{path_tokens, uid_tokens};
-use crate::parts::behind_uids;
+use crate::parts::tokens_after_uids;
 use crate::turns::{Turn, first_turn};
 use grammar_policies::{ActionTree, PartTree, Token, UidTree};
 
-/// Returns a name if the path ends here, that is, if it is empty.
+/// Returns `name` if `path` is empty, else `None`.
 fn at_end<'t>(path: &[usize], name: Option<&'t [Token]>) -> Option<&'t [Token]>
     ensures { option_map (λ ts. ts.now) result
         ≡ spec.at_end (turn path.now) (option_map (λ ts. ts.now) name.entry) }
@@ -23,7 +23,7 @@ fn at_end<'t>(path: &[usize], name: Option<&'t [Token]>) -> Option<&'t [Token]>
     }
 }
 
-/// Returns a name if a path leads to the second operand and ends there.
+/// Returns `name` if `path` leads to the second operand and ends there, else `None`.
 fn at_second<'t>(path: &[usize], name: Option<&'t [Token]>) -> Option<&'t [Token]>
     ensures { option_map (λ ts. ts.now) result
         ≡ spec.at_second (turn path.now) (option_map (λ ts. ts.now) name.entry) }
@@ -70,7 +70,7 @@ pub(crate) fn entity_name<'t>(
         PartTree::Is(name) => at_end(path, Some(path_tokens(name, skip(tokens, 2)))),
         PartTree::IsIn(name, uid) => {
             let from = skip(tokens, 2);
-            let behind = skip(behind_path(name, from), 1);
+            let behind = skip(tokens_after_path(name, from), 1);
             in_both(
                 path,
                 Some(path_tokens(name, from)),
@@ -85,7 +85,7 @@ fn uid_at<'t>(uids: &[UidTree], tokens: &'t [Token], index: usize) -> Option<&'t
     ensures { option_map (λ ts. ts.now) result ≡ spec.uid_at uids.now tokens.entry.now index }
 {
     let uid = item_at(uids, index)?;
-    Some(uid_tokens(uid, behind_uids(front(uids, index), tokens)))
+    Some(uid_tokens(uid, tokens_after_uids(front(uids, index), tokens)))
 }
 
 /// Returns the tokens of the uid of a list that a path leads to.

@@ -18,9 +18,9 @@ use std::alloc::Global;
 /// A span of a text, in bytes.
 #[derive(Clone, Copy, PartialEq, Eq)]
 pub struct Span {
-    /// The first byte, counted from 0.
+    /// The offset of the first byte, counted from 0.
     pub start: usize,
-    /// The byte after the last.
+    /// The offset after that of the last byte.
     pub end: usize,
 }
 
@@ -180,7 +180,7 @@ fn span_by(
 /// Returns the span of the source text of the core node at a path of a policy's whole expression; `None` if `text` is
 /// not a policy, or its expression has no such node.
 ///
-/// `path` has the indices of the operands that lead to the node from the root
+/// `path` has the indexes of the operands that lead to the node from the root
 /// `principal && (action && (resource && conditions))`. Operands are numbered from 0 in the order in which they are
 /// written. A path into a part of the scope gives the span of that part, and a path to a conjunction of parts or
 /// conditions that of the policy without its annotations. Parentheses around an expression do not belong to its span.

@@ -1,6 +1,6 @@
--- Defines the representation of an expression as a list of node codes, which determines it: first a node code of the
--- kind of the expression and its content other than operands, then the node codes of the operands. The order of these
--- lists is the order of expressions.
+-- Defines the representation of an expression as a list of node codes: first the node code of the expression's kind and
+-- its content other than operands, then the node codes of its operands, from the left. The list determines the
+-- expression, and expressions are ordered as their lists.
 -- Rules of this product: this representation.
 use Rattle.std.specs.Prelude.{
   ◌≡◌,
@@ -134,6 +134,8 @@ abbrev pub layer_codes : Expr-F Expr → List NodeCode
 layer_codes l = head l ∷ joined (map node_codes (operands l))
 
 -- ---- fields whose values were folded
+-- `same_length`: `map` keeps the length. `same_names` and `folded_values`: a fold of the values of fields keeps their
+-- names, and gives the folded values.
 
 pub same_length : {X Y : Type 0} (f : X → Y) (xs : List X) → length (map f xs) ≡ length xs
 same_length f [] = refl
@@ -249,7 +251,8 @@ build n r c z ts st =
     (cond (n == 11) (form.UnaryCall (unary_call_of r) (first st) ∷ behind st)
     (form.BinaryCall (binary_call_of r) (first st) (first (behind st)) ∷ behind (behind st)))))))))))))
 
--- `read_one t st` is the same for the node code `t`, and `read ts` are the expressions with the node codes `ts`.
+-- `read_one t st` is `st` with the expression of the node code `t` in place of its operands, and `read ts` are the
+-- expressions with the node codes `ts`.
 abbrev read_one : NodeCode → List Expr → List Expr
 read_one t st = build t.0 t.1.0 t.1.1.0 t.1.1.1.0 t.1.1.1.1 st
 
@@ -292,7 +295,8 @@ operands_back (x ∷ xs) h ts =
     ap read (append_assoc (node_codes x) (joined (map node_codes xs)) ts)
     ∙ (h.0 (joined (map node_codes xs) ++ ts) ∙ ap (λ st. x ∷ st) (operands_back xs h.1 ts))
 
--- if a node is built from its operands, it is read back
+-- `from_operands`: an expression `x` is read back from its node codes if they are those of a node `l` whose operands
+-- are read back, and if `read_one` builds `x` from these operands.
 from_operands : (x : Expr) (l : Expr-F Expr) → node_codes x ≡ layer_codes l → Every IsReadBack (operands l)
     → ((st : List Expr) → read_one (head l) (operands l ++ st) ≡ x ∷ st) → IsReadBack x
 from_operands x l e h b ts =

@@ -90,7 +90,7 @@ abbrev IsByCodes : Expr → Type 0
 IsByCodes x = (y : Expr) (s t : List NodeCode)
     → ordering_then (expr_cmp x y) (codes_cmp s t) ≡ codes_cmp (node_codes x ++ s) (node_codes y ++ t)
 
--- `AreByCodes o xs ys` holds if the node codes of the operands `xs` and `ys` compare as `o`, with any codes after them
+-- `AreByCodes o xs ys` holds if the node codes of the operands `xs` and `ys` compare as `o`, with any codes after them.
 abbrev AreByCodes : Ordering → List Expr → List Expr → Type 0
 AreByCodes o xs ys = (s t : List NodeCode) → ordering_then o (codes_cmp s t)
     ≡ codes_cmp (joined (map node_codes xs) ++ s) (joined (map node_codes ys) ++ t)
@@ -133,22 +133,22 @@ as_many (x ∷ xs) [] h e = absurd (omega (arith, e))
 as_many (x ∷ xs) (y ∷ ys) h e =
     one_more x y xs ys (each_cmp (map expr_cmp xs) ys) h.0 (as_many xs ys h.1 (omega (arith, e)))
 
--- an expression: its content compares as `o`, and its operands as `p` if that is `Equal`
+-- `headed`: an expression whose content compares as `o`, and whose operands compare as `p` if `o` is `Equal`
 headed : (o p : Ordering) (t r : Ordering) → (o ≡ Equal → ordering_then p t ≡ r)
     → ordering_then (ordering_then o p) t ≡ ordering_then o r
 headed Less p t r h = refl
 headed Equal p t r h = h refl
 headed Greater p t r h = refl
 
--- the same, if node codes express `o` differently
+-- `headed_as`: the same, if the node codes of the contents compare as `k`, which equals `o`
 headed_as : (o k p t r : Ordering) → k ≡ o → (o ≡ Equal → ordering_then p t ≡ r)
     → ordering_then (ordering_then o p) t ≡ ordering_then k r
 headed_as o k p t r e h = headed o p t r h ∙ ap (λ z. ordering_then z r) (sym e)
 
 -- ---- kinds of expressions
 
--- `LayerIs f l m` holds if the nodes `l` and `m` compare as their node codes do, where `f` is `l` with how its operands
--- compare.
+-- `LayerIs f l m` holds if the nodes `l` and `m` compare as their node codes do, where `f` is `l` with each operand
+-- replaced by its comparison with other expressions.
 abbrev LayerIs : Expr-F (Expr → Ordering) → Expr-F Expr → Expr-F Expr → Type 0
 LayerIs f l m = (s t : List NodeCode)
     → ordering_then (layers_cmp f m) (codes_cmp s t) ≡ codes_cmp (layer_codes l ++ s) (layer_codes m ++ t)

@@ -19,11 +19,11 @@ use Rattle.type_capabilities.specs.declared.pair.Capability.{Capability}
 abbrev pub PairValue : Type 0
 PairValue = Expr × List ℕ
 
--- `pair_of p` is the pair `p` without its borrows.
+-- `pair_of p` is the pair of the capability `p` of the code, which borrows its expression and its name.
 abbrev pub pair_of : Capability → PairValue
 pair_of p = (p.whole.now, p.name.now)
 
--- `pairs ps` are the pairs `ps` without their borrows.
+-- `pairs ps` are the pairs of the capabilities `ps` of the code.
 abbrev pub pairs : List Capability → List PairValue
 pairs ps = map pair_of ps
 
@@ -31,7 +31,7 @@ pairs ps = map pair_of ps
 abbrev pub pair_cmp : PairValue → PairValue → Ordering
 pair_cmp p q = ordering_then (text_cmp p.1 q.1) (expr_cmp p.0 q.0)
 
--- `borrowed_cmp p q` is the same order on the pairs of the code, which borrow.
+-- `borrowed_cmp p q` compares the capabilities `p` and `q` of the code as `pair_cmp` compares their pairs.
 abbrev pub borrowed_cmp : Capability → Capability → Ordering
 borrowed_cmp p q = pair_cmp (pair_of p) (pair_of q)
 

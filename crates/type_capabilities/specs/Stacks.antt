@@ -1,4 +1,4 @@
--- Defines how the pairs of a stack are found: a map records an index for each.
+-- Defines how the pairs of a stack are found: by a map that records an index for each pair.
 -- Rules of this product: this representation.
 use Rattle.std.specs.Prelude.{◌≡◌, ◌≤◌, ℕ, List, Option, Some}
 use Rattle.std.specs.List.{slice_get}
@@ -10,14 +10,15 @@ use Rattle.type_capabilities.specs.declared.pair.Capability.{Capability}
 abbrev pub place_of : BTreeMap Capability ℕ → PairValue → Option ℕ
 place_of m p = get_by (λ k. pair_cmp p (pair_of k)) m
 
--- `IsFound ps at i p` holds if `at` records an index for the pair `p`, which is at the index `i` of the stack `ps`; the
--- recorded index is at most `i`, and `p` is there too.
+-- `IsFound ps at i p` holds if `at` records an index for the pair `p`, the recorded index is at most `i`, and `p` is at
+-- the recorded index of the stack `ps`.
 pub record IsFound (ps : List PairValue) (at : PairValue → Option ℕ) (i : ℕ) (p : PairValue) : Type 0 where
   pub place : ℕ
   pub noted : at p ≡ Some place
   pub low : place ≤ i
   pub there : slice_get ps place ≡ Some p
 
--- `AreFound ps at` holds if each pair of the stack `ps` is found by `at`.
+-- `AreFound ps at` holds if `at` records for each pair of the stack `ps` an index of the pair that is not above any of
+-- its indexes.
 abbrev pub AreFound : List PairValue → (PairValue → Option ℕ) → Type 0
 AreFound ps at = (i : ℕ) (p : PairValue) → slice_get ps i ≡ Some p → IsFound ps at i p

@@ -145,7 +145,8 @@ impl<'a> Capabilities<'a> {
         is_pair_below(self.stack.as_slice(), &self.places, pair, self.height)
     }
 
-    /// Pushes a pair. If the same pair was last popped from this height, takes one comparison and does not allocate.
+    /// Pushes a pair. If the pair that was last popped from this height is the same, takes one comparison and does not
+    /// allocate.
     ///
     /// After `NoMemory` the stack is unchanged.
     pub fn push(&mut self, pair: Capability<'a>) -> Result<(), NoMemory>
@@ -162,7 +163,8 @@ impl<'a> Capabilities<'a> {
         Ok(())
     }
 
-    /// Pushes these pairs, in order. After `NoMemory` only the first of them, but not all, are pushed.
+    /// Pushes these pairs, in order. After `NoMemory` the first n of them are pushed, where n is less than their
+    /// number.
     pub fn push_all(&mut self, these: &[Capability<'a>]) -> Result<(), NoMemory>
         ensures ok { OnOk result (self.new ≡ self.old ++ pairs these.now) }
         ensures err { OnErr result

@@ -32,7 +32,7 @@ fn kind(expr: &Expr) -> u8
 }
 
 /// Compares two expressions: by kind, then by their content other than operands, then by the operands from the left.
-/// Does not allocate. Takes time at most linear in the nodes of the common prefix.
+/// Does not allocate. Takes time at most linear in the number of nodes before the first difference.
 #[cycle(compare)]
 #[tactic(auto, using(crate::proofs::Records::record_is))]
 pub fn compare(one: &Expr, other: &Expr) -> Ordering
@@ -74,7 +74,7 @@ fn then_by(one: &Shared<Expr>, other: &Shared<Expr>, first: Ordering) -> Orderin
     ensures { result ≡ ordering_then first (expr_cmp one.now other.now) }
 {
     match first {
-        Ordering::Equal => compare(one.get(), other.get()),
+        Ordering::Equal => compare(one, other),
         Ordering::Less => Ordering::Less,
         Ordering::Greater => Ordering::Greater,
     }

@@ -1,5 +1,5 @@
-//! Capabilities: pairs of an expression and the name of a field, as a stack with an ordered map in which a pair is
-//! found.
+//! Capabilities: pairs of an expression and the name of a field. They are kept in a stack, with an ordered map for
+//! finding a pair.
 //!
 //! The order of pairs, by names and then by expressions, is only for these look-ups, and has no meaning in the policy
 //! language.

@@ -4,7 +4,7 @@ use Rattle.std.specs.Str.{bytes_eq}
 use Rattle.typing.specs.Types as types
 use Rattle.typing.specs.Types.{record_type, FieldTypes, no_field_types, field_type, same_requirement, field_before, common, common_fields}
 use Rattle.type_checker.specs.Views.{static_view}
-use Rattle.type_checker.specs.inner.Parts.{part_view, built_view, fields_count, fields_behind, before}
+use Rattle.type_checker.specs.inner.Parts.{part_view, built_view, fields_count, fields_after, before}
 use Rattle.type_checker.specs.inner.Rows.{paired}
 use Rattle.type_checker.specs.declared.static_type.StaticType.{StaticType}
 use Rattle.type_checker.specs.declared.parts.FieldPart.{FieldPart}
@@ -95,7 +95,7 @@ step_apart (Some a) (Some b) xs ys e n = at (bytes_eq a.key.now b.key.now && sam
 
 -- before the end there is a field
 pub is_there : (ts : FieldTypes) (i : ℕ) (o : Option FieldPart) (rest : FieldTypes) → i < fields_count ts
-    → fields_behind i ts ≡ before o rest → o ≡ None → ⊥
+    → fields_after i ts ≡ before o rest → o ≡ None → ⊥
 is_there no_field_types i o rest less e n = omega (arith, less)
 is_there (field_type k t r ts) zero None rest less e n = absurd cc
 is_there (field_type k t r ts) zero (Some f) rest less e n = absurd cc
@@ -106,12 +106,12 @@ is_there (field_type k t r ts) (suc i) o rest less e n =
 -- ---- one place, and the end
 
 pub both_at : (vl vr : FieldTypes) (i : ℕ) (o p : Option FieldPart) (z : Option FieldTypes)
-    → fields_behind i vl ≡ before o (fields_behind (suc i) vl) → fields_behind i vr ≡ before p (fields_behind (suc i) vr)
-    → common_fields (before o (fields_behind (suc i) vl)) (before p (fields_behind (suc i) vr)) ≡ z
-    → common_fields (fields_behind i vl) (fields_behind i vr) ≡ z
+    → fields_after i vl ≡ before o (fields_after (suc i) vl) → fields_after i vr ≡ before p (fields_after (suc i) vr)
+    → common_fields (before o (fields_after (suc i) vl)) (before p (fields_after (suc i) vr)) ≡ z
+    → common_fields (fields_after i vl) (fields_after i vr) ≡ z
 both_at vl vr i o p z hl hr e =
-    ap (λ x. common_fields x (fields_behind i vr)) hl
-    ∙ (ap (λ y. common_fields (before o (fields_behind (suc i) vl)) y) hr ∙ e)
+    ap (λ x. common_fields x (fields_after i vr)) hl
+    ∙ (ap (λ y. common_fields (before o (fields_after (suc i) vl)) y) hr ∙ e)
 
 pub ends_none : (vl vr : FieldTypes) (fs : List Built) (a b : FieldTypes)
     → common_fields vl vr ≡ after fs (common_fields a b) → common_fields a b ≡ None
@@ -120,39 +120,39 @@ ends_none vl vr fs a b inv e = sym (ap (λ z. option_map record_type z) (inv ∙
 
 pub more : (vl vr : FieldTypes) (fs : List Built) (i j : ℕ) (o p : Option FieldPart) (q : FieldPair) (ty : StaticType)
     → j ≡ suc i
-    → common_fields vl vr ≡ after fs (common_fields (fields_behind i vl) (fields_behind i vr))
-    → fields_behind i vl ≡ before o (fields_behind (suc i) vl) → fields_behind i vr ≡ before p (fields_behind (suc i) vr)
+    → common_fields vl vr ≡ after fs (common_fields (fields_after i vl) (fields_after i vr))
+    → fields_after i vl ≡ before o (fields_after (suc i) vl) → fields_after i vr ≡ before p (fields_after (suc i) vr)
     → some q ≡ paired o p → common (part_view q.left) (part_view q.right) ≡ some (static_view ty)
-    → common_fields vl vr ≡ after (fs ++ (q.key, ty, q.required) ∷ []) (common_fields (fields_behind j vl) (fields_behind j vr))
+    → common_fields vl vr ≡ after (fs ++ (q.key, ty, q.required) ∷ []) (common_fields (fields_after j vl) (fields_after j vr))
 more vl vr fs i j o p q ty next inv hl hr e h =
-    subst (λ n. common_fields vl vr ≡ after (fs ++ (q.key, ty, q.required) ∷ []) (common_fields (fields_behind n vl) (fields_behind n vr))) (sym next)
+    subst (λ n. common_fields vl vr ≡ after (fs ++ (q.key, ty, q.required) ∷ []) (common_fields (fields_after n vl) (fields_after n vr))) (sym next)
     (inv ∙ (ap (λ z. after fs z) (both_at vl vr i o p _ hl hr (step_both o p q (static_view ty) _ _ (sym e) h))
-    ∙ sym (after_more fs (q.key, ty, q.required) (common_fields (fields_behind (suc i) vl) (fields_behind (suc i) vr)))))
+    ∙ sym (after_more fs (q.key, ty, q.required) (common_fields (fields_after (suc i) vl) (fields_after (suc i) vr)))))
 
 -- behind all fields of the left, those of the right
-at_end : (vl vr : FieldTypes) (i n : ℕ) (z : FieldTypes) → n ≡ fields_count vl → i ≡ n → fields_behind n vr ≡ z
-    → common_fields (fields_behind i vl) (fields_behind i vr) ≡ common_fields no_field_types z
+at_end : (vl vr : FieldTypes) (i n : ℕ) (z : FieldTypes) → n ≡ fields_count vl → i ≡ n → fields_after n vr ≡ z
+    → common_fields (fields_after i vl) (fields_after i vr) ≡ common_fields no_field_types z
 at_end vl vr i n z count same e =
     let past : fields_count vl ≤ i = omega (arith, count, same) in
-    ap (λ x. common_fields x (fields_behind i vr)) (behind_past vl i past)
-    ∙ ap (λ y. common_fields no_field_types y) (ap (λ k. fields_behind k vr) same ∙ e)
+    ap (λ x. common_fields x (fields_after i vr)) (behind_past vl i past)
+    ∙ ap (λ y. common_fields no_field_types y) (ap (λ k. fields_after k vr) same ∙ e)
 
 pub last_some : (vl vr : FieldTypes) (fs : List Built) (i n : ℕ) (f : FieldPart) (rest : FieldTypes)
-    → common_fields vl vr ≡ after fs (common_fields (fields_behind i vl) (fields_behind i vr))
-    → n ≡ fields_count vl → i ≡ n → fields_behind n vr ≡ before (some f) rest
+    → common_fields vl vr ≡ after fs (common_fields (fields_after i vl) (fields_after i vr))
+    → n ≡ fields_count vl → i ≡ n → fields_after n vr ≡ before (some f) rest
     → None ≡ option_map record_type (common_fields vl vr)
-last_some vl vr fs i n f rest inv count same e = ends_none vl vr fs (fields_behind i vl) (fields_behind i vr) inv (at_end vl vr i n _ count same e)
+last_some vl vr fs i n f rest inv count same e = ends_none vl vr fs (fields_after i vl) (fields_after i vr) inv (at_end vl vr i n _ count same e)
 
 pub last_none : (vl vr : FieldTypes) (fs : List Built) (i n : ℕ)
-    → common_fields vl vr ≡ after fs (common_fields (fields_behind i vl) (fields_behind i vr))
-    → n ≡ fields_count vl → i ≡ n → fields_behind n vr ≡ no_field_types
+    → common_fields vl vr ≡ after fs (common_fields (fields_after i vl) (fields_after i vr))
+    → n ≡ fields_count vl → i ≡ n → fields_after n vr ≡ no_field_types
     → some (record_type (built_view fs)) ≡ option_map record_type (common_fields vl vr)
 last_none vl vr fs i n inv count same e =
     sym (ap (λ z. option_map record_type z) (inv ∙ (ap (λ z. after fs z) (at_end vl vr i n no_field_types count same e) ∙ after_all fs)))
 
 -- the recursion goes down
 pub pair_lighter : (vl : FieldTypes) (i : ℕ) (o p : Option FieldPart) (q : FieldPair) (rest : FieldTypes)
-    → fields_behind i vl ≡ before o rest → some q ≡ paired o p → weight (part_view q.left) < weights vl
+    → fields_after i vl ≡ before o rest → some q ≡ paired o p → weight (part_view q.left) < weights vl
 pair_lighter vl i None p q rest hl e = absurd cc
 pair_lighter vl i (Some a) None q rest hl e = absurd cc
 pair_lighter vl i (Some a) (Some b) q rest hl e = at (bytes_eq a.key.now b.key.now && same_requirement a.required b.required) e

@@ -5,7 +5,7 @@ use Rattle.typing.specs.Types.{FieldTypes, no_field_types, field_type}
 use Rattle.schema_types.specs.declared.cedar.CedarType.{CedarType}
 use Rattle.schema_types.specs.CedarViews.{cedar_fields_view}
 use Rattle.type_checker.specs.FromSchemas.{static_fields}
-use Rattle.type_checker.specs.inner.Parts.{built_view, fields_count, fields_behind}
+use Rattle.type_checker.specs.inner.Parts.{built_view, fields_count, fields_after}
 use Rattle.type_checker.specs.declared.static_type.StaticType.{StaticType}
 
 abbrev pub Built : Type 0
@@ -24,7 +24,7 @@ declared_count [] = refl
 declared_count (f ∷ fs) = ap (λ n. suc n) (declared_count fs)
 
 -- nothing stands behind all
-pub behind_past : (ts : FieldTypes) (i : ℕ) → fields_count ts ≤ i → fields_behind i ts ≡ no_field_types
+pub behind_past : (ts : FieldTypes) (i : ℕ) → fields_count ts ≤ i → fields_after i ts ≡ no_field_types
 behind_past no_field_types zero past = refl
 behind_past no_field_types (suc i) past = refl
 behind_past (field_type k t r ts) zero past = absurd (omega (arith, past))

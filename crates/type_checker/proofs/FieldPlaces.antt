@@ -6,7 +6,7 @@ use Rattle.schema_types.specs.declared.cedar.CedarType.{CedarType}
 use Rattle.schema_types.specs.CedarViews.{cedar_view, cedar_fields_view}
 use Rattle.type_checker.specs.FromSchemas.{static, static_fields}
 use Rattle.type_checker.specs.Views.{static_view}
-use Rattle.type_checker.specs.inner.Parts.{built_view, fields_behind}
+use Rattle.type_checker.specs.inner.Parts.{built_view, fields_after}
 use Rattle.type_checker.specs.declared.static_type.StaticType.{StaticType}
 
 abbrev some : {A : Type 0} → A → Option A
@@ -23,27 +23,27 @@ Declared = List ℕ × CedarType × Bool
 
 -- the field at a place
 pub built_some : (fs : List Built) (i : ℕ) (f : Built) → slice_get fs i ≡ some f
-    → fields_behind i (built_view fs) ≡ field_type f.0.now (static_view f.1) f.2 (fields_behind (suc i) (built_view fs))
+    → fields_after i (built_view fs) ≡ field_type f.0.now (static_view f.1) f.2 (fields_after (suc i) (built_view fs))
 built_some [] i f e = absurd cc
 built_some (x ∷ fs) zero f e = ap (λ g. field_type g.0.now (static_view g.1) g.2 (built_view fs)) (some_same x f e)
 built_some (x ∷ fs) (suc i) f e = built_some fs i f e
 
-pub built_none : (fs : List Built) (i : ℕ) → slice_get fs i ≡ None → fields_behind i (built_view fs) ≡ no_field_types
+pub built_none : (fs : List Built) (i : ℕ) → slice_get fs i ≡ None → fields_after i (built_view fs) ≡ no_field_types
 built_none [] zero e = refl
 built_none [] (suc i) e = refl
 built_none (x ∷ fs) zero e = absurd cc
 built_none (x ∷ fs) (suc i) e = built_none fs i e
 
 pub declared_some : (fs : List Declared) (i : ℕ) (f : Declared) → slice_get fs i ≡ some f
-    → fields_behind i (static_fields (cedar_fields_view fs))
-    ≡ field_type f.0 (static (cedar_view f.1)) f.2 (fields_behind (suc i) (static_fields (cedar_fields_view fs)))
+    → fields_after i (static_fields (cedar_fields_view fs))
+    ≡ field_type f.0 (static (cedar_view f.1)) f.2 (fields_after (suc i) (static_fields (cedar_fields_view fs)))
 declared_some [] i f e = absurd cc
 declared_some (x ∷ fs) zero f e =
     ap (λ g. field_type g.0 (static (cedar_view g.1)) g.2 (static_fields (cedar_fields_view fs))) (some_same x f e)
 declared_some (x ∷ fs) (suc i) f e = declared_some fs i f e
 
 pub declared_none : (fs : List Declared) (i : ℕ) → slice_get fs i ≡ None
-    → fields_behind i (static_fields (cedar_fields_view fs)) ≡ no_field_types
+    → fields_after i (static_fields (cedar_fields_view fs)) ≡ no_field_types
 declared_none [] zero e = refl
 declared_none [] (suc i) e = refl
 declared_none (x ∷ fs) zero e = absurd cc

@@ -2,7 +2,7 @@
 use Rattle.std.proofs.Common.{◌≡◌, ◌∙◌, ℕ, suc, ◌≤◌, Bool, true, false, List, Option, Some, None, option_map, refl, ap, sym, subst, arith, if◌then◌else◌, ◌&&◌}
 use Rattle.std.specs.Str.{bytes_eq}
 use Rattle.typing.specs.Types.{StaticType, set_type, record_type, FieldTypes, no_field_types, field_type, same_requirement, field_before, common, common_fields}
-use Rattle.type_checker.specs.inner.Parts.{part_view, fields_count, fields_behind, before}
+use Rattle.type_checker.specs.inner.Parts.{part_view, fields_count, fields_after, before}
 use Rattle.type_checker.specs.inner.Joins.{DescribesCommon, join_with}
 use Rattle.type_checker.specs.inner.Rows.{paired}
 use Rattle.type_checker.specs.declared.type_joins.Join.{Join}
@@ -108,7 +108,7 @@ with_with join.Wider join.Wider join.Wider = refl
 -- of all fields, by what is known of those from a place on
 abbrev pub SoFar : Join → FieldTypes → FieldTypes → ℕ → Type 0
 SoFar j vl vr i =
-    (r : Join) → DescribesCommon r (fields_behind i vl) (common_fields (fields_behind i vl) (fields_behind i vr))
+    (r : Join) → DescribesCommon r (fields_after i vl) (common_fields (fields_after i vl) (fields_after i vr))
     → DescribesCommon (join_with r j) vl (common_fields vl vr)
 
 pub at_first : (vl vr : FieldTypes) → SoFar join.Left vl vr 0
@@ -117,8 +117,8 @@ at_first vl vr join.Left h = h
 at_first vl vr join.Wider h = h
 
 pub one_more : (vl vr : FieldTypes) (i n : ℕ) (o p : Option FieldPart) (q : FieldPair) (j s t : Join) → n ≡ suc i
-    → SoFar s vl vr i → fields_behind i vl ≡ before o (fields_behind (suc i) vl)
-    → fields_behind i vr ≡ before p (fields_behind (suc i) vr) → some q ≡ paired o p
+    → SoFar s vl vr i → fields_after i vl ≡ before o (fields_after (suc i) vl)
+    → fields_after i vr ≡ before p (fields_after (suc i) vr) → some q ≡ paired o p
     → DescribesCommon j (part_view q.left) (common (part_view q.left) (part_view q.right)) → t ≡ join_with j s → SoFar t vl vr n
 one_more vl vr i n o p q j s t next inv hl hr e h with_j =
     subst (λ m. SoFar t vl vr m) (sym next) (subst (λ u. SoFar u vl vr (suc i)) (sym with_j) step)
@@ -127,24 +127,24 @@ one_more vl vr i n o p q j s t next inv hl hr e h with_j =
     step r rest =
         subst (λ u. DescribesCommon u vl (common_fields vl vr)) (with_with r j s)
         (inv (join_with r j)
-        (subst (λ x. DescribesCommon (join_with r j) x (common_fields x (fields_behind i vr))) (sym hl)
-        (subst (λ y. DescribesCommon (join_with r j) (before o (fields_behind (suc i) vl)) (common_fields (before o (fields_behind (suc i) vl)) y))
-        (sym hr) (step_told o p q j r (fields_behind (suc i) vl) (fields_behind (suc i) vr) e h rest))))
+        (subst (λ x. DescribesCommon (join_with r j) x (common_fields x (fields_after i vr))) (sym hl)
+        (subst (λ y. DescribesCommon (join_with r j) (before o (fields_after (suc i) vl)) (common_fields (before o (fields_after (suc i) vl)) y))
+        (sym hr) (step_told o p q j r (fields_after (suc i) vl) (fields_after (suc i) vr) e h rest))))
 
 -- behind all fields there is nothing more
 pub at_last : (vl vr : FieldTypes) (i n : ℕ) (s : Join) → SoFar s vl vr i → n ≡ fields_count vl → i ≡ n
-    → fields_behind n vr ≡ no_field_types → DescribesCommon s vl (common_fields vl vr)
+    → fields_after n vr ≡ no_field_types → DescribesCommon s vl (common_fields vl vr)
 at_last vl vr i n s inv count same e =
     let past : fields_count vl ≤ i = omega (arith, count, same) in
     inv join.Left
-    (subst (λ x. common_fields x (fields_behind i vr) ≡ some x) (sym (behind_past vl i past))
-    (ap (λ y. common_fields no_field_types y) (ap (λ k. fields_behind k vr) same ∙ e)))
+    (subst (λ x. common_fields x (fields_after i vr) ≡ some x) (sym (behind_past vl i past))
+    (ap (λ y. common_fields no_field_types y) (ap (λ k. fields_after k vr) same ∙ e)))
 
 -- or fields of the right
 pub right_longer : (vl vr : FieldTypes) (i n : ℕ) (s : Join) (f : FieldPart) (rest : FieldTypes) → SoFar s vl vr i
-    → n ≡ fields_count vl → i ≡ n → fields_behind n vr ≡ before (some f) rest → common_fields vl vr ≡ None
+    → n ≡ fields_count vl → i ≡ n → fields_after n vr ≡ before (some f) rest → common_fields vl vr ≡ None
 right_longer vl vr i n s f rest inv count same e =
     let past : fields_count vl ≤ i = omega (arith, count, same) in
     inv join.Apart
-    (ap (λ x. common_fields x (fields_behind i vr)) (behind_past vl i past)
-    ∙ ap (λ y. common_fields no_field_types y) (ap (λ k. fields_behind k vr) same ∙ e))
+    (ap (λ x. common_fields x (fields_after i vr)) (behind_past vl i past)
+    ∙ ap (λ y. common_fields no_field_types y) (ap (λ k. fields_after k vr) same ∙ e))

@@ -6,7 +6,7 @@ use Rattle.std.specs.Str.{bytes_eq}
 use Rattle.typing.specs.Types.{StaticType, set_type, record_type, FieldTypes, no_field_types, field_type, same_requirement, field_before, common, common_fields}
 use Rattle.schema_types.specs.CedarViews.{cedar_view, cedar_fields_view}
 use Rattle.type_checker.specs.FromSchemas.{static, static_fields}
-use Rattle.type_checker.specs.inner.Parts.{fields_count, fields_behind}
+use Rattle.type_checker.specs.inner.Parts.{fields_count, fields_after}
 use Rattle.type_checker.proofs.FieldLists.{Declared, behind_past}
 use Rattle.type_checker.proofs.FieldPlaces.{declared_some}
 use Rattle.type_checker.proofs.Weighing.{weight, weights, lighter}
@@ -74,39 +74,39 @@ count_differs (field_type k s a xs) (field_type l t b ys) n =
 -- of all fields, by what is told of those from a place on
 abbrev pub SameSoFar : FieldTypes → FieldTypes → ℕ → Type 0
 SameSoFar vl vr i =
-    (r : Bool) → common_fields (fields_behind i vl) (fields_behind i vr) ≡ told r (fields_behind i vl)
+    (r : Bool) → common_fields (fields_after i vl) (fields_after i vr) ≡ told r (fields_after i vl)
     → common_fields vl vr ≡ told r vl
 
 module _ (vl vr : FieldTypes) (i : ℕ) (k l : List ℕ) (s t : StaticType) (a b : Bool)
-    (hl : fields_behind i vl ≡ field_type k s a (fields_behind (suc i) vl))
-    (hr : fields_behind i vr ≡ field_type l t b (fields_behind (suc i) vr))
+    (hl : fields_after i vl ≡ field_type k s a (fields_after (suc i) vl))
+    (hr : fields_after i vr ≡ field_type l t b (fields_after (suc i) vr))
     (inv : SameSoFar vl vr i) where
   both_here : (r : Bool)
-      → common_fields (field_type k s a (fields_behind (suc i) vl)) (field_type l t b (fields_behind (suc i) vr))
-      ≡ told r (field_type k s a (fields_behind (suc i) vl))
+      → common_fields (field_type k s a (fields_after (suc i) vl)) (field_type l t b (fields_after (suc i) vr))
+      ≡ told r (field_type k s a (fields_after (suc i) vl))
       → common_fields vl vr ≡ told r vl
   both_here r e =
-      inv r (subst (λ x. common_fields x (fields_behind i vr) ≡ told r x) (sym hl)
-      (subst (λ y. common_fields (field_type k s a (fields_behind (suc i) vl)) y
-      ≡ told r (field_type k s a (fields_behind (suc i) vl))) (sym hr) e))
+      inv r (subst (λ x. common_fields x (fields_after i vr) ≡ told r x) (sym hl)
+      (subst (λ y. common_fields (field_type k s a (fields_after (suc i) vl)) y
+      ≡ told r (field_type k s a (fields_after (suc i) vl))) (sym hr) e))
 
   pub same_more : (n : ℕ) → n ≡ suc i → true ≡ (bytes_eq k l && same_requirement a b) → common s t ≡ some s
       → SameSoFar vl vr n
   same_more n next e h =
       subst (λ m. SameSoFar vl vr m) (sym next)
-      (λ r g. both_here r (field_same k l s t a b r (fields_behind (suc i) vl) (fields_behind (suc i) vr) e h g))
+      (λ r g. both_here r (field_same k l s t a b r (fields_after (suc i) vl) (fields_after (suc i) vr) e h g))
 
   pub key_differs : false ≡ (bytes_eq k l && same_requirement a b) → common_fields vl vr ≡ None
-  key_differs e = both_here false (field_apart k l s t a b (fields_behind (suc i) vl) (fields_behind (suc i) vr) e)
+  key_differs e = both_here false (field_apart k l s t a b (fields_after (suc i) vl) (fields_after (suc i) vr) e)
 
   pub type_differs : true ≡ (bytes_eq k l && same_requirement a b) → common s t ≡ None → common_fields vl vr ≡ None
   type_differs e h =
-      both_here false (type_apart k l s t a b (fields_behind (suc i) vl) (fields_behind (suc i) vr) e h)
+      both_here false (type_apart k l s t a b (fields_after (suc i) vl) (fields_after (suc i) vr) e h)
 
 pub same_all : (vl vr : FieldTypes) (i : ℕ) → fields_count vl ≤ i → fields_count vr ≤ i → SameSoFar vl vr i
     → common_fields vl vr ≡ some vl
 same_all vl vr i pl pr inv =
-    inv true (subst (λ x. common_fields x (fields_behind i vr) ≡ some x) (sym (behind_past vl i pl))
+    inv true (subst (λ x. common_fields x (fields_after i vr) ≡ some x) (sym (behind_past vl i pl))
     (ap (λ y. common_fields no_field_types y) (behind_past vr i pr)))
 
 -- ---- what the recursion goes down by
@@ -125,8 +125,8 @@ record_lighter ts s n e h =
 
 -- the field at a place
 pub declared_here : (fs : List Declared) (i : ℕ) (f : Declared) → i < length fs → f ≡ slice_index_or fs i f
-    → fields_behind i (static_fields (cedar_fields_view fs))
-    ≡ field_type f.0 (static (cedar_view f.1)) f.2 (fields_behind (suc i) (static_fields (cedar_fields_view fs)))
+    → fields_after i (static_fields (cedar_fields_view fs))
+    ≡ field_type f.0 (static (cedar_view f.1)) f.2 (fields_after (suc i) (static_fields (cedar_fields_view fs)))
 declared_here fs i f less e = declared_some fs i f (slice_get_read fs (length fs) i f refl less e)
 
 -- its type is less than all

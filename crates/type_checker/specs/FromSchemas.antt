@@ -12,7 +12,7 @@ use Rattle.entities.specs.schema.Schemas.{EnvironmentOf, StatedSchema}
 use Rattle.entities.specs.Entities.{is_action_type}
 
 -- `static t` is the static type of the values of the declared type `t`, and `static_fields fs` are the declared fields
--- `fs` with such types.
+-- `fs` with their static types.
 abbrev mutual
   pub static : Cedar → StaticType
   static cedar.text = text_type
@@ -33,7 +33,7 @@ abbrev pub field_types_in : Cedar → FieldTypes
 field_types_in (cedar.record_of fs) = static_fields fs
 field_types_in t = no_field_types
 
--- `shape_fields o` are the fields of the shape `o` of an entity type; without a shape it has no fields.
+-- `shape_fields o` are the fields of the shape `o` of an entity type; none if `o` is `None`.
 abbrev pub shape_fields : Option Cedar → FieldTypes
 shape_fields None = no_field_types
 shape_fields (Some t) = field_types_in t

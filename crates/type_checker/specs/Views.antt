@@ -86,8 +86,8 @@ type_sharing_step (StaticType-F.Record fs) = record { is_type_shared = true; at 
 abbrev pub type_sharing : StaticType → TypeSharing
 type_sharing = fold-StaticType TypeSharing type_sharing_step
 
--- `MayTakeMemory t o` holds if computing the common type `o` of `t` and another type may fail with `NoMemory`: there
--- is a common type, and it is not `t`, or `t` is shared.
+-- `MayTakeMemory t o` holds if computing the common type `o` of `t` and another type may fail with `NoMemory`: there is
+-- a common type, and either it differs from `t` or `t` is shared.
 abbrev pub MayTakeMemory : StaticType → Option types.StaticType → Type 0
 MayTakeMemory t o = IsSome o × (o ≡ Some (static_view t) → IsTrue (type_sharing t).is_type_shared)
 
@@ -107,7 +107,7 @@ fault_view NoMemory = environment.unexpected
 abbrev pub Answers : Result StaticType ExpressionFault → Row → Type 0
 Answers r row = MatchResult r (λ t. row ≡ Ok (static_view t)) (λ f. f ≢ NoMemory → row ≡ Err (fault_view f))
 
--- `TakesMemoryOnly P r` holds if `P` holds in case `r` is `NoMemory`.
+-- `TakesMemoryOnly P r` holds if `P` holds whenever `r` is `NoMemory`.
 abbrev pub TakesMemoryOnly : Type 0 → Result StaticType ExpressionFault → Type 0
 TakesMemoryOnly P r = IfErr r (λ f. f ≡ NoMemory → P)
 

@@ -23,7 +23,7 @@ use plain::NoMemory;
 use std::alloc::Global;
 use type_capabilities::Capability;
 
-/// Returns the type of `&&` by the types of its sides, where the left side may be true.
+/// Returns the type of `&&`, given the types of its sides, if the left side may be true.
 pub(crate) fn and_truth(left: BooleanType, right: BooleanType) -> BooleanType
     ensures { boolean_view result ≡ and_type (boolean_view left) (boolean_view right) }
 {
@@ -38,8 +38,8 @@ pub(crate) fn and_truth(left: BooleanType, right: BooleanType) -> BooleanType
     }
 }
 
-/// Returns the judgement on `&&` whose left side has the type `left` and may be true, by the judgement on its right
-/// side, which has the capabilities of both.
+/// Returns the judgement on `&&` whose left side has the type `left` and may be true, given the judgement on its right
+/// side, which has the capabilities of both sides.
 pub(crate) fn and_typed<'a>(
     left: BooleanType,
     right: Result<Typed<'a>, ExpressionFault>,
@@ -67,7 +67,7 @@ pub(crate) fn and_typed<'a>(
     }
 }
 
-/// Returns the judgement on `||` whose left side has the type False, by the judgement on its right side.
+/// Returns the judgement on `||` whose left side has the type False, given the judgement on its right side.
 pub(crate) fn or_behind_false<'a>(
     right: Result<Typed<'a>, ExpressionFault>,
 ) -> Result<Typed<'a>, ExpressionFault>
@@ -87,7 +87,7 @@ pub(crate) fn or_behind_false<'a>(
     }
 }
 
-/// Returns the type of `||` by the type of its right side, where the left side has the type Bool.
+/// Returns the type of `||` whose left side has the type Bool, given the type of its right side.
 fn or_truth(right: BooleanType) -> BooleanType
     ensures { boolean_view result ≡ or_type (boolean_view right) }
 {
@@ -98,8 +98,8 @@ fn or_truth(right: BooleanType) -> BooleanType
     }
 }
 
-/// Returns the capabilities that `||` gains, by the type of its right side and those that its sides gain, where the
-/// left side has the type Bool.
+/// Returns the capabilities that `||` gains if its left side has the type Bool, given the type of its right side and
+/// the capabilities that its sides gain.
 #[tactic(auto, using(crate::proofs::Sides::or_none, crate::proofs::Sides::or_left, crate::proofs::Sides::or_both))]
 fn or_learns<'a>(
     alloc: Global,
@@ -117,8 +117,8 @@ fn or_learns<'a>(
     }
 }
 
-/// Returns the judgement on `||` whose left side has the type Bool and gains the capabilities `left`, by the judgement
-/// on its right side.
+/// Returns the judgement on `||` whose left side has the type Bool and gains the capabilities `left`, given the
+/// judgement on its right side.
 pub(crate) fn or_typed<'a>(
     alloc: Global,
     left: Vec<Capability<'a>>,
@@ -169,7 +169,8 @@ fn branch_type<'a>(
     }
 }
 
-/// Returns the type in `kind` with the capabilities of `alternative` that are in `consequent` too, or its error.
+/// Returns the type in `kind` with the capabilities of `alternative` that are in `consequent` too, or the error in
+/// `kind`.
 fn with_both<'a>(
     alloc: Global,
     kind: Result<StaticType<'a>, ExpressionFault>,
@@ -190,8 +191,8 @@ fn with_both<'a>(
     }
 }
 
-/// Returns the judgement on an `if` whose test has the type Bool: `then` is the type of `then` with the capabilities
-/// of test and `then`, and `other` the judgement on `else`.
+/// Returns the judgement on an `if` whose test has the type Bool. The argument `then` is the type of the branch `then`
+/// with the capabilities that the test and this branch gain, and `other` is the judgement on `else`.
 pub(crate) fn branches<'a>(
     alloc: Global,
     then: Typed<'a>,

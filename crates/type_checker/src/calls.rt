@@ -64,7 +64,7 @@ fn if_literal<'a>(is_literal: bool, leaf: Leaf<'a>) -> Result<StaticType<'a>, Ex
     }
 }
 
-/// Returns the type of a call, by its operand and the type `kind` of the operand.
+/// Returns the type of a call, given its operand and the operand's type `kind`.
 pub(crate) fn unary_call_type<'a>(
     called: UnaryCall,
     operand: &Expr,

@@ -89,7 +89,8 @@ fn set_of<'a>(
     }
 }
 
-/// Returns the common type of two declared records with the same fields; `None` decides nothing. Does not allocate.
+/// Returns the common type of two declared records with the same fields, which is the left one; `None` for other
+/// records, whatever their common type is. Does not allocate.
 fn declared_record<'a>(left: Fields<'_, 'a>, right: Fields<'_, 'a>) -> Option<StaticType<'a>>
     ensures { IfSome result (λ t. Some (static_view t)
         ≡ option_map record_type (common_fields (fields_view left.entry) (fields_view right.entry))) }
@@ -118,8 +119,8 @@ fn record_of<'a>(
     Ok(Some(StaticType::Record(fields)))
 }
 
-/// Returns the common type of two types, or `None` if they have none. Sets and records are built, declared records with
-/// the same fields borrowed.
+/// Returns the common type of two types, or `None` if they have none. Builds set types and record types, but borrows
+/// the common type of declared records with the same fields.
 #[cycle(common_of)]
 fn common_of<'a>(
     alloc: Global,

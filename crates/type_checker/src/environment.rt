@@ -50,7 +50,7 @@ fn fields_in<'a>(ty: &'a CedarType) -> &'a [(Text, CedarType, bool)]
     ensures { static_fields (cedar_fields_view result.now) ≡ field_types_in (cedar_view ty.now) }
 {
     match ty {
-        CedarType::Record(fields) => fields.get().as_slice(),
+        CedarType::Record(fields) => fields.as_slice(),
         CedarType::Text
         | CedarType::Long
         | CedarType::Boolean
@@ -81,7 +81,8 @@ fn compare(field: &(Text, CedarType, bool), key: &str) -> Ordering
     field.0.as_str().cmp(key)
 }
 
-/// Returns the declaration of `key` in fields that ascend by key, or `None` otherwise. O(log n).
+/// Returns the declaration of `key` in fields that ascend by key, or `None` if they have no such key. O(log n), where n
+/// is the number of fields.
 fn found_in_order<'r, 'a>(
     fields: &'a [(Text, CedarType, bool)],
     key: &str,
@@ -121,7 +122,7 @@ impl<'a> TypingEnvironment<'a> {
             Variable::Principal => StaticType::Leaf(Leaf::Entity(&place.principal)),
             Variable::Action => StaticType::Leaf(Leaf::Entity(&place.action.type_name)),
             Variable::Resource => StaticType::Leaf(Leaf::Entity(&place.resource)),
-            Variable::Context => StaticType::DeclaredRecord(fields_in(environment.context.get())),
+            Variable::Context => StaticType::DeclaredRecord(fields_in(&environment.context)),
         }
     }
 
@@ -133,7 +134,8 @@ impl<'a> TypingEnvironment<'a> {
         &environment.place.action
     }
 
-    /// Returns the declaration of the attribute `key` of an entity type, or `None` otherwise. O(log n).
+    /// Returns the declaration of the attribute `key` of an entity type, or `None` if it has no such attribute.
+    /// O(log n), where n is the number of attributes.
     pub(crate) fn attribute<'r>(self, name: &TypeName, key: &str) -> Option<(Part<'r, 'a>, bool)>
         ensures declared { found_view result
             ≡ field_declared_at key.now ((typing_environment self.entry).attributes name.now) }

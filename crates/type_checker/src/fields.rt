@@ -111,7 +111,8 @@ fn entity_has(is_known: bool, declared: Option<(Part<'_, '_>, bool)>) -> Boolean
 /// Returns the type of `e.f`, where `key` is `f`, `whole` is the type of `e`, and `is_known` whether there is a
 /// capability for `e.f`.
 ///
-/// O(log n) for an entity, linear in the number of fields for a record. Does not allocate.
+/// O(log n) for an entity, where n is the number of its attributes; linear in the number of fields for a record. Does
+/// not allocate.
 ///
 /// # Errors
 ///
@@ -131,7 +132,7 @@ pub fn field_type<'a>(
     match whole {
         StaticType::Leaf(Leaf::Entity(name)) => access(is_known, env.attribute(*name, key)),
         StaticType::DeclaredRecord(fields) => access(is_known, found_declared(*fields, key)),
-        StaticType::Record(fields) => access(is_known, found_built(fields.get().as_slice(), key)),
+        StaticType::Record(fields) => access(is_known, found_built(fields.as_slice(), key)),
         StaticType::Leaf(Leaf::Boolean(_) | Leaf::Long | Leaf::Text | Leaf::Decimal | Leaf::Ipaddr)
         | StaticType::DeclaredSet(_)
         | StaticType::Set(_) => Err(ExpressionFault::Unexpected),
@@ -141,7 +142,8 @@ pub fn field_type<'a>(
 /// Returns the type of `e has f`, where `key` is `f`, `whole` is the type of `e`, and `is_known` whether there is a
 /// capability for `e.f`.
 ///
-/// O(log n) for an entity, linear in the number of fields for a record. Does not allocate.
+/// O(log n) for an entity, where n is the number of its attributes; linear in the number of fields for a record. Does
+/// not allocate.
 ///
 /// # Errors
 ///

@@ -30,7 +30,7 @@ use plain::NoMemory;
 use std::alloc::Global;
 use type_capabilities::{Capabilities, Capability};
 
-/// Returns the judgement on a unary operator by the judgement on its operand.
+/// Returns the judgement on a unary operator, given the judgement on its operand.
 pub(crate) fn unary_typed<'a>(
     alloc: Global,
     operator: &Unary,
@@ -46,7 +46,8 @@ pub(crate) fn unary_typed<'a>(
     typed_row(alloc, unary_type(operator, operand.kind))
 }
 
-/// Returns the judgement on a binary operator by those on its operands, where literals do not decide its result.
+/// Returns the judgement on a binary operator whose result literals do not decide, given the judgements on its
+/// operands.
 pub(crate) fn binary_typed<'a>(
     alloc: Global,
     env: TypingEnvironment<'a>,
@@ -72,7 +73,7 @@ pub(crate) fn binary_typed<'a>(
     )
 }
 
-/// Returns the judgement on a call of an extension's method by those on its operands.
+/// Returns the judgement on a call of an extension's method, given the judgements on its operands.
 pub(crate) fn call_typed<'a>(
     alloc: Global,
     called: BinaryCall,
@@ -93,7 +94,7 @@ pub(crate) fn call_typed<'a>(
     typed_row(alloc, call_type(called, left.kind, right.kind))
 }
 
-/// Returns the judgement on a call of `ip`, `decimal` or a test of an IP address by the judgement on its operand.
+/// Returns the judgement on a call of `ip`, `decimal` or a test of an IP address, given the judgement on its operand.
 pub(crate) fn unary_call_typed<'a>(
     alloc: Global,
     called: UnaryCall,
@@ -110,7 +111,7 @@ pub(crate) fn unary_call_typed<'a>(
     typed_row(alloc, unary_call_type(called, operand, typed.kind))
 }
 
-/// Returns the judgement on `owner.name` by the judgement on `owner`.
+/// Returns the judgement on `owner.name`, given the judgement on `owner`.
 pub(crate) fn field_typed<'a>(
     alloc: Global,
     env: TypingEnvironment<'a>,
@@ -181,7 +182,7 @@ fn has_row<'a>(
     }
 }
 
-/// Returns the judgement on `owner has name` by the judgement on `owner`.
+/// Returns the judgement on `owner has name`, given the judgement on `owner`.
 pub(crate) fn has_typed<'a>(
     alloc: Global,
     env: TypingEnvironment<'a>,
@@ -204,7 +205,7 @@ pub(crate) fn has_typed<'a>(
     has_row(alloc, row, owner, name)
 }
 
-/// Returns the judgement on a set literal by the types of its members, up to repeats.
+/// Returns the judgement on a set literal, given the types of its members, up to repeats.
 pub(crate) fn set_typed<'a>(
     alloc: Global,
     types: Result<Vec<StaticType<'a>>, ExpressionFault>,
@@ -219,7 +220,7 @@ pub(crate) fn set_typed<'a>(
     typed_row(alloc, set_literal_type(alloc, types))
 }
 
-/// Returns the judgement on a record literal by the types of its fields, in the order in which they are written.
+/// Returns the judgement on a record literal, given the types of its fields, in the order in which they are written.
 pub(crate) fn record_typed<'a>(
     alloc: Global,
     fields: &'a [Named<Expr>],

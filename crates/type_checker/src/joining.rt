@@ -22,7 +22,7 @@ use std::alloc::Global;
 use type_capabilities::Capabilities;
 
 /// Returns the boolean type of a left side of `&&`, and pushes the capabilities that it gains onto `known`.
-/// `Unexpected` if it is not boolean.
+/// Returns `Unexpected` if the left side is not boolean.
 fn known_left<'a>(
     known: &mut Capabilities<'a>,
     typed: &Typed<'a>,
@@ -75,7 +75,7 @@ pub(crate) fn and_one_more(so_far: Option<BooleanType>, truth: BooleanType) -> O
 }
 
 /// Returns the type of the conjunction of the parts so far, of the type `so_far` (`None` without parts), and the
-/// last part. `Unexpected` if there are others and the last is not boolean.
+/// last part. Returns `Unexpected` if there are other parts and the last part is not boolean.
 pub(crate) fn and_last<'a>(
     so_far: Option<BooleanType>,
     last: StaticType<'a>,

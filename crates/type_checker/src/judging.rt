@@ -42,26 +42,26 @@ pub(crate) fn type_of<'a>(
         Expr::Literal(literal) => Ok(plain(alloc, literal_type(literal))),
         Expr::Variable(variable) => Ok(plain(alloc, env.variable_type(*variable))),
         Expr::If(test, consequent, alternative) => {
-            let test = type_of(alloc, test.get(), env, known);
+            let test = type_of(alloc, test, env, known);
             let then = type_then(alloc, consequent, env, known, test);
             type_else(alloc, alternative, env, known, then)
         }
         Expr::And(left, right) => type_and(alloc, left, right, env, known),
         Expr::Or(left, right) => type_or(alloc, left, right, env, known),
         Expr::Unary(operator, operand) => {
-            let operand = type_of(alloc, operand.get(), env, known);
+            let operand = type_of(alloc, operand, env, known);
             unary_typed(alloc, operator, operand)
         }
         Expr::Binary(operator, left, right) => {
             type_binary(alloc, *operator, left, right, env, known)
         }
         Expr::Field(owner, name) => {
-            let typed = type_of(alloc, owner.get(), env, known);
-            field_typed(alloc, env, known, owner.get(), name.as_str(), typed)
+            let typed = type_of(alloc, owner, env, known);
+            field_typed(alloc, env, known, owner, name.as_str(), typed)
         }
         Expr::Has(owner, name) => {
-            let typed = type_of(alloc, owner.get(), env, known);
-            has_typed(alloc, env, known, owner.get(), name.as_str(), typed)
+            let typed = type_of(alloc, owner, env, known);
+            has_typed(alloc, env, known, owner, name.as_str(), typed)
         }
         Expr::Set(members) => set_typed(alloc, types_of(alloc, members, env, known)),
         Expr::Record(fields) => {
@@ -69,11 +69,11 @@ pub(crate) fn type_of<'a>(
             record_typed(alloc, fields.as_slice(), types)
         }
         Expr::UnaryCall(called, operand) => {
-            let typed = type_of(alloc, operand.get(), env, known);
-            unary_call_typed(alloc, *called, operand.get(), typed)
+            let typed = type_of(alloc, operand, env, known);
+            unary_call_typed(alloc, *called, operand, typed)
         }
         Expr::BinaryCall(called, left, right) => {
-            let left = type_of(alloc, left.get(), env, known);
+            let left = type_of(alloc, left, env, known);
             second_called(alloc, right, env, known, *called, left)
         }
     }
@@ -96,7 +96,7 @@ fn type_under_gained<'a>(
     let height = known.len();
     match know_too(known, &learns) {
         Ok(()) => {
-            let typed = type_of(alloc, expr.get(), env, known);
+            let typed = type_of(alloc, expr, env, known);
             known.truncate_to(height);
             gained_too(learns, typed)
         }
@@ -118,13 +118,13 @@ fn type_and<'a>(
     ensures { Judged (typing_environment env.entry) known.old (form.And left.entry.now right.entry.now) result
         known.new }
 {
-    let test = type_of(alloc, left.get(), env, known);
-    match right.get() {
+    let test = type_of(alloc, left, env, known);
+    match &**right {
         Expr::Binary(operator, again, other) => {
-            match tested_operand_type(env, &test, left.get(), *operator, again.get(), other.get()) {
+            match tested_operand_type(env, &test, left, *operator, again, other) {
                 Some(name) => {
                     drop(test);
-                    let other = type_of(alloc, other.get(), env, known);
+                    let other = type_of(alloc, other, env, known);
                     let right = repeated_operand_typed(alloc, env, *operator, name, other);
                     and_typed(BooleanType::True, right)
                 }
@@ -148,7 +148,7 @@ fn type_or<'a>(
     ensures { Judged (typing_environment env.entry) known.old (form.Or left.entry.now right.entry.now) result
         known.new }
 {
-    let left = type_of(alloc, left.get(), env, known);
+    let left = type_of(alloc, left, env, known);
     second_disjunct(alloc, right, env, known, left)
 }
 
@@ -166,16 +166,16 @@ fn type_binary<'a>(
     ensures { Judged (typing_environment env.entry) known.old
         (form.Binary operator left.entry.now right.entry.now) result known.new }
 {
-    match settled(env, operator, left.get(), right.get()) {
+    match settled(env, operator, left, right) {
         Some(truth) => Ok(plain(alloc, StaticType::boolean(truth_type(truth)))),
         None => {
-            let left = type_of(alloc, left.get(), env, known);
+            let left = type_of(alloc, left, env, known);
             second_operand(alloc, right, env, known, operator, left)
         }
     }
 }
 
-/// Returns the judgement on `&&` by the judgement on its left side; types the right side only if it is checked.
+/// Returns the judgement on `&&`, given the judgement on its left side; types the right side only if it is checked.
 #[cycle(judge)]
 #[inline(never)]
 fn second_conjunct<'a>(
@@ -207,7 +207,7 @@ fn second_conjunct<'a>(
     }
 }
 
-/// Returns the judgement on `||` by the judgement on its left side; types the right side only if it is checked.
+/// Returns the judgement on `||`, given the judgement on its left side; types the right side only if it is checked.
 #[cycle(judge)]
 #[inline(never)]
 fn second_disjunct<'a>(
@@ -228,12 +228,12 @@ fn second_disjunct<'a>(
             }
             Some(BooleanType::False) => {
                 drop(left);
-                let right = type_of(alloc, right.get(), env, known);
+                let right = type_of(alloc, right, env, known);
                 or_behind_false(right)
             }
             Some(BooleanType::Either) => {
                 drop(left.kind);
-                let right = type_of(alloc, right.get(), env, known);
+                let right = type_of(alloc, right, env, known);
                 or_typed(alloc, left.learns, right)
             }
             None => {
@@ -245,7 +245,8 @@ fn second_disjunct<'a>(
     }
 }
 
-/// Returns the judgement on test and `then` of an `if` by that on the test; types `then` only if it is checked.
+/// Returns the judgement on test and `then` of an `if`, given the judgement on the test; types `then` only if it is
+/// checked.
 #[cycle(judge)]
 #[inline(never)]
 fn type_then<'a>(
@@ -281,7 +282,7 @@ fn type_then<'a>(
     }
 }
 
-/// Returns the judgement on an `if` by that on test and `then`; types `else` only if it is checked.
+/// Returns the judgement on an `if`, given the judgement on test and `then`; types `else` only if it is checked.
 #[cycle(judge)]
 #[inline(never)]
 fn type_else<'a>(
@@ -296,17 +297,17 @@ fn type_else<'a>(
         → Judged E K (form.If a b alternative.entry.now) result known.new }
 {
     match then {
-        Ok(Then::Skipped) => type_of(alloc, alternative.get(), env, known),
+        Ok(Then::Skipped) => type_of(alloc, alternative, env, known),
         Ok(Then::Only(typed)) => Ok(typed),
         Ok(Then::Both(typed)) => {
-            let other = type_of(alloc, alternative.get(), env, known);
+            let other = type_of(alloc, alternative, env, known);
             branches(alloc, typed, other)
         }
         Err(fault) => Err(fault),
     }
 }
 
-/// Returns the judgement on a binary operator by that on its first operand, and types the second.
+/// Returns the judgement on a binary operator, given the judgement on its first operand; types the second operand.
 #[cycle(judge)]
 #[inline(never)]
 fn second_operand<'a>(
@@ -323,14 +324,14 @@ fn second_operand<'a>(
 {
     match left {
         Ok(left) => {
-            let right = type_of(alloc, right.get(), env, known);
+            let right = type_of(alloc, right, env, known);
             binary_typed(alloc, env, operator, left, right)
         }
         Err(fault) => Err(fault),
     }
 }
 
-/// Returns the judgement on a call of an extension's method by that on its receiver, and types the argument.
+/// Returns the judgement on a call of an extension's method, given the judgement on its receiver; types the argument.
 #[cycle(judge)]
 #[inline(never)]
 fn second_called<'a>(
@@ -346,7 +347,7 @@ fn second_called<'a>(
 {
     match left {
         Ok(left) => {
-            let right = type_of(alloc, right.get(), env, known);
+            let right = type_of(alloc, right, env, known);
             call_typed(alloc, called, left, right)
         }
         Err(fault) => Err(fault),

@@ -6,7 +6,6 @@
 //! `e has f && x` gains it, and it is known in `x`.
 #![tactic(auto)]
 
-mod behind;
 mod branching;
 mod calls;
 mod common_types;
@@ -28,9 +27,9 @@ mod same_types;
 mod static_type;
 mod type_joins;
 mod typed;
+mod under;
 mod whole;
 
-pub use behind::judge_behind;
 pub use common_types::common;
 pub use entities::{
     ActionScope, Entity, EntityFault, EntityScope, Environment, Policy, Schema, SchemaFault, Scope,
@@ -50,4 +49,5 @@ pub use typed::Typed;
 pub use typing::{
     expressions_have_one_judgement, parents_determine_ancestors, typed_expressions_are_sound,
 };
+pub use under::judge_under;
 pub use whole::judge_all;

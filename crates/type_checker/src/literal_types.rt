@@ -1,4 +1,4 @@
-//! The types of literals, and of set and record literals by the types of their members and fields.
+//! The types of literals, and of set and record literals, given the types of their members and fields.
 ghost use Rattle.std.specs.Prelude.{◌≡◌, map, option_map, IfOk};
 ghost use Rattle.typing.specs.Types.{truth_type, common, common_of, record_type};
 ghost use Rattle.typing.specs.Types.{put_each, put_required, no_field_types};

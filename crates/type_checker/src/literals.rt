@@ -1,5 +1,5 @@
 //! The operators whose result literals decide before any type is checked: `==` of two literals, and `in` of an action
-//! and entity literals.
+//! and entity literals. The variable `action` counts as the literal of the environment's action.
 ghost use Rattle.std.specs.Prelude.{◌≡◌, ◌↔◌, ◌⊎◌, List, IsTrue, MatchOption, Contains};
 ghost use Rattle.std.specs.Bool.{Decides};
 ghost use Rattle.grammar_core.specs.declared.leaf.Literal.{Literal};
@@ -93,7 +93,7 @@ fn settled_equal<'a>(env: TypingEnvironment<'a>, left: &'a Expr, right: &'a Expr
     }
 }
 
-/// Returns whether `action` is `other` or, by the schema, a descendant of it.
+/// Returns whether `action` is `other` or, by the schema, a descendant of `other`.
 fn is_action_in(env: TypingEnvironment<'_>, action: &EntityUid, other: &EntityUid) -> bool
     ensures { Decides result (IsActionIn (typing_environment env.entry) action.now other.now) }
 {
@@ -126,8 +126,8 @@ fn in_some<'a>(env: TypingEnvironment<'a>, action: &EntityUid, members: &'a [Exp
     Some(found)
 }
 
-/// Returns whether `action` is in one of the entities that `listed` lists, or `None` if it is neither an entity literal
-/// nor a set of at least one.
+/// Returns whether `action` is in one of the entities that `listed` lists, or `None` if `listed` is neither an entity
+/// literal nor a set of at least one.
 fn in_listed<'a>(env: TypingEnvironment<'a>, action: &EntityUid, listed: &'a Expr) -> Option<bool>
     ensures { let E = typing_environment env.entry in
         MatchOption result ((us : List EntityUid) → ¬ ListsEntities E listed.now us)

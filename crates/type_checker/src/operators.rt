@@ -1,4 +1,4 @@
-//! The types of operators and calls, by the types of their operands.
+//! The types of operators and calls, given the types of their operands.
 ghost use Rattle.std.specs.Prelude.{◌≡◌, Ok, option_map};
 ghost use Rattle.grammar_core.specs.declared.operator.Unary.TheVariants.{Not};
 ghost use Rattle.grammar_core.specs.declared.operator.Binary.TheVariants.{In};
@@ -253,7 +253,7 @@ fn sets_of<'a>(
     }
 }
 
-/// Returns the type of a test of an IP address, by its operand's type. Does not allocate.
+/// Returns the type of a test of an IP address, given its operand's type. Does not allocate.
 ///
 /// # Errors
 ///
@@ -277,7 +277,7 @@ fn address_test_of<'a>(operand: TypeKind<'_, 'a>) -> Result<StaticType<'a>, Expr
     }
 }
 
-/// Returns the type of a call of an extension's method, by its operands' types. Does not allocate.
+/// Returns the type of a call of an extension's method, given its operands' types. Does not allocate.
 ///
 /// # Errors
 ///

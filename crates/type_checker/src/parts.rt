@@ -4,7 +4,7 @@ ghost use Rattle.schema_types.specs.CedarViews.{cedar_view, cedar_fields_view};
 ghost use Rattle.type_checker.specs.FromSchemas.{static, static_fields};
 ghost use Rattle.type_checker.specs.Views.{static_view};
 ghost use Rattle.type_checker.specs.inner.Parts.{part_view, part_shared, kind_view, built_view};
-ghost use Rattle.type_checker.specs.inner.Parts.{fields_view, fields_count, fields_behind, before};
+ghost use Rattle.type_checker.specs.inner.Parts.{fields_view, fields_count, fields_after, before};
 
 use crate::static_type::{BooleanType, Leaf, StaticType, same_leaf};
 use plain::{NoMemory, Text};
@@ -85,8 +85,8 @@ fn kind_of<'r, 'a>(ty: &'r StaticType<'a>) -> TypeKind<'r, 'a>
         StaticType::Leaf(leaf) => TypeKind::Leaf(same_leaf(leaf)),
         StaticType::DeclaredSet(member) => TypeKind::Set(Part::Declared(*member)),
         StaticType::DeclaredRecord(fields) => TypeKind::Record(Fields::Declared(*fields)),
-        StaticType::Set(member) => TypeKind::Set(Part::Built(member.get())),
-        StaticType::Record(fields) => TypeKind::Record(Fields::Built(fields.get().as_slice())),
+        StaticType::Set(member) => TypeKind::Set(Part::Built(member)),
+        StaticType::Record(fields) => TypeKind::Record(Fields::Built(fields.as_slice())),
     }
 }
 
@@ -100,8 +100,8 @@ fn declared_kind<'r, 'a>(ty: &'a CedarType) -> TypeKind<'r, 'a>
         CedarType::Boolean => TypeKind::Leaf(Leaf::Boolean(BooleanType::Either)),
         CedarType::Decimal => TypeKind::Leaf(Leaf::Decimal),
         CedarType::Ipaddr => TypeKind::Leaf(Leaf::Ipaddr),
-        CedarType::Set(element) => TypeKind::Set(Part::Declared(element.get())),
-        CedarType::Record(fields) => TypeKind::Record(Fields::Declared(fields.get().as_slice())),
+        CedarType::Set(element) => TypeKind::Set(Part::Declared(element)),
+        CedarType::Record(fields) => TypeKind::Record(Fields::Declared(fields.as_slice())),
         CedarType::Entity(name) => TypeKind::Leaf(Leaf::Entity(name)),
     }
 }
@@ -119,8 +119,8 @@ impl<'r, 'a> Fields<'r, 'a> {
 
     /// Returns the field at an index, counted from 0, or `None` past the end.
     pub(crate) fn get(self, at: usize) -> Option<FieldPart<'r, 'a>>
-        ensures { fields_behind at (fields_view self.entry)
-            ≡ before result (fields_behind (suc at) (fields_view self.entry)) }
+        ensures { fields_after at (fields_view self.entry)
+            ≡ before result (fields_after (suc at) (fields_view self.entry)) }
     {
         match self {
             Fields::Built(fields) => built_at(fields, at),
@@ -145,8 +145,8 @@ fn built_at<'r, 'a>(
     fields: &'r [(&'a str, StaticType<'a>, bool)],
     at: usize,
 ) -> Option<FieldPart<'r, 'a>>
-    ensures { fields_behind at (built_view fields.now)
-        ≡ before result (fields_behind (suc at) (built_view fields.now)) }
+    ensures { fields_after at (built_view fields.now)
+        ≡ before result (fields_after (suc at) (built_view fields.now)) }
 {
     match fields.get(at) {
         Some(field) => Some(FieldPart {
@@ -162,8 +162,8 @@ fn declared_at<'r, 'a>(
     fields: &'a [(Text, CedarType, bool)],
     at: usize,
 ) -> Option<FieldPart<'r, 'a>>
-    ensures { fields_behind at (static_fields (cedar_fields_view fields.now))
-        ≡ before result (fields_behind (suc at) (static_fields (cedar_fields_view fields.now))) }
+    ensures { fields_after at (static_fields (cedar_fields_view fields.now))
+        ≡ before result (fields_after (suc at) (static_fields (cedar_fields_view fields.now))) }
 {
     match fields.get(at) {
         Some(field) => Some(FieldPart {

@@ -86,7 +86,7 @@ pub(crate) fn tested_operand_type<'a>(
 {
     match left {
         Expr::Unary(Unary::Is(name), operand) => {
-            if repeats_tested_operand(env, test, operand.get(), operator, again, other) {
+            if repeats_tested_operand(env, test, operand, operator, again, other) {
                 Some(name)
             } else {
                 None
@@ -103,8 +103,8 @@ fn of_entities<'a>(name: &'a TypeName) -> StaticType<'a>
     StaticType::Leaf(Leaf::Entity(name))
 }
 
-/// Returns the judgement on an operator whose first operand is an entity of the type `name`, by the judgement `other`
-/// on its second.
+/// Returns the judgement on an operator whose first operand is an entity of the type `name`, given the judgement
+/// `other` on its second operand.
 pub(crate) fn repeated_operand_typed<'a>(
     alloc: Global,
     env: TypingEnvironment<'a>,

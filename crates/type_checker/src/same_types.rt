@@ -33,8 +33,8 @@ fn outermost<'a>(ty: &'a CedarType) -> Layer<'a>
         CedarType::Boolean => Layer::Boolean,
         CedarType::Decimal => Layer::Decimal,
         CedarType::Ipaddr => Layer::Ipaddr,
-        CedarType::Set(element) => Layer::Set(element.get()),
-        CedarType::Record(fields) => Layer::Record(fields.get().as_slice()),
+        CedarType::Set(element) => Layer::Set(element),
+        CedarType::Record(fields) => Layer::Record(fields.as_slice()),
         CedarType::Entity(name) => Layer::Entity(name),
     }
 }

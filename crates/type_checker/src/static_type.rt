@@ -102,8 +102,8 @@ impl<'a> StaticType<'a> {
             CedarType::Boolean => StaticType::Leaf(Leaf::Boolean(BooleanType::Either)),
             CedarType::Decimal => StaticType::Leaf(Leaf::Decimal),
             CedarType::Ipaddr => StaticType::Leaf(Leaf::Ipaddr),
-            CedarType::Set(element) => StaticType::DeclaredSet(element.get()),
-            CedarType::Record(fields) => StaticType::DeclaredRecord(fields.get().as_slice()),
+            CedarType::Set(element) => StaticType::DeclaredSet(element),
+            CedarType::Record(fields) => StaticType::DeclaredRecord(fields.as_slice()),
             CedarType::Entity(name) => StaticType::Leaf(Leaf::Entity(name)),
         }
     }

@@ -14,9 +14,9 @@ use type_capabilities::Capability;
 /// The type of an expression, and the capabilities that it gains.
 #[derive(Drop)]
 pub struct Typed<'a> {
-    /// Its type.
+    /// The type of the expression.
     pub kind: StaticType<'a>,
-    /// The capabilities that are known if it is true.
+    /// The capabilities that are known if the expression is true.
     pub learns: Vec<Capability<'a>>,
 }
 

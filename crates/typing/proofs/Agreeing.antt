@@ -9,7 +9,7 @@ use Rattle.evaluator.specs.grammar_core.declared.operator.UnaryCall.TheVariants 
 use Rattle.evaluator.specs.grammar_core.declared.operator.BinaryCall.{BinaryCall}
 use Rattle.evaluator.specs.grammar_core.declared.expr.Expr.{Expr}
 use Rattle.evaluator.specs.grammar_core.declared.expr.Expr.TheVariants as form
-use Rattle.values.specs.extensions.Decided.{Decided, told}
+use Rattle.values.specs.extensions.Decided.{Decided, is_proved}
 use Rattle.evaluator.specs.Operators.{TakesAddress}
 use Rattle.typing.specs.Types
 use Rattle.typing.specs.Types.{StaticType, IsBoolean}
@@ -81,7 +81,7 @@ if_fault_is Rows.perhaps L n p = refl
 
 -- ---- calls with one operand
 
-told_so : {P : Type 0} (d : Decided P) → P → told d ≡ true
+told_so : {P : Type 0} (d : Decided P) → P → is_proved d ≡ true
 told_so (inl p) h = refl
 told_so (inr n) h = absurd (n h)
 

@@ -10,7 +10,7 @@ use Rattle.evaluator.specs.grammar_core.declared.operator.BinaryCall.{BinaryCall
 use Rattle.evaluator.specs.grammar_core.declared.expr.Named.{Named}
 use Rattle.evaluator.specs.grammar_core.declared.expr.Expr.{Expr}
 use Rattle.evaluator.specs.grammar_core.declared.expr.Expr.TheVariants as form
-use Rattle.values.specs.extensions.Decided.{Decided, told}
+use Rattle.values.specs.extensions.Decided.{Decided, is_proved}
 use Rattle.evaluator.specs.Operators.{TakesAddress}
 use Rattle.typing.specs.Types
 use Rattle.typing.specs.Types.{StaticType, IsBoolean}
@@ -184,7 +184,7 @@ module _ (env : Environment) where
   record_case K xs (Err n) h = Faults.fault_in_operand (Faults.of_record xs) h
 
   reading_case : (K : Pairs) (called : UnaryCall) (a : Expr) (s : StaticType) (L : Pairs) (d : Decided (ReadsLiteral called a (Tests.type_read called)))
-      → TakesText called → Types env K a s L → Holds K (form.UnaryCall called a) (Judging.row (Judging.literal_call called (told d)) Judging.learns_none)
+      → TakesText called → Types env K a s L → Holds K (form.UnaryCall called a) (Judging.row (Judging.literal_call called (is_proved d)) Judging.learns_none)
   reading_case K called a s L (inl h) i g = Typing.types_literal_call called a g h
   reading_case K called a s L (inr n) i g = Faults.no_literal called a i g (λ t h. n (subst (λ u. ReadsLiteral called a u) (sym (Tests.reading_type h)) h))
 

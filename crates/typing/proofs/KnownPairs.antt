@@ -3,7 +3,7 @@ use Rattle.std.specs.Prelude.{◌≡◌, ℕ, List, [], ◌∷◌, Bool, true, f
 use Rattle.std.specs.Bool.{Decides, one_answer}
 use Rattle.std.proofs.Common.{inl, inr, ap, ◌∙◌}
 use Rattle.evaluator.specs.grammar_core.declared.expr.Expr.{Expr}
-use Rattle.values.specs.extensions.Decided.{Decided, told}
+use Rattle.values.specs.extensions.Decided.{Decided, is_proved}
 use Rattle.values.specs.extensions.inner.Deciding.{decided_as, both_decided, text_decided}
 use Rattle.typing.specs.Types
 use Rattle.typing.specs.Types.{StaticType}
@@ -25,7 +25,7 @@ pub known : (K : Pairs) (p : Capability) → Decided (Contains K p)
 known K p = contains_decided pair_decided K p
 
 abbrev pub knows : Pairs → Capability → Bool
-knows K p = told (known K p)
+knows K p = is_proved (known K p)
 
 pub knows_is : (K : Pairs) (p : Capability) (r : Bool) → Decides r (Contains K p) → knows K p ≡ r
 knows_is K p r h = one_answer (knows K p) r (told_iff (known K p)) h
@@ -48,7 +48,7 @@ in_both_is (Gained.both_kept {p} {left = L} {right = M} {both = N} c h) =
 in_both_is (Gained.both_dropped {p} {left = L} {right = M} {both = N} n h) =
     ap (λ b. kept b p (in_both L M)) (told_not (known M p) n) ∙ in_both_is h
 
-keep : (p : Capability) (L M N : Pairs) (d : Decided (Contains M p)) → InBoth L M N → InBoth (p ∷ L) M (kept (told d) p N)
+keep : (p : Capability) (L M N : Pairs) (d : Decided (Contains M p)) → InBoth L M N → InBoth (p ∷ L) M (kept (is_proved d) p N)
 keep p L M N (inl c) h = Gained.both_kept c h
 keep p L M N (inr n) h = Gained.both_dropped n h
 

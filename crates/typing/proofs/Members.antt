@@ -3,7 +3,7 @@ use Rattle.std.specs.Prelude.{◌≡◌, ◌↔◌, IsTrue, List, [], ◌∷◌,
 use Rattle.std.proofs.lemmas.Bool.{false≢true}
 use Rattle.std.proofs.Common.{inl, inr, sym, subst}
 use Rattle.plain.proofs.Members.{Contains-here, Contains-there, Contains-cases, Contains-none}
-use Rattle.values.specs.extensions.Decided.{Decided, told}
+use Rattle.values.specs.extensions.Decided.{Decided, is_proved}
 use Rattle.values.specs.extensions.inner.Deciding.{decided_as, either_decided}
 
 module _ {X : Type 0} where
@@ -49,11 +49,11 @@ Contains-unmapped f (x ∷ xs) y c = elim (Contains-cases (f x) (map f xs) y c) 
 ]
 
 -- the test tells it
-pub told_iff : {P : Type 0} (d : Decided P) → IsTrue (told d) ↔ P
+pub told_iff : {P : Type 0} (d : Decided P) → IsTrue (is_proved d) ↔ P
 told_iff (inl p) = ((λ t. p), (λ p. refl))
 told_iff (inr n) = ((λ t. absurd (false≢true t)), (λ p. absurd (n p)))
 
 -- the test of what does not hold
-pub told_not : {P : Type 0} (d : Decided P) → ¬ P → told d ≡ false
+pub told_not : {P : Type 0} (d : Decided P) → ¬ P → is_proved d ≡ false
 told_not (inl p) n = absurd (n p)
 told_not (inr m) n = refl

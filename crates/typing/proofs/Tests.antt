@@ -19,7 +19,7 @@ use Rattle.evaluator.specs.grammar_core.declared.expr.Expr.{Expr}
 use Rattle.evaluator.specs.grammar_core.declared.expr.Expr.TheVariants as form
 use Rattle.evaluator.specs.grammar_core.declared.expr.Expr.TheViews.{roll-Expr, out-Expr, roll-out-Expr}
 use Rattle.evaluator.specs.grammar_core.declared.expr.Expr.TheOpen.{Expr-F}
-use Rattle.values.specs.extensions.Decided.{Decided, told}
+use Rattle.values.specs.extensions.Decided.{Decided, is_proved}
 use Rattle.values.specs.extensions.inner.Deciding.{decided_as, both_decided, either_decided}
 use Rattle.values.specs.extensions.TextsDecided.{decimal_text_decided, network_text_decided}
 use Rattle.typing.specs.Types
@@ -192,7 +192,7 @@ module _ (env : Environment) where
   equal_known : (a b : Expr) → Decided ((r : Bool) × DecidedByLiterals env binary.Equal a b r)
   equal_known a b =
       decided_as
-      (λ h. (told (literal_decided h.0.0 h.1.0), Literals.equal_literals h.0.1 h.1.1 (told_iff (literal_decided h.0.0 h.1.0))))
+      (λ h. (is_proved (literal_decided h.0.0 h.1.0), Literals.equal_literals h.0.1 h.1.1 (told_iff (literal_decided h.0.0 h.1.0))))
       (λ h. parts h.1)
       (both_decided (literal_known a) (literal_known b))
     where
@@ -217,7 +217,7 @@ module _ (env : Environment) where
   in_known a b =
       decided_as
       (λ h. (
-        told (in_some_decided h.0.0 h.1.0),
+        is_proved (in_some_decided h.0.0 h.1.0),
         Literals.action_in h.0.1 h.0.2 h.1.1 (told_iff (in_some_decided h.0.0 h.1.0)),
       ))
       (λ h. parts h.1)
@@ -338,4 +338,4 @@ reading_type h = (reads_parts h).3
 
 -- whether the operand is a literal of the call's extension
 abbrev pub reads : UnaryCall → Expr → Bool
-reads called x = told (reading_known called x)
+reads called x = is_proved (reading_known called x)

@@ -2,8 +2,8 @@
 -- that this demand is about.
 -- Source: the rules of Faults.antt, whose derivations say why an expression has no type.
 -- Rules of this product: the first operand with an error is blamed, down to a form that has an error of its own. If
--- this form demands that one operand is boolean, or is a unary operator or `has`, that operand is blamed; else the form
--- itself. Operands are numbered from 0, as they are written in the form.
+-- this form demands that one operand is boolean, that operand is blamed; if it is a unary operator or `has`, its
+-- operand; else the form itself. Operands are numbered from 0, as they are written in the form.
 use Rattle.std.specs.Prelude.{ℕ, suc, List, [], ◌∷◌}
 use Rattle.grammar_core.specs.declared.expr.Expr.{Expr}
 use Rattle.grammar_core.specs.declared.expr.Expr.TheVariants as form

@@ -21,9 +21,9 @@ use Rattle.typing.specs.Environment.{Environment}
 use Rattle.typing.specs.Gained.{Capability, Pairs}
 
 -- `Conforms env W q` holds if the request `q` has the action of the environment `env` and its types of principal,
--- resource and context, and if in the entity data `W` the attributes of each stored entity are those of its type, the
--- ancestors of an action are those that the schema states, and the ancestors of any other entity are of types that may
--- be ancestor types of its own.
+-- resource and context, and if in the entity data `W` the attributes of each stored entity are of the record type that
+-- `env` declares for its type, the ancestors of an action are those that `env` declares, and the ancestors of any other
+-- entity are of types that may be ancestor types of that entity's type.
 pub record Conforms (env : Environment) (W : Entities) (q : Request) : Type 0 where
   pub principal : q.principal.type_name ≡ env.principal
   pub action : q.action ≡ env.action
@@ -42,12 +42,12 @@ pub data IsPermittedError : EvalFault → Type 0 where
   entity_is_missing : IsPermittedError EntityDoesNotExist
   number_out_of_bounds : IsPermittedError ArithBoundsError
 
--- `Fits t r` holds if `r` is a value of the type `t`, or one of these errors.
+-- `Fits t r` holds if `r` is a value of the type `t`, or a permitted error (`IsPermittedError`).
 abbrev pub Fits : StaticType → EvaluationResult → Type 0
 Fits t (Ok v) = Of v t
 Fits t (Err e) = IsPermittedError e
 
--- `IsPresent W q p` holds if the expression of the capability `p` has the field of `p`.
+-- `IsPresent W q p` holds if the value of the expression of the capability `p` has the field of `p`.
 abbrev pub IsPresent : Entities → Request → Capability → Type 0
 IsPresent W q p = EvaluatesTo W q (form.Has p.0 p.1) (Ok (boolean true))
 

@@ -5,7 +5,7 @@ use Rattle.std.specs.Prelude.{ℕ, List, [], ◌∷◌, Contains}
 use Rattle.evaluator.specs.grammar_core.declared.expr.Expr.{Expr}
 use Rattle.typing.specs.Types.{StaticType, true_type, false_type, boolean_type}
 
--- A `Capability` is an expression and the name of a field that it has.
+-- A `Capability` is an expression and the name of a field that the expression's value has.
 abbrev pub Capability : Type 0
 Capability = Expr × List ℕ
 
@@ -21,9 +21,9 @@ pub data InBoth : Pairs → Pairs → Pairs → Type 0 where
   both_dropped : {p : Capability} {left right both : Pairs} → ¬ Contains right p → InBoth left right both
       → InBoth (p ∷ left) right both
 
--- `OrGains t left right gained` holds if `||` gains the capabilities `gained`, where its left side is Bool and gains
--- `left`, and its right side, of type `t`, gains `right`: none if `t` is True; `left` if `t` is False; those that both
--- gain if `t` is Bool.
+-- `OrGains t left right gained` holds if an `||` gains the capabilities `gained`. Its left side has the type Bool and
+-- gains `left`; its right side has the type `t` and gains `right`. The `||` gains none if `t` is True, `left` if `t` is
+-- False, and those that both sides gain if `t` is Bool.
 pub data OrGains : StaticType → Pairs → Pairs → Pairs → Type 0 where
   or_gains_none : {left right : Pairs} → OrGains true_type left right []
   or_gains_left : {left right : Pairs} → OrGains false_type left right left

@@ -38,15 +38,15 @@ CapabilitiesAreASet = (env : Environment) (K M : Pairs) (x : Expr) → AreSamePa
     → ((t : StaticType) (L : Pairs) → Types env K x t L → (N : Pairs) × AreSamePairs L N × Types env M x t N)
     × ((n : ExpressionFault) → Faults env K x n → Faults env M x n)
 
--- `TypesAreOrdered`: if the keys of a schema's record types ascend, those of each expression's type do; so record
+-- `TypesAreOrdered`: if the keys of an environment's record types ascend, those of each expression's type do; so record
 -- types with the same keys have them in the same order.
 abbrev pub TypesAreOrdered : Type 0
 TypesAreOrdered = (env : Environment) → HasOrderedTypes env → (K L : Pairs) (x : Expr) (t : StaticType)
     → Types env K x t L → IsOrdered t
 
 -- `AreSoundIn W` holds if typing is sound over the entity data `W`: if a request and `W` conform and the fields of the
--- known capabilities are present, each outcome of an expression of type `t` is a value of `t` or one of two errors, and
--- if it is true the fields of the gained capabilities are present.
+-- known capabilities are present, each outcome of an expression of type `t` is a value of `t` or a permitted error, and
+-- if the outcome is true, the fields of the gained capabilities are present.
 abbrev pub AreSoundIn : Entities → Type 0
 AreSoundIn W = (env : Environment) (q : Request) → Conforms env W q → (K L : Pairs) (x : Expr) (t : StaticType)
     → ArePresent W q K → Types env K x t L → (r : EvaluationResult) → EvaluatesTo W q x r → IsSoundOutcome W q t L r
@@ -60,8 +60,9 @@ abbrev pub TypedIsSoundInFiniteHierarchies : Type 0
 TypedIsSoundInFiniteHierarchies = (W : Entities) (stored : List EntityUid) → HaveAllParents W.parents stored
     → AreSoundIn W
 
--- `PoliciesAreSound`: an expression of boolean type, without known capabilities, gives a boolean or one of the two
--- errors, and never true if its type is False.
+-- `PoliciesAreSound`: if a test decides the ancestor relation, and a request and `W` conform to an environment, an
+-- expression of boolean type there, typed without known capabilities, gives only a boolean or a permitted error, and
+-- never true if its type is False.
 abbrev pub PoliciesAreSound : Type 0
 PoliciesAreSound = (W : Entities) (above : EntityUid → EntityUid → Bool) → Decides W.parents above
     → (env : Environment) (q : Request) → Conforms env W q → (x : Expr) (t : StaticType) (L : Pairs) → IsBoolean t
@@ -84,8 +85,8 @@ SomethingIsFaulty = Faults environment [] (form.Or has_age is_aged) attribute_ma
 abbrev pub IsTransitive : (List ℕ → List ℕ → Bool) → Type 0
 IsTransitive below = (l m n : List ℕ) → IsTrue (below l m) → IsTrue (below m n) → IsTrue (below l n)
 
--- `ParentsAreAllowed env parents` holds if each parent of an entity that is not an action is not an action, and of a
--- type that may be an ancestor type of the entity's.
+-- `ParentsAreAllowed env parents` holds if, for each entity that is not an action, no parent is an action, and the type
+-- of each parent may be an ancestor type of the entity's type.
 abbrev pub ParentsAreAllowed : Environment → Parents → Type 0
 ParentsAreAllowed env parents = (u p : EntityUid) → IsFalse (env.is_action_type u.type_name) → Contains (parents u) p
     → IsTrue (env.may_have_ancestor u.type_name p.type_name) × IsFalse (env.is_action_type p.type_name)

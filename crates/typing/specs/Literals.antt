@@ -39,7 +39,7 @@ pub data ListsEntities (env : Environment) : Expr → List EntityUid → Type 0 
   in_set : {x : Expr} {xs : List Expr} {us : List EntityUid} → AreEntityLiterals env (x ∷ xs) us
       → ListsEntities env (form.Set (x ∷ xs)) us
 
--- `IsActionIn env a b` holds if, by the schema, the action `a` is `b` or a descendant of it.
+-- `IsActionIn env a b` holds if, by the schema, the action `a` is `b` or a descendant of `b`.
 abbrev pub IsActionIn : Environment → EntityUid → EntityUid → Type 0
 IsActionIn env a b = (a ≡ b) ⊎ Contains (env.action_ancestors a) b
 

@@ -10,8 +10,8 @@ abbrev pub IsBefore : List ℕ → FieldTypes → Type 0
 IsBefore k no_field_types = ⊤
 IsBefore k (field_type l t r ts) = text_cmp k l ≡ Less
 
--- `IsOrdered t` holds if the keys of each record type in `t` ascend strictly, and `AreOrdered ts` if the keys `ts` do,
--- and those in their types.
+-- `IsOrdered t` holds if the keys of each record type in `t` ascend strictly, and `AreOrdered ts` holds if the keys of
+-- the fields `ts` do, and those of each record type in the types of these fields.
 abbrev mutual
   pub IsOrdered : StaticType → Type 0
   IsOrdered (set_type t) = IsOrdered t

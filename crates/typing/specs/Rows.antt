@@ -1,4 +1,4 @@
--- Defines the type of each kind of expression by its operands' types, or the error.
+-- Defines the type of each kind of expression, given its operands' types, or the error.
 -- Source: Cedar reference guide 4.0, "Policy validation" and "Operators and functions"; cedar-spec,
 -- cedar-lean/Cedar/Validation/Typechecker.lean (`typeOfUnaryApp`, `typeOfBinaryApp`, `typeOfGetAttr`,
 -- `typeOfHasAttr`, `typeOfSet`, `typeOfCall`).
@@ -59,7 +59,7 @@ unary_type (Like pattern) text_type = Ok boolean_type
 unary_type (Is n) (entity_type m) = Ok (truth_type (bytes_eq m n))
 unary_type op t = Err unexpected
 
--- `if_common o` is Bool if there is a common type `o`.
+-- `if_common o` is Bool if there is a common type `o`, else the error `no_common_type`.
 abbrev pub if_common : Option StaticType → Row
 if_common None = Err no_common_type
 if_common (Some t) = Ok boolean_type
@@ -80,7 +80,7 @@ may_be_in env m n =
 abbrev pub in_type : Environment → List ℕ → List ℕ → StaticType
 in_type env m n = if may_be_in env m n then boolean_type else false_type
 
--- `of_numbers t r s` is the type `t`, if the operand types `r` and `s` are both Long.
+-- `of_numbers t r s` is the type `t` if the operand types `r` and `s` are both Long, else the error `unexpected`.
 abbrev pub of_numbers : StaticType → StaticType → StaticType → Row
 of_numbers t long_type long_type = Ok t
 of_numbers t r s = Err unexpected
@@ -126,8 +126,8 @@ or_type t = boolean_type
 
 -- ---- fields; `is_known` says whether there is a capability for the field
 
--- `access_type is_known declared` is the type of `e.f`: that of a required field, or of an optional one with a
--- capability.
+-- `access_type is_known declared` is the type of `e.f`, where `declared` is the declaration of `f`: the type of a
+-- required field, or of an optional one with a capability.
 abbrev pub access_type : Bool → Declared → Row
 access_type is_known undeclared = Err attribute_may_be_missing
 access_type is_known (required t) = Ok t
@@ -140,14 +140,15 @@ field_type_of env is_known k (record_type ts) = access_type is_known (field_decl
 field_type_of env is_known k (entity_type n) = access_type is_known (field_declared_at k (env.attributes n))
 field_type_of env is_known k t = Err unexpected
 
--- `record_has declared` is the type of `e has f` for a record, without the capability.
+-- `record_has declared` is the type of `e has f` for a record `e` without the capability, where `declared` is the
+-- declaration of `f`.
 abbrev pub record_has : Declared → StaticType
 record_has undeclared = false_type
 record_has (required t) = true_type
 record_has (optional t) = boolean_type
 
--- `entity_has declared` is the type of `e has f` for an entity, without the capability: Bool also for a required field,
--- since the entity may not be stored.
+-- `entity_has declared` is the type of `e has f` for an entity `e` without the capability, where `declared` is the
+-- declaration of `f`: Bool also for a required field, since the entity may not be stored.
 abbrev pub entity_has : Declared → StaticType
 entity_has undeclared = false_type
 entity_has (required t) = boolean_type

@@ -75,14 +75,15 @@ same_requirement false true = false
 same_requirement false false = true
 
 -- `field_before k r t ts` is the field `k` of the common type `t`, required if `r`, in front of the common fields `ts`;
--- `None` if one of these is missing.
+-- `None` if `t` or `ts` is `None`.
 abbrev pub field_before : List ℕ → Bool → Option StaticType → Option FieldTypes → Option FieldTypes
 field_before k r (Some t) (Some ts) = Some (field_type k t r ts)
 field_before k r (Some t) None = None
 field_before k r None ts = None
 
--- `common s t` is the common type of `s` and `t`: of equal types that type; of different boolean types Bool; of sets by
--- their members; of records with equal keys and requirements field by field (`common_fields`). Other types have none.
+-- `common s t` is the common type of `s` and `t`: for equal types that type; for different boolean types Bool; for sets
+-- the sets of the common member type; for records with equal keys and requirements the record of the common types,
+-- field by field (`common_fields`). Other types have none.
 abbrev mutual
   pub common : StaticType → StaticType → Option StaticType
   common true_type true_type = Some true_type

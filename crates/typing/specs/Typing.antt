@@ -49,7 +49,7 @@ mutual
     if_of_both : {K L M N B : Pairs} (a b c : Expr) {s t u : StaticType} → Types env K a boolean_type L
         → Types env (K ++ L) b s M → Types env K c t N → common s t ≡ Some u → InBoth N (L ++ M) B
         → Types env K (form.If a b c) u B
-    -- literals that decide the result have no further types
+    -- literals decide the result: the operands are not typed
     types_settled : {K : Pairs} (op : Binary) (a b : Expr) {r : Bool} → DecidedByLiterals env op a b r
         → Types env K (form.Binary op a b) (truth_type r) []
     types_binary : {K L M : Pairs} (op : Binary) (a b : Expr) {s t u : StaticType} → UndecidedByLiterals env op a b

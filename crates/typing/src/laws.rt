@@ -23,8 +23,8 @@ pub fn types_are_ordered()
     ensures { TypesAreOrdered }
 {}
 
-/// Proves that typing is sound, if a test decides the ancestor relation, as it does if finitely many entities have
-/// parents. No-op.
+/// Proves that typing is sound if a test decides the ancestor relation. No-op. There is such a test if finitely many
+/// entities have parents.
 ///
 /// If a request and the entities conform and the fields of the known capabilities are present, a typed expression gives
 /// a value of its type, `EntityDoesNotExist` or `ArithBoundsError`; and if it gives true, the fields of the
@@ -50,7 +50,7 @@ pub fn something_conforms()
 /// transitive. No-op.
 ///
 /// For entities that are not actions: if no parent is an action, and the type of each parent may be an ancestor type of
-/// the entity's, then the type of each ancestor may be one too.
+/// the entity's type, then the type of each ancestor may be one too.
 pub fn parents_determine_ancestors()
     ensures { ParentsDetermineAncestors }
 {}

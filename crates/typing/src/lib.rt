@@ -1,6 +1,6 @@
 //! The rules of the strict validator: types, the values of a type, the typing relation with its errors, and the
 //! theorem that it is sound; paths in expressions, by the indexes of operands, and the expression that a typing error
-//! blames. Of functions that compute, the crate has only the walk along a path.
+//! blames. The only functions that compute are those that find an operand by its index or by a path.
 #![tactic(auto)]
 
 mod laws;

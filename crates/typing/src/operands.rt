@@ -71,19 +71,17 @@ pub fn operand<'a>(expr: &'a Expr, at: usize) -> Option<&'a Expr>
     match expr {
         Expr::Literal(_) => None,
         Expr::Variable(_) => None,
-        Expr::If(test, consequent, alternative) => {
-            three_at(test.get(), consequent.get(), alternative.get(), at)
-        }
-        Expr::And(left, right) => two_at(left.get(), right.get(), at),
-        Expr::Or(left, right) => two_at(left.get(), right.get(), at),
-        Expr::Unary(_, operand) => one_at(operand.get(), at),
-        Expr::Binary(_, left, right) => two_at(left.get(), right.get(), at),
-        Expr::Field(owner, _) => one_at(owner.get(), at),
-        Expr::Has(owner, _) => one_at(owner.get(), at),
+        Expr::If(test, consequent, alternative) => { three_at(test, consequent, alternative, at) }
+        Expr::And(left, right) => two_at(left, right, at),
+        Expr::Or(left, right) => two_at(left, right, at),
+        Expr::Unary(_, operand) => one_at(operand, at),
+        Expr::Binary(_, left, right) => two_at(left, right, at),
+        Expr::Field(owner, _) => one_at(owner, at),
+        Expr::Has(owner, _) => one_at(owner, at),
         Expr::Set(members) => member_at(members.as_slice(), at),
         Expr::Record(fields) => field_at(fields.as_slice(), at),
-        Expr::UnaryCall(_, operand) => one_at(operand.get(), at),
-        Expr::BinaryCall(_, left, right) => two_at(left.get(), right.get(), at),
+        Expr::UnaryCall(_, operand) => one_at(operand, at),
+        Expr::BinaryCall(_, left, right) => two_at(left, right, at),
     }
 }
 

@@ -1,7 +1,7 @@
 -- Defines the names in a policy: the entity types after `is` and the entity literals, in the order of its text.
 -- Source: Cedar reference guide 4.0, "Policy validation" and "Grammar specification for Cedar policy syntax".
 -- Desugaring keeps operands in the order of the text. It may repeat an operand: `e is T in f` becomes
--- `e is T && e in f`, where the names of `e` occur again after T. Each repeated name occurs earlier too, so the first
+-- `e is T && e in f`, where the names of `e` occur again after `T`. Each repeated name occurs earlier too, so the first
 -- undeclared name is the same here and in the text.
 use Rattle.std.specs.Prelude.{ℕ, List, [], ◌∷◌, ◌++◌}
 use Rattle.values.specs.declared.entity_uid.EntityUid.{EntityUid}

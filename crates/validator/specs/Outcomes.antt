@@ -46,7 +46,7 @@ NoEnvironmentIsImpossible = (s : StatedSchema) (policy : Policy) → s.environme
 
 -- `PassingPoliciesAreSound`: if the request and the entities conform to an environment of the schema, each result of
 -- the expression of a policy that passes is a boolean, `EntityDoesNotExist` or `ArithBoundsError`; if the policy is
--- impossible, it is never true.
+-- impossible, no result is true.
 abbrev pub PassingPoliciesAreSound : Type 0
 PassingPoliciesAreSound = (s : StatedSchema) (policy : Policy) → Passes s policy
     → (W : Entities) (above : EntityUid → EntityUid → Bool) → hierarchy.Decides W.parents above

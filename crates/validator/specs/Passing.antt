@@ -51,7 +51,7 @@ pub record Passes (s : StatedSchema) (policy : Policy) : Type 0 where
 abbrev pub IsImpossible : StatedSchema → Policy → Type 0
 IsImpossible s policy = All (HasType (expression_of policy) false_type) (environments_of s)
 
--- `IsVerdict s policy told` holds if `policy` passes, and `told` is true if and only if it is impossible.
+-- `IsVerdict s policy told` holds if `policy` passes, and `told` is true if and only if `policy` is impossible.
 pub record IsVerdict (s : StatedSchema) (policy : Policy) (told : Bool) : Type 0 where
   pub passes : Passes s policy
   pub impossible : IsTrue told ↔ IsImpossible s policy

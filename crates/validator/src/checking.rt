@@ -30,7 +30,7 @@ pub struct Verdict {
 fn check_names(schema: &Schema, parts: &[Expr], policy: &Policy) -> Result<(), TypeFault>
     ensures { result ≡ parts_check (schema_view schema.now) parts.now policy.now.condition }
 {
-    let condition = policy.condition.get();
+    let condition = &*policy.condition;
     walk_each(schema, parts)?;
     walk(schema, condition)
 }
@@ -46,7 +46,7 @@ fn reported_false<'a>(found: Result<StaticType<'a>, ExpressionFault>) -> Result<
 }
 
 /// Returns whether a policy's type is False in an environment, or the error of typing it there. `parts` are the
-/// expressions of its scope.
+/// expressions of the policy's scope.
 fn is_false_at(
     alloc: Global,
     schema: &Schema,
@@ -60,10 +60,11 @@ fn is_false_at(
 {
     expressions_have_one_judgement();
     let env = TypingEnvironment::new(schema, environment);
-    reported_false(judge_all(alloc, env, parts, policy.condition.get()))
+    reported_false(judge_all(alloc, env, parts, &policy.condition))
 }
 
-/// Returns whether a policy's type is False in each of `environments`, or the error of the first that has one.
+/// Returns whether a policy's type is False in each of `environments`, or the error of the first environment that has
+/// one. `parts` are the expressions of the policy's scope.
 fn is_false_everywhere(
     alloc: Global,
     schema: &Schema,

@@ -29,7 +29,8 @@ fn has_type_at(actions: &[EntityUid], at: usize, name: &TypeName) -> bool
     }
 }
 
-/// Returns whether the schema declares an action of the type `name`, by O(log n) comparisons of names.
+/// Returns whether the schema declares an action of the type `name`, by O(log n) comparisons of names, where n is the
+/// number of actions.
 fn is_type_of_action(schema: &Schema, name: &TypeName) -> bool
     ensures { result ≡ is_type_of_action (schema_view schema.now) name.now }
 {

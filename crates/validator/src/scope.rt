@@ -7,7 +7,7 @@ ghost use Rattle.type_checker.specs.policy_grammar.Whole.{expression_of};
 ghost use Rattle.validator.specs.inner.Checking.{scope_parts};
 
 use grammar_core::{Binary, Expr, Literal, Unary, Variable};
-use plain::{Items, NoMemory, Shared, beside};
+use plain::{Items, NoMemory, Shared, pair_with};
 use std::alloc::Global;
 use type_checker::{ActionScope, EntityScope, Policy, Scope};
 use values::{EntityUid, TypeName};
@@ -110,7 +110,7 @@ fn action_part(alloc: Global, scope: &ActionScope) -> Result<Expr, NoMemory>
 pub(crate) fn parts_of(alloc: Global, policy: &Policy) -> Result<Vec<Expr>, NoMemory>
     ensures { IfOk result (λ parts. parts.items ≡ scope_parts policy.now.scope) }
 {
-    let scope = policy.scope.get();
+    let scope = &*policy.scope;
     let mut parts = Vec::with_capacity(alloc, 3)?;
     parts.push(entity_part(alloc, Variable::Principal, &scope.principal)?)?;
     parts.push(action_part(alloc, &scope.action)?)?;
@@ -128,7 +128,7 @@ fn resource_and_condition(
 {
     let resource = entity_part(alloc, Variable::Resource, &scope.resource)?;
     let resource = Shared::new(alloc, resource)?;
-    let (resource, condition) = beside(resource, condition.share())?;
+    let (resource, condition) = pair_with(resource, condition.share())?;
     Ok(Expr::And(resource, condition))
 }
 
@@ -143,7 +143,7 @@ fn behind_principal(
         (form.And (entity_part Resource scope.now.resource) condition.now)) }
 {
     let rest = resource_and_condition(alloc, scope, condition)?;
-    let (rest, action) = beside(rest, action_part(alloc, &scope.action))?;
+    let (rest, action) = pair_with(rest, action_part(alloc, &scope.action))?;
     Expr::and(alloc, action, rest)
 }
 
@@ -156,9 +156,9 @@ fn behind_principal(
 pub fn expression_of(alloc: Global, policy: &Policy) -> Result<Expr, NoMemory>
     ensures { IfOk result (λ x. x ≡ expression_of policy.now) }
 {
-    let scope = policy.scope.get();
+    let scope = &*policy.scope;
     let rest = behind_principal(alloc, scope, &policy.condition)?;
-    let (rest, principal) = beside(
+    let (rest, principal) = pair_with(
         rest,
         entity_part(alloc, Variable::Principal, &scope.principal),
     )?;

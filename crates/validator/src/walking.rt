@@ -42,34 +42,34 @@ pub(crate) fn walk(schema: &Schema, expr: &Expr) -> Result<(), TypeFault>
         Expr::Literal(literal) => check_literal(schema, literal),
         Expr::Variable(_) => Ok(()),
         Expr::If(test, consequent, alternative) => {
-            walk(schema, test.get())?;
-            walk(schema, consequent.get())?;
-            walk(schema, alternative.get())
+            walk(schema, test)?;
+            walk(schema, consequent)?;
+            walk(schema, alternative)
         }
         Expr::And(left, right) => {
-            walk(schema, left.get())?;
-            walk(schema, right.get())
+            walk(schema, left)?;
+            walk(schema, right)
         }
         Expr::Or(left, right) => {
-            walk(schema, left.get())?;
-            walk(schema, right.get())
+            walk(schema, left)?;
+            walk(schema, right)
         }
         Expr::Unary(operator, operand) => {
-            walk(schema, operand.get())?;
+            walk(schema, operand)?;
             check_operator(schema, operator)
         }
         Expr::Binary(_, left, right) => {
-            walk(schema, left.get())?;
-            walk(schema, right.get())
+            walk(schema, left)?;
+            walk(schema, right)
         }
-        Expr::Field(owner, _) => walk(schema, owner.get()),
-        Expr::Has(owner, _) => walk(schema, owner.get()),
+        Expr::Field(owner, _) => walk(schema, owner),
+        Expr::Has(owner, _) => walk(schema, owner),
         Expr::Set(members) => walk_each(schema, members.as_slice()),
         Expr::Record(fields) => walk_fields(schema, fields.as_slice()),
-        Expr::UnaryCall(_, operand) => walk(schema, operand.get()),
+        Expr::UnaryCall(_, operand) => walk(schema, operand),
         Expr::BinaryCall(_, left, right) => {
-            walk(schema, left.get())?;
-            walk(schema, right.get())
+            walk(schema, left)?;
+            walk(schema, right)
         }
     }
 }

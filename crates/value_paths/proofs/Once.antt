@@ -17,8 +17,8 @@ use Rattle.value_paths.specs.EntityPaths.{shape_at, IsPathOf}
 use Rattle.value_paths.specs.RequestPaths.{IsContextType, IsRequestPathOf}
 use Rattle.value_paths.specs.Outcomes.{IsEntityFault, IsRequestFault}
 use Rattle.value_paths.specs.Pointers.{pointer_of}
-use Rattle.value_paths.specs.Laws.{HasPathOf, EntitiesHavePaths, EntitiesAreToldOnce, RequestsHavePaths, RequestsAreToldOnce}
-use Rattle.value_paths.specs.Told.{pointer_words, declared_words, is_of_value, type_behind, part_words}
+use Rattle.value_paths.specs.Laws.{HasPathOf, EntitiesHavePaths, EntityPartsHaveOneText, RequestsHavePaths, RequestPartsHaveOneText}
+use Rattle.value_paths.specs.PartWords.{pointer_words, declared_words, is_of_value, type_after_first, part_words}
 
 abbrev fault_in : {A : Type 0} → EntityFault → Result A EntityFault → EntityFault
 fault_in f (Ok x) = f
@@ -36,7 +36,7 @@ not_both r x f e d = false≢true (sym (ap is_read d) ∙ ap is_read e)
 
 -- what is said of an error with this path
 abbrev said : EntityFault → Option Cedar → List Step → List ℕ
-said f whole path = pointer_words (pointer_of path) ++ declared_words (if is_of_value f then option_and_then (λ t. type_behind t path) whole else None)
+said f whole path = pointer_words (pointer_of path) ++ declared_words (if is_of_value f then option_and_then (λ t. type_after_first t path) whole else None)
 
 same_path : {A : Type 0} (r : Result A EntityFault) (LeadsTo : EntityFault → List Step → Type 0) (f g : EntityFault) (p q : List Step) → HasPathOf r LeadsTo
     → r ≡ Err f → LeadsTo f p → r ≡ Err g → LeadsTo g q → p ≡ q
@@ -54,7 +54,7 @@ module _ (law : EntitiesHavePaths) (s : StatedSchema) (d : Data) (whole : Option
       ap (said x.fault whole) (same_path (entity_stated_in s d) (IsPathOf s d) x.fault y.fault x.path y.path (law s d) a.0 a.1 b.0 b.1)
       ∙ ap (λ (f : EntityFault). said f whole y.path) (sym (one_fault (entity_stated_in s d) x.fault y.fault a.0 b.0))
 
-pub told_once : EntitiesHavePaths → EntitiesAreToldOnce
+pub told_once : EntitiesHavePaths → EntityPartsHaveOneText
 told_once law s None words others h g = h ∙ sym g
 told_once law s (Some d) words others h g =
     h.2 ∙ same_words law s d (shape_at s (get (codes "uid") d)) h.0 g.0 h.1 g.1 ∙ sym g.2
@@ -84,7 +84,7 @@ module _ (law : RequestsHavePaths) (either : NotBoth) (one : OneRefusal) (s : St
       ap (said x.fault t) (same_place x y a b) ∙ same_said s d t u y.path x.fault a.0 i j
       ∙ ap (λ (f : EntityFault). said f u y.path) (one s d x.fault y.fault a.0 b.0)
 
-pub requests_told_once : RequestsHavePaths → NotBoth → OneRefusal → RequestsAreToldOnce
+pub requests_told_once : RequestsHavePaths → NotBoth → OneRefusal → RequestPartsHaveOneText
 requests_told_once law either one s None words others h g = h ∙ sym g
 requests_told_once law either one s (Some d) words others h g =
     h.4 ∙ same_request_words law either one s d h.0 g.0 h.1 g.1 h.2 g.2 h.3 g.3 ∙ sym g.4

@@ -18,7 +18,7 @@ use Rattle.entities.specs.schema.Schemas.{StatedSchema}
 use Rattle.entities.specs.declared.fault.EntityFault.{EntityFault}
 use Rattle.entities.specs.declared.fault.EntityFault.TheVariants.{NoMemory, BadShape, UnknownType, ActionEntity, Undeclared, Missing, WrongType, BadParent, SelfParent, TagsLeftOut, NotApplicable}
 use Rattle.entities.specs.declared.stated.StatedEntity.{StatedEntity}
-use Rattle.entities.specs.Faults.{of_value, told}
+use Rattle.entities.specs.Faults.{of_value, with_entity_fault}
 use Rattle.entities.specs.Stated.{is_absent_or_empty, or_empty, stated_in}
 use Rattle.entities.specs.Entities.{is_action_type, shape_of, attributes_in, parent_fits, parents_fit, parents_in, entity_stated_in}
 use Rattle.value_paths.specs.declared.steps.Step.{Step}
@@ -158,7 +158,7 @@ attributes_path_is s d e shape h declared =
 fields_placed : {A : Type 0} (s : StatedSchema) (d : Data) (e : StatedEntity) (shape : Cedar) (r : Result (List Field) ValueFault) (o : Option (List Step)) (next : List Field → Result A EntityFault)
     → stated_in d ≡ Ok e → s.shape e.uid.type_name ≡ Some shape → attributes_path s d ≡ under (Key (codes "attrs")) o
     → Found (RecordFaultAt shape (or_empty (get (codes "attrs") d))) r o → ((attrs : List Field) → Placed s d (next attrs))
-    → Placed s d (told r >>= next)
+    → Placed s d (with_entity_fault r >>= next)
 fields_placed s d e shape (Ok attrs) o next is declared at h more = more attrs
 fields_placed s d e shape (Err f) None next is declared at h more = absurd h
 fields_placed s d e shape (Err value.NoMemory) (Some p) next is declared at h more = (Key (codes "attrs") ∷ p, at, says.in_attributes e shape p is declared h)
@@ -168,7 +168,7 @@ fields_placed s d e shape (Err value.Missing) (Some p) next is declared at h mor
 
 tags_placed : {A : Type 0} (s : StatedSchema) (d : Data) (e : StatedEntity) (shape : Cedar) (untagged : Bool) (next : List Field → Result A EntityFault)
     → stated_in d ≡ Ok e → s.shape e.uid.type_name ≡ Some shape → ((attrs : List Field) → Placed s d (next attrs))
-    → Placed s d (demand TagsLeftOut untagged >>= λ u. told (record_in shape (or_empty (get (codes "attrs") d))) >>= next)
+    → Placed s d (demand TagsLeftOut untagged >>= λ u. with_entity_fault (record_in shape (or_empty (get (codes "attrs") d))) >>= next)
 tags_placed s d e shape true next is declared more =
     fields_placed s d e shape (record_in shape (or_empty (get (codes "attrs") d))) (record_path shape (or_empty (get (codes "attrs") d))) next is declared
     (attributes_path_is s d e shape (stated_parts d e is) declared) (record_is_found shape (or_empty (get (codes "attrs") d))) more
@@ -176,15 +176,15 @@ tags_placed s d e shape false next is declared more = (to_key (codes "tags"), re
 
 -- brackets
 told_tags : {A : Type 0} (s : StatedSchema) (d : Data) (shape : Cedar) (untagged : Bool) (next : List Field → Result A EntityFault)
-    → Placed s d (demand TagsLeftOut untagged >>= λ u. told (record_in shape (or_empty (get (codes "attrs") d))) >>= next)
-    → Placed s d ((demand TagsLeftOut untagged >>= λ u. told (record_in shape (or_empty (get (codes "attrs") d)))) >>= next)
+    → Placed s d (demand TagsLeftOut untagged >>= λ u. with_entity_fault (record_in shape (or_empty (get (codes "attrs") d))) >>= next)
+    → Placed s d ((demand TagsLeftOut untagged >>= λ u. with_entity_fault (record_in shape (or_empty (get (codes "attrs") d)))) >>= next)
 told_tags s d shape true next h = h
 told_tags s d shape false next h = h
 
 shape_placed : {A : Type 0} (s : StatedSchema) (d : Data) (e : StatedEntity) (action untagged : Bool) (o : Option Cedar) (next : List Field → Result A EntityFault)
     → stated_in d ≡ Ok e → s.shape e.uid.type_name ≡ o → ((attrs : List Field) → Placed s d (next attrs))
     → Placed s d (((demand ActionEntity (not action) >>= λ other. or_fault UnknownType o) >>= λ shape. demand TagsLeftOut untagged >>= λ u.
-    told (record_in shape (or_empty (get (codes "attrs") d)))) >>= next)
+    with_entity_fault (record_in shape (or_empty (get (codes "attrs") d)))) >>= next)
 shape_placed s d e true untagged o next is declared more = (to_key (codes "uid"), refl, refl)
 shape_placed s d e false untagged None next is declared more = (to_key (codes "uid"), refl, refl)
 shape_placed s d e false untagged (Some shape) next is declared more = told_tags s d shape untagged next (tags_placed s d e shape untagged next is declared more)

@@ -16,7 +16,7 @@ use Rattle.entities.specs.schema.Schemas.{StatedSchema}
 use Rattle.entities.specs.declared.fault.EntityFault.{EntityFault}
 use Rattle.entities.specs.declared.fault.EntityFault.TheVariants.{NoMemory, BadShape, UnknownType, ActionEntity, Undeclared, Missing, WrongType, BadParent, SelfParent, TagsLeftOut, NotApplicable}
 use Rattle.entities.specs.declared.requests.Asked.{Asked}
-use Rattle.entities.specs.Faults.{told}
+use Rattle.entities.specs.Faults.{with_entity_fault}
 use Rattle.entities.specs.Stated.{is_absent_or_object, or_empty}
 use Rattle.entities.specs.Requests.{Asks, RequestRefused, context_asked}
 use Rattle.entities.specs.Requests as request
@@ -84,14 +84,14 @@ pub form_searched : (d : Data) (p a r : Bool) → IsNamed (get (codes "principal
     → IsFormSearched d (first_unmet (request_demands d p a r))
 form_searched d p a r hp ha hr = form_searched_by d (is_some (as_object d)) (is_absent_or_object (get (codes "context") d)) p a r refl refl hp ha hr
 
-told_shape : (r : Result (List Field) ValueFault) → told r ≡ Err BadShape → ⊥
+told_shape : (r : Result (List Field) ValueFault) → with_entity_fault r ≡ Err BadShape → ⊥
 told_shape (Ok x) e = absurd cc
 told_shape (Err value.NoMemory) e = absurd cc
 told_shape (Err value.WrongType) e = absurd cc
 told_shape (Err value.Undeclared) e = absurd cc
 told_shape (Err value.Missing) e = absurd cc
 
-asked_shape_by : (o : Option Cedar) (d : Data) → (or_fault NotApplicable o >>= λ t. told (record_in t d)) ≡ Err BadShape → ⊥
+asked_shape_by : (o : Option Cedar) (d : Data) → (or_fault NotApplicable o >>= λ t. with_entity_fault (record_in t d)) ≡ Err BadShape → ⊥
 asked_shape_by None d e = absurd cc
 asked_shape_by (Some t) d e = told_shape (record_in t d) e
 
@@ -120,13 +120,13 @@ abbrev pub InContext : StatedSchema → Data → Option (List Step) → Type 0
 InContext s d o = (path : List Step) × (o ≡ Some path) × IsInContext s d path
 
 fields_fail : (s : StatedSchema) (d : Data) (asked : Asked) (t : Cedar) (r : Result (List Field) ValueFault) (o : Option (List Step)) (f : EntityFault) → Asks d asked → context_type s asked ≡ Some t
-    → Found (RecordFaultAt t (or_empty (get (codes "context") d))) r o → told r ≡ Err f → InContext s d (under (Key (codes "context")) o)
+    → Found (RecordFaultAt t (or_empty (get (codes "context") d))) r o → with_entity_fault r ≡ Err f → InContext s d (under (Key (codes "context")) o)
 fields_fail s d asked t (Ok x) o f asks is h e = absurd cc
 fields_fail s d asked t (Err g) None f asks is h e = absurd h
 fields_fail s d asked t (Err g) (Some p) f asks is h e = (Key (codes "context") ∷ p, refl, says.in_context asked t p asks is h)
 
 context_fails_by : (s : StatedSchema) (d : Data) (asked : Asked) (o : Option Cedar) (f : EntityFault) → Asks d asked → context_type s asked ≡ o → (f ≡ NotApplicable → ⊥)
-    → (or_fault NotApplicable o >>= λ t. told (record_in t (or_empty (get (codes "context") d)))) ≡ Err f
+    → (or_fault NotApplicable o >>= λ t. with_entity_fault (record_in t (or_empty (get (codes "context") d)))) ≡ Err f
     → InContext s d (under (Key (codes "context")) (with_or o (λ t. record_path t (or_empty (get (codes "context") d))) None))
 context_fails_by s d asked None f asks is other e = absurd (other cc)
 context_fails_by s d asked (Some t) f asks is other e =

@@ -1,8 +1,8 @@
 -- Defines the path to the part of an entity's JSON that is at fault under a schema.
 -- Source: Cedar reference guide 4.0, "Entities and context: JSON format".
--- Rules of this product: a uid is one part. An error of the form (30) leads to the first part without the form; of the
--- type (31, 32) to `uid`; of tags (38) to `tags`; of attributes (33, 34, 35) into `attrs`; of parents (36, 37) to the
--- first parent that the entity may not have.
+-- Rules of this product: a uid is one part. An error of the form (30) leads to the first part without the form of an
+-- entity; an error of the type (31, 32), to `uid`; of the tags (38), to `tags`; of the attributes (33, 34, 35), into
+-- `attrs`; of the parents (36, 37), to the first parent that the entity may not have.
 use Rattle.std.specs.Prelude.{◌≡◌, ℕ, ◌+◌, List, [], ◌∷◌, Bool, true}
 use Rattle.std.specs.Prelude.{false, is_some, Option, Some, None, Ok, Err, codes}
 use Rattle.std.specs.Prelude.{if◌then◌else◌, option_and_then}
@@ -76,8 +76,8 @@ form_demands d =
 
 -- ---- attributes and parents
 
--- `uid_at o` is the uid that the value `o` states, if it states one; `shape_at s o` is the shape of the type of that
--- entity, if the schema `s` declares it.
+-- `uid_at o` is the uid that the value `o` describes, if it describes one; `shape_at s o` is the shape of the type of
+-- that uid, if the schema `s` declares the type.
 abbrev pub uid_at : Option Data → Option EntityUid
 uid_at o = option_and_then uid_in o
 

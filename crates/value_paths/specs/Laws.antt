@@ -12,7 +12,7 @@ use Rattle.value_paths.specs.declared.steps.Step.{Step}
 use Rattle.value_paths.specs.Paths.{FaultAt, RecordFaultAt}
 use Rattle.value_paths.specs.EntityPaths.{IsPathOf}
 use Rattle.value_paths.specs.RequestPaths.{IsRequestPathOf}
-use Rattle.value_paths.specs.Told.{IsEntityTold, IsRequestTold}
+use Rattle.value_paths.specs.PartWords.{NamesPartOfEntity, NamesPartOfRequest}
 
 -- `HasPath r LeadsTo` holds if `r` is an error, and `LeadsTo` holds of exactly one path; or `r` is a value, and
 -- `LeadsTo` holds of no path.
@@ -26,7 +26,8 @@ HasPath (Err f) LeadsTo =
 abbrev pub ValuesHavePaths : Type 0
 ValuesHavePaths = (t : Cedar) (d : Data) → HasPath (typed_value t d) (FaultAt t d)
 
--- `RecordsHavePaths`: the same holds for attributes and contexts.
+-- `RecordsHavePaths`: JSON that a type rejects as attributes or as a context has exactly one path to the part at fault;
+-- JSON that it accepts has no path.
 abbrev pub RecordsHavePaths : Type 0
 RecordsHavePaths = (t : Cedar) (d : Data) → HasPath (record_in t d) (RecordFaultAt t d)
 
@@ -46,12 +47,12 @@ RequestsHavePaths = (s : StatedSchema) (d : Data) (f : EntityFault) → RequestR
     → (path : List Step) × IsRequestPathOf s d f path
     × ((other : List Step) → IsRequestPathOf s d f other → other ≡ path)
 
--- `EntitiesAreToldOnce`: at most one text names the part at fault of a value as an entity.
-abbrev pub EntitiesAreToldOnce : Type 0
-EntitiesAreToldOnce = (s : StatedSchema) (o : Option Data) (words others : List ℕ) → IsEntityTold s o words
-    → IsEntityTold s o others → words ≡ others
+-- `EntityPartsHaveOneText`: at most one text names the part at fault of a value as an entity.
+abbrev pub EntityPartsHaveOneText : Type 0
+EntityPartsHaveOneText = (s : StatedSchema) (o : Option Data) (words others : List ℕ) → NamesPartOfEntity s o words
+    → NamesPartOfEntity s o others → words ≡ others
 
--- `RequestsAreToldOnce`: at most one text names the part at fault of a value as a request.
-abbrev pub RequestsAreToldOnce : Type 0
-RequestsAreToldOnce = (s : StatedSchema) (o : Option Data) (words others : List ℕ) → IsRequestTold s o words
-    → IsRequestTold s o others → words ≡ others
+-- `RequestPartsHaveOneText`: at most one text names the part at fault of a value as a request.
+abbrev pub RequestPartsHaveOneText : Type 0
+RequestPartsHaveOneText = (s : StatedSchema) (o : Option Data) (words others : List ℕ) → NamesPartOfRequest s o words
+    → NamesPartOfRequest s o others → words ≡ others

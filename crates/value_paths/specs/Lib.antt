@@ -4,7 +4,7 @@ pub mod EntityPaths
 pub mod RequestPaths
 pub mod Pointers
 pub mod TypePaths
-pub mod Told
+pub mod PartWords
 pub mod Laws
 pub mod inner
 -- Specifications of lower crates, re-exported.

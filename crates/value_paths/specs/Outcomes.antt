@@ -13,13 +13,13 @@ use Rattle.value_paths.specs.EntityPaths.{IsPathOf}
 use Rattle.value_paths.specs.RequestPaths.{IsRequestPathOf}
 
 -- `IsEntityFault s d o` holds if `o` is the error of `d` as an entity under the schema `s`, with the path to the part
--- at fault; or if `o` is `None`, and `d` states an entity.
+-- at fault; or if `o` is `None`, and `d` describes an entity.
 abbrev pub IsEntityFault : StatedSchema → Data → Option PlacedFault → Type 0
 IsEntityFault s d o = MatchOption o ((e : Entity) × (entity_stated_in s d ≡ Ok e))
     (λ x. (entity_stated_in s d ≡ Err x.fault) × IsPathOf s d x.fault x.path)
 
 -- `IsRequestFault s d o` holds if `o` is the error of `d` as a request under the schema `s`, with the path to the part
--- at fault; or if `o` is `None`, and `d` states a request.
+-- at fault; or if `o` is `None`, and `d` describes a request.
 abbrev pub IsRequestFault : StatedSchema → Data → Option PlacedFault → Type 0
 IsRequestFault s d o = MatchOption o ((q : Request) × StatesRequest s d q)
     (λ x. RequestRefused s d x.fault × IsRequestPathOf s d x.fault x.path)

@@ -2,8 +2,9 @@
 -- Source: Cedar reference guide 4.0, "Entities and context: JSON format"; items are counted from 0, as in RFC 6901.
 -- Rules of this product: the parts of an array under a set type are its items, in order; those of an object under a
 -- record type are its members, ascending by key, and then the required keys that are absent, in the order of the type.
--- No other value has parts. The path leads to the first part that is rejected and has no rejected part of its own, and
--- each part before it is accepted.
+-- No other value has parts. Each step of the path leads to the first rejected part of the value that is reached; the
+-- path ends at a value that is rejected and has no rejected part, or at the key of the first required part that is
+-- absent.
 use Rattle.std.specs.Prelude.{◌≡◌, ℕ, ◌+◌, List, [], ◌∷◌, Bool, true, false, not, ◌&&◌, ◌||◌}
 use Rattle.std.specs.Prelude.{is_some, Some, None, Ok, Err}
 use Rattle.serde_json.specs.Data.{Data, Items, item, Members, member, array, object}
@@ -36,7 +37,7 @@ pub data FirstAbsent : CedarFields → Data → List ℕ → Type 0 where
       → FirstAbsent (type.field other t required fs) d key
 
 mutual
-  -- `FaultAt t d path` holds if `d` states no value of the type `t`, and `path` leads from `d` to the part at fault.
+  -- `FaultAt t d path` holds if `d` describes no value of the type `t`, and `path` leads from `d` to the part at fault.
   pub data FaultAt : Cedar → Data → List Step → Type 0 where
     whole : (t : Cedar) (d : Data) (f : ValueFault) → (is_set t d || is_record t d) ≡ false
         → typed_value t d ≡ Err f → FaultAt t d []
@@ -48,7 +49,7 @@ mutual
         → FirstAbsent fs (object ms) key → FaultAt (type.record_of fs) (object ms) (Key key ∷ [])
 
   -- `ItemFaultAt t i ds path` holds if `path` leads from an array with the items `ds`, counted from `i`, to the part at
-  -- fault of the first item that states no value of the type `t`.
+  -- fault of the first item that describes no value of the type `t`.
   pub data ItemFaultAt : Cedar → ℕ → Items → List Step → Type 0 where
     this_item : (t : Cedar) (i : ℕ) (d : Data) (ds : Items) (path : List Step) → FaultAt t d path
         → ItemFaultAt t i (item d ds) (Index i ∷ path)

@@ -1,7 +1,8 @@
 -- Defines the path to the part of a request's JSON that is at fault under a schema.
 -- Source: Cedar reference guide 4.0, "Authorization request".
 -- Rules of this product: the name of an entity is one part. An error of the form (30) leads to the first part without
--- the form; that the action does not apply (39) to `action`; an error of the context (33, 34, 35) into `context`.
+-- the form; the error that the action does not apply (39), to `action`; an error of the context (33, 34, 35), into
+-- `context`.
 use Rattle.std.specs.Prelude.{◌≡◌, ℕ, List, [], ◌∷◌, true, false, is_some, Option, Some, codes}
 use Rattle.serde_json.specs.Data.{Data}
 use Rattle.serde_json.specs.Find.{get, as_object}

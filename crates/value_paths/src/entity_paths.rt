@@ -22,7 +22,7 @@ use serde_json::{Map, Value};
 use std::alloc::Global;
 use values::TypeName;
 
-/// Returns the shape of a type of entities.
+/// Returns the shape of an entity type; `None` if the type is not declared.
 fn shape_of<'s>(schema: &'s Schema, name: &TypeName) -> Option<&'s CedarType>
     ensures { option_map (λ t. cedar_view t.now) result ≡ (schema_view schema.now).shape name.now }
 {
@@ -123,13 +123,15 @@ fn placed_fault(
 }
 
 /// Returns the error of a value as an entity under a schema, and the path to the part at fault; `None` if the value
-/// states an entity. The only error is `NoMemory`.
+/// describes an entity. The only error is `NoMemory`.
 ///
 /// The path of `BadShape` leads to the first part without the form of an entity; that of `UnknownType` and
-/// `ActionEntity` to the uid; that of `BadParent` and `SelfParent` to the first parent that the entity may not have.
-/// Within attributes it leads to the innermost part at fault: an item, a member, or a required key that is absent.
+/// `ActionEntity`, to the uid; that of `TagsLeftOut`, to the tags; that of `BadParent` and `SelfParent`, to the first
+/// parent that the entity may not have. The path of any other error leads to the innermost part of the attributes at
+/// fault: an item, a member, or a required key that is absent.
 ///
-/// Parses `value` again. Beyond that O(n f) for n members of objects and types of at most f fields.
+/// Parses `value` again. The search is then O(n f), where n is the number of members of objects in `value`, and f the
+/// greatest number of fields of a record type.
 pub fn entity_fault(
     alloc: Global,
     schema: &Schema,

@@ -23,7 +23,7 @@ pub(crate) fn element(ty: &CedarType) -> Option<&CedarType>
     ensures { option_map (λ t. cedar_view t.now) result ≡ element_of (cedar_view ty.now) }
 {
     match ty {
-        CedarType::Set(element) => Some(element.get()),
+        CedarType::Set(element) => Some(element),
         _ => None,
     }
 }
@@ -33,7 +33,7 @@ pub(crate) fn fields(ty: &CedarType) -> Option<&Fields>
     ensures { option_map (λ fs. cedar_fields_view fs.now) result ≡ fields_in (cedar_view ty.now) }
 {
     match ty {
-        CedarType::Record(fields) => Some(fields.get()),
+        CedarType::Record(fields) => Some(fields),
         _ => None,
     }
 }

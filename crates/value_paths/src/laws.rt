@@ -1,13 +1,13 @@
 //! Theorems about the paths to parts at fault. The functions are no-ops.
 ghost use Rattle.value_paths.specs.Laws.{ValuesHavePaths, RecordsHavePaths, EntitiesHavePaths};
-ghost use Rattle.value_paths.specs.Laws.{RequestsHavePaths, EntitiesAreToldOnce, RequestsAreToldOnce};
+ghost use Rattle.value_paths.specs.Laws.{RequestsHavePaths, EntityPartsHaveOneText, RequestPartsHaveOneText};
 
 use entities::{names_read_back, requests_have_one_outcome, texts_have_one_reading};
 
 /// Proves that JSON that a type rejects has exactly one path to the part at fault, and JSON that it accepts has no
 /// path. No-op.
 ///
-/// The same holds for attributes and contexts.
+/// The same holds for JSON that is parsed as attributes or as a context.
 pub fn rejected_values_have_one_path()
     ensures values { ValuesHavePaths }
     ensures records { RecordsHavePaths }
@@ -27,15 +27,15 @@ pub fn rejected_requests_have_one_path()
 }
 
 /// Proves that the schema and the JSON determine the words that name the part at fault of an entity. No-op.
-pub fn entities_are_told_once()
-    ensures { EntitiesAreToldOnce }
+pub fn entity_parts_have_one_text()
+    ensures { EntityPartsHaveOneText }
 {
     rejected_entities_have_one_path();
 }
 
 /// Proves that the schema and the JSON determine the words that name the part at fault of a request. No-op.
-pub fn requests_are_told_once()
-    ensures { RequestsAreToldOnce }
+pub fn request_parts_have_one_text()
+    ensures { RequestPartsHaveOneText }
 {
     rejected_requests_have_one_path();
     requests_have_one_outcome();

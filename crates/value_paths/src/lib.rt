@@ -9,23 +9,23 @@ mod finding;
 mod forms;
 mod laws;
 mod parents;
+mod part_naming;
 mod placed;
 mod pointers;
 mod request_paths;
 mod steps;
-mod told;
 mod type_paths;
 mod wholes;
 
 pub use entities::Schema;
 pub use entity_paths::entity_fault;
 pub use laws::{
-    entities_are_told_once, rejected_entities_have_one_path, rejected_requests_have_one_path,
-    rejected_values_have_one_path, requests_are_told_once,
+    entity_parts_have_one_text, rejected_entities_have_one_path, rejected_requests_have_one_path,
+    rejected_values_have_one_path, request_parts_have_one_text,
 };
+pub use part_naming::{entity_part, request_part};
 pub use placed::PlacedFault;
 pub use pointers::pointer;
 pub use request_paths::request_fault;
 pub use steps::Step;
-pub use told::{entity_part, request_part};
 pub use type_paths::type_at;

@@ -15,7 +15,7 @@ use serde_json::Value;
 use std::alloc::Global;
 use values::EntityUid;
 
-/// Returns the uid that a value states, if it is present and states one.
+/// Returns the uid that a value describes, if it is present and describes one.
 pub(crate) fn uid_at(alloc: Global, found: Option<&Value>) -> Result<Option<EntityUid>, NoMemory>
     ensures { IfOk result (λ o. o ≡ uid_at (option_map (λ v. view v.now) found.entry)) }
 {

@@ -1,4 +1,4 @@
-//! Errors with the part that they are about.
+//! Errors of entities and requests, each with the path to the part at fault.
 ghost use Rattle.std.specs.Prelude.{◌≡◌, IfOk, is_some};
 ghost use Rattle.value_paths.specs.inner.Placing.{IsFaultOf, IsPlaced};
 
@@ -6,12 +6,12 @@ use crate::steps::{Step, Trail};
 use entities::EntityFault;
 use plain::{Items, NoMemory};
 
-/// An error of JSON as an entity or a request, and the path from the JSON to the part at fault.
+/// The error of a JSON value that is rejected as an entity or a request, and the path from it to the part at fault.
 #[derive(Drop)]
 pub struct PlacedFault {
     /// The error of parsing the JSON.
     pub fault: EntityFault,
-    /// The steps to the part; empty if the whole is at fault. If a required key is absent, it is the last step.
+    /// The steps to the part; empty if the whole is at fault. If a required key is absent, that key is the last step.
     pub path: Items<Step>,
 }
 

@@ -42,8 +42,8 @@ fn is_named(alloc: Global, found: Option<&Value>) -> Result<bool, NoMemory>
     Ok(was_some(name))
 }
 
-/// Returns the path to the first part without the form of a request, if there is one. The three booleans say which
-/// entities are named.
+/// Returns the path to the first part without the form of a request, if there is one. The three booleans say which of
+/// the principal, the action and the resource the request names.
 fn first_unmet(
     alloc: Global,
     value: &Value,
@@ -96,7 +96,8 @@ fn is_of(
             && place.resource.as_str() == resource.type_name.as_str())
 }
 
-/// Returns the type of the context of a request for these three, if the action applies to them.
+/// Returns the type of the context of a request with these three entities, if the action applies to the types of the
+/// other two.
 fn context_type<'s>(
     schema: &'s Schema,
     principal: &EntityUid,
@@ -109,13 +110,14 @@ fn context_type<'s>(
     let all = schema.environments();
     for environment in all {
         if is_of(environment, principal, action, resource) {
-            return Some(environment.context.get());
+            return Some(&environment.context);
         }
     }
     None
 }
 
-/// Returns the type of the context of a request for these three, if all are named and the action applies to them.
+/// Returns the type of the context of a request with these three entities, if all are present and the action applies to
+/// the types of the other two.
 fn named_type<'s>(
     schema: &'s Schema,
     principal: &Option<EntityUid>,
@@ -137,7 +139,8 @@ fn named_type<'s>(
     context_type(schema, principal, action, resource)
 }
 
-/// Returns the type of the context of a request for these two and the resource that the request names.
+/// Returns the type of the context of a request for this principal, this action and the resource that the request
+/// names.
 fn type_for_resource<'s>(
     alloc: Global,
     schema: &'s Schema,
@@ -237,10 +240,10 @@ fn placed_fault(
 }
 
 /// Returns the error of a value as a request under a schema, and the path to the part at fault; `None` if the value
-/// states a request. The only error is `NoMemory`.
+/// describes a request. The only error is `NoMemory`.
 ///
 /// The path of `BadShape` leads to the first part without the form of a request, and that of `NotApplicable` to the
-/// action. That of any other error leads to the innermost part of the context at fault, as in
+/// action. The path of any other error leads to the innermost part of the context at fault, as in
 /// [`entity_fault`](crate::entity_fault).
 pub fn request_fault(
     alloc: Global,

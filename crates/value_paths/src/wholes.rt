@@ -36,7 +36,7 @@ fn record_with(alloc: Global, ty: &CedarType) -> Result<CedarType, NoMemory>
     Ok(CedarType::Record(Shared::new(alloc, fields)?))
 }
 
-/// Returns `false` for an error of a value, which is thus rejected. The only error is `NoMemory`.
+/// Returns `false` for an error other than `NoMemory`: the type rejects the value. The only error is `NoMemory`.
 fn rejected(fault: ValueFault) -> Result<bool, NoMemory>
     ensures { IfOk result (λ yes. (yes ≡ false) × (fault ≢ ValueFault.NoMemory)) }
 {

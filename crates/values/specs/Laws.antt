@@ -9,12 +9,13 @@ use Rattle.values.specs.WellFormed.{IsWellFormed}
 
 -- ---- sets
 
--- `SetsHoldTheirMembers`: the list that `set_list` makes of some values ascends strictly, and has exactly these
--- members.
+-- `SetsHoldTheirMembers`: the list that `set_list` makes of some values ascends strictly, and has exactly these values
+-- as members.
 abbrev pub SetsHoldTheirMembers : Type 0
 SetsHoldTheirMembers = (vs : List PlainValue) → IsSetOf vs (set_list vs)
 
--- `SetsAreOneList`: the list that `set_list` makes is the only one that ascends strictly and has exactly these members.
+-- `SetsAreOneList`: the list that `set_list` makes of some values is the only one that ascends strictly and has exactly
+-- these values as members.
 abbrev pub SetsAreOneList : Type 0
 SetsAreOneList = (vs s : List PlainValue) → IsSetOf vs s → s ≡ set_list vs
 
@@ -35,9 +36,9 @@ abbrev pub KeysStayAscending : Type 0
 KeysStayAscending = (key : List ℕ) (value : PlainValue) (fields : List Field) → AreKeysAscending fields
     → AreKeysAscending (put key value fields)
 
--- `FieldsTellRecords`: two records are equal if each key has the same value in both, or is in neither.
-abbrev pub FieldsTellRecords : Type 0
-FieldsTellRecords = (a b : List Field) → AreKeysAscending a → AreKeysAscending b
+-- `FieldsDetermineRecords`: two records are equal if each key has the same value in both, or is in neither.
+abbrev pub FieldsDetermineRecords : Type 0
+FieldsDetermineRecords = (a b : List Field) → AreKeysAscending a → AreKeysAscending b
     → ((key : List ℕ) → find_field key a ≡ find_field key b) → a ≡ b
 
 -- `OrderOfFieldsDoesNotMatter`: the order in which two fields are set does not matter.
@@ -46,9 +47,9 @@ OrderOfFieldsDoesNotMatter = (key other : List ℕ) (value next : PlainValue) (f
     → AreKeysAscending fields → key ≢ other →
     put key value (put other next fields) ≡ put other next (put key value fields)
 
--- `LaterValueStays`: of two values that are set at one key, the record has the later.
-abbrev pub LaterValueStays : Type 0
-LaterValueStays = (key : List ℕ) (value earlier : PlainValue) (fields : List Field) → AreKeysAscending fields →
+-- `LaterValueWins`: of two values that are set at one key, the record has the later.
+abbrev pub LaterValueWins : Type 0
+LaterValueWins = (key : List ℕ) (value earlier : PlainValue) (fields : List Field) → AreKeysAscending fields →
     put key value (put key earlier fields) ≡ put key value fields
 
 -- ---- well-formed values

@@ -6,7 +6,7 @@ pub mod Paths
 pub mod Sets
 pub mod Uids
 pub mod ValueCode
-pub mod ValueFalls
+pub mod ValueHeights
 pub mod ValueOrder
 pub mod ValueView
 pub mod Values

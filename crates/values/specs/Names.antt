@@ -1,4 +1,4 @@
--- Defines the orders of entity uids, names and requests.
+-- Defines the orders of names (ids of policies and uids of entities) and of requests.
 -- Rules of this product: policies before entities; policies by the bytes of the id; entities by the bytes of the
 -- type's name, then of the id.
 use Rattle.std.specs.Prelude.{◌≡◌, refl}
@@ -18,7 +18,7 @@ use Rattle.values.specs.declared.name.Name.TheVariants.{Policy, Entity}
 use Rattle.values.specs.declared.request.Request.{Request}
 use Rattle.values.specs.ValueOrder.{record_cmp, record_cmp-IsTotalOrder, record_cmp-IsAntisymmetric}
 
--- `name_cmp a b` compares two names: policies come before entities.
+-- `name_cmp a b` compares two names: policies, by id, come before entities, by uid.
 abbrev pub name_cmp : Name → Name → Ordering
 name_cmp (Policy a) (Policy b) = text_cmp a b
 name_cmp (Policy a) (Entity b) = Less

@@ -1,4 +1,4 @@
--- Defines the Path that a list of words makes, and tests, which compute, whether a string is an identifier or a Path.
+-- Defines the Path that a list of words forms, and computable tests of whether a string is an identifier or a Path.
 -- Source: Cedar reference guide 4.0, "Grammar specification for Cedar policy syntax", Path = Ident { "::" Ident },
 -- without blanks or comments.
 use Prim.Native.Char.{code}
@@ -21,8 +21,8 @@ is_word (c ∷ cs) = is_letter c && list_all is_word_byte cs
 abbrev pub is_ident : List ℕ → Bool
 is_ident word = is_word word && not (list_any (bytes_eq word) reserved_words)
 
--- `pieces word text` are the pieces of `word` followed by `text`, which each `::` in `text` separates; `word` begins
--- the first piece, and `pieces [] text` are those of `text`.
+-- `pieces word text` are the strings into which the separators `::` cut `text`, the first of them with `word` before
+-- it; `pieces [] text` are those of `text` alone.
 unfoldable pub pieces : List ℕ → List ℕ → List (List ℕ)
 pieces word [] = word ∷ []
 pieces word (c ∷ []) = (word ++ c ∷ []) ∷ []

@@ -6,7 +6,7 @@ use Rattle.std.specs.Ordering.{match_ordering, is_eq}
 use Rattle.values.specs.Values.{PlainValue}
 use Rattle.values.specs.ValueOrder.{value_cmp}
 
--- `put_value v ws` is the ascending list `ws` with the value `v` added in its order, unless it is there.
+-- `put_value v ws` is the ascending list `ws` with the value `v` inserted in order, or `ws` if it contains `v`.
 abbrev pub put_value : PlainValue → List PlainValue → List PlainValue
 put_value v [] = v ∷ []
 put_value v (w ∷ ws) = match_ordering (value_cmp v w) (v ∷ w ∷ ws) (w ∷ ws) (w ∷ put_value v ws)

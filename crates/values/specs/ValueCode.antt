@@ -1,4 +1,5 @@
--- Defines a code of values: each value as a list of tokens, which determines the value and gives the order of values.
+-- Defines a code of values: each value as a list of tokens. The list determines the value, and the order of these lists
+-- is the order of values.
 use Rattle.std.specs.Prelude.{◌≡◌, ℕ, ℤ, pos, List, [], ◌∷◌, ◌++◌, Bool, true, false, cond, ◌==◌, refl}
 use Rattle.std.specs.Coded.{Coded, code_by, coded×, coded_ℕ, coded_ℤ, coded_list}
 use Rattle.std.proofs.Common.{ap, sym, ◌∙◌, append_assoc}
@@ -8,13 +9,13 @@ use Rattle.extensions.specs.Order.{version_number, network_of, network_of-networ
 use Rattle.values.specs.Values.{PlainValue, boolean, long, text, entity, set, record_of, decimal, ipaddr, PlainValues}
 use Rattle.values.specs.Values.{no_values, value, PlainFields, no_fields, field}
 
--- A `Token` is a tag, a number, and two strings. The tag says what the token is: 0 the end of a set or record, 1 to 8 a
--- value of a kind, in the order of kinds (`kind_rank` of ValueOrder), where 5 only begins a set and 6 a record, and 9 a
--- key of a record.
+-- A `Token` is a tag, a number, and two strings. The tag 0 is the end of a set or record; 1 to 8 are the kinds of
+-- values by their ranks (`kind_rank` of ValueOrder), where 5 is only the beginning of a set and 6 that of a record; 9
+-- is a key of a record.
 abbrev pub Token : Type 0
 Token = ℕ × (ℤ × (List ℕ × List ℕ))
 
--- `as_number b` is 1 if `b`, else 0.
+-- `as_number b` is 1 if `b` is true, else 0.
 abbrev pub as_number : Bool → ℤ
 as_number false = pos 0
 as_number true = pos 1
@@ -28,7 +29,7 @@ is_one z = false
 abbrev pub network_list : Network → List ℕ
 network_list n = version_number n.version ∷ n.address ∷ n.prefix ∷ []
 
--- `list_network ns` is the network that the list `ns` represents.
+-- `list_network ns` is the network that the list `ns` represents, where a missing number is 0.
 abbrev pub list_network : List ℕ → Network
 list_network [] = network_of (0, (0, 0))
 list_network (v ∷ []) = network_of (v, (0, 0))
@@ -36,8 +37,8 @@ list_network (v ∷ a ∷ []) = network_of (v, (a, 0))
 list_network (v ∷ a ∷ p ∷ more) = network_of (v, (a, p))
 
 abbrev mutual
-  -- `tokens v` are the tokens of the value `v`; `set_tokens` and `record_tokens` are those of members and of fields,
-  -- with an end.
+  -- `tokens v` are the tokens of the value `v`; `set_tokens vs` are those of the members `vs`, and `record_tokens fs`
+  -- those of the fields `fs`, each with an end token after them.
   pub tokens : PlainValue → List Token
   tokens (boolean b) = (1, (as_number b, ([], []))) ∷ []
   tokens (long z) = (2, (z, ([], []))) ∷ []
@@ -62,8 +63,8 @@ pub data Item : Type 0 where
   key : List ℕ → Item
   whole : PlainValue → Item
 
--- `members st` are the values of `st` up to the next end, `fields st` are the keys with their values up to there, and
--- `behind st` are the items after it.
+-- `members st` are the values at the beginning of the items `st`, up to the first end; `fields st` are the keys with
+-- their values up to that end; and `behind st` are the items after it.
 abbrev pub members : List Item → PlainValues
 members [] = no_values
 members (end ∷ st) = no_values
@@ -102,8 +103,8 @@ abbrev pub read : List Token → List Item
 read [] = []
 read (t ∷ ts) = read_one t.0 t.1.0 t.1.1.0 t.1.1.1 (read ts)
 
--- `items_of vs st` are the members `vs` as items, then an end and `st`; `field_items fs st` says the same of fields.
--- The lemmas prove that reading finds again what was written.
+-- `items_of vs st` are the members `vs` as items, then an end and `st`; `field_items fs st` are the fields `fs` as
+-- items, then an end and `st`. The lemmas below prove that reading the tokens of a value gives that value.
 abbrev items_of : PlainValues → List Item → List Item
 items_of no_values st = end ∷ st
 items_of (value v vs) st = whole v ∷ items_of vs st
@@ -159,7 +160,8 @@ mutual
       ∙ ap (λ st. key k ∷ st) (read-tokens v (record_tokens fs ++ ts)
       ∙ ap (λ st. whole v ∷ st) (read-record_tokens fs ts))
 
--- `first_of st` is the first item of `st`, if it is a value; `from_tokens ts` is the value of the tokens `ts`.
+-- `first_of st` is the first item of `st` if that item is a value, else false; `from_tokens ts` is the value of the
+-- tokens `ts`.
 abbrev first_of : List Item → PlainValue
 first_of [] = boolean false
 first_of (end ∷ st) = boolean false
@@ -169,6 +171,7 @@ first_of (whole v ∷ st) = v
 abbrev from_tokens : List Token → PlainValue
 from_tokens ts = first_of (read ts)
 
+-- The tokens of a value have that value.
 pub from_tokens-tokens : (v : PlainValue) → from_tokens (tokens v) ≡ v
 from_tokens-tokens v =
     ap from_tokens (sym (append-nil (tokens v))) ∙ ap first_of (read-tokens v [])

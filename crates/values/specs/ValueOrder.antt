@@ -66,7 +66,7 @@ abbrev mutual
   fields_cmp (field k v fs) (field l w gs) =
       ordering_then (text_cmp k l) (ordering_then (value_cmp v w) (fields_cmp fs gs))
 
--- ---- the same order by the tokens of ValueCode, which proves that it is total
+-- ---- the same order by the tokens of ValueCode, from which it follows that the order is total
 
 -- `token_cmp x y` compares two tokens part by part, and `tokens_cmp xs ys` two lists of tokens.
 abbrev token_cmp : Token → Token → Ordering
@@ -92,8 +92,8 @@ then_into o p q e = ap (ordering_then o) e
 then_same : (o p q : Ordering) → o ≡ p → ordering_then o q ≡ ordering_then p q
 then_same o p q e = ap (λ r. ordering_then r q) e
 
--- An end comes before the first token of each value, so a prefix comes first; `end_last` says the same from the other
--- side.
+-- An end comes before the first token of each value, so a prefix comes first; `end_last` compares the same two lists
+-- the other way round.
 end_first : (w : PlainValue) (s t : List Token) → tokens_cmp ((0, (pos 0, ([], []))) ∷ s) (tokens w ++ t) ≡ Less
 end_first (boolean b) s t = refl
 end_first (long z) s t = refl
@@ -128,8 +128,9 @@ network_by_numbers m n =
     ∙ sym (then_equal (text_cmp (network_list m) (network_list n)))
 
 mutual
-  -- Comparing two values and then two lists of tokens is comparing the values' tokens, each followed by its list; the
-  -- same holds of members and fields.
+  -- `value_by_tokens v w s t`: the tokens of `v` followed by `s` compare with the tokens of `w` followed by `t` as `v`
+  -- does with `w`, and, if these are equal, as `s` does with `t`. The next two lemmas state the same of members and of
+  -- fields.
   value_by_tokens : (v w : PlainValue) (s t : List Token)
       → ordering_then (value_cmp v w) (tokens_cmp s t) ≡ tokens_cmp (tokens v ++ s) (tokens w ++ t)
   value_by_tokens (boolean b) (boolean b') s t = then_same _ _ _ (bool_by_number b b' ∙ sym (then_equal _))
@@ -299,7 +300,7 @@ record_cmp-is (f ∷ a) (g ∷ b) =
     sym (then_assoc (text_cmp f.0 g.0) (value_cmp f.1 g.1) (record_cmp a b))
     ∙ ap (ordering_then (field_cmp f g)) (record_cmp-is a b)
 
--- Both orders are total, and only equal lists compare as equal.
+-- `set_cmp` and `record_cmp` are total, and only equal lists compare as equal.
 pub set_cmp-IsTotalOrder : IsTotalOrder set_cmp
 set_cmp-IsTotalOrder = on_total (λ vs. set (values_of vs)) value_cmp-IsTotalOrder
 

@@ -8,7 +8,8 @@ use Rattle.values.specs.ValueOrder.{value_cmp}
 use Rattle.values.specs.Values.{PlainValue, boolean, long, text, entity, set, record_of, decimal, ipaddr, PlainValues}
 use Rattle.values.specs.Values.{no_values, value, PlainFields, no_fields, field, list_of, pairs_of}
 
--- `IsWellFormed v` holds if the value `v` is well formed at every depth.
+-- `IsWellFormed v` holds if the value `v` is well formed at every depth. `AreMembersWellFormed vs` holds if each of the
+-- values `vs` is, and `AreFieldsWellFormed fs` if the value of each of the fields `fs` is.
 abbrev mutual
   pub IsWellFormed : PlainValue → Type 0
   IsWellFormed (boolean b) = ⊤

@@ -2,7 +2,8 @@
 ghost use Rattle.std.specs.Prelude.{◌≡◌, ◌≢◌, ℕ, List, Some};
 ghost use Rattle.values.specs.Fields.{find_field, put};
 ghost use Rattle.values.specs.Laws.{SetsHoldTheirMembers, SetsAreOneList, MemberTestIsExact, MembersAreFound};
-ghost use Rattle.values.specs.Laws.{KeysStayAscending, FieldsTellRecords, OrderOfFieldsDoesNotMatter, LaterValueStays};
+ghost use Rattle.values.specs.Laws.{KeysStayAscending, FieldsDetermineRecords, OrderOfFieldsDoesNotMatter};
+ghost use Rattle.values.specs.Laws.{LaterValueWins};
 ghost use Rattle.values.specs.Laws.{SetsAreWellFormed, MembersAreWellFormed, RecordsStayWellFormed};
 ghost use Rattle.values.specs.Laws.{FieldsAreWellFormed};
 ghost use Rattle.values.specs.Paths.{IdentTestIsExact, PathTestIsExact};
@@ -28,9 +29,9 @@ pub fn records_are_maps()
     ensures others { (key other : List ℕ) (value : Value) (fields : Record) → other ≢ key
         → find_field other (put key value fields) ≡ find_field other fields }
     ensures ascending { KeysStayAscending }
-    ensures same { FieldsTellRecords }
+    ensures same { FieldsDetermineRecords }
     ensures order { OrderOfFieldsDoesNotMatter }
-    ensures later { LaterValueStays }
+    ensures later { LaterValueWins }
 {}
 
 /// Proves that values stay well formed at every depth: the members of each set ascend strictly, and so do the keys of
@@ -46,7 +47,7 @@ pub fn values_stay_well_formed()
 {}
 
 /// Proves that the test `is_ident` accepts exactly the identifiers, and `is_path` exactly the Paths. No-op.
-pub fn paths_are_told()
+pub fn path_tests_are_exact()
     ensures idents { IdentTestIsExact }
     ensures paths { PathTestIsExact }
 {}

@@ -20,7 +20,7 @@ pub use extensions::decimal::one_decimal_a_text;
 pub use extensions::ip_net::one_network_a_text;
 pub use extensions::{Decimal, IpNet};
 pub use laws::{
-    paths_are_told, records_are_maps, sets_hold_their_members, values_stay_well_formed,
+    path_tests_are_exact, records_are_maps, sets_hold_their_members, values_stay_well_formed,
 };
 pub use name::Name;
 pub use orders::{

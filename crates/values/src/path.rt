@@ -16,7 +16,7 @@ fn is_reserved(word: &[u8]) -> bool
     RESERVED.contains(&word)
 }
 
-/// Returns whether a word is an identifier.
+/// Returns whether a string, all of whose bytes a word may contain, is an identifier.
 fn is_ident(word: &[u8]) -> bool
     requires { AllAre is_word_byte word.now }
     ensures { IsTrue result ↔ IsIdent word.now }

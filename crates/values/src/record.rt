@@ -45,7 +45,7 @@ impl Model for Record {
     ghost size = { λ fs. field_heights (fields_of fs) };
 
     ghost use Rattle.std.proofs.Common.{arith};
-    ghost use Rattle.values.specs.ValueFalls.{most_le-field_heights};
+    ghost use Rattle.values.specs.ValueHeights.{most_le-field_heights};
 
     ghost size_decreases = { λ a h. omega (arith, most_le-field_heights a.fields.entries) };
 }
@@ -60,7 +60,7 @@ impl Record {
         }
     }
 
-    /// Sets the value of a field; a value that it had is dropped. After `NoMemory` the record is unchanged.
+    /// Sets the value of a field, and drops the value that the field had. After `NoMemory` the record is unchanged.
     pub fn insert(&mut self, key: Text, value: Value) -> Result<(), NoMemory>
         ensures ok { OnOk result (self.new ≡ put key value self.old) }
         ensures err { OnErr result (self.new ≡ self.old) }

@@ -44,13 +44,13 @@ impl Model for Set {
     ghost size = { λ vs. heights (values_of vs) };
 
     ghost use Rattle.std.proofs.Common.{arith};
-    ghost use Rattle.values.specs.ValueFalls.{most_le-heights};
+    ghost use Rattle.values.specs.ValueHeights.{most_le-heights};
 
     ghost size_decreases = { λ a h. omega (arith, most_le-heights a.members.items) };
 }
 
 impl Set {
-    /// Creates the set of these values, in any order and with repeats, or returns `NoMemory`.
+    /// Creates the set of `values`, which may be in any order and repeat, or returns `NoMemory`.
     pub fn new(values: Vec<Value>) -> Result<Set, NoMemory>
         ensures is { IfOk result (λ s. s ≡ set_list values.items) }
         ensures members { IfOk result (λ s. (v : Value) → Contains s v ↔ Contains values.items v) }
@@ -115,7 +115,7 @@ impl Set {
     }
 }
 
-/// Proves that each of these values is well formed. No-op.
+/// Proves that each of `values` is well formed. No-op.
 fn all_well_formed(values: &[Value])
     ensures { AreMembersWellFormed (values_of values.now) }
 {

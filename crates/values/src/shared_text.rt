@@ -28,7 +28,7 @@ impl Model for SharedText {
 }
 
 impl SharedText {
-    /// Creates a string of these characters with one reference, or returns `NoMemory`.
+    /// Creates a string of the characters of `content`, with one reference, or returns `NoMemory`.
     pub fn from_str(alloc: Global, content: &str) -> Result<SharedText, NoMemory>
         ensures { IfOk result (λ t. t ≡ content.now) }
     {
@@ -48,7 +48,7 @@ impl SharedText {
     pub fn as_str(&self) -> &str
         ensures { result.now ≡ self.now }
     {
-        self.content.get().as_str()
+        self.content.as_str()
     }
 
     /// Returns whether two strings have the same bytes. Does not allocate.

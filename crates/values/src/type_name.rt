@@ -38,7 +38,7 @@ impl Model for TypeName {
 }
 
 impl TypeName {
-    /// Returns the type name that a string is, or `None` if it is not a Path written without whitespace and comments.
+    /// Returns a string as a type name, or `None` if the string is not a Path written without whitespace and comments.
     /// The only error is `NoMemory`.
     pub fn parse(alloc: Global, text: &str) -> Result<Option<TypeName>, NoMemory>
         ensures { IfOk result (λ o. MatchOption o (IsPath text.now → ⊥) (λ t. IsPath text.now × (t ≡ text.now))) }
@@ -52,7 +52,7 @@ impl TypeName {
 
     /// Returns the type name of the identifiers `words`, with `::` between each two. The only error is `NoMemory`.
     ///
-    /// The parser uses it for a Path of a policy, which may have whitespace and comments between its words.
+    /// The parser of policies calls this for a Path, which may have whitespace and comments between its words there.
     pub fn from_words(alloc: Global, words: &[&str]) -> Result<TypeName, NoMemory>
         requires some { 0 < length words.now }
         requires idents { AreIdents (map (λ w. w.now) words.now) }

@@ -69,13 +69,13 @@ impl Model for Value {
 
     ghost size = { height };
 
-    ghost use Rattle.values.specs.ValueFalls.{deep_le-height};
+    ghost use Rattle.values.specs.ValueHeights.{deep_le-height};
 
     ghost size_decreases = { λ a h. deep_le-height a.kind };
 }
 
 impl Value {
-    /// Returns a boolean. Does not allocate.
+    /// Returns a boolean as a value. Does not allocate.
     pub fn boolean(value: bool) -> Value
         ensures { result ≡ boolean value }
     {
@@ -84,7 +84,7 @@ impl Value {
         }
     }
 
-    /// Returns an integer. Does not allocate.
+    /// Returns an integer as a value. Does not allocate.
     pub fn long(number: i64) -> Value
         ensures { result ≡ long number }
     {
@@ -93,7 +93,7 @@ impl Value {
         }
     }
 
-    /// Returns a string, which is moved. Does not allocate.
+    /// Returns a string, which is moved, as a value. Does not allocate.
     pub fn text(content: Text) -> Value
         ensures { result ≡ text content }
     {
@@ -102,7 +102,7 @@ impl Value {
         }
     }
 
-    /// Returns an entity by its uid, which is moved. Does not allocate.
+    /// Returns an entity, whose uid is moved, as a value. Does not allocate.
     pub fn entity(uid: EntityUid) -> Value
         ensures { result ≡ entity uid }
     {
@@ -111,14 +111,14 @@ impl Value {
         }
     }
 
-    /// Returns the set of these values, which may be in any order and repeat; or `NoMemory`.
+    /// Returns the set of the values `members`, which may be in any order and repeat, as a value; or `NoMemory`.
     pub fn set(members: Vec<Value>) -> Result<Value, NoMemory>
         ensures { IfOk result (λ v. v ≡ set (values_of (set_list members.items))) }
     {
         Ok(Value::from_set(Set::new(members)?))
     }
 
-    /// Returns a set. Does not allocate.
+    /// Returns a set as a value. Does not allocate.
     pub fn from_set(members: Set) -> Value
         ensures { result ≡ set (values_of members) }
     {
@@ -128,7 +128,7 @@ impl Value {
         }
     }
 
-    /// Returns a record. Does not allocate.
+    /// Returns a record as a value. Does not allocate.
     pub fn from_record(fields: Record) -> Value
         ensures { result ≡ record_of (fields_of fields) }
     {
@@ -138,7 +138,7 @@ impl Value {
         }
     }
 
-    /// Returns a decimal. Does not allocate.
+    /// Returns a decimal as a value. Does not allocate.
     pub fn decimal(number: Decimal) -> Value
         ensures { result ≡ decimal number }
     {
@@ -147,7 +147,7 @@ impl Value {
         }
     }
 
-    /// Returns an IP address with a prefix. Does not allocate.
+    /// Returns an IP address with a prefix as a value. Does not allocate.
     pub fn ipaddr(network: IpNet) -> Value
         ensures { result ≡ ipaddr network }
     {

@@ -16,8 +16,8 @@ use std::marker::Model;
 
 /// A kind of value, with its content borrowed where that content owns memory.
 ///
-/// So a string, or the uid of an entity, is a value without being copied. `of_borrowed` is the value that it
-/// represents.
+/// So a string, or the uid of an entity, may be used as a value without a copy. `of_borrowed` gives the value that a
+/// `BorrowedKind` represents.
 #[derive(Clone, Copy)]
 pub enum BorrowedKind<'a> {
     /// True or false.
@@ -59,7 +59,7 @@ impl<'a> Model for ValueRef<'a> {
 }
 
 impl<'a> ValueRef<'a> {
-    /// Returns a boolean. Does not allocate.
+    /// Returns a boolean as a value. Does not allocate.
     pub fn boolean(truth: bool) -> ValueRef<'a>
         ensures { result ≡ boolean truth }
     {
@@ -68,7 +68,7 @@ impl<'a> ValueRef<'a> {
         }
     }
 
-    /// Returns an integer. Does not allocate.
+    /// Returns an integer as a value. Does not allocate.
     pub fn long(number: i64) -> ValueRef<'a>
         ensures { result ≡ long number }
     {
@@ -77,7 +77,7 @@ impl<'a> ValueRef<'a> {
         }
     }
 
-    /// Returns a string. Does not allocate.
+    /// Returns a string as a value. Does not allocate.
     pub fn text(content: &'a Text) -> ValueRef<'a>
         ensures { result ≡ text content.now }
     {
@@ -86,7 +86,7 @@ impl<'a> ValueRef<'a> {
         }
     }
 
-    /// Returns an entity by its uid. Does not allocate.
+    /// Returns an entity, by its uid, as a value. Does not allocate.
     pub fn entity(uid: &'a EntityUid) -> ValueRef<'a>
         ensures { result ≡ entity uid.now }
     {
@@ -95,7 +95,7 @@ impl<'a> ValueRef<'a> {
         }
     }
 
-    /// Returns a record. Does not allocate.
+    /// Returns a record as a value. Does not allocate.
     pub fn record(fields: &'a Record) -> ValueRef<'a>
         ensures { result ≡ record_of (fields_of fields.now) }
     {

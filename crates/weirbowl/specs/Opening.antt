@@ -22,7 +22,7 @@ pub record IsOpened (schema name : List ℕ) (e : EmbeddedSite) : Type 0 where
   pub fresh : e.body.items ≡ []
 
 -- `IsOpenError schema name f` holds if opening a site of the name `name` under the bytes `schema` may fail with `f`.
--- `NoMemory` may be the error for any bytes.
+-- Out of memory may be the error for any name and any bytes.
 abbrev pub IsOpenError : List ℕ → List ℕ → OpenError → Type 0
 IsOpenError schema name SiteName = IsSiteName name → ⊥
 IsOpenError schema name (Schema r) = (r ≡ no_memory → ⊥) → IsSiteName name × IsSchemaRefused schema r

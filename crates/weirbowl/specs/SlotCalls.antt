@@ -25,16 +25,17 @@ Calls (Some old) call r before after new =
     × (r ≡ record { status = status; length = length e.body.items }) × (after ≡ copied e.body.items before)
 Calls None call r before after new = (r ≡ not_open) × (after ≡ before) × (new ≡ None)
 
--- `RepeatsBody old r before after new` holds if the body of the last reply is copied again: `r` is 200 and its length,
--- `after` is `before` with the body copied into it, and the site is unchanged. If no site is open, nothing happens.
+-- `RepeatsBody old r before after new` holds if the body of the last reply is copied again: `r` is the status 200 and
+-- the length of the body, `after` is `before` with the body copied into it, and the site is unchanged. If no site is
+-- open, nothing happens.
 abbrev pub RepeatsBody : Option EmbeddedSite → CallResult → List ℕ → List ℕ → Option EmbeddedSite → Type 0
 RepeatsBody (Some old) r before after new =
     (r ≡ record { status = 200; length = length old.body.items }) × (after ≡ copied old.body.items before)
     × (new ≡ Some old)
 RepeatsBody None r before after new = (r ≡ not_open) × (after ≡ before) × (new ≡ None)
 
--- `Opens old schema name code new` holds if an empty site is opened (`code` 0), or a site is open already (3), or no
--- site is opened and `code` is that of the error.
+-- `Opens old schema name code new` holds if an empty site is opened (`code` 0), or a site is open already (`code` 3),
+-- or no site is opened and `code` is the number of the error.
 abbrev pub Opens : Option EmbeddedSite → List ℕ → List ℕ → ℕ → Option EmbeddedSite → Type 0
 Opens (Some old) schema name code new = (code ≡ 3) × (new ≡ Some old)
 Opens None schema name code new =

@@ -45,8 +45,8 @@ DecidesUnder schema policies entities request r before after =
 abbrev pub checked_status : Bool → ℕ
 checked_status some_rejected = if some_rejected then 422 else 200
 
--- `Checks schema policies r before after` is the same relation for the lines of the checked policies, one for each
--- policy.
+-- `Checks schema policies r before after` holds if the call may return `r` and turn the memory `before` into `after`:
+-- the lines of the checked policies, one for each, or an error.
 abbrev pub Checks : List ℕ → List ℕ → CallResult → List ℕ → List ℕ → Type 0
 Checks schema policies r before after =
     ((text : List ℕ) × (some_rejected : Bool) × IsChecked schema policies text some_rejected

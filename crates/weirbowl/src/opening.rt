@@ -13,7 +13,7 @@ use schema_decisions::{Refusal, Schema, schema_in};
 use site_calls::{LINE_ROOM, Scratch, Site, is_site_name, site_names_are_recognized};
 use std::alloc::Global;
 
-/// Why no site is opened.
+/// The reason why no site is opened.
 #[derive(Clone, Copy)]
 pub enum OpenError {
     /// The name is not a site name.

@@ -1,4 +1,4 @@
-//! The pointer of a box that was taken apart.
+//! A pointer in place of a box.
 ghost use Rattle.std.specs.Prelude.{◌≡◌};
 ghost use Rattle.weirbowl.specs.Ownership.{owned_at};
 
@@ -15,7 +15,7 @@ impl<T> Model for RawBox<T> {
 }
 
 impl<T: Drop> RawBox<T> {
-    /// Takes a box apart. Does not allocate.
+    /// Turns a box into the pointer that owns what the box owned. Does not allocate.
     pub(crate) fn from_box(boxed: Box<T>) -> RawBox<T>
         ensures { result.value ≡ boxed.value }
     {

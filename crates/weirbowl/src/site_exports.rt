@@ -1,4 +1,4 @@
-//! The exports for C that use the site of a slot.
+//! The exports for C that use the site of a slot, the memory that a C program keeps for a site.
 //!
 //! Opening and closing return a number or a boolean. Each other call copies the body of its reply to the beginning of
 //! `out`, if `out` is long enough, and returns the reply's status and the body's length; if no site is open, it does
@@ -12,8 +12,8 @@ use crate::slot_calls::{call_in, close_in, open_in, repeat_body};
 use site_calls::Call;
 use std::alloc::Global;
 
-/// Opens an empty site in the slot. Returns 0; 3 if a site is open there already; else the number of the error: 2 for
-/// the name, 20 to 25 for the schema, 1 if out of memory.
+/// Opens an empty site in the slot. Returns 0 if it did, 3 if a site was open there already, and else the code of the
+/// error: 2 for the name, 20 to 25 for the schema, 1 if out of memory.
 #[unsafe(no_mangle)]
 pub extern "C" fn weirbowl_open(
     alloc: Global,

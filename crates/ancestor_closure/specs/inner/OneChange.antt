@@ -21,7 +21,7 @@ pub record TakesChild (xs ps : List EntityUid) (child : EntityUid)
 abbrev pub firsts : List (EntityUid × Vec EntityUid Global) → List EntityUid
 firsts xs = map (λ x. x.0) xs
 
--- `written xs q old` is the list of `q` that `xs` has, or `old` if `xs` has none.
+-- `written xs q old` is the list that the pairs `xs` have for `q`, or `old` if they have none.
 abbrev pub written : List (EntityUid × Vec EntityUid Global) → EntityUid → List EntityUid → List EntityUid
 written [] q old = old
 written (x ∷ xs) q old = if is_eq (uid_cmp x.0 q) then x.1.items else written xs q old
@@ -49,9 +49,9 @@ pub record Leaves (entities : List EntityUid) (ancestors : EntityUid → List En
       Contains after x ⊎ (Contains entities x × (Contains (ancestors x) x → ⊥))
   pub taken : (x : EntityUid) → Contains entities x → (Contains (ancestors x) x → ⊥) → Contains after x → ⊥
 
--- `IsPlanned parents uid ancestors children change` holds if `change` has the former and the new parents of `uid`, the
--- entity and its descendants, and the new lists of these. `ancestors` and `children` are those before the change,
--- `parents` is the hierarchy after it.
+-- `IsPlanned parents uid ancestors children change` holds if `change` has the former and the new parents of `uid`, and
+-- `uid` and its descendants, each with its new list of ancestors. `ancestors` and `children` are those before the
+-- change, `parents` is the hierarchy after it.
 pub record IsPlanned (parents : Parents) (uid : EntityUid) (ancestors children : EntityUid → List EntityUid)
     (change : Change) : Type 0 where
   pub uid_is : change.uid ≡ uid

@@ -13,12 +13,12 @@ IsNumber us i x = (i < length us) × (slice_index_or us i x ≡ x)
 abbrev pub NumbersAmong : List EntityUid → List EntityUid → List ℕ → Type 0
 NumbersAmong us ps ns = (j : ℕ) → Contains ns j ↔ ((x : EntityUid) × Contains ps x × IsNumber us j x)
 
--- `AreNumbered p us k es` holds if, for each index below `k` in `us`, the edges in `es` are the numbers of the entity's
--- parents under `p`.
+-- `AreNumbered p us k es` holds if `es` lists, at the index of each of the first `k` entities of `us`, the numbers of
+-- that entity's parents under `p`, as far as they are in `us`.
 abbrev pub AreNumbered : Parents → List EntityUid → ℕ → List (Vec ℕ Global) → Type 0
 AreNumbered p us k es = (i : ℕ) (x : EntityUid) → i < k → IsNumber us i x → NumbersAmong us (p x) (edges_of es i)
 
--- `IsNoNumber us x` holds if `x` is not in `us`.
+-- `IsNoNumber us x` holds if `x` is not in `us`, and so has no number.
 abbrev pub IsNoNumber : List EntityUid → EntityUid → Type 0
 IsNoNumber us x = Contains us x → ⊥
 

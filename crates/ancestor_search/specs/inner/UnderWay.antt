@@ -1,15 +1,15 @@
--- Defines the invariants of the search for cyclic numbers on the code's type `Walk`.
+-- Defines, on the code's type `Walk`, the invariants of the search for cyclic numbers.
 use Rattle.std.specs.Prelude.{ℕ}
 use Rattle.ancestor_search.specs.declared.walk.Bound.{Bound}
 use Rattle.ancestor_search.specs.declared.walk.Walk.{Walk}
 use Rattle.ancestor_search.specs.inner.Walking.{Edges, IsWalking, IsWalkingWithRemovedEdge, effort}
 
--- `IsUnderWay e w` holds if `w` is a search of the graph `e` along some path of groups.
+-- `IsUnderWay e w` holds if `w` is a search of the graph `e` along some path of groups (`IsWalking`).
 abbrev pub IsUnderWay : Edges → Walk → Type 0
 IsUnderWay e w = IsWalking e w.place.items w.found.items w.members.items w.pending.items w.bounds.items
 
--- `IsWaiting e w last y` holds if `w` is such a search from which the bound `last` of the last group was removed, and
--- an edge of that group to `y` is to be visited next.
+-- `IsWaiting e w last y` holds if `w` is such a search, except that the bound `last` of the last group was removed from
+-- `w`, and so was an edge of that group, which leads to `y` and is to be visited next.
 abbrev pub IsWaiting : Edges → Walk → Bound → ℕ → Type 0
 IsWaiting e w last y =
     IsWalkingWithRemovedEdge e w.place.items w.found.items w.members.items w.pending.items w.bounds.items last y

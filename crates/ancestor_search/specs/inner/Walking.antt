@@ -25,12 +25,12 @@ Way e b (c ∷ cs) a = Contains (e b) c × Way e c cs a
 abbrev pub LeadsTo : Edges → ℕ → ℕ → Type 0
 LeadsTo e a b = (through : List ℕ) × Way e b through a
 
--- `MarksCycles e found` holds if a number is marked if and only if it is cyclic.
+-- `MarksCycles e found` holds if `found` marks exactly the cyclic numbers of the graph `e`.
 abbrev pub MarksCycles : Edges → List Bool → Type 0
 MarksCycles e found = (x : ℕ) → IsTrue (slice_index_or found x false) ↔ LeadsTo e x x
 
--- `done_mark`, the greatest number of 64 bits, is the mark of a number whose search is done. Numbers past the end have
--- it too.
+-- `done_mark`, the greatest number of 64 bits, is the mark of a number whose search is done. Numbers past the end of
+-- the list of marks have it too.
 abbrev pub done_mark : ℕ
 done_mark = 18446744073709551615
 
@@ -39,11 +39,11 @@ done_mark = 18446744073709551615
 abbrev pub mark_of : List ℕ → ℕ → ℕ
 mark_of place x = slice_index_or place x done_mark
 
--- `IsDone place x` holds if `x` is done, or past the end.
+-- `IsDone place x` holds if `x` is done, or past the end of `place`.
 abbrev pub IsDone : List ℕ → ℕ → Type 0
 IsDone place x = mark_of place x ≡ done_mark
 
--- A `Group` has its members, and the ends of those of their edges that were not yet visited.
+-- A `Group` has its members, and the ends of the members' edges that were not yet visited.
 pub record Group : Type 0 where
   pub members : List ℕ
   pub pending : List ℕ
@@ -77,8 +77,8 @@ IsMember [] x = ⊥
 IsMember (g ∷ gs) x = Contains g.members x ⊎ IsMember gs x
 
 -- `IsGroup e Beyond g before` holds if each edge of a member of `g` leads to a number in `Beyond` (the done numbers and
--- the members of later groups), leads to `g`, or was not yet visited; the members reach one another; the groups
--- `before` reach them; and no member is in `Beyond`.
+-- the members of later groups), leads to `g`, or is pending; each pending edge is an edge of a member; the members
+-- reach one another; the groups `before` reach them; and no member is in `Beyond`.
 pub record IsGroup (e : Edges) (Beyond : ℕ → Type 0) (g : Group) (before : List Group) : Type 0 where
   pub settled : (x y : ℕ) → Contains g.members x → Contains (e x) y →
       (Beyond y ⊎ Contains g.members y) ⊎ Contains g.pending y
@@ -108,8 +108,8 @@ pub record IsFinished (e : Edges) (place : List ℕ) (found : List Bool) : Type 
   pub empty : (x : ℕ) → length found ≤ x → e x ≡ []
   pub right : (x : ℕ) → IsTrue (slice_index_or found x false) ↔ (IsDone place x × LeadsTo e x x)
 
--- `IsWalk e place found members path` holds if `place`, `found` and `members` are those of a search along the groups
--- `path`.
+-- `IsWalk e place found members path` holds if the marks `place`, the cyclic numbers `found` and the list `members` are
+-- those of a search of the graph `e` along the groups `path`.
 pub record IsWalk (e : Edges) (place : List ℕ) (found : List Bool) (members : List ℕ) (path : List Group) : Type 0 where
   pub groups : IsPath e (IsDone place) path
   pub stands : (x : ℕ) → IsAccounted place members x
@@ -120,7 +120,7 @@ pub record IsWalk (e : Edges) (place : List ℕ) (found : List Bool) (members : 
 abbrev pub with_edge : Group → ℕ → Group
 with_edge g y = record { members = g.members; pending = g.pending ++ y ∷ [] }
 
--- `one_unseen m` is 1 if the mark `m` is that of a number not seen, else 0; `unseen ms` counts the numbers not seen.
+-- `one_unseen m` is 1 if the mark `m` is that of a number not seen, else 0; `unseen ms` counts such marks in `ms`.
 abbrev pub one_unseen : ℕ → ℕ
 one_unseen zero = 1
 one_unseen (suc m) = 0
@@ -129,8 +129,8 @@ abbrev pub unseen : List ℕ → ℕ
 unseen [] = 0
 unseen (m ∷ ms) = one_unseen m + unseen ms
 
--- `effort place pending bounds` is the measure of the search: it decreases at each step. The factor of the numbers not
--- seen exceeds the edges and the group that one of them adds once it is seen.
+-- `effort place pending bounds` is the measure of the search: it decreases at each step. A number that is seen for the
+-- first time adds its edges and one group; the factor 2^65 exceeds the number of both together.
 abbrev pub effort : List ℕ → List ℕ → List Bound → ℕ
 effort place pending bounds = unseen place * 2 ^ 65 + length pending + length bounds
 

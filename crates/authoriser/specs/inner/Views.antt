@@ -46,8 +46,8 @@ pub record AllHaveTheirAncestors (parents : Parents) (s : RequestEntities) : Typ
   pub action : HasItsAncestors parents s.action.uid.now s.action
   pub resource : HasItsAncestors parents s.resource.uid.now s.resource
 
--- `HasItsAttributes W entity p` holds if `p` has the attributes of `entity` that `W` stores, `None` if `entity` is not
--- stored; then it has no parents either.
+-- `HasItsAttributes W entity p` holds if `p` has the attributes that `W` stores for `entity`, or `None` if `entity` is
+-- not stored; in that case `entity` has no parents in `W`.
 pub record HasItsAttributes (W : Entities) (entity : EntityUid) (p : KnownEntity) : Type 0 where
   pub given : option_map (λ r. r.now) p.attributes ≡ W.stored entity
   pub alone : MatchOption p.attributes (W.parents entity ≡ []) (λ _. ⊤)

@@ -33,27 +33,27 @@ entity_data_stored r store = entity_data_in (with_actions r.actions (kept_in sto
 abbrev pub is_among : EntityUid → List Entity → Bool
 is_among uid es = list_any (λ e. is_same e.uid uid) es
 
--- `entity_after r es place d` is the entity that `d` states at the index `place` of an array, after the entities `es`,
--- or its error: first that of the entity itself, then 30 if one of `es` has its uid.
+-- `entity_after r es place d` is the entity that `d` describes at the index `place` of an array, after the entities
+-- `es`, or its error: first that of the entity itself, then 30 (bad shape) if one of `es` has its uid.
 unfoldable pub entity_after : Reading → List Entity → ℕ → Data → Result Entity Refusal
 entity_after r es place d = do
   entity ← placed place (r.entity d)
   first ← demand (bad_shape (Some place)) (not (is_among entity.uid es))
   Ok entity
 
--- `KeepsNext r es place d result store` holds if `result` and the new store are those of adding the entity that `d`
--- states to a store of the entities `es`; an error is that of `entity_after`, or `NoMemory`.
+-- `KeepsNext r es place d result store` holds if adding the entity that `d` describes, at the index `place`, to a store
+-- of the entities `es` may give `result` and the new store `store`; an error is that of `entity_after`, or `NoMemory`.
 abbrev pub KeepsNext : {A : Type 0} → Reading → List Entity → ℕ → Data → Result A Refusal → Entries → Type 0
 KeepsNext r es place d (Ok x) store = (e : Entity) × (entity_after r es place d ≡ Ok e) × Holds store (es ++ e ∷ [])
 KeepsNext r es place d (Err refusal) store = Fails no_memory refusal (entity_after r es place d)
 
--- `Keeps read store` holds if `read` are entities, and `store` has exactly these.
+-- `Keeps read store` holds if `read` is a list of entities, not an error, and `store` has exactly these entities.
 pub record Keeps (read : Result (List Entity) Refusal) (store : Entries) : Type 0 where
   pub entities : List Entity
   pub are : read ≡ Ok entities
   pub held : Holds store entities
 
--- `ReadsStore result read` holds if `result` is a store of exactly the entities `read`, or the error `read`, or
+-- `ReadsStore result read` holds if `result` is a store of exactly the entities in `read`, the error in `read`, or
 -- `NoMemory`.
 abbrev pub ReadsStore : Result Entries Refusal → Result (List Entity) Refusal → Type 0
 ReadsStore (Ok store) read = Keeps read store
@@ -66,7 +66,8 @@ pub record IsLineIn (policies : List NamedPolicy) (W : Entities) (asked : Reques
   pub answers : IsAnswerTo policies W asked answer
   pub line_is : line ≡ answer_line answer
 
--- `IsLineTo r policies W request line` holds if `IsLineIn` does for the request that the text `request` states.
+-- `IsLineTo r policies W request line` holds if `line` is the line of the answer to the request that the text `request`
+-- describes in the setting `r`, over `policies` and the entity data `W`.
 pub record IsLineTo (r : Reading) (policies : List NamedPolicy) (W : Entities) (request line : List ℕ) : Type 0 where
   pub asked : Request
   pub request_stated : IsRequestText r request asked

@@ -1,4 +1,5 @@
--- Defines the edges from stored entities that are not actions. A cycle has only such edges.
+-- Defines the edges from stored entities that are not actions. Each edge of a cycle is one of these, since no action is
+-- cyclic.
 use Rattle.std.specs.Prelude.{List, [], Contains, Option, Some, None, IsSome}
 use Rattle.values.specs.declared.entity_uid.EntityUid.{EntityUid}
 use Rattle.evaluator.specs.ancestor_search.Hierarchy.{Parents}
@@ -8,8 +9,8 @@ use Rattle.entity_data.specs.declared.data.EntityData.{EntityData}
 use Rattle.entity_data.specs.Entities.{EntityMap, AreListed, Actions, kept_parents}
 use Rattle.entity_data.specs.Listing.{kept_with_parents}
 
--- `parents_unless o e` are the parents of the entity data `e`; `[]` if it is an action, whose parents are `o`, or `e`
--- is `None`.
+-- `parents_unless o e` are the parents of the entity data `e` of a uid; `[]` if `e` is `None`, or if `o` has the
+-- parents of a declared action with that uid.
 abbrev pub parents_unless : Option (List EntityUid) → Option EntityData → List EntityUid
 parents_unless (Some parents) other = []
 parents_unless None other = kept_parents other
@@ -25,7 +26,7 @@ kept_unless : (o : Option (List EntityUid)) (e : Option EntityData) (a : EntityU
 kept_unless None e a h = kept_with_parents e a h
 kept_unless (Some parents) e a h = Contains-none a h
 
--- `edges_are_listed`: each entity that has such edges is stored.
+-- `edges_are_listed`: each entity that has such edges is among the uids `us` of the stored entities.
 pub edges_are_listed : (actions : Actions) (entities : EntityMap) (us : List EntityUid) → AreListed entities us
     → HaveAllParents (entity_edges actions entities) us
 edges_are_listed actions entities us listed b a h = (listed b).1 (kept_unless (actions b) (entities b) a h)

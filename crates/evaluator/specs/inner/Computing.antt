@@ -1,5 +1,5 @@
--- Defines the outcome of an expression as a function that computes it. It is the outcome by the relation of
--- Evaluation.antt if its test of ancestors decides the ancestor relation.
+-- Defines the outcome of an expression as a function that computes it. If the test of ancestors that the function is
+-- given decides the ancestor relation, the result is the outcome by the relation `EvaluatesTo` (Evaluation.antt).
 use Rattle.std.specs.Prelude.{◌≡◌, ◌≢◌, ℕ, ℤ, pos, neg_ℤ, ◌+ℤ◌, ◌-ℤ◌, ◌*ℤ◌, int_lt, int_le, List, [], ◌∷◌, Bool, true}
 use Rattle.std.specs.Prelude.{false, not, ◌&&◌, ◌||◌, if◌then◌else◌, Option, Some, None, is_some, Result, Ok, Err}
 use Rattle.std.specs.Prelude.{MatchResult}
@@ -40,7 +40,7 @@ use Rattle.evaluator.specs.declared.fault.EvalFault.{EvalFault}
 use Rattle.evaluator.specs.declared.numbers.Numbers.{Numbers}
 use Rattle.evaluator.specs.declared.fault.EvalFault.TheVariants.{EntityDoesNotExist, AttrDoesNotExist, TypeError}
 use Rattle.evaluator.specs.declared.fault.EvalFault.TheVariants.{ArithBoundsError, ExtensionError, NoMemory}
-use Rattle.values.specs.extensions.Decided.{Decided, told}
+use Rattle.values.specs.extensions.Decided.{Decided, is_proved}
 use Rattle.values.specs.extensions.TextsDecided.{decimal_text_decided, network_text_decided, in_either_decided}
 use Rattle.values.specs.extensions.TextsDecided.{within_decided}
 use Rattle.evaluator.specs.Outcomes.{EvaluationResult, boolean_in, long_in, text_in, entity_uid_in, members_in}
@@ -95,7 +95,7 @@ apply_unary Negate v = and_then (demanded (long_in v)) (λ z. bounded (neg_ℤ z
 apply_unary (Like pattern) v = and_then (demanded (text_in v)) (λ t. truth (is_match pattern t))
 apply_unary (Is name) v = and_then (demanded (entity_uid_in v)) (λ u. truth (bytes_eq u.type_name name))
 
--- `is_in E a b` tests whether `a` is `b` or a descendant of it, by the test of `E`.
+-- `is_in E a b` tests whether `a` is `b` or a descendant of `b`, by the test of ancestors of `E`.
 abbrev pub is_in : DecidedEntities → EntityUid → EntityUid → Bool
 is_in E a b = is_eq (uid_cmp a b) || E.above b a
 
@@ -163,7 +163,7 @@ has_field E name (entity u) = truth (has_attribute (E.stored u) name)
 has_field E name v = Err TypeError
 
 -- `decimal_read d` is the decimal that a string denotes, and `network_read d` the IP address, or `ExtensionError` if
--- the string denotes none; `d` decides which.
+-- the string denotes none; `d` decides whether it denotes one.
 abbrev pub decimal_read : {t : List ℕ} → Decided ((z : ℤ) × IsDecimalText t z) → EvaluationResult
 decimal_read (inl h) = Ok (decimal h.0)
 decimal_read (inr n) = Err ExtensionError
@@ -187,8 +187,8 @@ apply_unary_call Decimal v = and_then (demanded (text_in v)) (λ t. decimal_read
 apply_unary_call Ip v = and_then (demanded (text_in v)) (λ t. network_read (network_text_decided t))
 apply_unary_call IsIpv4 v = tested (λ n. is_v4 n.version) v
 apply_unary_call IsIpv6 v = tested (λ n. not (is_v4 n.version)) v
-apply_unary_call IsLoopback v = tested (λ n. told (in_either_decided n loopback_v4 loopback_v6)) v
-apply_unary_call IsMulticast v = tested (λ n. told (in_either_decided n multicast_v4 multicast_v6)) v
+apply_unary_call IsLoopback v = tested (λ n. is_proved (in_either_decided n loopback_v4 loopback_v6)) v
+apply_unary_call IsMulticast v = tested (λ n. is_proved (in_either_decided n multicast_v4 multicast_v6)) v
 
 -- `decimals f v w` is the outcome of the test `f` on two decimals; `TypeError` if `v` or `w` is not one.
 abbrev pub decimals : (ℤ → ℤ → Bool) → PlainValue → PlainValue → EvaluationResult
@@ -204,7 +204,7 @@ apply_binary_call LessThan v w = decimals (λ x y. int_lt x y) v w
 apply_binary_call LessThanOrEqual v w = decimals (λ x y. int_le x y) v w
 apply_binary_call GreaterThan v w = decimals (λ x y. int_lt y x) v w
 apply_binary_call GreaterThanOrEqual v w = decimals (λ x y. int_le y x) v w
-apply_binary_call IsInRange v w = networks (λ m n. told (within_decided m n)) v w
+apply_binary_call IsInRange v w = networks (λ m n. is_proved (within_decided m n)) v w
 
 -- `each rs` are the values of the outcomes `rs` in order, or the first error.
 abbrev pub each : List EvaluationResult → Result (List PlainValue) EvalFault

@@ -1,4 +1,4 @@
--- Defines how compound statements are decided, from decisions of their parts. None of it is trusted: the type of each
+-- Defines how compound statements are decided, from decisions of their parts. No body here is trusted: the type of each
 -- procedure states what it decides.
 use Rattle.std.specs.Prelude.{◌≡◌, ◌⊎◌, ℕ, zero, suc, ◌<◌, true, List, [], ◌∷◌, ◌++◌, refl}
 use Rattle.std.proofs.Common.{inl, inr, ap, arith, sym, subst}
@@ -40,7 +40,7 @@ text_decided s t = elim (cases_Bool (bytes_eq s t)) [
   | inr e ↦ inr (λ same. false≢true (let h : bytes_eq s t ≡ true = (bytes_eq-Decides s t).1 same in cc))
 ]
 
--- `below_decided n P d` decides whether `P` holds of some number below `n`.
+-- `below_decided n P d` decides whether `P` holds of some number below `n`, where `d` decides it of each number.
 pub below_decided : (n : ℕ) (P : ℕ → Type 0) → ((k : ℕ) → Decided (P k)) → Decided ((k : ℕ) × (k < n) × P k)
 below_decided zero P d = inr (λ h. absurd (omega (arith, h.1)))
 below_decided (suc n) P d = elim (d n) [
@@ -54,7 +54,8 @@ below_decided (suc n) P d = elim (d n) [
       (below_decided n P d)
 ]
 
--- `parted_decided P d text` decides whether `text` can be cut into some two strings of which `P` holds.
+-- `parted_decided P d text` decides whether `text` can be cut into two strings of which `P` holds, where `d` decides it
+-- of any two strings.
 pub parted_decided : (P : List ℕ → List ℕ → Type 0) → ((a b : List ℕ) → Decided (P a b)) → (text : List ℕ)
     → Decided ((a b : List ℕ) × (text ≡ a ++ b) × P a b)
 parted_decided P d [] = decided_as
@@ -84,11 +85,12 @@ parted_decided P d (c ∷ cs) = elim (d [] (c ∷ cs)) [
         tail_of : c ∷ cs ≡ x ∷ (a ++ b) → cs ≡ a ++ b
         tail_of e = cc
 
--- `behind_decided c P d text` decides whether `text` is the byte `c`, followed by a string of which `P` holds.
-pub behind_decided : (c : ℕ) (P : List ℕ → Type 0) → ((xs : List ℕ) → Decided (P xs)) → (text : List ℕ)
+-- `after_decided c P d text` decides whether `text` is the byte `c`, followed by a string of which `P` holds, where
+-- `d` decides it of any string.
+pub after_decided : (c : ℕ) (P : List ℕ → Type 0) → ((xs : List ℕ) → Decided (P xs)) → (text : List ℕ)
     → Decided ((xs : List ℕ) × (text ≡ c ∷ xs) × P xs)
-behind_decided c P d [] = inr (λ h. absurd (let e = h.1 in cc))
-behind_decided c P d (x ∷ xs) = decided_as
+after_decided c P d [] = inr (λ h. absurd (let e = h.1 in cc))
+after_decided c P d (x ∷ xs) = decided_as
     (λ h. (xs, ap (λ k. k ∷ xs) h.0, h.1))
     (λ h. same h.0 h.1 h.2)
     (both_decided (number_decided x c) (d xs))

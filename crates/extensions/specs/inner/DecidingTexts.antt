@@ -1,5 +1,5 @@
--- Defines how the decision procedures of TextsDecided decide. None of it is trusted: the type of each procedure states
--- what it decides.
+-- Defines how the decision procedures of TextsDecided decide. No body here is trusted: the type of each procedure
+-- states what it decides.
 use Prim.Native.Char.{code}
 use Rattle.std.specs.Prelude.{◌≡◌, ◌⊎◌, ℕ, zero, suc, pos, ℤ, neg_ℤ, ◌+◌, ◌-◌, ◌*◌, ◌^◌, ◌<◌, ◌≤◌, List, [], ◌∷◌, ◌++◌}
 use Rattle.std.specs.Prelude.{length, replicate, codes, FitsSigned, refl}
@@ -18,7 +18,7 @@ use Rattle.extensions.specs.Network.{Network, width, least, greatest, IsWithin}
 use Rattle.extensions.specs.NetworkText.{IsAddressText, IsPrefixText, IsNetworkText}
 use Rattle.extensions.specs.Decided.{Decided}
 use Rattle.extensions.specs.inner.Deciding.{decided_as, both_decided, either_decided, lt_decided, text_decided}
-use Rattle.extensions.specs.inner.Deciding.{below_decided, parted_decided, behind_decided}
+use Rattle.extensions.specs.inner.Deciding.{below_decided, parted_decided, after_decided}
 
 digits_decided : (radix : ℕ) (text : List ℕ) → Decided (AllDigits radix text)
 digits_decided radix [] = inl tt
@@ -36,7 +36,8 @@ fits_decided : (z : ℤ) → Decided (FitsSigned w64 z)
 fits_decided z = decided_as (λ l. record { sfits = l }) (λ f. f.sfits) (lt_decided (mag z) (2 ^ hbits w64))
 
 -- `value_of whole fraction` is the number of ten-thousandths that the digits `whole` before a point and `fraction`
--- after it denote; `scaled` and `one_value` prove that it is the one of `IsUnsignedText`.
+-- after it denote; `scaled` and `one_value` prove that it is the number that `IsUnsignedText` relates to such a text,
+-- and the only one.
 value_of : List ℕ → List ℕ → ℕ
 value_of whole fraction = digits_value 10 (whole ++ fraction) * 10 ^ (4 - length fraction)
 
@@ -68,7 +69,7 @@ unsigned_decided : (Q : ℕ → Type 0) → ((n : ℕ) → Decided (Q n)) → (t
 unfolding Digits value_of
 unsigned_decided Q d text = decided_as there back
     (parted_decided (λ whole b. (fraction : List ℕ) × (b ≡ code "." ∷ fraction) × Digits Q whole fraction)
-    (λ whole b. behind_decided (code ".") (Digits Q whole) (λ fraction. digits whole fraction) b) text)
+    (λ whole b. after_decided (code ".") (Digits Q whole) (λ fraction. digits whole fraction) b) text)
   where
     digits : (whole fraction : List ℕ) → Decided (Digits Q whole fraction)
     digits whole fraction = decided_as
@@ -116,7 +117,7 @@ unsigned_decided Q d text = decided_as there back
       ),
     )
 
--- `Plain text` holds if `text` is a decimal without a sign, and `Minus text` if it is one with a `-`.
+-- `Plain text` holds if `text` is a decimal without a sign, and `Minus text` if `text` is a decimal with a `-`.
 Plain : List ℕ → Type 0
 Plain text = (n : ℕ) × IsUnsignedText text n × FitsSigned w64 (pos n)
 
@@ -143,7 +144,7 @@ decimal_text_decided text = decided_as
     (λ h. signed_cases text h.0 h.1.0 h.1.1)
     (either_decided
     (unsigned_decided (λ n. FitsSigned w64 (pos n)) (λ n. fits_decided (pos n)) text)
-    (behind_decided (code "-") (λ rest. (n : ℕ) × IsUnsignedText rest n × FitsSigned w64 (neg_ℤ (pos n)))
+    (after_decided (code "-") (λ rest. (n : ℕ) × IsUnsignedText rest n × FitsSigned w64 (neg_ℤ (pos n)))
     (λ rest. unsigned_decided (λ n. FitsSigned w64 (neg_ℤ (pos n))) (λ n. fits_decided (neg_ℤ (pos n))) rest) text))
 
 -- ---- IPv4 addresses
@@ -206,7 +207,7 @@ groups_decided (suc (suc k)) text = decided_as there back
     (parted_decided (λ group b. ((n : ℕ) × IsGroup group n)
     × ((rest : List ℕ) × (b ≡ code ":" ∷ rest) × Groups (suc k) rest))
     (λ group b. both_decided (group_decided group)
-    (behind_decided (code ":") (Groups (suc k)) (groups_decided (suc k)) b))
+    (after_decided (code ":") (Groups (suc k)) (groups_decided (suc k)) b))
     text)
   where
     joined : (group rest : List ℕ) (n : ℕ) (groups : List ℕ) → text ≡ group ++ (code ":" ∷ rest) → IsGroup group n
@@ -249,7 +250,7 @@ sides_decided head tail =
     below_decided 8 _ (λ k. below_decided 8 _
     (λ l. both_decided (lt_decided (k + l) 8) (both_decided (groups_decided k head) (groups_decided l tail))))
 
--- `Cut text` holds if `text` has a `::` with such groups on its sides.
+-- `Cut text` holds if `text` is two strings with `::` between them, of which `Sides` holds.
 Cut : List ℕ → Type 0
 Cut text = (head b : List ℕ) × (text ≡ head ++ b)
     × ((c : List ℕ) × (b ≡ code ":" ∷ c) × ((tail : List ℕ) × (c ≡ code ":" ∷ tail) × Sides head tail))
@@ -259,8 +260,8 @@ unfolding Cut
 cut_decided text =
     parted_decided (λ head b. (c : List ℕ) × (b ≡ code ":" ∷ c)
     × ((tail : List ℕ) × (c ≡ code ":" ∷ tail) × Sides head tail))
-    (λ head b. behind_decided (code ":") (λ c. (tail : List ℕ) × (c ≡ code ":" ∷ tail) × Sides head tail)
-    (λ c. behind_decided (code ":") (Sides head) (sides_decided head) c) b) text
+    (λ head b. after_decided (code ":") (λ c. (tail : List ℕ) × (c ≡ code ":" ∷ tail) × Sides head tail)
+    (λ c. after_decided (code ":") (Sides head) (sides_decided head) c) b) text
 
 elided_decided : (text : List ℕ) → Decided ((groups : List ℕ) × IsElided text groups)
 unfolding Cut Sides Groups

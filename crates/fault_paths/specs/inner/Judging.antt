@@ -23,18 +23,19 @@ abbrev pub IsFaultyIn : Environment → Expr → Option TypeFault → Type 0
 IsFaultyIn env x o = MatchOption o ((t : StaticType) × HasType x t env) (IsFault env x)
 
 -- `IsBlamedAt env i x b` holds if `b` reports the index `i` of `env`, the error of typing `x` in `env`, and what each
--- derivation of it blames.
+-- derivation of this error blames.
 abbrev pub IsBlamedAt : Environment → ℕ → Expr → TypeBlame → Type 0
 IsBlamedAt env i x b = (b.environment ≡ i) × IsFault env x b.fault
     × ((n : ExpressionFault) (h : Faults env [] x n) → blamed h ≡ place_view b.place)
 
--- `IsBlamedIn env i x o` holds if `o` is such a report, or `None` and `x` has a type in `env`.
+-- `IsBlamedIn env i x o` holds if `o` is a report as `IsBlamedAt` says, or `None` and `x` has a type in `env`.
 abbrev pub IsBlamedIn : Environment → ℕ → Expr → Option TypeBlame → Type 0
 IsBlamedIn env i x o = MatchOption o ((t : StaticType) × HasType x t env) (IsBlamedAt env i x)
 
--- `IsToldIn judged r` holds if `r` is `Ok` with the validator's error for the typing error in `judged`, or with `None`
--- if `judged` has a type; or if `r` is any `Err`.
-abbrev pub IsToldIn : {B : Type 0} → Result Typed at_hand.ExpressionFault → Result (Option TypeFault) B → Type 0
-IsToldIn judged (Ok None) = (t : Typed) × (judged ≡ Ok t)
-IsToldIn judged (Ok (Some g)) = (f : at_hand.ExpressionFault) × (f ≢ NoMemory) × (judged ≡ Err f) × (g ≡ of_types f)
-IsToldIn judged (Err e) = Unit {0}
+-- `IsTypingFault judged r` holds if `r` is `Ok` with the validator's error for the typing error in `judged`, or with
+-- `None` if `judged` has a type; or if `r` is any `Err`.
+abbrev pub IsTypingFault : {B : Type 0} → Result Typed at_hand.ExpressionFault → Result (Option TypeFault) B → Type 0
+IsTypingFault judged (Ok None) = (t : Typed) × (judged ≡ Ok t)
+IsTypingFault judged (Ok (Some g)) =
+    (f : at_hand.ExpressionFault) × (f ≢ NoMemory) × (judged ≡ Err f) × (g ≡ of_types f)
+IsTypingFault judged (Err e) = Unit {0}

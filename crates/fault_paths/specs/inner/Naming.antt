@@ -14,8 +14,8 @@ abbrev pub AreNames : StatedSchema → List Name → Option NameFault → Type 0
 AreNames s ns o = MatchOption o (All (IsKnown s) ns)
     (λ f. (ns ≡ name_view f.name ∷ []) × IsUnknown s (name_view f.name) f.fault)
 
--- `IsOwnName s x o` holds if `o` is the name that the form of `x` itself has, with its error, or `None` and `s`
--- declares this name, or no such declaration exists.
+-- `IsOwnName s x o` holds if `o` is the name that the form of `x` itself has and that `s` does not declare, with its
+-- error; or if `o` is `None`, and the form has no name of its own or `s` declares it.
 abbrev pub IsOwnName : StatedSchema → Expr → Option NameFault → Type 0
 IsOwnName s x o = AreNames s (names_at (out-Expr x)) o
 

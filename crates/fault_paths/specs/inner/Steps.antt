@@ -35,15 +35,17 @@ abbrev pub stopped : Expr → Option ℕ → List StaticType → Blame
 stopped x o ts = record { path = last_of o; form = x; types = map static_view ts }
 
 -- `IsStep env K x J step` holds if each derivation of an error of `x` under the capabilities `K` blames what `step`
--- says. `Down`: what a derivation of an error of the operand, whose height is less than that of `x`, blames under the
--- capabilities `J`. `Stop`: an operand of `x`, or `x` itself.
+-- gives. `Stop o ts` gives the operand `o` of `x`, or `x` itself if `o` is `None`, with the types `ts`. `Down i y`,
+-- where `y` has a smaller height than `x`, gives what a derivation of the same error of `y` under the capabilities `J`
+-- blames, with the index `i` in front of its path.
 abbrev pub IsStep : Environment → Pairs → Expr → Pairs → Step → Type 0
 IsStep env K x J (step.Down i y) = (height y.now < height x)
     × ((n : ExpressionFault) (h : Faults env K x n) → (g : Faults env J y.now n) × (blamed h ≡ under i (blamed g)))
 IsStep env K x J (step.Stop o ts) = (n : ExpressionFault) (h : Faults env K x n) → blamed h ≡ stopped x o ts.items
 
--- `IsStepAmong env K x o step` holds if `step` goes down to the first operand of `x` that has an error, or all operands
--- have types, and `step` stops at the operand `o`, or `x` itself, with these types.
+-- `IsStepAmong env K x o step` holds if `step` goes down to the first operand of `x` that has an error; or if all
+-- operands have types, and `step` stops at the operand `o`, or at `x` itself if `o` is `None`, with the types of all
+-- operands.
 abbrev pub IsStepAmong : Environment → Pairs → Expr → Option ℕ → Step → Type 0
 IsStepAmong env K x o (step.Down i y) = (before : List Expr) × (rest : List Expr) × (ts : List types.StaticType)
     × (n : ExpressionFault)
@@ -67,12 +69,12 @@ IsFoundIn judged (Ok (Some t)) = judged ≡ Ok t
 IsFoundIn judged (Ok None) = (f : ExpressionFaultAtHand) × (f ≢ NoMemory) × (judged ≡ Err f)
 IsFoundIn judged (Err e) = Unit {0}
 
--- `below p b` blames what `b` blames in the expression to which the path `p` leads.
+-- `below p b` is the blame `b` with the path `p` in front of its own.
 abbrev pub below : List ℕ → Blame → Blame
 below p b = record { path = p ++ b.path; form = b.form; types = b.types }
 
--- `Reaches env whole p K x` holds if each derivation of an error of `whole`, without known capabilities, blames by the
--- path `p` what a derivation of an error of `x`, under the capabilities `K`, blames.
+-- `Reaches env whole p K x` holds if each derivation of an error of `whole`, without known capabilities, blames what a
+-- derivation of the same error of `x`, under the capabilities `K`, blames, with the path `p` in front of its path.
 abbrev pub Reaches : Environment → Expr → List ℕ → Pairs → Expr → Type 0
 Reaches env whole p K x = (n : ExpressionFault) (h : Faults env [] whole n)
     → (g : Faults env K x n) × (blamed h ≡ below p (blamed g))

@@ -1,4 +1,4 @@
--- Defines that a result is a value with a property.
+-- Defines when a result is a value with a given property.
 use Rattle.std.specs.Prelude.{Result, Ok, Err}
 
 -- `Gave r P` holds if the result `r` is a value, not an error, and `P` holds of that value.

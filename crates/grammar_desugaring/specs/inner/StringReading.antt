@@ -1,5 +1,6 @@
 -- Defines how the pieces of a string are read from its bytes, one after another, and proves that they are those of the
--- grammar of strings and their escapes. None of it is trusted: the type of `string_meaning` states what it is.
+-- grammar of strings and their escapes. No body here is trusted: the type of `string_meaning` states what must hold of
+-- it.
 use Prim.Native.Char.{code}
 use Rattle.std.specs.Prelude.{◌==◌, if◌then◌else◌, drop, Option}
 use Rattle.std.proofs.Common.{◌≡◌, ◌≢◌, ℕ, ◌+◌, ◌*◌, true, false, List, [], ◌∷◌, ◌++◌, refl, sym, ◌∙◌, ap}
@@ -16,7 +17,7 @@ use Rattle.grammar_trees.specs.grammar_tokens.Strings.{bytes_of, literals_of, Is
 use Rattle.grammar_desugaring.specs.StringMeaning.{StringMeaning}
 
 -- A `Reading` is the state of the reader: between two pieces; after a backslash; after `\x`; after the first digit of
--- `\x`, with its value; after `\u`; or after `\u{` and some digits, with their number.
+-- `\x`, with its value; after `\u`; or after `\u{` and some digits, with the number that they denote.
 data Reading : Type 0 where
   between : Reading
   behind_backslash : Reading
@@ -25,7 +26,7 @@ data Reading : Type 0 where
   brace : Reading
   digits : ℕ → Reading
 
--- `scalar_of o` is the character of `o`, or 0 otherwise.
+-- `scalar_of o` is the character in `o`, or 0 if `o` is `None`.
 abbrev scalar_of : Option ℕ → ℕ
 scalar_of None = 0
 scalar_of (Some c) = c
@@ -49,7 +50,7 @@ read (digits n) (c ∷ w) =
 abbrev pieces_of : List ℕ → List Piece
 pieces_of spelling = read between (drop 1 spelling)
 
--- The lemmas from here on prove that the pieces of a string by its grammar are those that are read.
+-- The lemmas from here on prove that the pieces of a string by the grammar are those that `pieces_of` gives.
 unlisted : (b n meant : ℕ) → escaped b ≡ Some meant → escaped n ≡ None → nat_eq b n ≡ false
 unlisted b n meant e f = elim (cases_Bool (nat_eq b n)) [
   | inl y ↦ let same = ap escaped (eqb-true b n y) in absurd (cc)

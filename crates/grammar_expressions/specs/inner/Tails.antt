@@ -4,7 +4,7 @@ use Rattle.grammar_trees.specs.grammar_tokens.declared.token.TokenKind.TheVarian
 use Rattle.grammar_trees.specs.declared.tree.ExprTree.{ExprTree}
 use Rattle.grammar_trees.specs.declared.tree.ExprTree.TheVariants as tree
 use Rattle.grammar_trees.specs.grammar_tokens.Kinds.{only}
-use Rattle.grammar_trees.specs.grammar_tokens.Reading.{Parser, take, token, pure, ◌>>=◌, ◌>>◌, either}
+use Rattle.grammar_trees.specs.grammar_tokens.ParserCombinators.{Parser, take, token, pure, ◌>>=◌, ◌>>◌, either}
 use Rattle.grammar_trees.specs.grammar_tokens.Parsing.{path}
 use Rattle.grammar_expressions.specs.Expressions.{comparison_of, comparisons, patterns, is_in}
 use Rattle.grammar_expressions.specs.ExpressionParsing.{symbol, key, sum, maybe_inside}
@@ -18,7 +18,7 @@ form x (Has name) = tree.Has x name
 form x (Like text) = tree.Like x text
 form x (Is type_name y) = is_in x type_name y
 
--- `relate x o` is that tree, or `x` if there is no tail.
+-- `relate x o` is the tree of the relation of `x` and the tail in `o`, or `x` if `o` is `None`.
 abbrev pub relate : ExprTree → Option Tail → ExprTree
 relate x None = x
 relate x (Some tail) = form x tail

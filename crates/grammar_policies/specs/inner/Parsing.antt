@@ -13,8 +13,9 @@ use Rattle.grammar_policies.specs.declared.tree.ScopeTree.{ScopeTree}
 use Rattle.grammar_policies.specs.declared.tree.Condition.{Condition}
 use Rattle.grammar_policies.specs.declared.tree.PolicyTree.{PolicyTree}
 use Rattle.grammar_expressions.specs.grammar_tokens.Kinds.{Kinds, only}
-use Rattle.grammar_expressions.specs.grammar_tokens.Reading.{Parser, take, token, pure, ◌>>=◌, ◌>>◌, either, optional}
-use Rattle.grammar_expressions.specs.grammar_tokens.Reading.{many}
+use Rattle.grammar_expressions.specs.grammar_tokens.ParserCombinators.{Parser, take, token, pure, ◌>>=◌, ◌>>◌, either}
+use Rattle.grammar_expressions.specs.grammar_tokens.ParserCombinators.{optional}
+use Rattle.grammar_expressions.specs.grammar_tokens.ParserCombinators.{many}
 pub use Rattle.grammar_expressions.specs.grammar_tokens.Parsing.{path, uid}
 use Rattle.grammar_expressions.specs.ExpressionParsing.{expr, symbol}
 use Rattle.grammar_policies.specs.Grammar.{identifiers, words, effects, is_in, condition_word_of, condition_words}
@@ -67,7 +68,7 @@ type_test = do
   entity ← optional (only k.In) in_uid
   pure (is_in type_name entity)
 
--- `entity_constraint` parses the constraint of a principal or resource, which may be empty.
+-- `entity_constraint` parses the constraint, which may be empty, of a principal or resource.
 unfoldable pub entity_constraint : Parser PartTree
 entity_constraint =
     either (only k.Equal) (equal_uid >>= (λ entity. pure (part.Equal entity)))
@@ -106,7 +107,7 @@ list_or_uid = either (only k.LBracket) uid_list (uid >>= (λ entity. pure (actio
 unfoldable pub in_actions : Parser ActionTree
 in_actions = token k.In >> list_or_uid
 
--- `action_constraint` parses the constraint of an action, which may be empty.
+-- `action_constraint` parses the constraint, which may be empty, of an action.
 unfoldable pub action_constraint : Parser ActionTree
 action_constraint =
     either (only k.Equal) (equal_uid >>= (λ entity. pure (action.Equal entity)))

@@ -6,10 +6,11 @@ use Rattle.site_calls.specs.site_steps.SiteViews.{SiteView}
 use Rattle.http_routes.specs.Routes.{route_stated}
 use Rattle.http_routes.specs.declared.route.Route.{Route}
 use Rattle.http_routes.specs.declared.route.Route.TheVariants as route
-use Rattle.http_service.specs.Asked.{asked}
+use Rattle.http_service.specs.Asked.{request_of}
 use Rattle.site_calls.specs.Answers.{Appends, Replies}
 
--- `unserved_status asking` is the status of a request for the route `asking` if that is no operation.
+-- `unserved_status asking` is the status of the reply to a request for the route `asking`, if that route is not an
+-- operation.
 abbrev pub unserved_status : Route → Option StatusCode
 unserved_status route.Unknown = Some 404
 unserved_status route.OtherMethod = Some 405
@@ -21,22 +22,23 @@ unserved_status _ = None
 abbrev pub IsUndoneReply : Route → StatusCode → List ℕ → List ℕ → Type 0
 IsUndoneReply asking status before after =
     (reply : List ℕ) × (after ≡ before ++ reply) × IsUndone asking status reply
-    × ((old : SiteView) (body : List ℕ) → Replies old (asked asking body) status reply old)
+    × ((old : SiteView) (body : List ℕ) → Replies old (request_of asking body) status reply old)
 
 -- `AnswersWithTail old asking body status before after line ended new` holds if `after` is `before` followed by the
--- reply of the site `old` to this request, `ended` is `line` followed by the end of its line for the log, and `new` is
--- the site afterwards.
+-- reply, with `status`, of the site `old` to a request for the route `asking` with `body`, `ended` is `line` followed
+-- by the end of the request's line for the log, and `new` is the site afterwards.
 abbrev pub AnswersWithTail : SiteView → Route → List ℕ → StatusCode → List ℕ → List ℕ → List ℕ → List ℕ → SiteView
     → Type 0
 AnswersWithTail old asking body status before after line ended new =
-    (reply : List ℕ) × (after ≡ before ++ reply) × Replies old (asked asking body) status reply new
+    (reply : List ℕ) × (after ≡ before ++ reply) × Replies old (request_of asking body) status reply new
     × (ended ≡ line ++ tail_of asking status body reply)
 
 -- `AnswersWithLine old method target body status before after line new` holds if `after` is `before` followed by the
--- reply of the site `old` to this request, `line` is a line of the log for it, and `new` is the site afterwards.
+-- reply, with `status`, of the site `old` to the request with this method, target and body, `line` is a line of the log
+-- for the request, and `new` is the site afterwards.
 abbrev pub AnswersWithLine : SiteView → List ℕ → List ℕ → List ℕ → StatusCode → List ℕ → List ℕ → List ℕ → SiteView
     → Type 0
 AnswersWithLine old method target body status before after line new =
     (reply : List ℕ) × (after ≡ before ++ reply)
-    × Replies old (asked (route_stated method target) body) status reply new
+    × Replies old (request_of (route_stated method target) body) status reply new
     × IsLogLine method target body status reply line

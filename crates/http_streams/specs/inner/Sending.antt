@@ -1,6 +1,6 @@
--- Defines what was sent if a device failed before a whole reply was.
--- Source: docs/formats.md, the log.
--- Rules of this product: the line is written before the reply.
+-- Defines what was written if a device failed before a whole reply was sent.
+-- Source: docs/formats.md, "The log of a served site".
+-- Rules of this product: the line of the log is written before the reply.
 use Rattle.std.specs.Prelude.{◌≡◌, ℕ, Option, List}
 use Rattle.std.specs.Io.KnownBytes.{Appends}
 use Rattle.http_streams.specs.Logs.{IsFront}
@@ -16,7 +16,8 @@ fault_of Write = fault.Write
 
 -- `IsSentInPart broken logged holds line reply old new before after` holds if the log failed and got a proper prefix of
 -- `line`, and the writer nothing; or the writer failed and got a proper prefix of `reply`, and the log got the whole
--- line. The log went from `old` to `new`, the writer from `before` to `after`.
+-- line. The log went from `old` to `new`, the writer from `before` to `after`; `logged` and `holds` give the bytes that
+-- the log and the writer accepted, if they are known.
 abbrev pub IsSentInPart : {L W : Type 0} → Broken → (L → Option (List ℕ)) → (W → Option (List ℕ)) → List ℕ → List ℕ
     → L → L → W → W → Type 0
 IsSentInPart Log logged holds line reply old new before after =

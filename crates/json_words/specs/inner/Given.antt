@@ -1,5 +1,5 @@
 -- Defines the JSON value that a reader's tokens begin with, and the value of an object whose opening brace was read.
--- Source: RFC 8259, sections 2 to 7, by the grammar of `json`, and by what `serde_json` makes of its values.
+-- Source: RFC 8259, sections 2 to 7, as the crate `json` parses tokens and the crate `serde_json` converts its values.
 use Rattle.std.specs.Prelude.{◌≡◌, ℕ, List, [], ◌∷◌, length, Bool, true, false, Option, Some, None, option_map}
 use Rattle.json.specs.Token.{Token}
 use Rattle.json.specs.Token as token
@@ -9,13 +9,14 @@ use Rattle.serde_json.specs.Read.{number_of, of_json, converted}
 use Rattle.serde_json.specs.View.{view}
 use Rattle.serde_json.specs.declared.value.Value.{Value}
 
--- `value_at deep ts` is the value that the tokens `ts` begin with, nested at most `deep` levels, with the tokens after
--- it.
+-- `value_at deep ts` is the value that the tokens `ts` begin with, with the tokens after it; `None` if `ts` begin with
+-- no value that `serde_json` accepts and that nests at most `deep` levels.
 abbrev pub value_at : ℕ → List Token → Option (Data × List Token)
 value_at deep ts = converted of_json (json.value deep ts)
 
--- `object_at deep ts` is the object whose opening brace was read and whose other tokens begin `ts`, with the tokens
--- after it; its members may nest `deep` levels.
+-- `object_at deep ts` is an object with the tokens after it, where `ts` begins with the tokens of the object after its
+-- opening brace; `None` if `ts` begins otherwise, or if `serde_json` rejects a member or a member nests more than
+-- `deep` levels.
 abbrev pub object_at : ℕ → List Token → Option (Data × List Token)
 object_at deep ts = converted of_json (json.parse_map json.object (json.members (json.value deep) (length ts) ts))
 

@@ -7,6 +7,7 @@ use Rattle.stamped_store.specs.Deltas.{stamp_of}
 use Rattle.stamped_store.specs.Abstraction.{abstract_entries}
 use Rattle.message_format.specs.Summaries.{stamp_json}
 
--- `stamps_json name es` is the list of the JSON of the names and stamps of the entries `es`.
+-- `stamps_json name es` is the list of the JSON of the names and stamps of the entries `es`, where `name` gives the
+-- name that a key represents.
 abbrev pub stamps_json : {K P : Type 0} → (K → Name) → List (K × Entry P) → List Data
 stamps_json name es = map stamp_json (map (λ u. (u.0, stamp_of u.1)) (abstract_entries name es))

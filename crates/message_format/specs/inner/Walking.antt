@@ -21,16 +21,17 @@ pub record IsFrom (name : Name) (known left : Summary) : Type 0 where
   pub ascending : ascend left ≡ true
   pub same : (q : Name) → is_le (name_cmp name q) ≡ true → value_at name_cmp left q ≡ value_at name_cmp known q
 
--- `IsAhead left known us` holds if the names of `left` ascend, those of the updates `us` ascend, and each of these has
--- the same stamp in `left` as in `known`, or none in both.
+-- `IsAhead left known us` holds if the names of `left` ascend, those of the updates `us` ascend, and each name of `us`
+-- has the same stamp in `left` as in `known`, or none in both.
 pub record IsAhead (left known : Summary) (us : List Update) : Type 0 where
   pub ascending : ascend left ≡ true
   pub sorted : T (is_sorted name_cmp us)
   pub same : AllByRecursion (λ u. value_at name_cmp left u.0 ≡ value_at name_cmp known u.0) us
 
--- `IsWalked name known left before after all done rest` holds if, whatever updates `next` come after the entries `all`
+-- `IsWalked name known left before after all done rest` holds if, for all updates `next` that follow the entries `all`
 -- in ascending order: writing those entries of `done` whose names `known` lacks or has with a smaller stamp takes the
--- writer from `before` to `after`; and `left` has the stamps of `known` for the names of `rest` and of `next`.
+-- writer from `before` to `after`; and `left` has the stamps of `known` for the names of `rest` and of `next`. Here
+-- `name` gives the name that a key represents.
 abbrev pub IsWalked : {N P : Type 0} → (N → Name) → (known left : Summary) → (before after : Written)
     → (all done rest : List (N × Entry P)) → Type 0
 IsWalked name known left before after all done rest = (next : List Update)

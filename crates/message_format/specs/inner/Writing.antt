@@ -17,7 +17,7 @@ use Rattle.message_format.specs.Messages.{entry_json}
 abbrev pub missing_json_by : Option Stamp → Update → List Data
 missing_json_by known u = if is_unseen known (Some u.1) then entry_json u ∷ [] else []
 
--- `is_new m u` is whether the summary `m` lacks the name of the update `u` or has it with a smaller stamp.
+-- `is_new m u` tests whether the summary `m` lacks the name of the update `u` or has it with a smaller stamp.
 abbrev pub is_new : Summary → Update → Bool
 is_new m u = is_unseen (value_at name_cmp m u.0) (Some u.1)
 
@@ -27,6 +27,6 @@ abbrev pub missing_json : Summary → Update → List Data
 missing_json m u = if is_new m u then entry_json u ∷ [] else []
 
 -- `all_missing_json name m es` is the list of the JSON of those entries of `es` whose names the summary `m` lacks or
--- has with a smaller stamp.
+-- has with a smaller stamp, where `name` gives the name that a key represents.
 abbrev pub all_missing_json : {K P : Type 0} → (K → Name) → Summary → List (K × Entry P) → List Data
 all_missing_json name m es = flat_map (missing_json m) (abstract_entries name es)

@@ -23,20 +23,20 @@ has_id text tree = is_some (find (is_id text) tree.annotations)
 abbrev pub has_index_prefix : List ℕ → List ℕ → PolicyTree → Bool
 has_index_prefix text name tree = has_id text tree && starts_with (λ a b. a == b) name (codes "policy")
 
--- `some_index_name text names trees` tests whether this is so for some policy of `trees`: its name may then equal
--- another's name by index.
+-- `some_index_name text names trees` tests whether `has_index_prefix` holds of some policy of `trees`, with its name in
+-- `names`. That name may then equal another policy's name by index.
 abbrev pub some_index_name : List ℕ → List (List ℕ) → List PolicyTree → Bool
 some_index_name text [] trees = false
 some_index_name text (name ∷ names) [] = false
 some_index_name text (name ∷ names) (tree ∷ trees) =
     has_index_prefix text name tree || some_index_name text names trees
 
--- `kept keep mark marks` is `marks`, with `mark` in front if `keep`.
+-- `kept keep mark marks` is `marks`, with `mark` in front if `keep` is true.
 abbrev pub kept : Bool → NameAt → List NameAt → List NameAt
 kept keep mark marks = if keep then mark ∷ marks else marks
 
 -- `names_to_compare text wide names trees` are the names that may repeat another: those of the policies that have an
--- `@id`, or of all if `wide`, each with the offset of its policy's first token.
+-- `@id`, or of all policies if `wide` is true. Each has the offset of its policy's first token.
 abbrev pub names_to_compare : List ℕ → Bool → List (List ℕ) → List PolicyTree → List NameAt
 names_to_compare text wide [] trees = []
 names_to_compare text wide (name ∷ names) [] = []
@@ -48,14 +48,14 @@ names_to_compare text wide (name ∷ names) (tree ∷ trees) =
 abbrev pub AreSound : List ℕ → List Condition → Type 0
 AreSound text = AllByRecursion (λ c. faults_of text c.expression ≡ [])
 
--- `ReportsPolicy text tree verdict` holds if `verdict` has the reported error of a policy's tree, and says whether it
--- is within the limits.
+-- `ReportsPolicy text tree verdict` holds if `verdict` has the reported error of a policy's tree, and says whether the
+-- policy is within the limits.
 pub record ReportsPolicy (text : List ℕ) (tree : PolicyTree) (verdict : Verdict) : Type 0 where
   pub fault : verdict.fault ≡ least (tree_faults text tree)
   pub small : IsTrue verdict.small ↔ IsSmallTree text tree
 
--- `ReportsFile text trees verdict` holds if `verdict` has the reported error of a file's trees, and says whether all
--- are within the limits. It leaves out repeated names.
+-- `ReportsFile text trees verdict` holds if `verdict` has the reported error of a file's trees, errors of repeated
+-- policy names apart, and says whether all policies are within the limits.
 pub record ReportsFile (text : List ℕ) (trees : List PolicyTree) (verdict : Verdict) : Type 0 where
   pub fault : verdict.fault ≡ least (flat_map (tree_faults text) trees)
   pub small : IsTrue verdict.small ↔ AllByRecursion (IsSmallTree text) trees

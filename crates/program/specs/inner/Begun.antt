@@ -1,4 +1,4 @@
--- Defines that a site applies the updates of a message before it serves.
+-- Defines how a site applies the updates of a message before it serves.
 use Rattle.std.specs.Prelude.{◌≡◌, ℕ, List, ◌++◌}
 use Rattle.program_drills.specs.http_service.policy_grammar.declared.policy.Policy.{Policy}
 use Rattle.program_drills.specs.http_service.entity_data.declared.entity.Entity.{Entity}

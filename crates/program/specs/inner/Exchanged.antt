@@ -1,4 +1,4 @@
--- Defines the events of an exchange that goes on.
+-- Defines the events of an exchange whose calls succeed.
 use Rattle.std.specs.Prelude.{◌≡◌, ℕ, ◌+◌, ◌++◌, List, [], ◌∷◌, Some, true}
 use Rattle.std.specs.Borrow.{Bor}
 use Rattle.state_exchanges.specs.http_streams.declared.devices.Source.{Ghosts as Source}
@@ -23,7 +23,7 @@ abbrev pub NoCourse : {L : Type 0} → Course L
 NoCourse events end = ⊥
 
 module _ {R W : Type 0} (reader : Source R) (writer : Sink W) where
-  -- `IsRepliedOver at body link reply events` holds if `events` are that the call `at` with `body` got `reply` over the
+  -- `IsRepliedOver at body link reply events` holds if, with `events`, the call `at` with `body` got `reply` over the
   -- open connection `link`, which was then closed.
   abbrev pub IsRepliedOver : RoundCall → List ℕ → Link R W → List ℕ → List (Event (Link R W)) → Type 0
   IsRepliedOver at body link reply events = (left : Link R W) × IsCalled reader writer at body link reply left

@@ -1,4 +1,4 @@
--- Defines the steps of a run that reads a file: it was read, or was not, which is reported.
+-- Defines the steps of a run that reads a file: the file was read; or it was not, and the run reports that.
 use Rattle.std.specs.Prelude.{◌≡◌, ℕ, List, ◌∷◌, Option, None, Some, Result, Ok, Err}
 use Rattle.program.specs.declared.device.FileFault.{FileFault}
 use Rattle.program.specs.declared.device.FileFault.TheVariants.{Missing}
@@ -18,17 +18,17 @@ IsFound does (Some name) (Some bytes) old new = does old (read name (Ok bytes)) 
 IsFound does _ _ old new = ⊥
 
 module _ {L : Type 0} where
-  -- `IsUnread name`: the file was not read, which is reported.
+  -- `IsUnread name`: the file was not read, and the run reports that.
   abbrev pub IsUnread : List ℕ → Course L
   IsUnread name events end = (fault : FileFault) × (rest : List (Event L)) × (events ≡ read name (Err fault) ∷ rest)
       × IsFileReported name fault rest end
 
-  -- `IsUnreadThere name`: the file exists and was not read, which is reported.
+  -- `IsUnreadThere name`: the file exists and was not read, and the run reports that.
   abbrev pub IsUnreadThere : List ℕ → Course L
   IsUnreadThere name events end = (fault : FileFault) × (rest : List (Event L)) × (fault ≡ Missing → ⊥)
       × (events ≡ read name (Err fault) ∷ rest) × IsFileReported name fault rest end
 
-  -- `IsUnreadIfNamed name`: the file is named and was not read, which is reported.
+  -- `IsUnreadIfNamed name`: the file is named and was not read, and the run reports that.
   abbrev pub IsUnreadIfNamed : Option (List ℕ) → Course L
   IsUnreadIfNamed None events end = ⊥
   IsUnreadIfNamed (Some name) events end = IsUnread name events end

@@ -24,29 +24,29 @@ module _ {L : Type 0} where
   IsTried address before (Ok link) events = events ≡ accepted (Some link) ∷ []
   IsTried address before (Err failed) events = IsFailure address before events
 
-  -- `IsAwaited address came events` holds if `events` are waiting for a connection, with the result `came`: one is
-  -- accepted after any number of failures, or the run gives up.
+  -- `IsAwaited address came events` holds if `events` are those of waiting for a connection, with the result `came`:
+  -- one is accepted after any number of failures, or the run gives up.
   abbrev pub IsAwaited : List ℕ → Result L NetworkFailed → List (Event L) → Type 0
   IsAwaited address (Ok link) events = (number : ℕ) × (failures : List (Event L)) × AreFailures address number failures
       × (events ≡ failures ++ accepted (Some link) ∷ [])
   IsAwaited address (Err failed) events = IsGivenUp address events
 
-  -- `IsWarned b line events` holds if `events` are the warning `line` where `b` is true, whether or not the stream
-  -- fails, else empty.
+  -- `IsWarned b line events` holds if `events` are the warning `line` if `b`, whether or not writing it fails; else
+  -- they are empty.
   abbrev pub IsWarned : Bool → List ℕ → List (Event L) → Type 0
   IsWarned false line events = events ≡ []
   IsWarned true line events = (done : Bool) × (events ≡ wrote Faults (ended line) done ∷ [])
 
 module _ {R W G : Type 0} (reader : Source R) (writer : Sink W) (log : Sink G) where
-  -- `IsNextOrNone address old came events new` holds if, by `came`, the next connection was served, or none was
-  -- accepted.
+  -- `IsNextOrNone address old came events new` holds if the next connection was served (`came` is `Ok`), or none was
+  -- accepted (`Err`).
   abbrev pub IsNextOrNone : List ℕ → Serving G → Result (Unit {0}) NetworkFailed → List (Event (Link R W))
       → Serving G → Type 0
   IsNextOrNone address old (Ok done) events new = IsNextServed reader writer log address old events new
   IsNextOrNone address old (Err failed) events new = IsGivenUp address events × (new ≡ old)
 
-  -- `AreServedOrFewer address most old came events new` holds if, by `came`, `most` connections were served, or fewer
-  -- were accepted.
+  -- `AreServedOrFewer address most old came events new` holds if `most` connections were served (`came` is `Ok`), or
+  -- fewer were accepted (`Err`).
   abbrev pub AreServedOrFewer : List ℕ → ℕ → Serving G → Result (Unit {0}) NetworkFailed → List (Event (Link R W))
       → Serving G → Type 0
   AreServedOrFewer address most old (Ok done) events new = AreServed reader writer log address most old events new

@@ -5,7 +5,8 @@ use Rattle.std.specs.declared.string.String.{String}
 use Rattle.program.specs.Events.{Event}
 use Rattle.program.specs.Explained.{IsLineWritten, IsTextWritten}
 
--- `IsMadeWritten made events` holds if `events` are that the text is written, or a line that it could not be allocated.
+-- `IsMadeWritten made events` holds if `events` write the text `made` or, if `made` is an error, the line that the
+-- explanation could not be allocated.
 abbrev pub IsMadeWritten : {L E : Type 0} → Result (String Global) E → List (Event L) → Type 0
 IsMadeWritten (Ok text) events = IsTextWritten (string_bytes text) events
 IsMadeWritten (Err error) events = IsLineWritten (codes "explanation: out of memory") events

@@ -1,23 +1,23 @@
--- Defines the relation between the parsed form of a line and what the line states.
+-- Defines the relation between the parsed form of a line and the event that the line describes.
 use Rattle.std.specs.Prelude.{◌≡◌, ◌≤◌, ℕ, List, ◌++◌, length, Option, Some, None, Result, Ok, Err}
 use Rattle.std.specs.List.{AllZip}
 use Rattle.serde_json.specs.Data.{Data}
 use Rattle.json_words.specs.Json.{json_of}
 use Rattle.http_service.specs.site.declared.event.Operation.{Operation}
 use Rattle.http_service.specs.site.declared.event.Event.{Event}
-use Rattle.program_drills.specs.declared.made.Made.{Made}
+use Rattle.program_drills.specs.declared.made.MadeCounts.{MadeCounts}
 use Rattle.program_drills.specs.Lines.{lines}
 use Rattle.program_drills.specs.ScriptLines.{ScriptOperation, ScriptLine, IsOperationOf, IsEventOf}
 use Rattle.program_drills.specs.Scripts.{script_lines_from, script_of}
 
--- `IsReadAs asked d` holds if `d` is the operation that `asked` states, or both are `None`.
+-- `IsReadAs asked d` holds if `d` is the operation that `asked` describes, or both are `None`.
 abbrev pub IsReadAs : Option ScriptOperation → Option Operation → Type 0
 IsReadAs None None = Unit {0}
 IsReadAs None (Some d) = ⊥
 IsReadAs (Some asked) None = ⊥
 IsReadAs (Some asked) (Some d) = IsOperationOf asked d
 
--- `IsLineRead said e` holds if `e` is the event that the line `said` states, or both are `None`.
+-- `IsLineRead said e` holds if `e` is the event that the line `said` describes, or both are `None`.
 abbrev pub IsLineRead : Option ScriptLine → Option Event → Type 0
 IsLineRead None None = Unit {0}
 IsLineRead None (Some e) = ⊥
@@ -33,14 +33,15 @@ AreBytesOf (Some d) (Some bytes) = json_of bytes ≡ Some d
 
 -- ---- the whole script
 
--- `onto said rest` are the earlier lines `said`, followed by those of `rest`, unless it is an error.
+-- `onto said rest` are the earlier lines `said`, followed by those of `rest`; or the error, if `rest` is one.
 abbrev pub onto : List ScriptLine → Result (List ScriptLine) ℕ → Result (List ScriptLine) ℕ
 onto said (Ok more) = Ok (said ++ more)
 onto said (Err place) = Err place
 
--- `IsReadUpTo n script made rest events` holds if the lines of `script` up to `rest`, for `n` sites, are parsed: they
--- state `events`, and make as many messages and summaries as `made` states.
-pub record IsReadUpTo (n : ℕ) (script : List ℕ) (made : Made) (rest : List ℕ) (events : List Event) : Type 0 where
+-- `IsReadUpTo n script made rest events` holds if `events` are those of the lines of `script` before `rest`, for `n`
+-- sites: parsing the whole script gives them and then what `rest` gives after the counts `made`, each of which is at
+-- most the number of events.
+pub record IsReadUpTo (n : ℕ) (script : List ℕ) (made : MadeCounts) (rest : List ℕ) (events : List Event) : Type 0 where
   pub said : List ScriptLine
   pub is : script_of n script ≡ onto said (script_lines_from n made (length events) (lines rest))
   pub each : AllZip IsEventOf said events

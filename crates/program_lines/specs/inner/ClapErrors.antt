@@ -7,9 +7,9 @@ use Rattle.program_lines.specs.declared.fault.LineFault.TheVariants.{Help, Words
 use Rattle.program_lines.specs.Lines.{HasInvalidSite}
 use Rattle.program_lines.specs.Faults.{is_help, is_memory}
 
--- `sorted error` is the error of the command line that reports the error `error` of clap.
-abbrev pub sorted : Error → LineFault
-sorted error = if is_help (kind_of error) then Help error
+-- `line_fault_of error` is the error of the command line that reports the error `error` of clap.
+abbrev pub line_fault_of : Error → LineFault
+line_fault_of error = if is_help (kind_of error) then Help error
     else if is_memory (kind_of error) then NoMemory else Words error
 
 -- `IsWhyIncomplete named f` holds if `f` is why the command `named` that clap found is incomplete: `Site` if it has an

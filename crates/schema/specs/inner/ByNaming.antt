@@ -1,5 +1,5 @@
 -- Defines the schema that bytes state, and the error if they state none, by the functions that parse a file and resolve
--- its names. They agree with the relations of Schemas.
+-- its names. These functions agree with the relations of Schemas.
 use Rattle.std.specs.Prelude.{◌≡◌, ◌↔◌, ℕ, List}
 use Rattle.sha2.specs.Sha256.{sha256}
 use Rattle.hex.specs.Hex.{encode_lower}
@@ -12,7 +12,7 @@ use Rattle.schema.specs.Schemas.{StatedSchema, IsSound, Answers, SomeActionIsOnC
 use Rattle.schema.specs.Schemas.{IsSchemaOf, RefusedFor}
 use Rattle.schema.specs.WellFormed.{IsWellFormed}
 
--- `IsUnsound s f` holds if `f` is the first error of `s` of these: a common type leads back to itself, an action is its
+-- `IsUnsound s f` holds if `f` is the first of these errors of `s`: a common type has no expansion, an action is its
 -- own ancestor, a type is too large.
 pub data IsUnsound (s : ResolvedSchema) : SchemaFault → Type 0 where
   type_cycle : SomeHasNoExpansion s.commons → IsUnsound s TypeCycle

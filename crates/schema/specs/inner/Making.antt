@@ -1,6 +1,6 @@
 -- Defines how the code builds the parts of a schema, one after another. Each relation `Adds..` holds if the map `new`
--- is the map `old` with the entries that its comment names; `..May` says which entries may be added, `..Must` which
--- keys must be there afterwards (Filling).
+-- is the map `old` with the entries that the comment of the relation names; `..May` holds of the entries that may be
+-- added, `..Must` of the keys that must be there afterwards (Filling).
 use Rattle.std.specs.Prelude.{◌≡◌, ⊤, ℕ, List, Contains, Option, Some, None, option_map}
 use Rattle.std.specs.BTreeMap.{BTreeMap, get}
 use Rattle.values.specs.declared.entity_uid.EntityUid.{EntityUid}
@@ -15,7 +15,7 @@ use Rattle.schema_types.specs.Outcome.{TypeRefused}
 use Rattle.schema_types.specs.declared.fault.SchemaFault.{SchemaFault}
 use Rattle.schema_types.specs.declared.cedar.CedarType.{CedarType}
 use Rattle.schema_names.specs.Qualifying.{ResolvedEntityType, ResolvedUse, ResolvedAction}
-use Rattle.schema.specs.declared.parts.Place.{Place}
+use Rattle.schema.specs.declared.parts.EnvironmentKey.{EnvironmentKey}
 use Rattle.schema.specs.declared.parts.EntityDecl.{EntityDecl}
 use Rattle.schema.specs.Places.{place_cmp, place_of}
 use Rattle.schema.specs.Schemas.{IsRecordOf, IsWritten}
@@ -35,7 +35,8 @@ IsWrittenAt commons o = (r : Qualified) → o ≡ Some r → IsWritten commons r
 abbrev pub IsRefusedAt : Declarations → Option Qualified → SchemaFault → Type 0
 IsRefusedAt commons o f = (r : Qualified) × (o ≡ Some r) × TypeRefused commons r f
 
--- `IsMade commons o t` holds if `t` is the expansion of `o`, within the limits; without a type, the empty record.
+-- `IsMade commons o t` holds if `t` is the expansion of the type in `o`, within the limits, or the record without
+-- attributes if `o` is `None`.
 pub record IsMade (commons : Declarations) (o : Option Qualified) (t : Cedar) : Type 0 where
   pub is_record : IsRecordOf commons o t
   pub is_written : IsWrittenAt commons o
@@ -48,7 +49,7 @@ shape_in shapes n = option_map (λ d. cedar_view d.shape) (get text_cmp shapes n
 
 -- ---- shapes
 
--- `ShapeMay commons e n d` holds if `n` is the name of `e`, and `d` has its shape.
+-- `ShapeMay commons e n d` holds if `n` is the name of `e`, and `d` has the shape of `e`, expanded.
 abbrev pub ShapeMay : Declarations → ResolvedEntityType → List ℕ → EntityDecl → Type 0
 ShapeMay commons e n d = (e.name ≡ n) × IsRecordOf commons e.shape (cedar_view d.shape)
 
@@ -72,7 +73,7 @@ AddsShapes commons es old new =
 abbrev pub AreShapesClosed : Declarations → List ResolvedEntityType → Type 0
 AreShapesClosed commons es = (e : ResolvedEntityType) → Contains es e → IsClosedAt commons e.shape
 
--- `SomeShapeIsRefused commons es f` holds if `f` is the error of some shape.
+-- `SomeShapeIsRefused commons es f` holds if `f` is the error of expanding the shape of one of the entity types `es`.
 abbrev pub SomeShapeIsRefused : Declarations → List ResolvedEntityType → SchemaFault → Type 0
 SomeShapeIsRefused commons es f = (e : ResolvedEntityType) × Contains es e × IsRefusedAt commons e.shape f
 
@@ -85,17 +86,19 @@ AreShapes commons es shapes =
 
 -- `Places` are maps from a place to the type of its context.
 abbrev pub Places : Type 0
-Places = BTreeMap Place CedarType
+Places = BTreeMap EnvironmentKey CedarType
 
--- `PlaceMay action context principal resource p c` holds if `p` is the place of these three, and `c` is `context`.
-abbrev pub PlaceMay : EntityUid → CedarType → List ℕ → List ℕ → Place → CedarType → Type 0
+-- `PlaceMay action context principal resource p c` holds if `p` is the place of `action`, `principal` and `resource`,
+-- and `c` is `context`.
+abbrev pub PlaceMay : EntityUid → CedarType → List ℕ → List ℕ → EnvironmentKey → CedarType → Type 0
 PlaceMay action context principal resource p c = (place_of action principal resource ≡ p) × (c ≡ context)
 
 -- `PlaceMust action principal resource p` holds if `p` is the place of these three.
-abbrev pub PlaceMust : EntityUid → List ℕ → List ℕ → Place → Type 0
+abbrev pub PlaceMust : EntityUid → List ℕ → List ℕ → EnvironmentKey → Type 0
 PlaceMust action principal resource p = place_of action principal resource ≡ p
 
--- `AddsPlace action context principal resource old new` holds if this place was added.
+-- `AddsPlace action context principal resource old new` holds if the place of `action`, `principal` and `resource` was
+-- added, with the context type `context`.
 abbrev pub AddsPlace : EntityUid → CedarType → List ℕ → List ℕ → Places → Places → Type 0
 AddsPlace action context principal resource old new =
     Adds (PlaceMay action context principal resource) (PlaceMust action principal resource) ⊤
@@ -115,12 +118,12 @@ AddsPrincipals action context resources principals old new =
     AddsEach (λ p. SomeMay (PlaceMay action context p) resources) (λ p. SomeMust (PlaceMust action p) resources)
     (λ p. HoldsForEach (λ r. ⊤) resources) principals (get place_cmp old) (get place_cmp new)
 
--- `UseMust action u p` holds if `p` is a place of `action` with types that its `appliesTo`, `u`, lists.
-abbrev pub UseMust : EntityUid → ResolvedUse → Place → Type 0
+-- `UseMust action u p` holds if `p` is a place of `action` with types that `u`, the `appliesTo` of the action, lists.
+abbrev pub UseMust : EntityUid → ResolvedUse → EnvironmentKey → Type 0
 UseMust action u p = (action ≡ p.action) × Contains u.principals p.principal × Contains u.resources p.resource
 
 -- `UseMay commons action u p c` holds if `UseMust action u p` holds, and `c` is the context of `u`, expanded.
-abbrev pub UseMay : Declarations → EntityUid → ResolvedUse → Place → CedarType → Type 0
+abbrev pub UseMay : Declarations → EntityUid → ResolvedUse → EnvironmentKey → CedarType → Type 0
 UseMay commons action u p c = UseMust action u p × IsRecordOf commons u.context (cedar_view c)
 
 -- `AddsUse commons action u old new` holds if the places of `u` were added, with a context within the limits.
@@ -130,11 +133,11 @@ AddsUse commons action u old new =
     (get place_cmp old) (get place_cmp new)
 
 -- `ActionMust a p` holds if `p` is a place of the action `a`.
-abbrev pub ActionMust : ResolvedAction → Place → Type 0
+abbrev pub ActionMust : ResolvedAction → EnvironmentKey → Type 0
 ActionMust a p = (u : ResolvedUse) × (a.applies_to ≡ Some u) × UseMust a.uid u p
 
 -- `ActionMay commons a p c` holds if `p` is a place of the action `a`, and `c` is its context, expanded.
-abbrev pub ActionMay : Declarations → ResolvedAction → Place → CedarType → Type 0
+abbrev pub ActionMay : Declarations → ResolvedAction → EnvironmentKey → CedarType → Type 0
 ActionMay commons a p c = (u : ResolvedUse) × (a.applies_to ≡ Some u) × UseMay commons a.uid u p c
 
 -- `IsContextWritten commons a` holds if the context of `a`, if it has one, is within the limits.
@@ -145,7 +148,7 @@ IsContextWritten commons a = (u : ResolvedUse) → a.applies_to ≡ Some u → I
 abbrev pub IsContextClosed : Declarations → ResolvedAction → Type 0
 IsContextClosed commons a = (u : ResolvedUse) → a.applies_to ≡ Some u → IsClosedAt commons u.context
 
--- `IsContextRefused commons a f` holds if `f` is the error of the context of `a`.
+-- `IsContextRefused commons a f` holds if `f` is the error of expanding the context of `a`.
 abbrev pub IsContextRefused : Declarations → ResolvedAction → SchemaFault → Type 0
 IsContextRefused commons a f = (u : ResolvedUse) × (a.applies_to ≡ Some u) × IsRefusedAt commons u.context f
 
@@ -163,7 +166,7 @@ AddsActions commons us old new =
 abbrev pub AreContextsClosed : Declarations → List ResolvedAction → Type 0
 AreContextsClosed commons us = (a : ResolvedAction) → Contains us a → IsContextClosed commons a
 
--- `SomeContextIsRefused commons us f` holds if `f` is the error of the context of one of the actions `us`.
+-- `SomeContextIsRefused commons us f` holds if `f` is the error of expanding the context of one of the actions `us`.
 abbrev pub SomeContextIsRefused : Declarations → List ResolvedAction → SchemaFault → Type 0
 SomeContextIsRefused commons us f = (a : ResolvedAction) × Contains us a × IsContextRefused commons a f
 
@@ -174,7 +177,7 @@ ArePlaces commons us places =
 
 -- ---- hierarchies
 
--- `MemberMay parents a u us` holds if `u` is the uid of `a`, and `us` are its parents.
+-- `MemberMay parents a u us` holds if `u` is the uid of `a`, and `us` are the parents of `u` under `parents`.
 abbrev pub MemberMay : Parents → ResolvedAction → EntityUid → List EntityUid → Type 0
 MemberMay parents a u us = (a.uid ≡ u) × (us ≡ parents u)
 

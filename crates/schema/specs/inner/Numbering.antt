@@ -16,7 +16,7 @@ use Rattle.schema.specs.inner.Filling.{Adds, AddsEach}
 
 -- ---- numbers
 
--- `Numbers` is the number of each entity that has one.
+-- `Numbers` is the type of numberings: each maps an entity to its number, if it has one.
 abbrev pub Numbers : Type 0
 Numbers = EntityUid → Option ℕ
 
@@ -24,7 +24,7 @@ Numbers = EntityUid → Option ℕ
 abbrev pub IsApart : Numbers → Type 0
 IsApart at = (u v : EntityUid) (i : ℕ) → at u ≡ Some i → at v ≡ Some i → u ≡ v
 
--- `IsNumbering at us` holds if each entity is in the list at its number.
+-- `IsNumbering at us` holds if each entity that has a number in `at` is in the list `us` at that index.
 abbrev pub IsNumbering : Numbers → List EntityUid → Type 0
 IsNumbering at us = (u : EntityUid) (i : ℕ) → at u ≡ Some i → slice_get us i ≡ Some u
 
@@ -45,13 +45,14 @@ pub record AddsNumber (u : EntityUid) (old new : Numbered) : Type 0 where
 
 -- ---- ancestors
 
--- `HasAncestors parents at u spans` holds if, of the numbered entities, the spans contain exactly the ancestors of `u`.
+-- `HasAncestors parents at u spans` holds if `spans` contain, of the numbers that `at` has, exactly those of the
+-- ancestors of `u`.
 abbrev pub HasAncestors : Parents → Numbers → EntityUid → List NumberSpan → Type 0
 HasAncestors parents at u spans =
     (q : EntityUid) (i : ℕ) → at q ≡ Some i → IsTrue (has_number spans i) ↔ IsAncestor parents q u
 
--- `KeepsAncestors parents at reached` holds if `reached` has, at the number of an entity, only spans that contain
--- exactly its ancestors, as `HasAncestors` says.
+-- `KeepsAncestors parents at reached` holds if the spans that `reached` has at the number of an entity, if any, contain
+-- exactly the numbers of the entity's ancestors (`HasAncestors`).
 abbrev pub KeepsAncestors : Parents → Numbers → List (List NumberSpan) → Type 0
 KeepsAncestors parents at reached =
     (u : EntityUid) (i : ℕ) (spans : List NumberSpan) → at u ≡ Some i → slice_get reached i ≡ Some spans
@@ -61,7 +62,8 @@ KeepsAncestors parents at reached =
 abbrev pub single : ℕ → NumberSpan
 single i = record { first = i; last = i }
 
--- `HasSpans reached number old new` holds if `new` is `old` with the span of `number` and the spans at it in `reached`.
+-- `HasSpans reached number old new` holds if `new` is `old` with the span of `number` and the spans that `reached` has
+-- at `number`.
 pub record HasSpans (reached : List (List NumberSpan)) (number : ℕ) (old new : List NumberSpan) : Type 0 where
   pub further : List NumberSpan
   pub reaches : slice_get reached number ≡ Some further
@@ -110,7 +112,7 @@ NameMay at u n i = (u.type_name ≡ n) × (at u ≡ Some i)
 abbrev pub NameMust : Numbers → EntityUid → List ℕ → Type 0
 NameMust at u n = (u.type_name ≡ n) × IsSome (at u)
 
--- `AddsName at u old new` holds if `new` is the map `old` with the number of `u`, if it has one, under its type.
+-- `AddsName at u old new` holds if `new` is the map `old` with the number of `u`, if it has one, under the type of `u`.
 abbrev pub AddsName : Numbers → EntityUid → BTreeMap (List ℕ) ℕ → BTreeMap (List ℕ) ℕ → Type 0
 AddsName at u old new = Adds (NameMay at u) (NameMust at u) ⊤ (get text_cmp old) (get text_cmp new)
 
@@ -126,8 +128,8 @@ AreNames at us named = AddsNames at us (λ n. None) (get text_cmp named)
 abbrev pub type_points : List ResolvedEntityType → List EntityUid
 type_points es = map (λ e. type_uid e.name) es
 
--- `AreNumbers parents es t` holds if `t` has a number for each of the types `es`, and, at each number, exactly the
--- numbers of those ancestors of its type that have one.
+-- `AreNumbers parents es t` holds if `t` has a number for each of the types `es`, and, at the number of each type,
+-- exactly the numbers of those of the type's ancestors that have one.
 pub record AreNumbers (parents : Parents) (es : List ResolvedEntityType) (t : TypeNumbers) : Type 0 where
   pub exact : (n q : List ℕ) (i j : ℕ) → get text_cmp t.numbers n ≡ Some i → get text_cmp t.numbers q ≡ Some j
       → IsTrue (has_number_at (slice_get t.spans i) j) ↔ IsAncestor parents (type_uid q) (type_uid n)

@@ -36,7 +36,7 @@ pub record AreTypesOf (commons : Declarations) (s : ResolvedSchema) (t : Types) 
   pub environments : t.environments ≡ map environment_of places.entries
   pub ordered : tree.IsOrdered place_cmp places
 
--- `TypesRefused commons s f` holds if some shape or context of `s` is too large, and `f` is that error.
+-- `TypesRefused commons s f` holds if `f` is the error of some shape or context of `s`: its expansion is too large.
 abbrev pub TypesRefused : Declarations → ResolvedSchema → SchemaFault → Type 0
 TypesRefused commons s f = (r : Qualified) × IsShapeOrContext s r × TypeRefused commons r f
 

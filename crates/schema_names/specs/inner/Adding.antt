@@ -23,8 +23,8 @@ has_name s q = contains_text s q
 abbrev pub has_uid : BTreeSet EntityUid → EntityUid → Bool
 has_uid s u = contains uid_cmp s u
 
--- `Adds has test old new` holds if the set `new` has exactly the members of `old` and what passes the test; `has` tests
--- for membership.
+-- `Adds has test old new` holds if the set `new` has exactly the members of `old` and the values for which `test` is
+-- true; `has` tests for membership.
 abbrev pub Adds : {S X : Type 0} → (S → X → Bool) → (X → Bool) → S → S → Type 0
 Adds {X = X} has test old new = (q : X) → has new q ≡ (test q || has old q)
 

@@ -18,14 +18,14 @@ abbrev pub means_by : Option (List ℕ) → (List ℕ → Bool) → Bool → Boo
 means_by (Some q) known otherwise = known q
 means_by None known otherwise = otherwise
 
--- `is_known_non_record known s own r` tests whether the type `r` is not a record, where `known` tests whether the
--- common type of a name is not one.
+-- `is_known_non_record known s own r` tests whether the type `r` is not a record, where `known` tests whether a name is
+-- that of a common type that is not a record.
 abbrev pub is_known_non_record : (List ℕ → Bool) → Scope → Option (List ℕ) → Raw → Bool
 is_known_non_record known s own r = means_by (common_meant s own r) known (is_no_record s own r)
 
 -- ---- rounds
 
--- `NamesNoRecord ns q` holds if some common type of the full name `q` means a type that is not a record.
+-- `NamesNoRecord ns q` holds if some common type with the full name `q` means a type that is not a record.
 pub record NamesNoRecord (ns : List NamespaceOf) (q : List ℕ) : Type 0 where
   pub common : CommonOf
   pub declared : Contains (commons_declared ns) common
@@ -70,8 +70,8 @@ abbrev pub tried_in_order : List CommonOf → List ℕ → List CommonOf
 tried_in_order cs [] = []
 tried_in_order cs (i ∷ is) = tried_one (slice_get cs i) ++ tried_in_order cs is
 
--- `ReportsRecords ns known` holds if `known` is true of exactly the common types that are not records, so that
--- `is_known_non_record` decides it for each type.
+-- `ReportsRecords ns known` holds if `is_known_non_record`, with the test `known` of common types, is true of exactly
+-- the types that mean a type that is not a record.
 pub record ReportsRecords (ns : List NamespaceOf) (known : List ℕ → Bool) : Type 0 where
   pub sound : (own : Option (List ℕ)) (r : Raw) → is_known_non_record known (scope_in ns) own r ≡ true
       → MeansNoRecord ns own r
@@ -80,13 +80,14 @@ pub record ReportsRecords (ns : List NamespaceOf) (known : List ℕ → Bool) : 
 
 -- ---- shapes and contexts
 
--- `is_record_at known s own o` tests whether the type in `o`, if there is one, is not found to be other than a record.
+-- `is_record_at known s own o` is false if the type in `o` is, by `known`, not a record, and true otherwise, also if
+-- there is no type.
 abbrev pub is_record_at : (List ℕ → Bool) → Scope → Option (List ℕ) → Option Raw → Bool
 is_record_at known s own None = true
 is_record_at known s own (Some r) = not (is_known_non_record known s own r)
 
--- `is_record_in known s own o` tests the same of the context in `o`, which is what an action applies to, if there is
--- one.
+-- `is_record_in known s own o` tests the same of the context of an action that applies to `o`; it is true if the action
+-- applies to nothing.
 abbrev pub is_record_in : (List ℕ → Bool) → Scope → Option (List ℕ) → Option UseOf → Bool
 is_record_in known s own None = true
 is_record_in known s own (Some u) = is_record_at known s own u.context

@@ -1,5 +1,5 @@
--- Defines the graph of the common types of a file, in which an edge leads from each that is only a name of another to
--- that one.
+-- Defines the graph of the common types of a file, in which an edge leads from each common type whose definition is
+-- only the name of another to that other.
 -- Source: Cedar reference guide, "Schema JSON format": a common type may be a reference to another.
 use Rattle.std.specs.Prelude.{ℕ, ◌+◌, List, [], ◌∷◌, map, Option, Some, None, if◌then◌else◌}
 use Rattle.std.specs.Str.{bytes_eq}
@@ -15,7 +15,7 @@ abbrev pub listed_view : ListedCommon → CommonOf
 listed_view l = common_in l.own.now (common_view l.common.now)
 
 -- `place_from i cs q found` is the last index at which `cs`, whose first index is `i`, declares `q`, or `found` if `cs`
--- does not declare it.
+-- does not declare `q`.
 abbrev pub place_from : ℕ → List CommonOf → List ℕ → Option ℕ → Option ℕ
 place_from i [] q found = found
 place_from i (c ∷ cs) q found = place_from (i + 1) cs q (if bytes_eq c.name q then Some i else found)
@@ -34,12 +34,12 @@ abbrev pub in_list : Option ℕ → List ℕ
 in_list None = []
 in_list (Some a) = a ∷ []
 
--- `place_used place s c` is the index of the common type that the definition of `c` is a name of, as a list; `[]` if it
--- is not such a name.
+-- `place_used place s c` is the list of one index, that of the common type whose name is the definition of `c`; `[]` if
+-- the definition is not such a name.
 abbrev pub place_used : (List ℕ → Option ℕ) → Scope → CommonOf → List ℕ
 place_used place s c = in_list (place_meant place (common_meant s c.own c.type))
 
--- `uses s commons` is the graph that has, for the index of each common type, the index of the one that its definition
--- is a name of.
+-- `uses s commons` is the graph in which an edge leads from the index of each common type whose definition is only the
+-- name of another to the index of that other.
 abbrev pub uses : Scope → List CommonOf → Graph
 uses s commons = map (λ c. place_used (place_of commons) s c) commons

@@ -1,4 +1,4 @@
--- Defines the graph of the common types, in which an edge leads from each to those that it mentions.
+-- Defines the graph of the common types, in which an edge leads from each common type to those that it mentions.
 use Rattle.std.specs.Prelude.{ℕ, ◌+◌, List, [], ◌∷◌, ◌++◌, map, Option, Some, None, if◌then◌else◌}
 use Rattle.std.specs.Str.{bytes_eq}
 use Rattle.schema_types.specs.Qualified as qualified
@@ -30,7 +30,7 @@ unfoldable mutual
   fields_name place (qualified.field k r required rs) = places_named place r ++ fields_name place rs
 
 -- `place_from i ds q found` is the last index at which `ds`, whose first index is `i`, declares `q`, or `found` if `ds`
--- does not declare it.
+-- does not declare `q`.
 abbrev pub place_from : ℕ → Declarations → List ℕ → Option ℕ → Option ℕ
 place_from i [] q found = found
 place_from i (d ∷ ds) q found = place_from (i + 1) ds q (if bytes_eq d.0 q then Some i else found)

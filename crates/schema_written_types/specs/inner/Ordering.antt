@@ -16,7 +16,8 @@ one_if_seen [] a = 0
 one_if_seen (s ∷ ss) zero = if s then 1 else 0
 one_if_seen (s ∷ ss) (suc a) = one_if_seen ss a
 
--- `times_on a path` is the number of times that the node `a` occurs on the path, whose last step is first in the list.
+-- `times_on a path` is the number of times that the node `a` occurs on `path`, a list with the last step of the path
+-- first. A `Step` of the code has a node (`place`) and the number of its edges that were followed (`followed`).
 abbrev pub times_on : ℕ → List Step → ℕ
 times_on a [] = 0
 times_on a (s ∷ path) = one_if_same a s.place + times_on a path
@@ -30,8 +31,8 @@ entered seen a path = if is_new seen a then record { place = a; followed = 0 } �
 abbrev pub IsFollowed : Graph → List ℕ → Option ℕ → ℕ → ℕ → Type 0
 IsFollowed g order next a b = (Contains order b ⊎ Leads g b a) ⊎ (next ≡ Some b)
 
--- `AreFollowed g order next s` holds if `IsFollowed` holds for each edge that the step `s` has followed, unless it
--- leads out of the graph.
+-- `AreFollowed g order next s` holds if `IsFollowed` holds for each edge that the step `s` has followed, unless the
+-- edge leads out of the graph.
 abbrev pub AreFollowed : Graph → List ℕ → Option ℕ → Step → Type 0
 AreFollowed g order next s = (k b : ℕ) → k < s.followed → k < length (ends_of g s.place)
     → slice_index_or (ends_of g s.place) k b ≡ b → b < length g → IsFollowed g order next s.place b
@@ -62,23 +63,23 @@ KeepsSeen old new = (a : ℕ) → one_if_seen old a ≡ 1 → one_if_seen new a 
 
 -- ---- remaining effort
 
--- `unseen_effort g seen` is the number of the nodes that were not seen and of their edges.
+-- `unseen_effort g seen` is the number of nodes that were not seen, plus the number of their edges.
 abbrev pub unseen_effort : Graph → List Bool → ℕ
 unseen_effort [] ss = 0
 unseen_effort (v ∷ vs) [] = 0
 unseen_effort (v ∷ vs) (s ∷ ss) = (if s then 0 else suc (length v)) + unseen_effort vs ss
 
--- `path_effort g path` is the number of the steps of the path and of their edges that were not followed.
+-- `path_effort g path` is the number of steps of the path, plus the number of their edges that were not followed.
 abbrev pub path_effort : Graph → List Step → ℕ
 path_effort g [] = 0
 path_effort g (s ∷ path) = suc (length (ends_of g s.place) - s.followed) + path_effort g path
 
--- `effort g path seen` is the sum of both: the measure of the search.
+-- `effort g path seen` is the sum of these two: the measure of the search, which decreases with each turn.
 abbrev pub effort : Graph → List Step → List Bool → ℕ
 effort g path seen = path_effort g path + unseen_effort g seen
 
--- `WalksOn g path path' seen seen' order order'` holds if a step of the search preserves its invariant `IsWalk` and the
--- seen nodes, and decreases its measure.
+-- `WalksOn g path path' seen seen' order order'` holds if one turn of the search, from the lists `path`, `seen` and
+-- `order` to the primed ones, preserves the invariant `IsWalk` and the seen nodes, and decreases the measure.
 pub record WalksOn (g : Graph) (path path' : List Step) (seen seen' : List Bool) (order order' : List ℕ)
     : Type 0 where
   pub walks : IsWalk g path seen order → IsWalk g path' seen' order'

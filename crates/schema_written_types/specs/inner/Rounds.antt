@@ -32,8 +32,8 @@ Steps d old new = Stays d old new ⊎ Adds d old new
 abbrev pub AreAmong : Declarations → Declarations → Type 0
 AreAmong ds commons = (q : List ℕ) (r : Qualified) → Declares ds q r → Declares commons q r
 
--- `KeepsTable ds old new` holds if the table `new` is right for all declarations that include `ds` for which `old` is
--- right.
+-- `KeepsTable ds old new` holds if the table `new` is right (`IsTable`) for all declarations that include `ds` and for
+-- which the table `old` is right.
 abbrev pub KeepsTable : Declarations → BTreeMap (String Global) Known → BTreeMap (String Global) Known → Type 0
 KeepsTable ds old new =
     (commons : Declarations) → AreAmong ds commons → IsTable commons (type_table old) → IsTable commons (type_table new)

@@ -20,9 +20,9 @@ no_size = record { parts = 0; deep = 0 }
 abbrev pub above : Extent → Extent
 above s = record { parts = min (s.parts + 1) 10001; deep = min (s.deep + 1) 65 }
 
--- `beside s t` is the size of parts of the sizes `s` and `t` together.
-abbrev pub beside : Extent → Extent → Extent
-beside s t = record { parts = min (s.parts + t.parts) 10001; deep = max s.deep t.deep }
+-- `side_by_side s t` is the size of parts of the sizes `s` and `t` together.
+abbrev pub side_by_side : Extent → Extent → Extent
+side_by_side s t = record { parts = min (s.parts + t.parts) 10001; deep = max s.deep t.deep }
 
 -- `size_in known r` is the size of the expansion of `r`, if the table `known` has an entry for each name that `r`
 -- mentions.
@@ -38,11 +38,11 @@ unfoldable mutual
   size_in known (qualified.entity n) = Some leaf_size
   size_in known (qualified.common q) = option_map (λ k. k.size) (known q)
 
-  -- the size of the fields, added to `total`
+  -- `sizes_in known total rs` is the size of the fields `rs`, added to `total`, under the same condition.
   pub sizes_in : TypeTable → Extent → QualifiedFields → Option Extent
   sizes_in known total qualified.no_fields = Some total
   sizes_in known total (qualified.field k r required rs) =
-      option_and_then (λ s. sizes_in known (beside total s) rs) (size_in known r)
+      option_and_then (λ s. sizes_in known (side_by_side total s) rs) (size_in known r)
 
 -- `written_in known r` is the expansion of `r`, if the table `known` has an expansion for each name that `r` mentions.
 unfoldable mutual
@@ -72,13 +72,13 @@ IsWithin s = (s.parts ≤ 10000) × (s.deep ≤ 64)
 abbrev pub fits : Extent → Bool
 fits s = nat_lt s.parts 10001 && nat_lt s.deep 65
 
--- `IsCounted known r` holds if `size_in known r` is a size, and it is within the limits.
+-- `IsCounted known r` holds if `size_in known r` is a size within the limits.
 pub record IsCounted (known : TypeTable) (r : Qualified) : Type 0 where
   pub size : Extent
   pub is : size_in known r ≡ Some size
   pub small : fits size ≡ true
 
--- `built_of known s r` is the expansion of `r`, whose size is `s`, or `None` if it is too large.
+-- `built_of known s r` is the expansion of `r`, or `None` if the size `s` of the expansion is not within the limits.
 abbrev pub built_of : TypeTable → Extent → Qualified → Option Cedar
 built_of known s r = if fits s then written_in known r else None
 
@@ -100,7 +100,7 @@ abbrev pub is_small_at : Option TableEntry → Bool
 is_small_at None = true
 is_small_at (Some k) = fits k.size
 
--- `all_small known ds` tests whether this is so for the entry of each name that `ds` declares.
+-- `all_small known ds` tests whether `is_small_at` is true of the entry of each name that `ds` declares.
 abbrev pub all_small : TypeTable → Declarations → Bool
 all_small known [] = true
 all_small known (d ∷ ds) = is_small_at (known d.0) && all_small known ds

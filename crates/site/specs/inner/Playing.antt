@@ -26,9 +26,9 @@ AnswersOperation schema n s None None t = t ≡ s
 AnswersOperation schema n s (Some i) (Some r) t = Step schema n s i r t
 AnswersOperation schema n s _ _ t = ⊥
 
--- `IsEventStep seen messages summaries e a seen2 messages2 summaries2` holds if the event `e` with the reply `a` leads
--- from each state that has the sites `seen` and the bytes `messages` and `summaries` to a state that has the sites
--- `seen2` and the bytes `messages2` and `summaries2`.
+-- `IsEventStep seen messages summaries e a seen2 messages2 summaries2` relates two views of a system, each the sites
+-- and the bytes of messages and summaries. It holds if the event `e` with the reply `a` leads from each state with the
+-- first view to a state with the second.
 abbrev pub IsEventStep : List SiteView → List (List ℕ) → List (List ℕ) → Event → EventReply → List SiteView
     → List (List ℕ) → List (List ℕ) → Type 0
 IsEventStep seen messages summaries e a seen2 messages2 summaries2 = (schema : StatedSchema) (sites : List SiteName)

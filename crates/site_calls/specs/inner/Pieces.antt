@@ -1,4 +1,4 @@
--- Defines pieces of lines.
+-- Defines pieces of the lines that are bodies of replies.
 use Rattle.std.specs.Prelude.{ℕ, List, ◌++◌, Bool, Option, Some, None, codes, decimal, if◌then◌else◌}
 
 -- `boolean_word value` is `true` or `false`, as JSON writes it.

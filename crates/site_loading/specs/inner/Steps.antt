@@ -1,10 +1,10 @@
--- Defines when the bytes of a file have tokens, as is known once the file was parsed.
+-- Defines when the bytes of a file have tokens. Each file that was parsed has them.
 use Rattle.std.specs.Prelude.{List, ℕ}
 use Rattle.std.specs.Str.{IsUtf8}
 use Rattle.grammar_files.specs.grammar_tokens.declared.token.Token.{Token}
 use Rattle.grammar_files.specs.grammar_tokens.Lexing.{IsLexed}
 
--- `HasTokens bytes` holds if `bytes` are UTF-8 and have tokens.
+-- `HasTokens bytes` holds if `bytes` are UTF-8, and the lexer splits them into tokens without an error.
 pub record HasTokens (bytes : List ℕ) : Type 0 where
   pub utf8 : IsUtf8 bytes
   pub tokens : List Token

@@ -6,7 +6,7 @@ use Rattle.entity_hierarchy.specs.entity_data.declared.entity.Entity.{Entity}
 use Rattle.stamped_store.specs.declared.entry.Entry.{Entry}
 use Rattle.stamped_store.specs.declared.entry.ReadText.{ReadText}
 
--- `uid_with uid t` is the list of `uid` if there is a text `t`, else it is empty.
+-- `uid_with uid t` is the list of `uid` alone if `t` is a text, and the empty list if `t` is `None`.
 abbrev pub uid_with : EntityUid → Option (ReadText Entity) → List EntityUid
 uid_with uid None = []
 uid_with uid (Some t) = uid ∷ []

@@ -1,4 +1,4 @@
--- Defines the parts of commands: the results of their checks, and the stamping and storing after these.
+-- Defines the parts of commands: the results of their checks, and the stamping and storing after the checks.
 use Rattle.std.specs.Prelude.{◌≡◌, ◌↔◌, ◌<◌, ℕ, Bool, true, false, List, Option, Some, None, Result, Ok, Err, IsTrue}
 use Rattle.plain.specs.Words.{IsPath}
 use Rattle.values.specs.declared.entity_uid.EntityUid.{EntityUid}
@@ -33,17 +33,16 @@ abbrev pub IsNext : List ℕ → Store → Option Stamp → Type 0
 IsNext n s (Some stamp) = (greatest_count s < most_count) × (stamp ≡ issue s n)
 IsNext n s None = greatest_count s ≡ most_count
 
--- `PutsUnless n s cycle uid text r t` holds if `text` is put under `uid` in case `cycle` is false; if it is true, `r`
--- is
--- `WouldCycle`, if it is an error, `r` is `NoMemory`, and in both cases `t` is `s`.
+-- `PutsUnless n s cycle uid text r t` holds if `cycle` is false, and `text` is put under `uid`; or `cycle` is true, `r`
+-- is `WouldCycle`, and `t` is `s`; or `cycle` is an error, `r` is `NoMemory`, and `t` is `s`.
 abbrev pub PutsUnless : {E : Type 0} → List ℕ → Store → Result Bool E → EntityUid → List ℕ → Result Stamp SiteFault
     → Store → Type 0
 PutsUnless n s (Ok false) uid text r t = RecordsOr n s (entity_name uid) (Some text) r t
 PutsUnless n s (Ok true) uid text r t = (r ≡ Err fault.WouldCycle) × (t ≡ s)
 PutsUnless n s (Err e) uid text r t = (r ≡ Err fault.NoMemory) × (t ≡ s)
 
--- `put_result impossible r` is the result of a put of a policy, by whether it is impossible and the result `r` of
--- storing it.
+-- `put_result impossible r` is the result of a put of a policy: the stamp in `r` with `impossible` (whether the policy
+-- is impossible), or the error in `r`.
 abbrev pub put_result : Bool → Result Stamp SiteFault → Result Put SiteFault
 put_result impossible (Ok stamp) = Ok (record { stamp = stamp; impossible = impossible })
 put_result impossible (Err f) = Err f
@@ -52,26 +51,28 @@ put_result impossible (Err f) = Err f
 abbrev pub IsDescribed : StatedSchema → Entity → Type 0
 IsDescribed schema e = (d : Data) × (entity_stated_in schema d ≡ Ok e)
 
--- `IsStatedBy schema json b` holds if `json` describes the entity in `b` under `schema`, and `b` has its canonical
--- text.
+-- `IsStatedBy schema json b` holds if `json` describes the entity in `b` under `schema`, and the text in `b` is the
+-- canonical text of this entity.
 pub record IsStatedBy (schema : StatedSchema) (json : Option Data) (b : ReadText Entity) : Type 0 where
   pub states : entity_stated schema json ≡ Ok b.read
   pub path : IsPath b.read.uid.type_name
   pub canonical : b.text ≡ canonical_text b.read
   pub reads : IsEntityUnder schema b.read.uid b.text b.read
 
--- `IsNoEntityFault schema json f` holds if `f` is the site's error for `json`, which does not describe an entity.
+-- `IsNoEntityFault schema json f` holds if `json` does not describe an entity under `schema`, and `f` is the site's
+-- error for `json`.
 abbrev pub IsNoEntityFault : StatedSchema → Option Data → SiteFault → Type 0
 IsNoEntityFault schema json (fault.Entity f) = entity_stated schema json ≡ Err f
 IsNoEntityFault schema json _ = ⊥
 
--- `IsNoRequestFault schema json f` holds if `f` is the site's error for `json`, which does not describe a request.
+-- `IsNoRequestFault schema json f` holds if `json` does not describe a request under `schema`, and `f` is the site's
+-- error for `json`.
 abbrev pub IsNoRequestFault : StatedSchema → Option Data → SiteFault → Type 0
 IsNoRequestFault schema json (fault.Request f) = IsNoRequest schema json f
 IsNoRequestFault schema json _ = ⊥
 
--- `IsJudged schema id text b impossible` holds if the policy in `b`, with this text, may be put under `id`, and
--- `impossible` is whether it is impossible.
+-- `IsJudged schema id text b impossible` holds if `b` has the text `text`, the policy in `b` may be put under `id`, and
+-- `impossible` is whether this policy is impossible.
 pub record IsJudged (schema : StatedSchema) (id text : List ℕ) (b : ReadText Policy) (impossible : Bool) : Type 0 where
   pub same : b.text ≡ text
   pub admitted : IsAdmitted schema id text b.read

@@ -5,13 +5,13 @@ use Rattle.scope_index.specs.policy_grammar.declared.policy.Policy.{Policy}
 use Rattle.scope_index.specs.Keys.{Kept, kept_at}
 use Rattle.site_store.specs.Indexed.{PolicyEntries, policy_at}
 
--- `AreIndexedBut id es kept` holds if `kept` has exactly the policies of the entries `es`, each under its id, for all
--- ids except `id`.
+-- `AreIndexedBut id es kept` holds if, for all ids except `id`, the index with the content `kept` has exactly the
+-- policies of the entries `es`, each under its id.
 abbrev pub AreIndexedBut : List ℕ → PolicyEntries → Kept → Type 0
 AreIndexedBut id es kept = (q : List ℕ) → bytes_eq id q ≡ false → kept_at kept q ≡ policy_at es q
 
--- `noted found before` is the policy that the index has for an id after an entry with the policy `found`, if it has
--- one, was added, where the index had the policy `before`.
+-- `noted found before` is the policy that the index has for an id after an entry was added under this id: `found`, the
+-- policy of the entry, or, if the entry is a tombstone, `before`, the policy that the index had.
 abbrev pub noted : Option Policy → Option Policy → Option Policy
 noted None before = before
 noted (Some p) before = Some p

@@ -1,5 +1,5 @@
--- Defines the parts of a store over which requests are decided: its entries, its caches, and the hierarchy that is
--- searched.
+-- Defines when the data with which a store decides requests is valid: its index, its ancestor cache, and the entities
+-- that are searched.
 use Rattle.std.specs.Prelude.{◌≡◌, Option}
 use Rattle.scope_index.specs.policy_grammar.declared.policy.Policy.{Policy}
 use Rattle.scope_index.specs.Keys.{Kept}

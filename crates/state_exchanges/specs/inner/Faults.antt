@@ -6,7 +6,7 @@ use Rattle.state_exchanges.specs.declared.fault.NetworkFault.TheVariants as netw
 use Rattle.state_exchanges.specs.declared.fault.PullFault.{PullFault}
 use Rattle.state_exchanges.specs.declared.fault.PullFault.TheVariants.{Refused, Network}
 
--- `pull_fault f` is the error of the fetch `f` as the error of a pull.
+-- `pull_fault f` is the error `f` of a fetch as an error of a pull.
 abbrev pub pull_fault : FetchFault → PullFault
 pull_fault fetch.Read = Network network.Read
 pull_fault fetch.Write = Network network.Write

@@ -1,12 +1,12 @@
 -- Defines names for the core nodes of a written form, for the crates that use this one.
 -- Source: Forms.antt.
 use Rattle.std.specs.Prelude.{ℕ}
-use Rattle.token_spans.specs.declared.forms.Part.{Part}
-use Rattle.token_spans.specs.declared.forms.Part.TheVariants as part
+use Rattle.token_spans.specs.declared.forms.FormNode.{FormNode}
+use Rattle.token_spans.specs.declared.forms.FormNode.TheVariants as part
 
 -- `Node` is the type of nodes of a written form.
 abbrev pub Node : Type 0
-Node = Part
+Node = FormNode
 
 -- `Whole` is the node of the whole form; `First n` is that of a chain's first operand with `n` further pieces; `Test`
 -- is `e is T` of `e is T in f`; `Inner` is `e in f` of that form, or what `!` negates in `!=`, `>` and `>=`.

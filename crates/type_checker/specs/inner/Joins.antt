@@ -1,10 +1,11 @@
--- Defines what a `Join` says of two types: whether they have a common type, and whether that is the left one.
+-- Defines what a `Join` says of two types: whether they have a common type, and whether the common type is the left
+-- type.
 use Rattle.std.specs.Prelude.{◌≡◌, Option, Some, None, IsSome}
 use Rattle.type_checker.specs.declared.type_joins.Join.{Join}
 use Rattle.type_checker.specs.declared.type_joins.Join.TheVariants as join
 
--- `DescribesCommon j t o` holds if `j` describes the common type `o` of `t` and another type: that `o` is `None`, that
--- it is `t`, or that it is a type other than `t`.
+-- `DescribesCommon j t o` holds if `j` describes the common type `o` of `t` and another type: `Apart` if `o` is `None`,
+-- `Left` if `o` is `t`, and `Wider` if `o` is a type other than `t`.
 abbrev pub DescribesCommon : {T : Type 0} → Join → T → Option T → Type 0
 DescribesCommon join.Apart t o = o ≡ None
 DescribesCommon join.Left t o = o ≡ Some t

@@ -1,6 +1,6 @@
 -- Defines the contracts of the typing functions: which results are a type with the gained capabilities, or an error of
--- typing. A result `NoMemory` meets each of them. `after` are the capabilities on the stack afterwards: if the result
--- is a type, the same as before.
+-- typing. A result `NoMemory` meets each of them, except `IsRow` and `IsBranch`. `after` are the capabilities on the
+-- stack afterwards: if the result is a type, the same as before.
 use Rattle.std.specs.Prelude.{◌≡◌, ◌≢◌, ◌⊎◌, List, [], ◌∷◌, ◌++◌, map, Vec, Result, Ok, Err, MatchResult}
 use Rattle.grammar_core.specs.declared.operator.UnaryCall.{UnaryCall}
 use Rattle.grammar_core.specs.declared.expr.Expr.{Expr}
@@ -33,7 +33,7 @@ Judged env K x r after =
     (λ f. f ≢ NoMemory → Faults env K x (fault_view f))
 
 -- `JudgedUnder env K L x r after` is the same where the capabilities `K` and then `L` are known, except that `r` has
--- the capabilities `L` and then those that `x` gains.
+-- the capabilities `L` and then those that `x` gains, and that `after` is `K`.
 abbrev pub JudgedUnder : Environment → Pairs → Pairs → Expr → Result Typed ExpressionFault → Pairs → Type 0
 JudgedUnder env K L x r after =
     MatchResult r (λ t. (after ≡ K) × ((M : Pairs) × Types env (K ++ L) x (static_view t.kind) M

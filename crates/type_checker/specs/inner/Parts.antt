@@ -35,7 +35,7 @@ abbrev pub fields_view : Fields → FieldTypes
 fields_view (fields.Built fs) = built_view fs.now
 fields_view (fields.Declared fs) = static_fields (cedar_fields_view fs.now)
 
--- `kind_view k` is the static type of the kind `k`, which names its parts.
+-- `kind_view k` is the static type that the kind `k`, a type by its outermost layer, represents.
 abbrev pub kind_view : TypeKind → types.StaticType
 kind_view (kind.Leaf l) = leaf_view l
 kind_view (kind.Set p) = set_type (part_view p)
@@ -46,11 +46,11 @@ abbrev pub fields_count : FieldTypes → ℕ
 fields_count no_field_types = 0
 fields_count (field_type k t r ts) = suc (fields_count ts)
 
--- `fields_behind n ts` are the fields `ts` without the first `n`.
-abbrev pub fields_behind : ℕ → FieldTypes → FieldTypes
-fields_behind zero ts = ts
-fields_behind (suc n) no_field_types = no_field_types
-fields_behind (suc n) (field_type k t r ts) = fields_behind n ts
+-- `fields_after n ts` are the fields `ts` without the first `n`.
+abbrev pub fields_after : ℕ → FieldTypes → FieldTypes
+fields_after zero ts = ts
+fields_after (suc n) no_field_types = no_field_types
+fields_after (suc n) (field_type k t r ts) = fields_after n ts
 
 -- `before f ts` are the field `f` and then the fields `ts`; without a field `f` the list is empty.
 abbrev pub before : Option FieldPart → FieldTypes → FieldTypes

@@ -1,5 +1,5 @@
--- Defines the scope's parts of a policy's expression, and the result of typing the expression in each environment in
--- turn.
+-- Defines the parts of a policy's expression that its scope gives, and the result of typing the expression in each
+-- environment in turn.
 use Rattle.std.specs.Prelude.{◌≡◌, ◌≢◌, List, [], ◌∷◌, map, All, Bool, true, Result, Ok, Err}
 use Rattle.std.specs.Bool.{Decides}
 use Rattle.grammar_core.specs.declared.leaf.Variable.TheVariants.{Principal, Resource}

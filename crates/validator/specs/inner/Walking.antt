@@ -43,11 +43,11 @@ abbrev pub type_at : List ℕ → Option EntityUid → Bool
 type_at n None = false
 type_at n (Some u) = bytes_eq u.type_name n
 
--- `is_type_of_action s n` is whether `s` declares an action of type `n`.
+-- `is_type_of_action s n` tests whether `s` declares an action of type `n`.
 abbrev pub is_type_of_action : StatedSchema → List ℕ → Bool
 is_type_of_action s n = list_any (λ u. bytes_eq u.type_name n) s.actions
 
--- `is_declared_action s u` is whether `s` declares the action `u`.
+-- `is_declared_action s u` tests whether `s` declares the action `u`.
 abbrev pub is_declared_action : StatedSchema → EntityUid → Bool
 is_declared_action s u = list_any (λ v. is_same u v) s.actions
 

@@ -21,7 +21,7 @@ use Rattle.value_paths.specs.inner.FoundPaths.{under, record_path}
 abbrev pub Names : Option Data → EntityUid → Type 0
 Names o uid = MatchOption o ⊥ (λ d. NamesEntity d uid)
 
--- `IsNamed o yes` holds if `yes` says whether the value `o` is present and names an entity.
+-- `IsNamed o yes` holds if `yes` is true exactly if the value `o` is present and names an entity.
 abbrev pub IsNamed : Option Data → Bool → Type 0
 IsNamed o true = (uid : EntityUid) × Names o uid
 IsNamed o false = ((uid : EntityUid) × Names o uid) → ⊥
@@ -41,14 +41,15 @@ request_demands d principal action resource =
 abbrev pub IsFormSearched : Data → Option (List Step) → Type 0
 IsFormSearched d o = MatchOption o ((asked : Asked) × Asks d asked) (FormFaultAt d)
 
--- `named_type s principal action resource` is the type of the context of a request for these, if all three are named.
+-- `named_type s principal action resource` is the type of the context of a request with these three entities, if all
+-- are present and the action applies to the types of the other two.
 abbrev pub named_type : StatedSchema → Option EntityUid → Option EntityUid → Option EntityUid → Option Cedar
 named_type s principal action resource = with_or principal (λ p. with_or action (λ a. with_or resource
     (λ r. context_type s (record { principal = p; action = a; resource = r })) None) None) None
 
--- `IsTypeForResource s d principal action t` holds if `t` is `named_type` for these two and the resource that `d`
--- names, and `IsTypeForAction s d principal t` if it is that for `principal` and the action and the resource that `d`
--- names.
+-- `IsTypeForResource s d principal action t` holds if `t` is `named_type` for `principal`, `action` and the resource
+-- that `d` names. `IsTypeForAction s d principal t` holds if `t` is `named_type` for `principal` and the action and the
+-- resource that `d` names.
 abbrev pub IsTypeForResource : StatedSchema → Data → Option EntityUid → Option EntityUid → Option Cedar → Type 0
 IsTypeForResource s d principal action t = (resource : Option EntityUid)
     × IsRead (Names (get (codes "resource") d)) resource × (t ≡ named_type s principal action resource)
@@ -57,8 +58,9 @@ abbrev pub IsTypeForAction : StatedSchema → Data → Option EntityUid → Opti
 IsTypeForAction s d principal t = (action : Option EntityUid) × IsRead (Names (get (codes "action") d)) action
     × IsTypeForResource s d principal action t
 
--- `path_under t d` is the path to the part of the context of `d` that is at fault under the type `t`, if there is one;
--- `context_path s asked d` is that under the type of the context of a request for `asked`.
+-- `path_under type d` is the path to the part of the context of `d` that is at fault under `type`, if there is one;
+-- `context_path s asked d` is this path under the type that `s` declares for the context of a request with the
+-- principal, action and resource `asked`.
 abbrev pub path_under : Option Cedar → Data → Option (List Step)
 path_under type d = under (Key (codes "context"))
     (with_or type (λ t. record_path t (or_empty (get (codes "context") d))) None)
@@ -66,8 +68,8 @@ path_under type d = under (Key (codes "context"))
 abbrev pub context_path : StatedSchema → Asked → Data → Option (List Step)
 context_path s asked d = path_under (context_type s asked) d
 
--- `IsContextSearched s d o` holds if `o` is that path for the principal, action and resource that `d` names, or `d`
--- does not have the form of a request.
+-- `IsContextSearched s d o` holds if `o` is `context_path` for the principal, action and resource that `d` names, or if
+-- `d` does not have the form of a request.
 abbrev pub IsContextSearched : StatedSchema → Data → Option (List Step) → Type 0
 IsContextSearched s d o = (asked : Asked) → Asks d asked → o ≡ context_path s asked d
 

@@ -32,9 +32,10 @@ abbrev pub absent_path : CedarFields → Data → Option (List Step)
 absent_path no_fields d = None
 absent_path (field k t r fs) d = if not r || is_some (get k d) then absent_path fs d else Some (Key k ∷ [])
 
--- `value_path t d` is the path from `d` to the part at fault under the type `t`; `item_path t i ds` is that from an
--- array with the items `ds`, counted from `i`, of the type `t`; `member_path fs ms` is that to the first faulty member
--- from an object with the members `ms`. `None` if no part is at fault.
+-- `value_path t d` is the path from `d` to the part at fault under the type `t`. `item_path t i ds` is the path from an
+-- array with the items `ds`, counted from `i`, to the part at fault of the first item that `t` rejects.
+-- `member_path fs ms` is the path from an object with the members `ms` to the part at fault of the first member that
+-- the fields `fs` reject. Each is `None` if no part is at fault.
 unfoldable mutual
   pub value_path : Cedar → Data → Option (List Step)
   value_path t json.null = whole_path (typed_value t json.null)

@@ -5,7 +5,7 @@ use Rattle.entities.specs.declared.fault.EntityFault.TheVariants.{NoMemory}
 use Rattle.value_paths.specs.declared.placed.PlacedFault.{PlacedFault}
 use Rattle.value_paths.specs.declared.steps.Step.{Step}
 
--- `IsPlaced f found o` holds if `o` is the error `f` with the path `found`, or `None` if there is no path.
+-- `IsPlaced f found o` holds if `o` is the error `f` with the path in `found`, or if `o` and `found` are `None`.
 abbrev pub IsPlaced : EntityFault → Option (List Step) → Option PlacedFault → Type 0
 IsPlaced f None None = ⊤
 IsPlaced f None (Some x) = ⊥

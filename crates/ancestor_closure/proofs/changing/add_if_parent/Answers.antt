@@ -7,7 +7,7 @@ pub returns-then-not-is_child : goal.returns-then-not-is_child
 returns-then-not-is_child c =
     inr (
       (λ there.
-          let yes = c.is_child.ensures.1 (subst (λ z. Contains (children_in c.args.relatives.now z) c.args.child.now) (sym c.get.ensures) there) in
+          let yes = c.is_child.ensures.1 (subst (λ z. Contains (children_in c.args.relatives.now z) c.args.child.now) (sym c.deref.ensures) there) in
           cc (yes, c.if-not-is_child.true)),
       refl,
     )
@@ -15,6 +15,6 @@ returns-then-not-is_child c =
 pub returns : goal.returns
 returns c =
     inl (
-      subst (λ z. Contains (children_in c.args.relatives.now z) c.args.child.now) c.get.ensures (c.is_child.ensures.0 c.if-not-is_child.false),
+      subst (λ z. Contains (children_in c.args.relatives.now z) c.args.child.now) c.deref.ensures (c.is_child.ensures.0 c.if-not-is_child.false),
       c.in_ok-push.ensures.items ∙ ap (λ z. c.args.found.now.items ++ z ∷ []) c.in_ok-share.ensures,
     )

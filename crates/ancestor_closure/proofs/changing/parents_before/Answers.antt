@@ -8,9 +8,9 @@ use Rattle.ancestor_closure.proofs.changing.parents_before.Goals as goal
 pub returns-clause-all : goal.returns-clause-all
 returns-clause-all c =
     subst (λ l. IfOk c.those_with_child.result (λ found. (x : EntityUid) → Contains found.items x ↔ (Contains l x × Contains (children_in c.args.relatives.now x) c.args.uid.now)))
-    (c.ancestors_at.ensures ∙ ap (ancestors_in c.args.relatives.now) c.get.ensures) c.those_with_child.ensures.all
+    (c.ancestors_at.ensures ∙ ap (ancestors_in c.args.relatives.now) c.deref.ensures) c.those_with_child.ensures.all
 
 pub returns-clause-ascending : goal.returns-clause-ascending
 returns-clause-ascending c =
     subst (λ l. IfOk c.those_with_child.result (λ found. IsAscending l → IsAscending found.items))
-    (c.ancestors_at.ensures ∙ ap (ancestors_in c.args.relatives.now) c.get.ensures) c.those_with_child.ensures.ascending
+    (c.ancestors_at.ensures ∙ ap (ancestors_in c.args.relatives.now) c.deref.ensures) c.those_with_child.ensures.ascending

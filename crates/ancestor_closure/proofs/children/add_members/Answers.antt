@@ -12,7 +12,7 @@ use Rattle.ancestor_closure.proofs.children.add_members.Goals as goal
 pub loop-child-preserved-in-Continue-branch-2 : goal.loop-child-preserved-in-Continue-branch-2
 loop-child-preserved-in-Continue-branch-2 c =
     let p = c.in-Some.child.now in
-    let got : c.get-child.result.now ≡ p = c.get-child.ensures in
+    let got : c.deref-child.result.now ≡ p = c.deref-child.ensures in
     let inserted : names c.insert.new.self.keys ≡ insert_key uid_cmp (names c.loop-child.seen.keys) p =
     ap names c.in_ok-insert.ensures.keys ∙ names-insert_key c.loop-child.seen.keys _ ∙ ap (insert_key uid_cmp (names c.loop-child.seen.keys)) got in
     let longer = c.in_ok-insert.ensures.len in
@@ -28,7 +28,7 @@ loop-child-preserved c =
     let s1 = names c.loop-child.seen.keys in
     let s2 = names c.insert.new.self.keys in
     let w1 = names c.loop-child.work.items in
-    let inserted : s2 ≡ insert_key uid_cmp s1 p = ap names c.in_ok-insert.ensures.keys ∙ names-insert_key c.loop-child.seen.keys _ ∙ ap (insert_key uid_cmp s1) c.get-child.ensures in
+    let inserted : s2 ≡ insert_key uid_cmp s1 p = ap names c.in_ok-insert.ensures.keys ∙ names-insert_key c.loop-child.seen.keys _ ∙ ap (insert_key uid_cmp s1) c.deref-child.ensures in
     let same = c.in_ok-insert.ensures.unchanged in
     let e : s1 ≡ s2 = ap names (sym (rw c.if-branch.false at same)) in
     rw names-push

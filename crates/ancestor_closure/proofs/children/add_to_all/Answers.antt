@@ -17,7 +17,7 @@ loop-parent-init c = record {
 
 pub add_child-requires : goal.add_child-requires
 add_child-requires c =
-    subst (λ z. IsThere c.loop-parent.relatives z) (sym c.get.ensures)
+    subst (λ z. IsThere c.loop-parent.relatives z) (sym c.deref.ensures)
     (c.loop-parent.invariant.stay c.parent-item.result (c.requires c.parent-item.result (c.loop-parent.parent-index, c.loop-parent-test.true, sym c.parent-item.is)))
 
 pub returns-in_err-add_child-clause-lists : goal.returns-in_err-add_child-clause-lists
@@ -31,17 +31,17 @@ returns-in_err-add_child-clause-adds c =
     let p = c.parent-item.result in
     adds_more c.args.parents.now c.args.child.now p (children_in c.args.relatives.now) (children_in c.loop-parent.relatives) (children_in c.add_child.new.relatives)
     (c.loop-parent.parent-index, c.loop-parent-test.true, sym c.parent-item.is) c.loop-parent.invariant.adds
-    (adds_at c.get.result.now p c.in_ok-share.field-0 c.args.child.now (children_in c.loop-parent.relatives) (children_in c.add_child.new.relatives) c.get.ensures c.in_ok-share.ensures c.add_child.ensures.adds)
+    (adds_at c.deref.result.now p c.in_ok-share.field-0 c.args.child.now (children_in c.loop-parent.relatives) (children_in c.add_child.new.relatives) c.deref.ensures c.in_ok-share.ensures c.add_child.ensures.adds)
 
 pub loop-parent-preserved : goal.loop-parent-preserved
 loop-parent-preserved c =
     let p = c.parent-item.result in
     let ps = take c.loop-parent.parent-index c.args.parents.now in
     let more = take_more c.args.parents.now c.loop-parent.parent-index p c.loop-parent-test.true ∙ ap (λ z. ps ++ z ∷ []) (sym c.parent-item.is) in
-    let step = adds_at c.get.result.now p c.in_ok-share.field-0 c.args.child.now (children_in c.loop-parent.relatives) (children_in c.add_child.new.relatives) c.get.ensures c.in_ok-share.ensures c.add_child.ensures.adds in
+    let step = adds_at c.deref.result.now p c.in_ok-share.field-0 c.args.child.now (children_in c.loop-parent.relatives) (children_in c.add_child.new.relatives) c.deref.ensures c.in_ok-share.ensures c.add_child.ensures.adds in
     let new : Contains (children_in c.add_child.new.relatives p) c.args.child.now =
-    subst (λ z. Contains (children_in c.add_child.new.relatives z) c.args.child.now) c.get.ensures
-    (subst (λ z. Contains (children_in c.add_child.new.relatives c.get.result.now) z) c.in_ok-share.ensures c.in_ok-add_child.ensures.added) in
+    subst (λ z. Contains (children_in c.add_child.new.relatives z) c.args.child.now) c.deref.ensures
+    (subst (λ z. Contains (children_in c.add_child.new.relatives c.deref.result.now) z) c.in_ok-share.ensures c.in_ok-add_child.ensures.added) in
     record {
       lists = λ q. c.add_child.ensures.lists q ∙ c.loop-parent.invariant.lists q;
       stay = λ q h. c.add_child.ensures.stay q (c.loop-parent.invariant.stay q h);

@@ -18,7 +18,7 @@ loop-parent-preserved c =
       lists = λ q. c.take_child_unless.ensures.lists q ∙ c.loop-parent.invariant.lists q;
       takes = subst (λ l. TakesChild l c.args.parents.now c.args.child.now (children_in c.args.relatives.now) now) (sym more)
           (takes_more ps c.args.parents.now c.args.child.now p (children_in c.args.relatives.now) (children_in c.loop-parent.relatives) now c.loop-parent.invariant.takes
-          (subst (λ z. TakesChild (z ∷ []) c.args.parents.now c.args.child.now (children_in c.loop-parent.relatives) now) c.get.ensures c.take_child_unless.ensures.takes));
+          (subst (λ z. TakesChild (z ∷ []) c.args.parents.now c.args.child.now (children_in c.loop-parent.relatives) now) c.deref.ensures c.take_child_unless.ensures.takes));
     }
 
 pub returns-clause-takes : goal.returns-clause-takes

@@ -7,8 +7,8 @@ use Rattle.ancestor_closure.proofs.cycles.members.Goals as goal
 
 pub loop-uid-preserved : goal.loop-uid-preserved
 loop-uid-preserved c =
-    ap names c.in_ok-push.ensures.items ∙ names-push c.loop-uid.all.items _ ∙ ap (λ l. l ++ c.get.result.now ∷ []) c.loop-uid.invariant
-    ∙ ap (λ z. names c.loop-uid.yielded ++ z ∷ []) c.get.ensures ∙ sym (names-push c.loop-uid.yielded _)
+    ap names c.in_ok-push.ensures.items ∙ names-push c.loop-uid.all.items _ ∙ ap (λ l. l ++ c.deref.result.now ∷ []) c.loop-uid.invariant
+    ∙ ap (λ z. names c.loop-uid.yielded ++ z ∷ []) c.deref.ensures ∙ sym (names-push c.loop-uid.yielded _)
 
 pub returns-clause-same : goal.returns-clause-same
 returns-clause-same c =

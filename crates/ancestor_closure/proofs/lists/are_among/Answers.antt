@@ -16,7 +16,7 @@ loop-uid-preserved c =
     let more = take_more c.args.list.now c.loop-uid.uid-index p c.loop-uid-test.true ∙ ap (λ z. ps ++ z ∷ []) (sym c.uid-item.is) in
     λ x h. elim (Contains-push_cases ps p x (subst (λ l. Contains l x) more h)) [
       | inl t ↦ c.loop-uid.invariant x t
-      | inr same ↦ subst (λ z. Contains (names c.args.uids.now) z) (c.get.ensures ∙ same) (c.is_among.ensures.0 c.if-not-is_among.false)
+      | inr same ↦ subst (λ z. Contains (names c.args.uids.now) z) (c.deref.ensures ∙ same) (c.is_among.ensures.0 c.if-not-is_among.false)
     ]
 
 pub returns : goal.returns

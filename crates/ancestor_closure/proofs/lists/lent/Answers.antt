@@ -11,7 +11,7 @@ pub loop-uid-preserved : goal.loop-uid-preserved
 loop-uid-preserved c =
     let ps = take c.loop-uid.uid-index c.args.uids.now in
     let more = take_more c.args.uids.now c.loop-uid.uid-index c.uid-item.result c.loop-uid-test.true ∙ ap (λ z. ps ++ z ∷ []) (sym c.uid-item.is) in
-    ap names c.in_ok-push.ensures.items ∙ names-push c.loop-uid.all.items _ ∙ ap (λ l. l ++ c.get.result.now ∷ []) c.loop-uid.invariant ∙ ap (λ z. ps ++ z ∷ []) c.get.ensures ∙ sym more
+    ap names c.in_ok-push.ensures.items ∙ names-push c.loop-uid.all.items _ ∙ ap (λ l. l ++ c.deref.result.now ∷ []) c.loop-uid.invariant ∙ ap (λ z. ps ++ z ∷ []) c.deref.ensures ∙ sym more
 
 pub returns : goal.returns
 returns c = c.loop-uid.invariant ∙ take_all _ c.args.uids.now c.loop-uid-test.false

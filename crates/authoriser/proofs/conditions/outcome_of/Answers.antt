@@ -16,8 +16,8 @@ returns-then-is_scope_true g c =
     let s = c.request_entities.result.now in
     let policy = c.args.policy.now in
     IfOk-weaker c.outcome_of_condition.result (ConditionEvaluatesTo W k.1 policy.condition) (PolicyEvaluatesTo W k.1 policy)
-    (λ o comes. true_scope c.scopes_do_not_err.ensures.leaves W k.1 s policy o c.request_entities.ensures (subst (λ (x : Scope). IsTrueOf x s) c.get.ensures (c.if-is_scope_true.ensures.0 refl)) comes)
-    (subst (λ (e : Expr). IfOk c.outcome_of_condition.result (ConditionEvaluatesTo W k.1 e)) c.get-then-is_scope_true.ensures c.outcome_of_condition.ensures)
+    (λ o comes. true_scope c.scopes_do_not_err.ensures.leaves W k.1 s policy o c.request_entities.ensures (subst (λ (x : Scope). IsTrueOf x s) c.deref.ensures (c.if-is_scope_true.ensures.0 refl)) comes)
+    (subst (λ (e : Expr). IfOk c.outcome_of_condition.result (ConditionEvaluatesTo W k.1 e)) c.deref-then-is_scope_true.ensures c.outcome_of_condition.ensures)
 
 pub returns-else-is_scope_true : goal.returns-else-is_scope_true
 returns-else-is_scope_true g c =
@@ -25,4 +25,4 @@ returns-else-is_scope_true g c =
     let W = entities_with (g.L.Lookup.stored k.0) (g.L.Ancestry.parents k.0) in
     let s = c.request_entities.result.now in
     other_scope c.scopes_do_not_err.ensures.idle W (g.L.Ancestry.above k.0) (g.met.L.Ancestry.above_is k.0) k.1 s c.args.policy.now c.request_entities.ensures
-    (λ h. let t = c.if-is_scope_true.ensures.1 (subst (λ (x : Scope). IsTrueOf x s) (sym c.get.ensures) h) in cc t)
+    (λ h. let t = c.if-is_scope_true.ensures.1 (subst (λ (x : Scope). IsTrueOf x s) (sym c.deref.ensures) h) in cc t)

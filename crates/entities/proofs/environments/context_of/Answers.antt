@@ -3,7 +3,7 @@ use Rattle.std.specs.Ordering.{is_lt}
 use Rattle.std.specs.List.Sorted.{IsStrictlySortedBy}
 use Rattle.std.specs.declared.cmp.Ordering.{Ordering}
 use Rattle.std.proofs.lemmas.Fn.{always_returns_same}
-use Rattle.schema.specs.declared.parts.Place.{Place}
+use Rattle.schema.specs.declared.parts.EnvironmentKey.{EnvironmentKey}
 use Rattle.schema.specs.Schemas.{EnvironmentOf, place_cmp}
 use Rattle.schema.specs.Views.{environment_view}
 use Rattle.entities.specs.Contexts.{context_where}
@@ -12,7 +12,7 @@ use Rattle.entities.proofs.environments.context_of.Goals as goal
 
 pub returns : goal.returns
 returns g c = λ passes are_sought.
-    let ord : Place → Ordering = g.S.Sought.order c.args.sought.now in
+    let ord : EnvironmentKey → Ordering = g.S.Sought.order c.args.sought.now in
     let es = c.environments-all.result.now in
     let stated = c.is_stated.ensures in
     let formed = c.stated_schemas_are_well_formed.ensures stated.0 _ stated.1 in

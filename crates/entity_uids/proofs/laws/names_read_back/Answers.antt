@@ -9,4 +9,4 @@ pub returns-clause-name : goal.returns-clause-name
 returns-clause-name c = one_name c.texts_have_one_reading.ensures.uid.one_value
 
 pub returns-clause-found : goal.returns-clause-found
-returns-clause-found c = found c.paths_are_told.ensures.paths
+returns-clause-found c = found c.path_tests_are_exact.ensures.paths

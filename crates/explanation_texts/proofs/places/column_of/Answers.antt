@@ -2,7 +2,7 @@ use Rattle.std.proofs.Common.{rules, arith, refl, sym, ap, ◌∙◌, ◌+◌}
 use Rattle.std.proofs.lemmas.List.{map-id}
 use Rattle.std.proofs.lemmas.Iterator.{YieldsList-from_chars}
 use Rattle.std.proofs.lemmas.Iterator.Consumers.{YieldsList-turn, YieldsList-end}
-use Rattle.explanation_texts.specs.LineAndColumn.{column_behind}
+use Rattle.explanation_texts.specs.LineAndColumn.{column_after}
 use Rattle.explanation_texts.proofs.Columns.{column-line_feed, column-character, column_le, characters_le_bytes}
 use Rattle.explanation_texts.proofs.places.column_of.Goals as goal
 
@@ -27,4 +27,4 @@ pub returns : goal.returns
 returns c =
     let road = YieldsList-from_chars {s = c.into_iter-c-iterator.result} c.args.before.now (search rules) cc in
     let end = YieldsList-end road c.loop-c.yielded c.loop-c.c-iterator c.loop-c.yielded_by c.next.result c.next.new.self c.in-None.is c.next.ensures.steps in
-    c.loop-c.invariant ∙ ap column_behind (sym (map-id c.loop-c.yielded) ∙ end.0)
+    c.loop-c.invariant ∙ ap column_after (sym (map-id c.loop-c.yielded) ∙ end.0)

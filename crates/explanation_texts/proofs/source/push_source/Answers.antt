@@ -1,5 +1,6 @@
 use Rattle.std.proofs.Common.{refl}
 use Rattle.explanation_texts.specs.Explained.{source_text, span_between}
+use Rattle.explanation_texts.proofs.Joined.{on_ok}
 use Rattle.explanation_texts.proofs.source.push_source.Goals as goal
 
 pub returns : goal.returns
@@ -7,7 +8,8 @@ returns c =
     let place = c.place_of-place.result in
     let end = c.place_of-end.result in
     let says = c.says_and_advice.result.0.now in
-    let advice = c.says_and_advice.result.1.now in (
+    let advice = c.says_and_advice.result.1.now in
+    on_ok c.push_at.result c.push_at.ensures (λ last. (
       source_text c.args.file.now c.args.text.now c.args.finding.now says advice place (span_between place end),
       record {
         says = says;
@@ -28,5 +30,5 @@ returns c =
         };
         is = refl;
       },
-      rw (c.span_to-span.ensures) at c.in_ok-push_at.ensures,
-    )
+      rw (c.span_to-span.ensures) at last,
+    ))

@@ -8,11 +8,11 @@ returns-in-Ok c =
     file_parses (option_map (λ s. schema_view s.now) c.args.schema) c.args.source.name.now c.args.source.text.now c.text_of-text.result.now c.in_ok-tokens.tokens.items c.in_ok-pieces.pieces.items
     c.text_of-text.ensures c.in_ok-tokens.ensures (rw c.as_slice-all.ensures.value at c.in_ok-pieces.ensures) (string_bytes c.args.out.now)
     (string_bytes c.explain_policies.new.out) _ _ c.in-Ok.ensures.read
-    (rw (c.as_slice-spots.ensures.value, c.as_slice-named.ensures.value) at c.in_ok-explain_policies-in-Ok.ensures)
+    (rw (c.as_slice-found_pieces.ensures.value, c.as_slice-named.ensures.value) at c.in_ok-explain_policies-in-Ok.ensures)
 
 pub returns : goal.returns
 returns c =
     file_does_not (option_map (λ s. schema_view s.now) c.args.schema) c.args.source.name.now c.args.source.text.now c.text_of-text.result.now c.in_ok-tokens.tokens.items c.in_ok-pieces.pieces.items
     c.text_of-text.ensures c.in_ok-tokens.ensures (rw c.as_slice-all.ensures.value at c.in_ok-pieces.ensures) (string_bytes c.args.out.now)
     (string_bytes c.explain_unread.new.out) c.in-Err.refusal c.in_ok-refusal-in-Err.refusal c.in_ok-refusal-in-Err.ensures.same
-    (c.in-Err.ensures.refused c.in_ok-refusal-in-Err.ensures.other) (rw c.as_slice-spots.ensures.value at c.in_ok-explain_unread-in-Err.ensures)
+    (c.in-Err.ensures.refused c.in_ok-refusal-in-Err.ensures.other) (rw c.as_slice-found_pieces.ensures.value at c.in_ok-explain_unread-in-Err.ensures)

@@ -9,8 +9,8 @@ returns-in_ok-explain_array-in-Some c =
     let s = option_map (λ t. schema_view t.now) c.args.schema in
     rw c.in-Some.is (
     judged_text c.in-Some.source.name.now (string_bytes c.args.out.now) (string_bytes c.explain_array.new.out)
-    (AreEntitiesRead s c.in-Some.source.text.now) (AreEntitiesRefused s c.in-Some.source.text.now) (IsEntityPartNamed s c.in-Some.source.text.now) c.judge_array-judged.result c.judge_array-judged.ensures.read
-    c.judge_array-judged.ensures.refused c.in_ok-explain_array-in-Some.ensures)
+    (AreEntitiesRead s c.in-Some.source.text.now) (AreEntitiesRefused s c.in-Some.source.text.now) (IsEntityPartNamed s c.in-Some.source.text.now) c.check_array-judged.result c.check_array-judged.ensures.read
+    c.check_array-judged.ensures.refused c.in_ok-explain_array-in-Some.ensures)
 
 pub returns-in-None : goal.returns-in-None
 returns-in-None c = rw c.in-None.is (nothing_given (string_bytes c.args.out.now))

@@ -10,8 +10,8 @@ returns-in_ok-explain_asked-in-Some c =
     let read_under = option_map (λ t. schema_view t.now) c.args.schema in
     rw c.in-Some.is (
     judged_text c.in-Some.source.name.now (string_bytes c.args.out.now) (string_bytes c.explain_asked.new.out)
-    (IsRequestRead s c.in-Some.source.text.now) (IsRequestRefused s c.in-Some.source.text.now) (λ place. IsRequestPartNamed read_under c.in-Some.source.text.now) c.judge_request-judged.result
-    c.judge_request-judged.ensures.read c.judge_request-judged.ensures.refused c.in_ok-explain_asked-in-Some.ensures)
+    (IsRequestRead s c.in-Some.source.text.now) (IsRequestRefused s c.in-Some.source.text.now) (λ place. IsRequestPartNamed read_under c.in-Some.source.text.now) c.check_request-judged.result
+    c.check_request-judged.ensures.read c.check_request-judged.ensures.refused c.in_ok-explain_asked-in-Some.ensures)
 
 pub returns-in-None : goal.returns-in-None
 returns-in-None c = rw c.in-None.is (nothing_given (string_bytes c.args.out.now))

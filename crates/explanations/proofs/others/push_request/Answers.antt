@@ -7,6 +7,6 @@ use Rattle.explanations.proofs.others.push_request.Goals as goal
 pub returns : goal.returns
 returns c =
     let s = option_map (λ t. schema_view t.now) c.args.schema in
-    let Told = IsRequestPartNamed s c.args.source.text.now in
+    let IsDetail = IsRequestPartNamed s c.args.source.text.now in
     whole_told c.args.source.name.now (string_bytes c.args.out.now) (string_bytes c.push_refusal.new.out) c.args.refusal.code c.args.refusal.place
-    c.as_str.result.now Told (subst Told (sym c.as_str.ensures) c.in_ok-words.ensures) c.in_ok-push_refusal.ensures
+    c.as_str.result.now IsDetail (subst IsDetail (sym c.as_str.ensures) c.in_ok-words.ensures) c.in_ok-push_refusal.ensures

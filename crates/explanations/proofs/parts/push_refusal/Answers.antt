@@ -4,4 +4,4 @@ use Rattle.explanations.proofs.parts.push_refusal.Goals as goal
 pub returns : goal.returns
 returns c =
     let e = c.in_ok-push_whole.ensures in
-    (e.0, record { finding = _; code_is = c.from.ensures; index_is = refl; told = refl; is_text = e.1 }, e.2)
+    (e.0, record { finding = _; code_is = c.from.ensures; index_is = refl; detail_holds = refl; is_text = e.1 }, e.2)

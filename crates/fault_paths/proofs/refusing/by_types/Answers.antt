@@ -2,7 +2,7 @@ use Rattle.std.specs.Prelude.{All}
 use Rattle.type_checker.specs.schema.Views.{schema_view}
 use Rattle.type_checker.specs.policy_grammar.Whole.{expression_of}
 use Rattle.validator.specs.Passing.{environments_of, HasBooleanType}
-use Rattle.fault_paths.specs.Told.{IsTypeBlame}
+use Rattle.fault_paths.specs.FirstTypingError.{IsTypeBlame}
 use Rattle.fault_paths.proofs.Telling.{told_typing, told_passes, some_told, none_told}
 use Rattle.fault_paths.proofs.refusing.by_types.Goals as goal
 

@@ -12,9 +12,9 @@ returns-in-Some c =
     let E = typing_environment c.args.env in
     let K = pairs c.args.known.now.items in
     let one = c.expressions_have_one_judgement.ensures in
-    let a = c.get-test.result.now in
+    let a = c.deref-test.result.now in
     IfOk-weaker c.from_if.result _ _
-    (λ st h. if_at E K _ st c.get-test.ensures c.get-consequent.ensures c.get-alternative.ensures
+    (λ st h. if_at E K _ st c.deref-test.ensures c.deref-consequent.ensures c.deref-alternative.ensures
     (h a (some_found E a K c.in-Some.is c.in_ok-typed.ensures)))
     c.from_if.ensures
 
@@ -25,6 +25,6 @@ returns-in-None c =
     let one = c.expressions_have_one_judgement.ensures in
     let b = c.args.consequent.now in
     let d = c.args.alternative.now in
-    let y = c.get-test.result in
-    if_down_test one E K (form.If c.args.test.now b d) y b d (ap (λ z. form.If z b d) (sym c.get-test.ensures))
+    let y = c.deref-test.result in
+    if_down_test one E K (form.If c.args.test.now b d) y b d (ap (λ z. form.If z b d) (sym c.deref-test.ensures))
     (none_found E y.now K c.in-None.is c.in_ok-typed.ensures).1

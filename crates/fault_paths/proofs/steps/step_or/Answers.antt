@@ -12,9 +12,9 @@ returns-in-Some c =
     let E = typing_environment c.args.env in
     let K = pairs c.args.known.now.items in
     let one = c.expressions_have_one_judgement.ensures in
-    let a = c.get-left.result.now in
+    let a = c.deref-left.result.now in
     IfOk-weaker c.from_or.result _ _
-    (λ st h. or_at E K _ st c.get-left.ensures c.get-right.ensures (h a (some_found E a K c.in-Some.is c.in_ok-typed.ensures)))
+    (λ st h. or_at E K _ st c.deref-left.ensures c.deref-right.ensures (h a (some_found E a K c.in-Some.is c.in_ok-typed.ensures)))
     c.from_or.ensures
 
 pub returns-in-None : goal.returns-in-None
@@ -23,6 +23,6 @@ returns-in-None c =
     let K = pairs c.args.known.now.items in
     let one = c.expressions_have_one_judgement.ensures in
     let r = c.args.right.now in
-    let y = c.get-left.result in
-    or_down_left one E K (form.Or c.args.left.now r) y r (ap (λ z. form.Or z r) (sym c.get-left.ensures))
+    let y = c.deref-left.result in
+    or_down_left one E K (form.Or c.args.left.now r) y r (ap (λ z. form.Or z r) (sym c.deref-left.ensures))
     (none_found E y.now K c.in-None.is c.in_ok-typed.ensures).1

@@ -85,13 +85,13 @@ pub build_tree-build_terms-requires : goal.build_tree-build_terms-requires
 build_tree-build_terms-requires t c = (search (rules, the_lemmas), of-Sum c.args.text.now c.args.tree.now c.in-Sum.inner c.in-Sum.terms c.in-Sum.is c.requires.1.1)
 
 pub build_tree-build_tree-requires-in-Has : goal.build_tree-build_tree-requires-in-Has
-build_tree-build_tree-requires-in-Has t c = (search (rules, the_lemmas), subst (WellFormed c.args.text.now) (sym c.get-in-Has.ensures) (of-Has c.args.text.now c.args.tree.now c.in-Has.inner c.in-Has.key c.in-Has.is c.requires.1.1).0)
+build_tree-build_tree-requires-in-Has t c = (search (rules, the_lemmas), subst (WellFormed c.args.text.now) (sym c.deref-in-Has.ensures) (of-Has c.args.text.now c.args.tree.now c.in-Has.inner c.in-Has.key c.in-Has.is c.requires.1.1).0)
 
 pub build_tree-build_tree-requires-in-Like : goal.build_tree-build_tree-requires-in-Like
-build_tree-build_tree-requires-in-Like t c = (search (rules, the_lemmas), subst (WellFormed c.args.text.now) (sym c.get-in-Like.ensures) (of-Like c.args.text.now c.args.tree.now c.in-Like.inner c.in-Like.token c.in-Like.is c.requires.1.1).0)
+build_tree-build_tree-requires-in-Like t c = (search (rules, the_lemmas), subst (WellFormed c.args.text.now) (sym c.deref-in-Like.ensures) (of-Like c.args.text.now c.args.tree.now c.in-Like.inner c.in-Like.token c.in-Like.is c.requires.1.1).0)
 
 pub build_tree-build_tree-requires-in-Is : goal.build_tree-build_tree-requires-in-Is
-build_tree-build_tree-requires-in-Is t c = (search (rules, the_lemmas), subst (WellFormed c.args.text.now) (sym c.get-in-Is.ensures) (of-Is c.args.text.now c.args.tree.now c.in-Is.inner c.in-Is.path c.in-Is.is c.requires.1.1).0)
+build_tree-build_tree-requires-in-Is t c = (search (rules, the_lemmas), subst (WellFormed c.args.text.now) (sym c.deref-in-Is.ensures) (of-Is c.args.text.now c.args.tree.now c.in-Is.inner c.in-Is.path c.in-Is.is c.requires.1.1).0)
 
 pub build_tree-uid_literal-requires : goal.build_tree-uid_literal-requires
 build_tree-uid_literal-requires t c = (of-Uid c.args.text.now c.args.tree.now c.in-Uid.uid c.in-Uid.is c.requires.1.1)
@@ -115,13 +115,13 @@ pub build_tree-build_chain-requires-in-Or : goal.build_tree-build_chain-requires
 build_tree-build_chain-requires-in-Or t c = (search (rules, the_lemmas), of-Or c.args.text.now c.args.tree.now c.in-Or.inner c.in-Or.more c.in-Or.is c.requires.1.1)
 
 pub build_tree-build_tree-first-requires : goal.build_tree-build_tree-first-requires
-build_tree-build_tree-first-requires t c = (search (rules, the_lemmas), subst (WellFormed c.args.text.now) (sym c.get-in-If.ensures) (of-If c.args.text.now c.args.tree.now c.in-If.test c.in-If.consequent c.in-If.alternative c.in-If.is c.requires.1.1).0)
+build_tree-build_tree-first-requires t c = (search (rules, the_lemmas), subst (WellFormed c.args.text.now) (sym c.deref-in-If.ensures) (of-If c.args.text.now c.args.tree.now c.in-If.test c.in-If.consequent c.in-If.alternative c.in-If.is c.requires.1.1).0)
 
 pub build_tree-build_tree-second-requires : goal.build_tree-build_tree-second-requires
-build_tree-build_tree-second-requires t c = (search (rules, the_lemmas), subst (WellFormed c.args.text.now) (sym c.get-in-If-2.ensures) (of-If c.args.text.now c.args.tree.now c.in-If.test c.in-If.consequent c.in-If.alternative c.in-If.is c.requires.1.1).1.0)
+build_tree-build_tree-second-requires t c = (search (rules, the_lemmas), subst (WellFormed c.args.text.now) (sym c.deref-in-If-2.ensures) (of-If c.args.text.now c.args.tree.now c.in-If.test c.in-If.consequent c.in-If.alternative c.in-If.is c.requires.1.1).1.0)
 
 pub build_tree-build_tree-third-requires : goal.build_tree-build_tree-third-requires
-build_tree-build_tree-third-requires t c = (search (rules, the_lemmas), subst (WellFormed c.args.text.now) (sym c.get-in-If-3.ensures) (of-If c.args.text.now c.args.tree.now c.in-If.test c.in-If.consequent c.in-If.alternative c.in-If.is c.requires.1.1).1.1)
+build_tree-build_tree-third-requires t c = (search (rules, the_lemmas), subst (WellFormed c.args.text.now) (sym c.deref-in-If-3.ensures) (of-If c.args.text.now c.args.tree.now c.in-If.test c.in-If.consequent c.in-If.alternative c.in-If.is c.requires.1.1).1.1)
 
 pub build_access-build_all-requires : goal.build_access-build_all-requires
 build_access-build_all-requires t c = (search (rules, the_lemmas), subst (AllWellFormed c.args.text.now) (sym c.as_slice.ensures) (subst (WellFormedAccess c.args.text.now) c.in-Method.is c.requires.1.1).1)
@@ -158,16 +158,16 @@ build_tree-returns-in_ok-build_entries-in-Record t c =
     ap core.Record (c.in_ok-build_entries-in-Record.ensures ∙ ap (λ (es : List (RecordEntry ExprTree)). map (field c.args.text.now) (map (in_entry (core_of c.args.text.now)) es)) c.as_slice-in-Record.ensures) ∙ sym (core-Record c.args.text.now c.in-Record.entries) ∙ ap (core_of c.args.text.now) (sym c.in-Record.is)
 
 pub build_tree-returns-in-Not : goal.build_tree-returns-in-Not
-build_tree-returns-in-Not t c = one (core.Unary unary.Not) (core_of c.args.text.now c.in-Not.inner) (core_of c.args.text.now c.args.tree.now) c.build_tree-in-Not.result c.apply.result (subst (λ y. IfOk c.build_tree-in-Not.result (λ e. e ≡ core_of c.args.text.now y)) c.get-in-Not.ensures c.build_tree-in-Not.ensures) c.apply.ensures (sym (core-Not c.args.text.now c.in-Not.inner) ∙ ap (core_of c.args.text.now) (sym c.in-Not.is))
+build_tree-returns-in-Not t c = one (core.Unary unary.Not) (core_of c.args.text.now c.in-Not.inner) (core_of c.args.text.now c.args.tree.now) c.build_tree-in-Not.result c.apply.result (subst (λ y. IfOk c.build_tree-in-Not.result (λ e. e ≡ core_of c.args.text.now y)) c.deref-in-Not.ensures c.build_tree-in-Not.ensures) c.apply.ensures (sym (core-Not c.args.text.now c.in-Not.inner) ∙ ap (core_of c.args.text.now) (sym c.in-Not.is))
 
 pub build_tree-returns-in-Has : goal.build_tree-returns-in-Has
-build_tree-returns-in-Has t c = one (λ e. core.Has e (name_of c.args.text.now c.in-Has.key)) (core_of c.args.text.now c.in-Has.inner) (core_of c.args.text.now c.args.tree.now) c.build_tree-in-Has.result c.has.result (subst (λ y. IfOk c.build_tree-in-Has.result (λ e. e ≡ core_of c.args.text.now y)) c.get-in-Has.ensures c.build_tree-in-Has.ensures) c.has.ensures (sym (core-Has c.args.text.now c.in-Has.inner c.in-Has.key) ∙ ap (core_of c.args.text.now) (sym c.in-Has.is))
+build_tree-returns-in-Has t c = one (λ e. core.Has e (name_of c.args.text.now c.in-Has.key)) (core_of c.args.text.now c.in-Has.inner) (core_of c.args.text.now c.args.tree.now) c.build_tree-in-Has.result c.has.result (subst (λ y. IfOk c.build_tree-in-Has.result (λ e. e ≡ core_of c.args.text.now y)) c.deref-in-Has.ensures c.build_tree-in-Has.ensures) c.has.ensures (sym (core-Has c.args.text.now c.in-Has.inner c.in-Has.key) ∙ ap (core_of c.args.text.now) (sym c.in-Has.is))
 
 pub build_tree-returns-in-Like : goal.build_tree-returns-in-Like
-build_tree-returns-in-Like t c = one (core.Unary (unary.Like (pattern_of (spelling_of c.args.text.now c.in-Like.token)))) (core_of c.args.text.now c.in-Like.inner) (core_of c.args.text.now c.args.tree.now) c.build_tree-in-Like.result c.like.result (subst (λ y. IfOk c.build_tree-in-Like.result (λ e. e ≡ core_of c.args.text.now y)) c.get-in-Like.ensures c.build_tree-in-Like.ensures) c.like.ensures (sym (core-Like c.args.text.now c.in-Like.inner c.in-Like.token) ∙ ap (core_of c.args.text.now) (sym c.in-Like.is))
+build_tree-returns-in-Like t c = one (core.Unary (unary.Like (pattern_of (spelling_of c.args.text.now c.in-Like.token)))) (core_of c.args.text.now c.in-Like.inner) (core_of c.args.text.now c.args.tree.now) c.build_tree-in-Like.result c.like.result (subst (λ y. IfOk c.build_tree-in-Like.result (λ e. e ≡ core_of c.args.text.now y)) c.deref-in-Like.ensures c.build_tree-in-Like.ensures) c.like.ensures (sym (core-Like c.args.text.now c.in-Like.inner c.in-Like.token) ∙ ap (core_of c.args.text.now) (sym c.in-Like.is))
 
 pub build_tree-returns-in-Is : goal.build_tree-returns-in-Is
-build_tree-returns-in-Is t c = one (core.Unary (unary.Is (path_name c.args.text.now c.in-Is.path))) (core_of c.args.text.now c.in-Is.inner) (core_of c.args.text.now c.args.tree.now) c.build_tree-in-Is.result c.is.result (subst (λ y. IfOk c.build_tree-in-Is.result (λ e. e ≡ core_of c.args.text.now y)) c.get-in-Is.ensures c.build_tree-in-Is.ensures) c.is.ensures (sym (core-Is c.args.text.now c.in-Is.inner c.in-Is.path) ∙ ap (core_of c.args.text.now) (sym c.in-Is.is))
+build_tree-returns-in-Is t c = one (core.Unary (unary.Is (path_name c.args.text.now c.in-Is.path))) (core_of c.args.text.now c.in-Is.inner) (core_of c.args.text.now c.args.tree.now) c.build_tree-in-Is.result c.is.result (subst (λ y. IfOk c.build_tree-in-Is.result (λ e. e ≡ core_of c.args.text.now y)) c.deref-in-Is.ensures c.build_tree-in-Is.ensures) c.is.ensures (sym (core-Is c.args.text.now c.in-Is.inner c.in-Is.path) ∙ ap (core_of c.args.text.now) (sym c.in-Is.is))
 
 pub build_tree-returns-in-Member : goal.build_tree-returns-in-Member
 build_tree-returns-in-Member t c = subst (λ y. IfOk c.build_accesses.result (λ e. e ≡ y)) (sym (core-Member c.args.text.now c.in-Member.inner c.in-Member.accesses) ∙ ap (core_of c.args.text.now) (sym c.in-Member.is)) c.build_accesses.ensures
@@ -197,7 +197,7 @@ build_tree-returns-in-IsIn t c =
 pub build_tree-returns-in-If : goal.build_tree-returns-in-If
 build_tree-returns-in-If t c =
     three core.If (core_of c.args.text.now c.in-If.test) (core_of c.args.text.now c.in-If.consequent) (core_of c.args.text.now c.in-If.alternative) (core_of c.args.text.now c.args.tree.now) c.build_tree-first.result c.build_tree-second.result c.build_tree-third.result c.if_then_else.result
-    (subst (λ y. IfOk c.build_tree-first.result (λ e. e ≡ core_of c.args.text.now y)) c.get-in-If.ensures c.build_tree-first.ensures) (subst (λ y. IfOk c.build_tree-second.result (λ e. e ≡ core_of c.args.text.now y)) c.get-in-If-2.ensures c.build_tree-second.ensures) (subst (λ y. IfOk c.build_tree-third.result (λ e. e ≡ core_of c.args.text.now y)) c.get-in-If-3.ensures c.build_tree-third.ensures) c.if_then_else.ensures (sym (core-If c.args.text.now c.in-If.test c.in-If.consequent c.in-If.alternative) ∙ ap (core_of c.args.text.now) (sym c.in-If.is))
+    (subst (λ y. IfOk c.build_tree-first.result (λ e. e ≡ core_of c.args.text.now y)) c.deref-in-If.ensures c.build_tree-first.ensures) (subst (λ y. IfOk c.build_tree-second.result (λ e. e ≡ core_of c.args.text.now y)) c.deref-in-If-2.ensures c.build_tree-second.ensures) (subst (λ y. IfOk c.build_tree-third.result (λ e. e ≡ core_of c.args.text.now y)) c.deref-in-If-3.ensures c.build_tree-third.ensures) c.if_then_else.ensures (sym (core-If c.args.text.now c.in-If.test c.in-If.consequent c.in-If.alternative) ∙ ap (core_of c.args.text.now) (sym c.in-If.is))
 
 pub build_behind_minus-returns-in-Number : goal.build_behind_minus-returns-in-Number
 build_behind_minus-returns-in-Number t c = c.negated_literal.ensures ∙ sym (negated-Number c.args.text.now c.in-Number.token) ∙ ap (negated c.args.text.now) (sym c.in-Number.is)
@@ -226,13 +226,13 @@ build_access-returns-in-Method t c =
     (ap (λ a. accessed c.args.text.now c.args.receiver (in_access (core_of c.args.text.now) a)) (sym c.in-Method.is))
 
 pub build_tree-build_tree-requires : goal.build_tree-build_tree-requires
-build_tree-build_tree-requires t c = (search (rules, the_lemmas), subst (WellFormed c.args.text.now) (sym c.get.ensures) (of-Parentheses c.args.text.now c.args.tree.now c.in-Parentheses.inner c.in-Parentheses.is c.requires.1.1))
+build_tree-build_tree-requires t c = (search (rules, the_lemmas), subst (WellFormed c.args.text.now) (sym c.deref.ensures) (of-Parentheses c.args.text.now c.args.tree.now c.in-Parentheses.inner c.in-Parentheses.is c.requires.1.1))
 
 pub build_tree-build_tree-requires-in-Not : goal.build_tree-build_tree-requires-in-Not
-build_tree-build_tree-requires-in-Not t c = (search (rules, the_lemmas), subst (WellFormed c.args.text.now) (sym c.get-in-Not.ensures) (of-Not c.args.text.now c.args.tree.now c.in-Not.inner c.in-Not.is c.requires.1.1))
+build_tree-build_tree-requires-in-Not t c = (search (rules, the_lemmas), subst (WellFormed c.args.text.now) (sym c.deref-in-Not.ensures) (of-Not c.args.text.now c.args.tree.now c.in-Not.inner c.in-Not.is c.requires.1.1))
 
 pub build_tree-build_behind_minus-requires : goal.build_tree-build_behind_minus-requires
-build_tree-build_behind_minus-requires t c = (search (rules, the_lemmas), subst (WellFormed c.args.text.now) (sym c.get-in-Minus.ensures) (of-Minus c.args.text.now c.args.tree.now c.in-Minus.inner c.in-Minus.is c.requires.1.1))
+build_tree-build_behind_minus-requires t c = (search (rules, the_lemmas), subst (WellFormed c.args.text.now) (sym c.deref-in-Minus.ensures) (of-Minus c.args.text.now c.args.tree.now c.in-Minus.inner c.in-Minus.is c.requires.1.1))
 
 pub build_behind_minus-build_tree-requires : goal.build_behind_minus-build_tree-requires
 build_behind_minus-build_tree-requires t c = (search (rules, the_lemmas), c.requires.1.1)
@@ -262,10 +262,10 @@ pub build_behind_minus-negated_literal-requires : goal.build_behind_minus-negate
 build_behind_minus-negated_literal-requires t c = of-Number c.args.text.now c.args.tree.now c.in-Number.token c.in-Number.is c.requires.1.1
 
 pub build_tree-returns-in-Parentheses : goal.build_tree-returns-in-Parentheses
-build_tree-returns-in-Parentheses t c = subst (λ y. IfOk c.build_tree.result (λ e. e ≡ y)) (ap (core_of c.args.text.now) c.get.ensures ∙ sym (core-Parentheses c.args.text.now c.in-Parentheses.inner) ∙ ap (core_of c.args.text.now) (sym c.in-Parentheses.is)) c.build_tree.ensures
+build_tree-returns-in-Parentheses t c = subst (λ y. IfOk c.build_tree.result (λ e. e ≡ y)) (ap (core_of c.args.text.now) c.deref.ensures ∙ sym (core-Parentheses c.args.text.now c.in-Parentheses.inner) ∙ ap (core_of c.args.text.now) (sym c.in-Parentheses.is)) c.build_tree.ensures
 
 pub build_tree-returns-in-Minus : goal.build_tree-returns-in-Minus
-build_tree-returns-in-Minus t c = subst (λ y. IfOk c.build_behind_minus.result (λ e. e ≡ y)) (ap (negated c.args.text.now) c.get-in-Minus.ensures ∙ sym (core-Minus c.args.text.now c.in-Minus.inner) ∙ ap (core_of c.args.text.now) (sym c.in-Minus.is)) c.build_behind_minus.ensures
+build_tree-returns-in-Minus t c = subst (λ y. IfOk c.build_behind_minus.result (λ e. e ≡ y)) (ap (negated c.args.text.now) c.deref-in-Minus.ensures ∙ sym (core-Minus c.args.text.now c.in-Minus.inner) ∙ ap (core_of c.args.text.now) (sym c.in-Minus.is)) c.build_behind_minus.ensures
 
 pub build_chain-returns : goal.build_chain-returns
 build_chain-returns t c =
@@ -286,21 +286,21 @@ pub build_tree-build_both-requires-in-IsIn : goal.build_tree-build_both-requires
 build_tree-build_both-requires-in-IsIn t c = let parts = of-IsIn c.args.text.now c.args.tree.now c.in-IsIn.inner c.in-IsIn.path c.in-IsIn.outer c.in-IsIn.is c.requires.1.1 in (search (rules, the_lemmas), (parts.0, parts.1.1))
 
 pub build_both-build_tree-first-requires : goal.build_both-build_tree-first-requires
-build_both-build_tree-first-requires t c = (search (rules, the_lemmas), subst (WellFormed c.args.text.now) (sym c.get.ensures) c.requires.1.1.0)
+build_both-build_tree-first-requires t c = (search (rules, the_lemmas), subst (WellFormed c.args.text.now) (sym c.deref.ensures) c.requires.1.1.0)
 
 pub build_both-build_tree-requires : goal.build_both-build_tree-requires
-build_both-build_tree-requires t c = (search (rules, the_lemmas), subst (WellFormed c.args.text.now) (sym c.get-2.ensures) c.requires.1.1.1)
+build_both-build_tree-requires t c = (search (rules, the_lemmas), subst (WellFormed c.args.text.now) (sym c.deref-2.ensures) c.requires.1.1.1)
 
 pub build_both-returns : goal.build_both-returns
 build_both-returns t c =
     two (λ a b. (a, b)) (core_of c.args.text.now c.args.left.now) (core_of c.args.text.now c.args.right.now) (core_of c.args.text.now c.args.left.now, core_of c.args.text.now c.args.right.now) c.build_tree-first.result c.build_tree.result c.both.result
-    (subst (λ y. IfOk c.build_tree-first.result (λ e. e ≡ core_of c.args.text.now y)) c.get.ensures c.build_tree-first.ensures) (subst (λ y. IfOk c.build_tree.result (λ e. e ≡ core_of c.args.text.now y)) c.get-2.ensures c.build_tree.ensures) c.both.ensures refl
+    (subst (λ y. IfOk c.build_tree-first.result (λ e. e ≡ core_of c.args.text.now y)) c.deref.ensures c.build_tree-first.ensures) (subst (λ y. IfOk c.build_tree.result (λ e. e ≡ core_of c.args.text.now y)) c.deref-2.ensures c.build_tree.ensures) c.both.ensures refl
 
 pub build_chain-build_tree-requires : goal.build_chain-build_tree-requires
-build_chain-build_tree-requires t c = (search (rules, the_lemmas), subst (WellFormed c.args.text.now) (sym c.get.ensures) c.requires.1.1.0)
+build_chain-build_tree-requires t c = (search (rules, the_lemmas), subst (WellFormed c.args.text.now) (sym c.deref.ensures) c.requires.1.1.0)
 
 pub build_terms-build_tree-requires : goal.build_terms-build_tree-requires
-build_terms-build_tree-requires t c = (search (rules, the_lemmas), subst (WellFormed c.args.text.now) (sym c.get.ensures) c.requires.1.1.0)
+build_terms-build_tree-requires t c = (search (rules, the_lemmas), subst (WellFormed c.args.text.now) (sym c.deref.ensures) c.requires.1.1.0)
 
 pub build_accesses-build_tree-requires : goal.build_accesses-build_tree-requires
-build_accesses-build_tree-requires t c = (search (rules, the_lemmas), subst (WellFormed c.args.text.now) (sym c.get.ensures) c.requires.1.1.0)
+build_accesses-build_tree-requires t c = (search (rules, the_lemmas), subst (WellFormed c.args.text.now) (sym c.deref.ensures) c.requires.1.1.0)

@@ -8,7 +8,7 @@ use Rattle.grammar_desugaring.specs.Faults.{key_of, function_faults}
 use Rattle.grammar_desugaring.specs.inner.Giving.{Gave}
 use Rattle.grammar_desugaring.specs.inner.WellFormed.{WellFormed, AllWellFormed, WellFormedEntry, WellFormedTerm, WellFormedAccess}
 use Rattle.grammar_desugaring.specs.Measured.{measured, measured_negated}
-use Rattle.grammar_desugaring.specs.Sums.{nothing, above, beside, paired, called, with_fault, measured_all, measured_chain, measured_term, measured_entry, measured_access, measured_compared}
+use Rattle.grammar_desugaring.specs.Sums.{nothing, above, side_by_side, paired, called, with_fault, measured_all, measured_chain, measured_term, measured_entry, measured_access, measured_compared}
 use Rattle.grammar_desugaring.proofs.Lists.{all-at, stepped}
 use Rattle.grammar_desugaring.proofs.Gaving.{one, two, three}
 use Rattle.grammar_desugaring.proofs.PartsOf.{of-Number, of-Call, of-Parentheses, of-Not, of-Minus, of-Set, of-Record, of-Member, of-Product, of-Sum, of-Compare, of-Has, of-Like, of-Is, of-IsIn, of-And, of-Or, of-If}
@@ -40,13 +40,13 @@ pub measure_tree-measure_terms-requires : goal.measure_tree-measure_terms-requir
 measure_tree-measure_terms-requires t c = (search (rules, the_lemmas), of-Sum c.args.text.now c.args.tree.now c.in-Sum.inner c.in-Sum.terms c.in-Sum.is c.requires.1.1)
 
 pub measure_tree-measure_tree-requires-in-Has : goal.measure_tree-measure_tree-requires-in-Has
-measure_tree-measure_tree-requires-in-Has t c = (search (rules, the_lemmas), subst (WellFormed c.args.text.now) (sym c.get-in-Has.ensures) (of-Has c.args.text.now c.args.tree.now c.in-Has.inner c.in-Has.field-1 c.in-Has.is c.requires.1.1).0)
+measure_tree-measure_tree-requires-in-Has t c = (search (rules, the_lemmas), subst (WellFormed c.args.text.now) (sym c.deref-in-Has.ensures) (of-Has c.args.text.now c.args.tree.now c.in-Has.inner c.in-Has.field-1 c.in-Has.is c.requires.1.1).0)
 
 pub measure_tree-measure_tree-requires-in-Like : goal.measure_tree-measure_tree-requires-in-Like
-measure_tree-measure_tree-requires-in-Like t c = (search (rules, the_lemmas), subst (WellFormed c.args.text.now) (sym c.get-in-Like.ensures) (of-Like c.args.text.now c.args.tree.now c.in-Like.inner c.in-Like.field-1 c.in-Like.is c.requires.1.1).0)
+measure_tree-measure_tree-requires-in-Like t c = (search (rules, the_lemmas), subst (WellFormed c.args.text.now) (sym c.deref-in-Like.ensures) (of-Like c.args.text.now c.args.tree.now c.in-Like.inner c.in-Like.field-1 c.in-Like.is c.requires.1.1).0)
 
 pub measure_tree-measure_tree-requires-in-Is : goal.measure_tree-measure_tree-requires-in-Is
-measure_tree-measure_tree-requires-in-Is t c = (search (rules, the_lemmas), subst (WellFormed c.args.text.now) (sym c.get-in-Is.ensures) (of-Is c.args.text.now c.args.tree.now c.in-Is.inner c.in-Is.field-1 c.in-Is.is c.requires.1.1).0)
+measure_tree-measure_tree-requires-in-Is t c = (search (rules, the_lemmas), subst (WellFormed c.args.text.now) (sym c.deref-in-Is.ensures) (of-Is c.args.text.now c.args.tree.now c.in-Is.inner c.in-Is.field-1 c.in-Is.is c.requires.1.1).0)
 
 pub measure_tree-measure_chain-requires-in-And : goal.measure_tree-measure_chain-requires-in-And
 measure_tree-measure_chain-requires-in-And t c = (search (rules, the_lemmas), of-And c.args.text.now c.args.tree.now c.in-And.inner c.in-And.more c.in-And.is c.requires.1.1)
@@ -55,13 +55,13 @@ pub measure_tree-measure_chain-requires-in-Or : goal.measure_tree-measure_chain-
 measure_tree-measure_chain-requires-in-Or t c = (search (rules, the_lemmas), of-Or c.args.text.now c.args.tree.now c.in-Or.inner c.in-Or.more c.in-Or.is c.requires.1.1)
 
 pub measure_tree-measure_tree-first-requires : goal.measure_tree-measure_tree-first-requires
-measure_tree-measure_tree-first-requires t c = (search (rules, the_lemmas), subst (WellFormed c.args.text.now) (sym c.get-in-If.ensures) (of-If c.args.text.now c.args.tree.now c.in-If.test c.in-If.consequent c.in-If.alternative c.in-If.is c.requires.1.1).0)
+measure_tree-measure_tree-first-requires t c = (search (rules, the_lemmas), subst (WellFormed c.args.text.now) (sym c.deref-in-If.ensures) (of-If c.args.text.now c.args.tree.now c.in-If.test c.in-If.consequent c.in-If.alternative c.in-If.is c.requires.1.1).0)
 
 pub measure_tree-measure_tree-second-requires : goal.measure_tree-measure_tree-second-requires
-measure_tree-measure_tree-second-requires t c = (search (rules, the_lemmas), subst (WellFormed c.args.text.now) (sym c.get-in-If-2.ensures) (of-If c.args.text.now c.args.tree.now c.in-If.test c.in-If.consequent c.in-If.alternative c.in-If.is c.requires.1.1).1.0)
+measure_tree-measure_tree-second-requires t c = (search (rules, the_lemmas), subst (WellFormed c.args.text.now) (sym c.deref-in-If-2.ensures) (of-If c.args.text.now c.args.tree.now c.in-If.test c.in-If.consequent c.in-If.alternative c.in-If.is c.requires.1.1).1.0)
 
 pub measure_tree-measure_tree-third-requires : goal.measure_tree-measure_tree-third-requires
-measure_tree-measure_tree-third-requires t c = (search (rules, the_lemmas), subst (WellFormed c.args.text.now) (sym c.get-in-If-3.ensures) (of-If c.args.text.now c.args.tree.now c.in-If.test c.in-If.consequent c.in-If.alternative c.in-If.is c.requires.1.1).1.1)
+measure_tree-measure_tree-third-requires t c = (search (rules, the_lemmas), subst (WellFormed c.args.text.now) (sym c.deref-in-If-3.ensures) (of-If c.args.text.now c.args.tree.now c.in-If.test c.in-If.consequent c.in-If.alternative c.in-If.is c.requires.1.1).1.1)
 
 pub measure_access-measure_all-requires : goal.measure_access-measure_all-requires
 measure_access-measure_all-requires t c = (search (rules, the_lemmas), subst (AllWellFormed c.args.text.now) (sym c.as_slice.ensures) (subst (WellFormedAccess c.args.text.now) c.in-Method.is c.requires.1.1).1)
@@ -113,16 +113,16 @@ measure_tree-returns-in-Record t c =
     (subst (λ es. IfOk c.repeated_key.result (λ o. o ≡ least (repeat_faults (map (key_of c.args.text.now) es)))) c.as_slice-in-Record.ensures c.repeated_key.ensures) (subst (λ ys. IfOk c.measure_entries.result (λ j. j ≡ fold (measured_entry c.args.text.now) nothing ys)) c.as_slice-in-Record-2.ensures c.measure_entries.ensures) c.record.ensures (sym (measured-Record c.args.text.now c.in-Record.entries) ∙ ap (measured c.args.text.now) (sym c.in-Record.is))
 
 pub measure_tree-returns-in-Not : goal.measure_tree-returns-in-Not
-measure_tree-returns-in-Not t c = one above (measured c.args.text.now c.in-Not.inner) (measured c.args.text.now c.args.tree.now) c.measure_tree-in-Not.result c.above-in-Not.result (subst (λ y. IfOk c.measure_tree-in-Not.result (λ j. j ≡ measured c.args.text.now y)) c.get-in-Not.ensures c.measure_tree-in-Not.ensures) c.above-in-Not.ensures (sym (measured-Not c.args.text.now c.in-Not.inner) ∙ ap (measured c.args.text.now) (sym c.in-Not.is))
+measure_tree-returns-in-Not t c = one above (measured c.args.text.now c.in-Not.inner) (measured c.args.text.now c.args.tree.now) c.measure_tree-in-Not.result c.above-in-Not.result (subst (λ y. IfOk c.measure_tree-in-Not.result (λ j. j ≡ measured c.args.text.now y)) c.deref-in-Not.ensures c.measure_tree-in-Not.ensures) c.above-in-Not.ensures (sym (measured-Not c.args.text.now c.in-Not.inner) ∙ ap (measured c.args.text.now) (sym c.in-Not.is))
 
 pub measure_tree-returns-in-Has : goal.measure_tree-returns-in-Has
-measure_tree-returns-in-Has t c = one above (measured c.args.text.now c.in-Has.inner) (measured c.args.text.now c.args.tree.now) c.measure_tree-in-Has.result c.above-in-Has.result (subst (λ y. IfOk c.measure_tree-in-Has.result (λ j. j ≡ measured c.args.text.now y)) c.get-in-Has.ensures c.measure_tree-in-Has.ensures) c.above-in-Has.ensures (sym (measured-Has c.args.text.now c.in-Has.inner c.in-Has.field-1) ∙ ap (measured c.args.text.now) (sym c.in-Has.is))
+measure_tree-returns-in-Has t c = one above (measured c.args.text.now c.in-Has.inner) (measured c.args.text.now c.args.tree.now) c.measure_tree-in-Has.result c.above-in-Has.result (subst (λ y. IfOk c.measure_tree-in-Has.result (λ j. j ≡ measured c.args.text.now y)) c.deref-in-Has.ensures c.measure_tree-in-Has.ensures) c.above-in-Has.ensures (sym (measured-Has c.args.text.now c.in-Has.inner c.in-Has.field-1) ∙ ap (measured c.args.text.now) (sym c.in-Has.is))
 
 pub measure_tree-returns-in-Like : goal.measure_tree-returns-in-Like
-measure_tree-returns-in-Like t c = one above (measured c.args.text.now c.in-Like.inner) (measured c.args.text.now c.args.tree.now) c.measure_tree-in-Like.result c.above-in-Like.result (subst (λ y. IfOk c.measure_tree-in-Like.result (λ j. j ≡ measured c.args.text.now y)) c.get-in-Like.ensures c.measure_tree-in-Like.ensures) c.above-in-Like.ensures (sym (measured-Like c.args.text.now c.in-Like.inner c.in-Like.field-1) ∙ ap (measured c.args.text.now) (sym c.in-Like.is))
+measure_tree-returns-in-Like t c = one above (measured c.args.text.now c.in-Like.inner) (measured c.args.text.now c.args.tree.now) c.measure_tree-in-Like.result c.above-in-Like.result (subst (λ y. IfOk c.measure_tree-in-Like.result (λ j. j ≡ measured c.args.text.now y)) c.deref-in-Like.ensures c.measure_tree-in-Like.ensures) c.above-in-Like.ensures (sym (measured-Like c.args.text.now c.in-Like.inner c.in-Like.field-1) ∙ ap (measured c.args.text.now) (sym c.in-Like.is))
 
 pub measure_tree-returns-in-Is : goal.measure_tree-returns-in-Is
-measure_tree-returns-in-Is t c = one above (measured c.args.text.now c.in-Is.inner) (measured c.args.text.now c.args.tree.now) c.measure_tree-in-Is.result c.above-in-Is.result (subst (λ y. IfOk c.measure_tree-in-Is.result (λ j. j ≡ measured c.args.text.now y)) c.get-in-Is.ensures c.measure_tree-in-Is.ensures) c.above-in-Is.ensures (sym (measured-Is c.args.text.now c.in-Is.inner c.in-Is.field-1) ∙ ap (measured c.args.text.now) (sym c.in-Is.is))
+measure_tree-returns-in-Is t c = one above (measured c.args.text.now c.in-Is.inner) (measured c.args.text.now c.args.tree.now) c.measure_tree-in-Is.result c.above-in-Is.result (subst (λ y. IfOk c.measure_tree-in-Is.result (λ j. j ≡ measured c.args.text.now y)) c.deref-in-Is.ensures c.measure_tree-in-Is.ensures) c.above-in-Is.ensures (sym (measured-Is c.args.text.now c.in-Is.inner c.in-Is.field-1) ∙ ap (measured c.args.text.now) (sym c.in-Is.is))
 
 pub measure_tree-returns-in-Member : goal.measure_tree-returns-in-Member
 measure_tree-returns-in-Member t c = subst (λ y. IfOk c.measure_accesses.result (λ j. j ≡ y)) (sym (measured-Member c.args.text.now c.in-Member.inner c.in-Member.accesses) ∙ ap (measured c.args.text.now) (sym c.in-Member.is)) c.measure_accesses.ensures
@@ -151,8 +151,8 @@ measure_tree-returns-in-IsIn t c =
 
 pub measure_tree-returns-in-If : goal.measure_tree-returns-in-If
 measure_tree-returns-in-If t c =
-    three (λ i k l. above (beside i (beside k l))) (measured c.args.text.now c.in-If.test) (measured c.args.text.now c.in-If.consequent) (measured c.args.text.now c.in-If.alternative) (measured c.args.text.now c.args.tree.now) c.measure_tree-first.result c.measure_tree-second.result c.measure_tree-third.result c.if_then_else.result
-    (subst (λ y. IfOk c.measure_tree-first.result (λ j. j ≡ measured c.args.text.now y)) c.get-in-If.ensures c.measure_tree-first.ensures) (subst (λ y. IfOk c.measure_tree-second.result (λ j. j ≡ measured c.args.text.now y)) c.get-in-If-2.ensures c.measure_tree-second.ensures) (subst (λ y. IfOk c.measure_tree-third.result (λ j. j ≡ measured c.args.text.now y)) c.get-in-If-3.ensures c.measure_tree-third.ensures) c.if_then_else.ensures (sym (measured-If c.args.text.now c.in-If.test c.in-If.consequent c.in-If.alternative) ∙ ap (measured c.args.text.now) (sym c.in-If.is))
+    three (λ i k l. above (side_by_side i (side_by_side k l))) (measured c.args.text.now c.in-If.test) (measured c.args.text.now c.in-If.consequent) (measured c.args.text.now c.in-If.alternative) (measured c.args.text.now c.args.tree.now) c.measure_tree-first.result c.measure_tree-second.result c.measure_tree-third.result c.if_then_else.result
+    (subst (λ y. IfOk c.measure_tree-first.result (λ j. j ≡ measured c.args.text.now y)) c.deref-in-If.ensures c.measure_tree-first.ensures) (subst (λ y. IfOk c.measure_tree-second.result (λ j. j ≡ measured c.args.text.now y)) c.deref-in-If-2.ensures c.measure_tree-second.ensures) (subst (λ y. IfOk c.measure_tree-third.result (λ j. j ≡ measured c.args.text.now y)) c.deref-in-If-3.ensures c.measure_tree-third.ensures) c.if_then_else.ensures (sym (measured-If c.args.text.now c.in-If.test c.in-If.consequent c.in-If.alternative) ∙ ap (measured c.args.text.now) (sym c.in-If.is))
 
 pub measure_behind_minus-returns-in-Number : goal.measure_behind_minus-returns-in-Number
 measure_behind_minus-returns-in-Number t c =
@@ -164,13 +164,13 @@ pub measure_behind_minus-returns-in_default : goal.measure_behind_minus-returns-
 measure_behind_minus-returns-in_default t c = one above (measured c.args.text.now c.args.tree.now) (measured_negated c.args.text.now c.args.tree.now) c.measure_tree.result c.above.result c.measure_tree.ensures c.above.ensures (sym (measured_negated-other c.args.text.now c.args.tree.now c.in_default.not-Number))
 
 pub measure_tree-measure_tree-requires : goal.measure_tree-measure_tree-requires
-measure_tree-measure_tree-requires t c = (search (rules, the_lemmas), subst (WellFormed c.args.text.now) (sym c.get.ensures) (of-Parentheses c.args.text.now c.args.tree.now c.in-Parentheses.inner c.in-Parentheses.is c.requires.1.1))
+measure_tree-measure_tree-requires t c = (search (rules, the_lemmas), subst (WellFormed c.args.text.now) (sym c.deref.ensures) (of-Parentheses c.args.text.now c.args.tree.now c.in-Parentheses.inner c.in-Parentheses.is c.requires.1.1))
 
 pub measure_tree-measure_tree-requires-in-Not : goal.measure_tree-measure_tree-requires-in-Not
-measure_tree-measure_tree-requires-in-Not t c = (search (rules, the_lemmas), subst (WellFormed c.args.text.now) (sym c.get-in-Not.ensures) (of-Not c.args.text.now c.args.tree.now c.in-Not.inner c.in-Not.is c.requires.1.1))
+measure_tree-measure_tree-requires-in-Not t c = (search (rules, the_lemmas), subst (WellFormed c.args.text.now) (sym c.deref-in-Not.ensures) (of-Not c.args.text.now c.args.tree.now c.in-Not.inner c.in-Not.is c.requires.1.1))
 
 pub measure_tree-measure_behind_minus-requires : goal.measure_tree-measure_behind_minus-requires
-measure_tree-measure_behind_minus-requires t c = (search (rules, the_lemmas), subst (WellFormed c.args.text.now) (sym c.get-in-Minus.ensures) (of-Minus c.args.text.now c.args.tree.now c.in-Minus.inner c.in-Minus.is c.requires.1.1))
+measure_tree-measure_behind_minus-requires t c = (search (rules, the_lemmas), subst (WellFormed c.args.text.now) (sym c.deref-in-Minus.ensures) (of-Minus c.args.text.now c.args.tree.now c.in-Minus.inner c.in-Minus.is c.requires.1.1))
 
 pub measure_behind_minus-measure_tree-requires : goal.measure_behind_minus-measure_tree-requires
 measure_behind_minus-measure_tree-requires t c = (search (rules, the_lemmas), c.requires.1.1)
@@ -194,19 +194,19 @@ pub measure_behind_minus-measure_negated_number-requires : goal.measure_behind_m
 measure_behind_minus-measure_negated_number-requires t c = of-Number c.args.text.now c.args.tree.now c.in-Number.token c.in-Number.is c.requires.1.1
 
 pub measure_tree-returns-in-Parentheses : goal.measure_tree-returns-in-Parentheses
-measure_tree-returns-in-Parentheses t c = subst (λ y. IfOk c.measure_tree.result (λ j. j ≡ y)) (ap (measured c.args.text.now) c.get.ensures ∙ sym (measured-Parentheses c.args.text.now c.in-Parentheses.inner) ∙ ap (measured c.args.text.now) (sym c.in-Parentheses.is)) c.measure_tree.ensures
+measure_tree-returns-in-Parentheses t c = subst (λ y. IfOk c.measure_tree.result (λ j. j ≡ y)) (ap (measured c.args.text.now) c.deref.ensures ∙ sym (measured-Parentheses c.args.text.now c.in-Parentheses.inner) ∙ ap (measured c.args.text.now) (sym c.in-Parentheses.is)) c.measure_tree.ensures
 
 pub measure_tree-returns-in-Minus : goal.measure_tree-returns-in-Minus
-measure_tree-returns-in-Minus t c = subst (λ y. IfOk c.measure_behind_minus.result (λ j. j ≡ y)) (ap (measured_negated c.args.text.now) c.get-in-Minus.ensures ∙ sym (measured-Minus c.args.text.now c.in-Minus.inner) ∙ ap (measured c.args.text.now) (sym c.in-Minus.is)) c.measure_behind_minus.ensures
+measure_tree-returns-in-Minus t c = subst (λ y. IfOk c.measure_behind_minus.result (λ j. j ≡ y)) (ap (measured_negated c.args.text.now) c.deref-in-Minus.ensures ∙ sym (measured-Minus c.args.text.now c.in-Minus.inner) ∙ ap (measured c.args.text.now) (sym c.in-Minus.is)) c.measure_behind_minus.ensures
 
 pub measure_all-loop-tree-preserved : goal.measure_all-loop-tree-preserved
-measure_all-loop-tree-preserved t c = stepped (fold (λ j x. beside j (measured c.args.text.now x))) (λ j x. beside j (measured c.args.text.now x)) (λ j x xs. refl) c.args.trees.now c.loop-tree.tree-index c.tree-item.result c.loop-tree.row c.beside-row.result c.tree-item.is c.loop-tree-test.true (c.beside-row.ensures ∙ ap (beside c.loop-tree.row) c.in_ok-measure_tree.ensures) ∙ c.loop-tree.invariant
+measure_all-loop-tree-preserved t c = stepped (fold (λ j x. side_by_side j (measured c.args.text.now x))) (λ j x. side_by_side j (measured c.args.text.now x)) (λ j x xs. refl) c.args.trees.now c.loop-tree.tree-index c.tree-item.result c.loop-tree.row c.side_by_side-row.result c.tree-item.is c.loop-tree-test.true (c.side_by_side-row.ensures ∙ ap (side_by_side c.loop-tree.row) c.in_ok-measure_tree.ensures) ∙ c.loop-tree.invariant
 
 pub measure_entries-loop-entry-preserved : goal.measure_entries-loop-entry-preserved
-measure_entries-loop-entry-preserved t c = stepped (fold (measured_entry c.args.text.now)) (measured_entry c.args.text.now) (λ j x xs. refl) c.args.entries.now c.loop-entry.entry-index c.entry-item.result c.loop-entry.row c.beside-row.result c.entry-item.is c.loop-entry-test.true (c.beside-row.ensures ∙ ap (beside c.loop-entry.row) c.in_ok-measure_tree.ensures) ∙ c.loop-entry.invariant
+measure_entries-loop-entry-preserved t c = stepped (fold (measured_entry c.args.text.now)) (measured_entry c.args.text.now) (λ j x xs. refl) c.args.entries.now c.loop-entry.entry-index c.entry-item.result c.loop-entry.row c.side_by_side-row.result c.entry-item.is c.loop-entry-test.true (c.side_by_side-row.ensures ∙ ap (side_by_side c.loop-entry.row) c.in_ok-measure_tree.ensures) ∙ c.loop-entry.invariant
 
 pub measure_all-returns : goal.measure_all-returns
-measure_all-returns t c = sym (at_drop_all (fold (λ j x. beside j (measured c.args.text.now x)) c.loop-tree.row) c.args.trees.now c.loop-tree.tree-index c.loop-tree-test.false) ∙ c.loop-tree.invariant
+measure_all-returns t c = sym (at_drop_all (fold (λ j x. side_by_side j (measured c.args.text.now x)) c.loop-tree.row) c.args.trees.now c.loop-tree.tree-index c.loop-tree-test.false) ∙ c.loop-tree.invariant
 
 pub measure_entries-returns : goal.measure_entries-returns
 measure_entries-returns t c = sym (at_drop_all (fold (measured_entry c.args.text.now) c.loop-entry.row) c.args.entries.now c.loop-entry.entry-index c.loop-entry-test.false) ∙ c.loop-entry.invariant
@@ -233,20 +233,20 @@ pub measure_tree-measure_both-requires-in-IsIn : goal.measure_tree-measure_both-
 measure_tree-measure_both-requires-in-IsIn t c = let parts = of-IsIn c.args.text.now c.args.tree.now c.in-IsIn.inner c.in-IsIn.field-1 c.in-IsIn.outer c.in-IsIn.is c.requires.1.1 in (search (rules, the_lemmas), (parts.0, parts.1.1))
 
 pub measure_both-measure_tree-requires : goal.measure_both-measure_tree-requires
-measure_both-measure_tree-requires t c = (search (rules, the_lemmas), subst (WellFormed c.args.text.now) (sym c.get.ensures) c.requires.1.1.0)
+measure_both-measure_tree-requires t c = (search (rules, the_lemmas), subst (WellFormed c.args.text.now) (sym c.deref.ensures) c.requires.1.1.0)
 
 pub measure_both-measure_tree-requires-2 : goal.measure_both-measure_tree-requires-2
-measure_both-measure_tree-requires-2 t c = (search (rules, the_lemmas), subst (WellFormed c.args.text.now) (sym c.get-2.ensures) c.requires.1.1.1)
+measure_both-measure_tree-requires-2 t c = (search (rules, the_lemmas), subst (WellFormed c.args.text.now) (sym c.deref-2.ensures) c.requires.1.1.1)
 
 pub measure_both-returns : goal.measure_both-returns
 measure_both-returns t c =
-    ap (λ j. (j, c.in_ok-second.second)) (c.in_ok-first.ensures ∙ ap (measured c.args.text.now) c.get.ensures) ∙ ap (λ j. (measured c.args.text.now c.args.left.now, j)) (c.in_ok-second.ensures ∙ ap (measured c.args.text.now) c.get-2.ensures)
+    ap (λ j. (j, c.in_ok-second.second)) (c.in_ok-first.ensures ∙ ap (measured c.args.text.now) c.deref.ensures) ∙ ap (λ j. (measured c.args.text.now c.args.left.now, j)) (c.in_ok-second.ensures ∙ ap (measured c.args.text.now) c.deref-2.ensures)
 
 pub measure_chain-measure_tree-requires : goal.measure_chain-measure_tree-requires
-measure_chain-measure_tree-requires t c = (search (rules, the_lemmas), subst (WellFormed c.args.text.now) (sym c.get.ensures) c.requires.1.1.0)
+measure_chain-measure_tree-requires t c = (search (rules, the_lemmas), subst (WellFormed c.args.text.now) (sym c.deref.ensures) c.requires.1.1.0)
 
 pub measure_terms-measure_tree-requires : goal.measure_terms-measure_tree-requires
-measure_terms-measure_tree-requires t c = (search (rules, the_lemmas), subst (WellFormed c.args.text.now) (sym c.get.ensures) c.requires.1.1.0)
+measure_terms-measure_tree-requires t c = (search (rules, the_lemmas), subst (WellFormed c.args.text.now) (sym c.deref.ensures) c.requires.1.1.0)
 
 pub measure_accesses-measure_tree-requires : goal.measure_accesses-measure_tree-requires
-measure_accesses-measure_tree-requires t c = (search (rules, the_lemmas), subst (WellFormed c.args.text.now) (sym c.get.ensures) c.requires.1.1.0)
+measure_accesses-measure_tree-requires t c = (search (rules, the_lemmas), subst (WellFormed c.args.text.now) (sym c.deref.ensures) c.requires.1.1.0)

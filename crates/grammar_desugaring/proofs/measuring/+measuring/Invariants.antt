@@ -2,11 +2,11 @@ use Rattle.std.proofs.Common.{◌≡◌, ◌+◌, ◌*◌, max, drop}
 use Rattle.std.specs.List.{fold}
 use Rattle.grammar_trees.proofs.tree.ExprTree.TheLaws.{the_size}
 use Rattle.grammar_desugaring.specs.Measured.{measured}
-use Rattle.grammar_desugaring.specs.Sums.{nothing, beside, measured_all, measured_chain, measured_term, measured_entry, measured_access}
+use Rattle.grammar_desugaring.specs.Sums.{nothing, side_by_side, measured_all, measured_chain, measured_term, measured_entry, measured_access}
 use Rattle.grammar_desugaring.proofs.measuring.+measuring.Given as goal
 
 abbrev pub invariant-measure_all-loop-tree : goal.invariant-measure_all-loop-tree
-invariant-measure_all-loop-tree l = fold (λ j x. beside j (measured l.text x)) l.row (drop l.tree-index l.trees) ≡ measured_all l.text l.trees
+invariant-measure_all-loop-tree l = fold (λ j x. side_by_side j (measured l.text x)) l.row (drop l.tree-index l.trees) ≡ measured_all l.text l.trees
 
 abbrev pub invariant-measure_entries-loop-entry : goal.invariant-measure_entries-loop-entry
 invariant-measure_entries-loop-entry l = fold (measured_entry l.text) l.row (drop l.entry-index l.entries) ≡ fold (measured_entry l.text) nothing l.entries

@@ -12,18 +12,18 @@ loop-word-init c =
 
 pub loop-word-preserved : goal.loop-word-preserved
 loop-word-preserved c =
-    let stands = rw (← c.as_slice-word-items.ensures) at c.requires.more in
+    let is_well_formed = rw (← c.as_slice-word-items.ensures) at c.requires.more in
     words-more c.args.text.now c.as_slice-word-items.result.now c.loop-word.word-index _ c.loop-word.words.items c.push-in-loop-word.new.self.items
     c.spelling-in-loop-word.result _ c.loop-word-test.true c.loop-word.invariant c.in_ok-push-2.ensures.items c.spelling-in-loop-word.ensures.is
-    (c.spelling-in-loop-word.ensures.ident.0 (ident-kind _ (all-at _ _ c.loop-word.word-index _ stands c.loop-word-test.true).kind))
+    (c.spelling-in-loop-word.ensures.ident.0 (ident-kind _ (all-at _ _ c.loop-word.word-index _ is_well_formed c.loop-word-test.true).kind))
 
 pub spelling-requires : goal.spelling-requires
 spelling-requires c = c.requires.first.spelled
 
 pub spelling-requires-in-loop-word : goal.spelling-requires-in-loop-word
 spelling-requires-in-loop-word c =
-    let stands = rw (← c.as_slice-word-items.ensures) at c.requires.more in
-    (all-at _ _ c.loop-word.word-index _ stands c.loop-word-test.true).spelled
+    let is_well_formed = rw (← c.as_slice-word-items.ensures) at c.requires.more in
+    (all-at _ _ c.loop-word.word-index _ is_well_formed c.loop-word-test.true).spelled
 
 pub returns-clause-words : goal.returns-clause-words
 returns-clause-words c =

@@ -3,7 +3,7 @@ use Rattle.std.proofs.lemmas.Result.{err_from_is_err_and}
 use Rattle.std.specs.List.{AllByRecursion}
 use Rattle.grammar_expressions.specs.Expressions.{nesting_limit}
 use Rattle.grammar_expressions.specs.grammar_tokens.Lang.{at_any}
-use Rattle.grammar_expressions.specs.grammar_tokens.Reads.{ReadsWithin}
+use Rattle.grammar_expressions.specs.grammar_tokens.ParseResults.{ReadsWithin}
 use Rattle.grammar_policies.specs.Grammar as grammar
 use Rattle.grammar_policies.specs.WellFormed.{WellFormedPolicy}
 use Rattle.grammar_policies.proofs.Exact.{policies_answered}
@@ -22,8 +22,8 @@ returns-clause-reads c =
     (subst (ReadsWithin (grammar.policies nesting_limit) (at_any grammar.policies) c.args.tokens.now) (sym c.in_ok-trees.ensures)
     (policies_answered c.args.tokens.now c.policies-read.new.tokens.rest.now c.policies-read.result c.policies-read.ensures))
 
-pub returns-clause-stands : goal.returns-clause-stands
-returns-clause-stands c =
+pub returns-clause-is_well_formed : goal.returns-clause-is_well_formed
+returns-clause-is_well_formed c =
     subst (AllByRecursion (WellFormedPolicy c.args.tokens.now)) (sym c.into_vec-found.ensures)
     (policies_stand nesting_limit c.args.tokens.now c.in_ok-trees.trees
     (subst (ReadsWithin (grammar.policies nesting_limit) (at_any grammar.policies) c.args.tokens.now) (sym c.in_ok-trees.ensures)

@@ -1,7 +1,7 @@
 use Rattle.std.proofs.Common.{subst, sym}
 use Rattle.grammar_expressions.specs.Expressions.{nesting_limit}
 use Rattle.grammar_expressions.specs.grammar_tokens.Lang.{at_any}
-use Rattle.grammar_expressions.specs.grammar_tokens.Reads.{ReadsWithin}
+use Rattle.grammar_expressions.specs.grammar_tokens.ParseResults.{ReadsWithin}
 use Rattle.grammar_policies.specs.Grammar as grammar
 use Rattle.grammar_policies.proofs.Exact.{policy_answered}
 use Rattle.grammar_policies.proofs.WellFormedLemmas.{policy_answer_stands}
@@ -12,8 +12,8 @@ returns-clause-reads c =
     subst (ReadsWithin (grammar.policy nesting_limit) (at_any grammar.policy) c.args.tokens.now) (sym c.read_to_end.ensures)
     (policy_answered c.args.tokens.now c.policy-read.new.tokens.rest.now c.policy-read.result c.policy-read.ensures)
 
-pub returns-clause-stands : goal.returns-clause-stands
-returns-clause-stands c =
+pub returns-clause-is_well_formed : goal.returns-clause-is_well_formed
+returns-clause-is_well_formed c =
     policy_answer_stands nesting_limit (at_any grammar.policy) c.args.tokens.now c.read_to_end.result
     (subst (ReadsWithin (grammar.policy nesting_limit) (at_any grammar.policy) c.args.tokens.now) (sym c.read_to_end.ensures)
     (policy_answered c.args.tokens.now c.policy-read.new.tokens.rest.now c.policy-read.result c.policy-read.ensures))

@@ -1,5 +1,5 @@
 use Rattle.std.proofs.Common.{subst, sym}
-use Rattle.grammar_expressions.specs.grammar_tokens.Reads.{Reads}
+use Rattle.grammar_expressions.specs.grammar_tokens.ParseResults.{Reads}
 use Rattle.grammar_policies.specs.Grammar as grammar
 use Rattle.grammar_expressions.proofs.of_grammar_tokens.NamesExact.{uid_answered}
 use Rattle.grammar_policies.proofs.WellFormedLemmas.{uid_answer_stands}
@@ -10,8 +10,8 @@ returns-clause-reads c =
     subst (Reads grammar.uid c.args.tokens.now) (sym c.read_to_end.ensures)
     (uid_answered c.args.tokens.now c.uid-read.new.tokens.rest.now c.uid-read.result c.uid-read.ensures.steps)
 
-pub returns-clause-stands : goal.returns-clause-stands
-returns-clause-stands c =
+pub returns-clause-is_well_formed : goal.returns-clause-is_well_formed
+returns-clause-is_well_formed c =
     uid_answer_stands c.args.tokens.now c.read_to_end.result
     (subst (Reads grammar.uid c.args.tokens.now) (sym c.read_to_end.ensures)
     (uid_answered c.args.tokens.now c.uid-read.new.tokens.rest.now c.uid-read.result c.uid-read.ensures.steps))

@@ -1,6 +1,6 @@
 use Rattle.std.proofs.Common.{◌≡◌, sym, ◌∙◌, ap, take, arith}
 use Rattle.plain.specs.Words.{is_word_byte, is_digit, run}
-use Rattle.grammar_tokens.specs.inner.Reading.{mark_of}
+use Rattle.grammar_tokens.specs.inner.Tokenizing.{mark_of}
 use Rattle.grammar_tokens.proofs.FirstByte.{class_of_other}
 use Rattle.grammar_tokens.proofs.FrontTells.{word_at, word_here, number_at, mark_at}
 use Rattle.grammar_tokens.proofs.Ends.{boundary}

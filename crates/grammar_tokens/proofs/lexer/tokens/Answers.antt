@@ -3,7 +3,7 @@ use Rattle.std.proofs.lemmas.List.{length-drop}
 use Rattle.std.proofs.lemmas.Str.{IsCharBoundary-start, IsCharBoundary-from_rest}
 use Rattle.std.specs.Str.{IsCharBoundary}
 use Rattle.grammar_tokens.specs.Lexing.{finish}
-use Rattle.grammar_tokens.specs.inner.Reading.{IsGapOf, IsFirst}
+use Rattle.grammar_tokens.specs.inner.Tokenizing.{IsGapOf, IsFirst}
 use Rattle.grammar_tokens.proofs.GapTells.{Cuts, found_cuts}
 use Rattle.grammar_tokens.proofs.Spelled.{all_spelled, in_order}
 use Rattle.grammar_tokens.proofs.Joining.{lex_gap, lex_token, token_cuts}

@@ -1,6 +1,6 @@
 use Rattle.std.proofs.Common.{rules}
 use Rattle.grammar_tokens.specs.Kinds.{only}
-use Rattle.grammar_tokens.specs.Reading.{many}
+use Rattle.grammar_tokens.specs.ParserCombinators.{many}
 use Rattle.grammar_tokens.specs.ParsesTo.{ParsesTo}
 use Rattle.grammar_tokens.specs.Parsing as spec
 use Rattle.grammar_tokens.specs.declared.token.TokenKind.TheVariants as k

@@ -1,6 +1,6 @@
 use Rattle.std.proofs.Common.{◌∷◌, ◌+◌, List, ℕ, length, drop, arith, ap, subst, sym, ◌∙◌}
 use Rattle.std.proofs.lemmas.List.{take_rest}
-use Rattle.grammar_tokens.specs.inner.Reading.{NoEscape, IsFirstEscape}
+use Rattle.grammar_tokens.specs.inner.Tokenizing.{NoEscape, IsFirstEscape}
 use Rattle.grammar_tokens.specs.declared.token.TokenKind.{TokenKind}
 use Rattle.grammar_tokens.proofs.Bodies.{Passed, passed_quote}
 use Rattle.grammar_tokens.proofs.BodyTells.{found_at, bad_at, ended_at, byte_at, escape_at, escape_within}

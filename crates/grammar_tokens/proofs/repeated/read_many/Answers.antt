@@ -3,8 +3,8 @@ use Rattle.grammar_tokens.specs.Kinds.{Kinds}
 use Rattle.grammar_tokens.specs.declared.fault.StopCause.{StopCause}
 use Rattle.grammar_tokens.specs.declared.token.Token.{Token}
 use Rattle.grammar_tokens.specs.ParsesTo.{ParsesTo}
-use Rattle.grammar_tokens.specs.Reading.{Parser, many}
-use Rattle.grammar_tokens.specs.Repeats.{many_onto}
+use Rattle.grammar_tokens.specs.ParserCombinators.{Parser, many}
+use Rattle.grammar_tokens.specs.Repetition.{many_onto}
 use Rattle.grammar_tokens.proofs.Gathered.{as_read, instead}
 use Rattle.grammar_tokens.proofs.repeated.read_many.Goals as goal
 

@@ -3,8 +3,8 @@ use Rattle.grammar_tokens.specs.Kinds.{Kinds}
 use Rattle.grammar_tokens.specs.declared.fault.StopCause.{StopCause}
 use Rattle.grammar_tokens.specs.declared.token.Token.{Token}
 use Rattle.grammar_tokens.specs.ParsesTo.{ParsesTo}
-use Rattle.grammar_tokens.specs.Reading.{Parser}
-use Rattle.grammar_tokens.specs.Repeats.{many_onto, many_after}
+use Rattle.grammar_tokens.specs.ParserCombinators.{Parser}
+use Rattle.grammar_tokens.specs.Repetition.{many_onto, many_after}
 use Rattle.grammar_tokens.proofs.repeated.read_more.Goals as goal
 
 after_one : {A : Type 0} (ks : Kinds) (p : Parser A) (ts rest : List Token) (first : A) (none one : List A) (r : Result (List A) StopCause)

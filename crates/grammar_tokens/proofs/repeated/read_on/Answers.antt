@@ -1,5 +1,5 @@
 use Rattle.std.proofs.lemmas.Result.{err_from_is_err_and}
-use Rattle.grammar_tokens.specs.Repeats.{many_onto}
+use Rattle.grammar_tokens.specs.Repetition.{many_onto}
 use Rattle.grammar_tokens.proofs.Gathered.{pushed, ended, ran_out, stopped}
 use Rattle.grammar_tokens.proofs.repeated.read_on.Goals as goal
 

@@ -1,6 +1,6 @@
 use Rattle.std.proofs.Common.{◌≡◌, ◌-◌}
-use Rattle.grammar_tokens.specs.Reading.{Parser}
-use Rattle.grammar_tokens.specs.Repeats.{CallsRead, many_onto}
+use Rattle.grammar_tokens.specs.ParserCombinators.{Parser}
+use Rattle.grammar_tokens.specs.Repetition.{CallsRead, many_onto}
 use Rattle.grammar_tokens.proofs.Gathered.{gathered}
 use Rattle.grammar_tokens.proofs.repeated.read_on.Given as goal
 

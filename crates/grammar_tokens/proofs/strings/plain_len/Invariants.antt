@@ -1,6 +1,6 @@
 use Rattle.std.proofs.Common.{◌≡◌, ◌+◌, drop}
 use Rattle.plain.specs.Words.{run}
-use Rattle.grammar_tokens.specs.inner.Reading.{is_plain}
+use Rattle.grammar_tokens.specs.inner.Tokenizing.{is_plain}
 use Rattle.grammar_tokens.proofs.strings.plain_len.Given as goal
 
 abbrev pub invariant-loop-byte : goal.invariant-loop-byte

@@ -2,7 +2,7 @@ use Rattle.std.proofs.Common.{◌≡◌, ◌-◌, Bool, List, ℕ, arith, sym, �
 use Rattle.std.proofs.Math.Nat.{add-sub_cancel_left}
 use Rattle.std.proofs.lemmas.List.{take_rest}
 use Rattle.plain.specs.Words.{run}
-use Rattle.grammar_tokens.specs.inner.Reading.{NoEscape, IsFirstEscape, is_plain, IsRead}
+use Rattle.grammar_tokens.specs.inner.Tokenizing.{NoEscape, IsFirstEscape, is_plain, IsRead}
 use Rattle.grammar_tokens.proofs.Literals.{start_read, no_stop, escape_more, step_inside, plain_cut_at, plain_more, read_all, read_up}
 use Rattle.grammar_tokens.proofs.strings.read_literal.Goals as goal
 use Rattle.grammar_tokens.proofs.strings.read_literal.Goals.{else-loop-at-test, then-loop-at-test+else-byte-eq92+then-len-eq0}

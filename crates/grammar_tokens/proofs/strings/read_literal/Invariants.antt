@@ -1,6 +1,6 @@
 use Rattle.std.proofs.Common.{◌≤◌, ◌-◌, length}
 use Rattle.std.specs.Prelude.{string_bytes}
-use Rattle.grammar_tokens.specs.inner.Reading.{IsRead}
+use Rattle.grammar_tokens.specs.inner.Tokenizing.{IsRead}
 use Rattle.grammar_tokens.proofs.strings.read_literal.Given as goal
 
 abbrev pub invariant-loop-at : goal.invariant-loop-at

@@ -13,8 +13,8 @@ pub returns-in-Ok-put_head-clause-reply : goal.returns-in-Ok-put_head-clause-rep
 returns-in-Ok-put_head-clause-reply c =
     let head = c.in-Ok-put_head.ensures.ok
     ∙ ap (λ (l : List ℕ). l ++ head_text (text_of c.args.method.now) (text_of c.args.target.now)) c.requires.empty in
-    logged_noted c.args.site.now _ c.in-Ok.route c.args.method.now c.args.target.now c.args.body.now c.answer_noted.result _ _ _ _
-    c.in-Ok.ensures.route head c.answer_noted.ensures.reply
+    logged_noted c.args.site.now _ c.in-Ok.route c.args.method.now c.args.target.now c.args.body.now c.answer_logged.result _ _ _ _
+    c.in-Ok.ensures.route head c.answer_logged.ensures.reply
 
 pub returns-clause-reply : goal.returns-clause-reply
 returns-clause-reply c =

@@ -3,7 +3,7 @@ use Rattle.message_format.proofs.Sound.{judged_in_range}
 use Rattle.message_format.proofs.summary_laws.stamps_read_back.Goals as goal
 
 pub returns-clause-names : goal.returns-clause-names
-returns-clause-names c = name_again c.paths_are_told.ensures.paths
+returns-clause-names c = name_again c.path_tests_are_exact.ensures.paths
 
 pub returns-clause-judged : goal.returns-clause-judged
 returns-clause-judged c = judged_again

@@ -1,6 +1,6 @@
 use Rattle.std.proofs.Common.{ap, sym, refl, ◌∙◌, ◌-◌, length, arith}
 use Rattle.grammar_desugaring.specs.Sums.{paired}
-use Rattle.policy_grammar.proofs.Joining.{judged_one, judged-none, judged-last, judged-before, stands-at}
+use Rattle.policy_grammar.proofs.Joining.{judged_one, judged-none, judged-last, judged-before, is_well_formed-at}
 use Rattle.policy_grammar.proofs.conditions.judge_conditions.Goals as goal
 
 pub returns-then-left-eq0 : goal.returns-then-left-eq0
@@ -8,7 +8,7 @@ returns-then-left-eq0 c = sym (judged-none c.measures_add_up.ensures.literal c.a
 
 pub judge_condition-requires : goal.judge_condition-requires
 judge_condition-requires c =
-    stands-at c.args.text.now c.args.conditions.now (length c.args.conditions.now - 1) c.index-conditions-left.result c.requires (omega arith) c.index-conditions-left.is
+    is_well_formed-at c.args.text.now c.args.conditions.now (length c.args.conditions.now - 1) c.index-conditions-left.result c.requires (omega arith) c.index-conditions-left.is
 
 pub loop-left-init : goal.loop-left-init
 loop-left-init c = (
@@ -21,7 +21,7 @@ loop-left-init c = (
 pub judge_condition-requires-in-loop-left : goal.judge_condition-requires-in-loop-left
 judge_condition-requires-in-loop-left c =
     let below = c.loop-left.invariant.0 in
-    stands-at c.args.text.now c.args.conditions.now (c.loop-left.left - 1) c.index-conditions-left-in-loop-left.result c.requires (omega arith) c.index-conditions-left-in-loop-left.is
+    is_well_formed-at c.args.text.now c.args.conditions.now (c.loop-left.left - 1) c.index-conditions-left-in-loop-left.result c.requires (omega arith) c.index-conditions-left-in-loop-left.is
 
 pub loop-left-preserved : goal.loop-left-preserved
 loop-left-preserved c =

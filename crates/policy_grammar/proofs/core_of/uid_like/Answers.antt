@@ -6,7 +6,7 @@ use Rattle.policy_grammar.proofs.Lists.{text-kind}
 use Rattle.policy_grammar.proofs.core_of.uid_like.Goals as goal
 
 pub id_like-requires-clause-string : goal.id_like-requires-clause-string
-id_like-requires-clause-string c = text-kind _ c.requires.stands.1.1
+id_like-requires-clause-string c = text-kind _ c.requires.is_well_formed.1.1
 
 abbrev uid : List ℕ → List ℕ → EntityUid
 uid type_name id = record { type_name = type_name; id = id }

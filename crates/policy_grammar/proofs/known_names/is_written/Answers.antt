@@ -11,7 +11,7 @@ use Rattle.policy_grammar.proofs.known_names.is_written.Goals as goal
 
 pub spelling-requires : goal.spelling-requires
 spelling-requires c =
-    (token_in c.args.text.now c.requires.tokens c.requires.spelled identifiers c.args.path.now.first c.requires.stands.0).spelled
+    (token_in c.args.text.now c.requires.tokens c.requires.spelled identifiers c.args.path.now.first c.requires.is_well_formed.0).spelled
 
 -- a path of one word is that word
 one_word : (text : List ℕ) (path : PathTree) (name spelled shown : List ℕ) → path.more ≡ [] → spelled ≡ spelling_of text path.first → shown ≡ name

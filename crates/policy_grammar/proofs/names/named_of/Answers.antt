@@ -5,12 +5,12 @@ use Rattle.policy_grammar.specs.Conditions.{condition_faults}
 use Rattle.policy_grammar.proofs.Naming.{cores, among, none-left, name-left, names-all, cores-all, words-step, cores-step}
 use Rattle.policy_grammar.proofs.names.named_of.Goals as goal
 
-pub core_like-made-requires-clause-stands : goal.core_like-made-requires-clause-stands
-core_like-made-requires-clause-stands c = record {
-  tokens = c.requires.stands.tokens;
-  spelled = c.requires.stands.spelled;
-  stands = among (WellFormedPolicy c.requires.stands.tokens) c.loop-tree.yielded c.in-Some.tree c.next.new.self.rest.items c.args.trees.items
-      (ap (λ ts. c.loop-tree.yielded ++ ts) (sym c.in-Some.ensures.steps.0) ∙ c.loop-tree.invariant.taken) c.requires.stands.stands;
+pub core_like-made-requires-clause-is_well_formed : goal.core_like-made-requires-clause-is_well_formed
+core_like-made-requires-clause-is_well_formed c = record {
+  tokens = c.requires.is_well_formed.tokens;
+  spelled = c.requires.is_well_formed.spelled;
+  is_well_formed = among (WellFormedPolicy c.requires.is_well_formed.tokens) c.loop-tree.yielded c.in-Some.tree c.next.new.self.rest.items c.args.trees.items
+      (ap (λ ts. c.loop-tree.yielded ++ ts) (sym c.in-Some.ensures.steps.0) ∙ c.loop-tree.invariant.taken) c.requires.is_well_formed.is_well_formed;
 }
 
 pub core_like-made-requires-clause-sound : goal.core_like-made-requires-clause-sound

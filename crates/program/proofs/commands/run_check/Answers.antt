@@ -21,4 +21,4 @@ pub returns : goal.returns
 returns g c =
     reads_on g.H.Host.does _ _ _ _ _ (over_schema c.args.options.now) _ c.in-Ok.ensures (
     reads_on g.H.Host.does _ _ _ _ _ (AreChecked c.args.options.now c.in-Ok.bytes.items) _ c.in-Ok-read_file.ensures (
-    rw (c.deref.ensures.value, c.deref-2.ensures.value) at c.check_held.ensures))
+    rw (c.deref.ensures.value, c.deref-2.ensures.value) at c.check_contents.ensures))

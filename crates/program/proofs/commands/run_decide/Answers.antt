@@ -55,4 +55,4 @@ returns g c =
     reads_on g.H.Host.does _ _ _ _ _ (over_policies options schema) _ c.in-Ok-read_file.ensures (
     reads_on g.H.Host.does _ _ _ _ _ (over_entities options schema policies) _ c.in-Ok-read_file-2.ensures (
     reads_on g.H.Host.does _ _ _ _ _ (IsDecidedOrRefused options schema policies entities) _ c.in-Ok-read_file-3.ensures (
-    rw (c.lent.ensures, c.deref.ensures.value, c.deref-2.ensures.value, c.deref-3.ensures.value) at c.decide_held.ensures))))
+    rw (c.lent.ensures, c.deref.ensures.value, c.deref-2.ensures.value, c.deref-3.ensures.value) at c.decide_contents.ensures))))

@@ -65,4 +65,4 @@ returns g c =
     c.in-Ok-read_if_named-2.ensures (
     named_on g.H.Host.does _ _ _ (option_map (λ e. e.now) options.entities) entities (over_entities options schema state policies) _
     c.in-Ok-read_if_named-3.ensures (
-    rw (c.deref.ensures.value, c.lent.ensures, c.lent-2.ensures, c.lent-3.ensures) at c.load_held.ensures))))
+    rw (c.deref.ensures.value, c.lent.ensures, c.lent-2.ensures, c.lent-3.ensures) at c.load_contents.ensures))))

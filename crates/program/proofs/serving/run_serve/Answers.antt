@@ -32,4 +32,4 @@ returns g c =
     reads_on g.H.Host.does _ _ _ _ _ (over_schema g.H.Reader.Source g.H.Writer.Sink g.H.Log.Sink options) _ c.in-Ok.ensures (
     named_on g.H.Host.does _ _ _ (option_map (λ s. s.now) options.state) state
     (IsServedFrom g.H.Reader.Source g.H.Writer.Sink g.H.Log.Sink options schema) _ c.in-Ok-read_if_named.ensures (
-    rw (c.deref.ensures.value, c.lent.ensures) at c.serve_held.ensures))
+    rw (c.deref.ensures.value, c.lent.ensures) at c.serve_contents.ensures))

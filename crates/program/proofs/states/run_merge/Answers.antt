@@ -36,4 +36,4 @@ returns g c =
     reads_on g.H.Host.does _ _ _ _ _ (over_schema options) _ c.in-Ok.ensures (
     reads_on g.H.Host.does _ _ _ _ _ (over_first options schema) _ c.in-Ok-read_file.ensures (
     reads_on g.H.Host.does _ _ _ _ _ (AreMerged options schema first) _ c.in-Ok-read_file-2.ensures (
-    rw (c.deref.ensures.value, c.deref-2.ensures.value, c.deref-3.ensures.value) at c.merge_held.ensures)))
+    rw (c.deref.ensures.value, c.deref-2.ensures.value, c.deref-3.ensures.value) at c.merge_contents.ensures)))

@@ -1,4 +1,4 @@
 use Rattle.program_lines.proofs.app.check_command.Goals as goal
 
 pub returns : goal.returns
-returns c = c.with_explain.ensures _ (c.with_word-command.ensures _ (c.with_schema-command.ensures _ c.bare-command.ensures))
+returns c = c.with_explain.ensures _ (c.with_word-command.ensures _ (c.with_schema-command.ensures _ c.new_command-command.ensures))

@@ -13,7 +13,7 @@ returns-in-Err-clause-err c =
     let words = map string_bytes c.args.words.now in
     let has : HasKind (fault_of site_app words) c.in-Err.error =
     subst (λ (a : App). HasKind (fault_of a words) c.in-Err.error) same (c.in-Err.ensures.kinds (ap is_simple_and_free same)) in
-    subst (IsFaultOf words) (sym c.sorted.ensures) (sorted_fault words c.in-Err.error has)
+    subst (IsFaultOf words) (sym c.line_fault_of.ensures) (sorted_fault words c.in-Err.error has)
 
 pub returns-in-Some-clause-taken : goal.returns-in-Some-clause-taken
 returns-in-Some-clause-taken c =

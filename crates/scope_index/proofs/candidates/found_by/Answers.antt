@@ -6,5 +6,5 @@ use Rattle.scope_index.proofs.candidates.found_by.Goals as goal
 pub returns : goal.returns
 returns g c =
     offered_in_all (g.A.Ancestry.parents c.args.ancestry.now) c.args.request.now c.args.buckets.now
-    (lent c.new-found.result.items) (lent c.offer_unbound.new.found.items) (lent c.offer_bound.new.found.items)
-    (ap lent c.new-found.ensures.items) c.in_ok-offer_unbound.ensures c.in_ok-offer_bound.ensures
+    (lent c.new-found.result.items) (lent c.add_unbound.new.found.items) (lent c.add_bound.new.found.items)
+    (ap lent c.new-found.ensures.items) c.in_ok-add_unbound.ensures c.in_ok-add_bound.ensures

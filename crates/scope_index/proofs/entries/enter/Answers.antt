@@ -16,7 +16,7 @@ returns-else-is_err-clause-filed c =
     let at = let_in c.args.kept.now.entries c.insert.new.self.entries c.args.own.0 c.args.id.now c.args.own.1 p c.requires.own_id c.requires.own_share
     (btree_map_updates_text (string_bytes c.args.own.0) c.args.kept.now c.insert.new.self (Some c.args.own.1) c.in_ok-insert.ensures.updates) in
     let put = of_ok c.put-filed.result _ (sym c.if-is_err.ensures.value) c.put-filed.ensures.ok in
-    let by_scope = subst (λ (s : Scope). IsSetAtKey (index_key s) (string_bytes c.args.second.0) (Some c.args.second.1) b b') c.get.ensures put in
+    let by_scope = subst (λ (s : Scope). IsSetAtKey (index_key s) (string_bytes c.args.second.0) (Some c.args.second.1) b b') c.deref.ensures put in
     let turns : IsSetAtKey (index_key p.scope) c.args.id.now (Some p) b b' =
     subst (λ (x : Policy). IsSetAtKey (index_key p.scope) c.args.id.now (Some x) b b') c.requires.second_share
     (subst (λ i. IsSetAtKey (index_key p.scope) i (Some c.args.second.1) b b') c.requires.second_id by_scope) in

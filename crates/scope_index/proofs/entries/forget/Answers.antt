@@ -15,4 +15,4 @@ returns-in-Some-clause-filed c =
     forgotten c.args.kept.now.entries c.remove.new.self.entries c.args.buckets.now c.take.new.buckets c.args.id.now c.requires
     c.in-Some.policy (sym c.remove.ensures.value ∙ c.in-Some.is)
     (btree_map_updates_text c.args.id.now c.args.kept.now c.remove.new.self None c.remove.ensures.updates)
-    (subst (λ (s : Scope). IsSetAtKey (index_key s) c.args.id.now None c.args.buckets.now c.take.new.buckets) c.get.ensures c.take.ensures)
+    (subst (λ (s : Scope). IsSetAtKey (index_key s) c.args.id.now None c.args.buckets.now c.take.new.buckets) c.deref.ensures c.take.ensures)

@@ -1,5 +1,5 @@
 use Rattle.std.proofs.Common.{◌+◌, ◌≤◌, length}
-use Rattle.schema_decisions.specs.json_words.Arrays.{to_come}
+use Rattle.schema_decisions.specs.json_words.Arrays.{unread_members}
 use Rattle.site_steps.specs.SiteViews.{schema_of, store_in, IsSameSite}
 use Rattle.site_loading.proofs.PutLemmas.{AreAlong}
 use Rattle.site_loading.proofs.entity_file.put_each.Given as goal
@@ -8,7 +8,7 @@ use Rattle.site_loading.proofs.entity_file.put_each.Given as goal
 abbrev pub invariant-members : goal.invariant-members
 invariant-members l = record {
   same : IsSameSite l.fn.site l.site;
-  along : AreAlong (schema_of l.fn.site) l.fn.site.name (store_in l.fn.site) (to_come l.fn.members) (store_in l.site) l.place (to_come l.members);
+  along : AreAlong (schema_of l.fn.site) l.fn.site.name (store_in l.fn.site) (unread_members l.fn.members) (store_in l.site) l.place (unread_members l.members);
   few : l.place + length l.members.reader ≤ length l.fn.members.reader;
 }
 

@@ -8,11 +8,11 @@ pub returns-clause-stated : goal.returns-clause-stated
 returns-clause-stated c = stated.something_is_stated c.declarations_are_read_as_stated.ensures
 
 pub returns-clause-read : goal.returns-clause-read
-returns-clause-read c = reading.something_is_read c.paths_are_told.ensures.paths c.names_read_back.ensures.back
+returns-clause-read c = reading.something_is_read c.path_tests_are_exact.ensures.paths c.names_read_back.ensures.back
 
 pub returns-clause-conforms : goal.returns-clause-conforms
 returns-clause-conforms c =
-    conforming.something_conforms c.declarations_are_read_as_stated.ensures c.paths_are_told.ensures.paths c.names_read_back.ensures.back c.what_is_read_conforms.ensures
+    conforming.something_conforms c.declarations_are_read_as_stated.ensures c.path_tests_are_exact.ensures.paths c.names_read_back.ensures.back c.what_is_read_conforms.ensures
 
 pub returns-clause-passes : goal.returns-clause-passes
 returns-clause-passes c = passing.something_passes

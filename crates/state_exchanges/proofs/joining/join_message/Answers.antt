@@ -18,7 +18,7 @@ returns-clause-sendable c h =
     let us = c.in-Ok.updates.items in
     joined_sendable (schema_view k) (abstract_store c.args.store) (abstract_store c.take_all.new.store) c.args.bytes.now c.in_ok-taken.taken h
     (record {
-      came = us;
+      received_updates = us;
       message = c.in-Ok.ensures.read;
       store_is = c.in_ok-taken.ensures.store;
       count_is = c.in_ok-taken.ensures.count;

@@ -8,95 +8,95 @@ use Rattle.token_spans.proofs.behind.+behind.Goals as goal
 regroup : (a b : ℕ) → 1 + (a + b) ≡ 1 + a + b
 regroup a b = omega arith
 
-pub behind_tree-returns-in-Uid : goal.behind_tree-returns-in-Uid
-behind_tree-returns-in-Uid t' c =
-    counted c.args.tree.now (t.Uid c.in-Uid.uid) ((path_count c.in-Uid.uid.path + 2)) c.args.tokens.now c.skip-in-Uid.result.now (twice c.args.tokens.now c.behind_path.result.now c.skip-in-Uid.result.now (path_count c.in-Uid.uid.path) (2) c.behind_path.ensures c.skip-in-Uid.ensures) c.in-Uid.is (count-Uid c.in-Uid.uid)
+pub tokens_after_tree-returns-in-Uid : goal.tokens_after_tree-returns-in-Uid
+tokens_after_tree-returns-in-Uid t' c =
+    counted c.args.tree.now (t.Uid c.in-Uid.uid) ((path_count c.in-Uid.uid.path + 2)) c.args.tokens.now c.skip-in-Uid.result.now (twice c.args.tokens.now c.tokens_after_path.result.now c.skip-in-Uid.result.now (path_count c.in-Uid.uid.path) (2) c.tokens_after_path.ensures c.skip-in-Uid.ensures) c.in-Uid.is (count-Uid c.in-Uid.uid)
 
-pub behind_tree-returns-in-Call : goal.behind_tree-returns-in-Call
-behind_tree-returns-in-Call t' c =
-    counted c.args.tree.now (t.Call c.in-Call.path c.in-Call.arguments) ((path_count c.in-Call.path + 1) + (lone_count (length c.in-Call.arguments) + each_count (map tree_count c.in-Call.arguments))) c.args.tokens.now c.behind_row.result.now (twice c.args.tokens.now c.skip-in-Call.result.now c.behind_row.result.now (path_count c.in-Call.path + 1) (lone_count (length c.in-Call.arguments) + each_count (map tree_count c.in-Call.arguments)) (twice c.args.tokens.now c.behind_path-in-Call.result.now c.skip-in-Call.result.now (path_count c.in-Call.path) (1) c.behind_path-in-Call.ensures c.skip-in-Call.ensures) c.behind_row.ensures) c.in-Call.is (count-Call c.in-Call.path c.in-Call.arguments ∙ ap (λ n. (path_count c.in-Call.path + 1) + (lone_count n + each_count (map tree_count c.in-Call.arguments))) (length-mapped tree_count c.in-Call.arguments))
+pub tokens_after_tree-returns-in-Call : goal.tokens_after_tree-returns-in-Call
+tokens_after_tree-returns-in-Call t' c =
+    counted c.args.tree.now (t.Call c.in-Call.path c.in-Call.arguments) ((path_count c.in-Call.path + 1) + (lone_count (length c.in-Call.arguments) + each_count (map tree_count c.in-Call.arguments))) c.args.tokens.now c.tokens_after_row.result.now (twice c.args.tokens.now c.skip-in-Call.result.now c.tokens_after_row.result.now (path_count c.in-Call.path + 1) (lone_count (length c.in-Call.arguments) + each_count (map tree_count c.in-Call.arguments)) (twice c.args.tokens.now c.tokens_after_path-in-Call.result.now c.skip-in-Call.result.now (path_count c.in-Call.path) (1) c.tokens_after_path-in-Call.ensures c.skip-in-Call.ensures) c.tokens_after_row.ensures) c.in-Call.is (count-Call c.in-Call.path c.in-Call.arguments ∙ ap (λ n. (path_count c.in-Call.path + 1) + (lone_count n + each_count (map tree_count c.in-Call.arguments))) (length-mapped tree_count c.in-Call.arguments))
 
-pub behind_tree-returns-in-Parentheses : goal.behind_tree-returns-in-Parentheses
-behind_tree-returns-in-Parentheses t' c =
-    counted c.args.tree.now (t.Parentheses c.in-Parentheses.inner) (((1 + tree_count c.in-Parentheses.inner) + 1)) c.args.tokens.now c.skip-in-Parentheses-2.result.now (twice c.args.tokens.now c.behind_tree.result.now c.skip-in-Parentheses-2.result.now (1 + tree_count c.in-Parentheses.inner) (1) (twice c.args.tokens.now c.skip-in-Parentheses.result.now c.behind_tree.result.now 1 (tree_count c.in-Parentheses.inner) c.skip-in-Parentheses.ensures (c.behind_tree.ensures ∙ ap (λ a. drop (tree_count a) c.skip-in-Parentheses.result.now) c.get.ensures)) c.skip-in-Parentheses-2.ensures) c.in-Parentheses.is (count-Parentheses c.in-Parentheses.inner)
+pub tokens_after_tree-returns-in-Parentheses : goal.tokens_after_tree-returns-in-Parentheses
+tokens_after_tree-returns-in-Parentheses t' c =
+    counted c.args.tree.now (t.Parentheses c.in-Parentheses.inner) (((1 + tree_count c.in-Parentheses.inner) + 1)) c.args.tokens.now c.skip-in-Parentheses-2.result.now (twice c.args.tokens.now c.tokens_after_tree.result.now c.skip-in-Parentheses-2.result.now (1 + tree_count c.in-Parentheses.inner) (1) (twice c.args.tokens.now c.skip-in-Parentheses.result.now c.tokens_after_tree.result.now 1 (tree_count c.in-Parentheses.inner) c.skip-in-Parentheses.ensures (c.tokens_after_tree.ensures ∙ ap (λ a. drop (tree_count a) c.skip-in-Parentheses.result.now) c.deref.ensures)) c.skip-in-Parentheses-2.ensures) c.in-Parentheses.is (count-Parentheses c.in-Parentheses.inner)
 
-pub behind_tree-returns-in-Set : goal.behind_tree-returns-in-Set
-behind_tree-returns-in-Set t' c =
-    counted c.args.tree.now (t.Set c.in-Set.members) (1 + (lone_count (length c.in-Set.members) + each_count (map tree_count c.in-Set.members))) c.args.tokens.now c.behind_row-in-Set.result.now (twice c.args.tokens.now c.skip-in-Set.result.now c.behind_row-in-Set.result.now 1 (lone_count (length c.in-Set.members) + each_count (map tree_count c.in-Set.members)) c.skip-in-Set.ensures c.behind_row-in-Set.ensures) c.in-Set.is (count-Set c.in-Set.members ∙ ap (λ n. 1 + (lone_count n + each_count (map tree_count c.in-Set.members))) (length-mapped tree_count c.in-Set.members))
+pub tokens_after_tree-returns-in-Set : goal.tokens_after_tree-returns-in-Set
+tokens_after_tree-returns-in-Set t' c =
+    counted c.args.tree.now (t.Set c.in-Set.members) (1 + (lone_count (length c.in-Set.members) + each_count (map tree_count c.in-Set.members))) c.args.tokens.now c.tokens_after_row-in-Set.result.now (twice c.args.tokens.now c.skip-in-Set.result.now c.tokens_after_row-in-Set.result.now 1 (lone_count (length c.in-Set.members) + each_count (map tree_count c.in-Set.members)) c.skip-in-Set.ensures c.tokens_after_row-in-Set.ensures) c.in-Set.is (count-Set c.in-Set.members ∙ ap (λ n. 1 + (lone_count n + each_count (map tree_count c.in-Set.members))) (length-mapped tree_count c.in-Set.members))
 
-pub behind_tree-returns-in-Record : goal.behind_tree-returns-in-Record
-behind_tree-returns-in-Record t' c =
-    counted c.args.tree.now (t.Record c.in-Record.entries) (((1 + lone_count (length c.in-Record.entries)) + each_count (map entry_count c.in-Record.entries))) c.args.tokens.now c.behind_entries.result.now (twice c.args.tokens.now c.behind_opened-row.result.now c.behind_entries.result.now (1 + lone_count (length c.in-Record.entries)) (each_count (map entry_count c.in-Record.entries)) (twice c.args.tokens.now c.skip-in-Record.result.now c.behind_opened-row.result.now 1 (lone_count (length c.in-Record.entries)) c.skip-in-Record.ensures (c.behind_opened-row.ensures ∙ ap (λ n. drop (lone_count n) c.skip-in-Record.result.now) c.len.ensures)) (c.behind_entries.ensures ∙ ap (λ xs. drop (each_count (map entry_count xs)) c.behind_opened-row.result.now) c.as_slice.ensures)) c.in-Record.is (count-Record c.in-Record.entries ∙ ap (λ n. 1 + (lone_count n + each_count (map entry_count c.in-Record.entries))) (length-mapped entry_count c.in-Record.entries) ∙ regroup (lone_count (length c.in-Record.entries)) (each_count (map entry_count c.in-Record.entries)))
+pub tokens_after_tree-returns-in-Record : goal.tokens_after_tree-returns-in-Record
+tokens_after_tree-returns-in-Record t' c =
+    counted c.args.tree.now (t.Record c.in-Record.entries) (((1 + lone_count (length c.in-Record.entries)) + each_count (map entry_count c.in-Record.entries))) c.args.tokens.now c.tokens_after_entries.result.now (twice c.args.tokens.now c.tokens_after_opened-row.result.now c.tokens_after_entries.result.now (1 + lone_count (length c.in-Record.entries)) (each_count (map entry_count c.in-Record.entries)) (twice c.args.tokens.now c.skip-in-Record.result.now c.tokens_after_opened-row.result.now 1 (lone_count (length c.in-Record.entries)) c.skip-in-Record.ensures (c.tokens_after_opened-row.ensures ∙ ap (λ n. drop (lone_count n) c.skip-in-Record.result.now) c.len.ensures)) (c.tokens_after_entries.ensures ∙ ap (λ xs. drop (each_count (map entry_count xs)) c.tokens_after_opened-row.result.now) c.as_slice.ensures)) c.in-Record.is (count-Record c.in-Record.entries ∙ ap (λ n. 1 + (lone_count n + each_count (map entry_count c.in-Record.entries))) (length-mapped entry_count c.in-Record.entries) ∙ regroup (lone_count (length c.in-Record.entries)) (each_count (map entry_count c.in-Record.entries)))
 
-pub behind_tree-returns-in-Member : goal.behind_tree-returns-in-Member
-behind_tree-returns-in-Member t' c =
-    counted c.args.tree.now (t.Member c.in-Member.inner c.in-Member.accesses) ((tree_count c.in-Member.inner + total (map access_tree_count c.in-Member.accesses))) c.args.tokens.now c.behind_accesses.result.now (twice c.args.tokens.now c.behind_tree-in-Member.result.now c.behind_accesses.result.now (tree_count c.in-Member.inner) (total (map access_tree_count c.in-Member.accesses)) (c.behind_tree-in-Member.ensures ∙ ap (λ a. drop (tree_count a) c.args.tokens.now) c.get-in-Member.ensures) (c.behind_accesses.ensures ∙ ap (λ xs. drop (total (map access_tree_count xs)) c.behind_tree-in-Member.result.now) c.as_slice-in-Member.ensures)) c.in-Member.is (count-Member c.in-Member.inner c.in-Member.accesses)
+pub tokens_after_tree-returns-in-Member : goal.tokens_after_tree-returns-in-Member
+tokens_after_tree-returns-in-Member t' c =
+    counted c.args.tree.now (t.Member c.in-Member.inner c.in-Member.accesses) ((tree_count c.in-Member.inner + total (map access_tree_count c.in-Member.accesses))) c.args.tokens.now c.tokens_after_accesses.result.now (twice c.args.tokens.now c.tokens_after_tree-in-Member.result.now c.tokens_after_accesses.result.now (tree_count c.in-Member.inner) (total (map access_tree_count c.in-Member.accesses)) (c.tokens_after_tree-in-Member.ensures ∙ ap (λ a. drop (tree_count a) c.args.tokens.now) c.deref-in-Member.ensures) (c.tokens_after_accesses.ensures ∙ ap (λ xs. drop (total (map access_tree_count xs)) c.tokens_after_tree-in-Member.result.now) c.as_slice-in-Member.ensures)) c.in-Member.is (count-Member c.in-Member.inner c.in-Member.accesses)
 
-pub behind_tree-returns-in-Not : goal.behind_tree-returns-in-Not
-behind_tree-returns-in-Not t' c =
-    counted c.args.tree.now (t.Not c.in-Not.inner) ((1 + tree_count c.in-Not.inner)) c.args.tokens.now c.behind_tree-in-Not.result.now (twice c.args.tokens.now c.skip-in-Not.result.now c.behind_tree-in-Not.result.now 1 (tree_count c.in-Not.inner) c.skip-in-Not.ensures (c.behind_tree-in-Not.ensures ∙ ap (λ a. drop (tree_count a) c.skip-in-Not.result.now) c.get-in-Not.ensures)) c.in-Not.is (count-Not c.in-Not.inner)
+pub tokens_after_tree-returns-in-Not : goal.tokens_after_tree-returns-in-Not
+tokens_after_tree-returns-in-Not t' c =
+    counted c.args.tree.now (t.Not c.in-Not.inner) ((1 + tree_count c.in-Not.inner)) c.args.tokens.now c.tokens_after_tree-in-Not.result.now (twice c.args.tokens.now c.skip-in-Not.result.now c.tokens_after_tree-in-Not.result.now 1 (tree_count c.in-Not.inner) c.skip-in-Not.ensures (c.tokens_after_tree-in-Not.ensures ∙ ap (λ a. drop (tree_count a) c.skip-in-Not.result.now) c.deref-in-Not.ensures)) c.in-Not.is (count-Not c.in-Not.inner)
 
-pub behind_tree-returns-in-Minus : goal.behind_tree-returns-in-Minus
-behind_tree-returns-in-Minus t' c =
-    counted c.args.tree.now (t.Minus c.in-Minus.inner) ((1 + tree_count c.in-Minus.inner)) c.args.tokens.now c.behind_tree-in-Minus.result.now (twice c.args.tokens.now c.skip-in-Minus.result.now c.behind_tree-in-Minus.result.now 1 (tree_count c.in-Minus.inner) c.skip-in-Minus.ensures (c.behind_tree-in-Minus.ensures ∙ ap (λ a. drop (tree_count a) c.skip-in-Minus.result.now) c.get-in-Minus.ensures)) c.in-Minus.is (count-Minus c.in-Minus.inner)
+pub tokens_after_tree-returns-in-Minus : goal.tokens_after_tree-returns-in-Minus
+tokens_after_tree-returns-in-Minus t' c =
+    counted c.args.tree.now (t.Minus c.in-Minus.inner) ((1 + tree_count c.in-Minus.inner)) c.args.tokens.now c.tokens_after_tree-in-Minus.result.now (twice c.args.tokens.now c.skip-in-Minus.result.now c.tokens_after_tree-in-Minus.result.now 1 (tree_count c.in-Minus.inner) c.skip-in-Minus.ensures (c.tokens_after_tree-in-Minus.ensures ∙ ap (λ a. drop (tree_count a) c.skip-in-Minus.result.now) c.deref-in-Minus.ensures)) c.in-Minus.is (count-Minus c.in-Minus.inner)
 
-pub behind_tree-returns-in-Product : goal.behind_tree-returns-in-Product
-behind_tree-returns-in-Product t' c =
-    counted c.args.tree.now (t.Product c.in-Product.first c.in-Product.more) ((tree_count c.in-Product.first + each_count (map tree_count c.in-Product.more))) c.args.tokens.now c.behind_each.result.now (twice c.args.tokens.now c.behind_tree-in-Product.result.now c.behind_each.result.now (tree_count c.in-Product.first) (each_count (map tree_count c.in-Product.more)) (c.behind_tree-in-Product.ensures ∙ ap (λ a. drop (tree_count a) c.args.tokens.now) c.get-in-Product.ensures) (c.behind_each.ensures ∙ ap (λ xs. drop (each_count (map tree_count xs)) c.behind_tree-in-Product.result.now) c.as_slice-in-Product.ensures)) c.in-Product.is (count-Product c.in-Product.first c.in-Product.more)
+pub tokens_after_tree-returns-in-Product : goal.tokens_after_tree-returns-in-Product
+tokens_after_tree-returns-in-Product t' c =
+    counted c.args.tree.now (t.Product c.in-Product.first c.in-Product.more) ((tree_count c.in-Product.first + each_count (map tree_count c.in-Product.more))) c.args.tokens.now c.tokens_after_each.result.now (twice c.args.tokens.now c.tokens_after_tree-in-Product.result.now c.tokens_after_each.result.now (tree_count c.in-Product.first) (each_count (map tree_count c.in-Product.more)) (c.tokens_after_tree-in-Product.ensures ∙ ap (λ a. drop (tree_count a) c.args.tokens.now) c.deref-in-Product.ensures) (c.tokens_after_each.ensures ∙ ap (λ xs. drop (each_count (map tree_count xs)) c.tokens_after_tree-in-Product.result.now) c.as_slice-in-Product.ensures)) c.in-Product.is (count-Product c.in-Product.first c.in-Product.more)
 
-pub behind_tree-returns-in-And : goal.behind_tree-returns-in-And
-behind_tree-returns-in-And t' c =
-    counted c.args.tree.now (t.And c.in-And.first c.in-And.more) ((tree_count c.in-And.first + each_count (map tree_count c.in-And.more))) c.args.tokens.now c.behind_each-in-And.result.now (twice c.args.tokens.now c.behind_tree-in-And.result.now c.behind_each-in-And.result.now (tree_count c.in-And.first) (each_count (map tree_count c.in-And.more)) (c.behind_tree-in-And.ensures ∙ ap (λ a. drop (tree_count a) c.args.tokens.now) c.get-in-And.ensures) (c.behind_each-in-And.ensures ∙ ap (λ xs. drop (each_count (map tree_count xs)) c.behind_tree-in-And.result.now) c.as_slice-in-And.ensures)) c.in-And.is (count-And c.in-And.first c.in-And.more)
+pub tokens_after_tree-returns-in-And : goal.tokens_after_tree-returns-in-And
+tokens_after_tree-returns-in-And t' c =
+    counted c.args.tree.now (t.And c.in-And.first c.in-And.more) ((tree_count c.in-And.first + each_count (map tree_count c.in-And.more))) c.args.tokens.now c.tokens_after_each-in-And.result.now (twice c.args.tokens.now c.tokens_after_tree-in-And.result.now c.tokens_after_each-in-And.result.now (tree_count c.in-And.first) (each_count (map tree_count c.in-And.more)) (c.tokens_after_tree-in-And.ensures ∙ ap (λ a. drop (tree_count a) c.args.tokens.now) c.deref-in-And.ensures) (c.tokens_after_each-in-And.ensures ∙ ap (λ xs. drop (each_count (map tree_count xs)) c.tokens_after_tree-in-And.result.now) c.as_slice-in-And.ensures)) c.in-And.is (count-And c.in-And.first c.in-And.more)
 
-pub behind_tree-returns-in-Or : goal.behind_tree-returns-in-Or
-behind_tree-returns-in-Or t' c =
-    counted c.args.tree.now (t.Or c.in-Or.first c.in-Or.more) ((tree_count c.in-Or.first + each_count (map tree_count c.in-Or.more))) c.args.tokens.now c.behind_each-in-Or.result.now (twice c.args.tokens.now c.behind_tree-in-Or.result.now c.behind_each-in-Or.result.now (tree_count c.in-Or.first) (each_count (map tree_count c.in-Or.more)) (c.behind_tree-in-Or.ensures ∙ ap (λ a. drop (tree_count a) c.args.tokens.now) c.get-in-Or.ensures) (c.behind_each-in-Or.ensures ∙ ap (λ xs. drop (each_count (map tree_count xs)) c.behind_tree-in-Or.result.now) c.as_slice-in-Or.ensures)) c.in-Or.is (count-Or c.in-Or.first c.in-Or.more)
+pub tokens_after_tree-returns-in-Or : goal.tokens_after_tree-returns-in-Or
+tokens_after_tree-returns-in-Or t' c =
+    counted c.args.tree.now (t.Or c.in-Or.first c.in-Or.more) ((tree_count c.in-Or.first + each_count (map tree_count c.in-Or.more))) c.args.tokens.now c.tokens_after_each-in-Or.result.now (twice c.args.tokens.now c.tokens_after_tree-in-Or.result.now c.tokens_after_each-in-Or.result.now (tree_count c.in-Or.first) (each_count (map tree_count c.in-Or.more)) (c.tokens_after_tree-in-Or.ensures ∙ ap (λ a. drop (tree_count a) c.args.tokens.now) c.deref-in-Or.ensures) (c.tokens_after_each-in-Or.ensures ∙ ap (λ xs. drop (each_count (map tree_count xs)) c.tokens_after_tree-in-Or.result.now) c.as_slice-in-Or.ensures)) c.in-Or.is (count-Or c.in-Or.first c.in-Or.more)
 
-pub behind_tree-returns-in-Sum : goal.behind_tree-returns-in-Sum
-behind_tree-returns-in-Sum t' c =
-    counted c.args.tree.now (t.Sum c.in-Sum.first c.in-Sum.terms) ((tree_count c.in-Sum.first + each_count (map term_count c.in-Sum.terms))) c.args.tokens.now c.behind_terms.result.now (twice c.args.tokens.now c.behind_tree-in-Sum.result.now c.behind_terms.result.now (tree_count c.in-Sum.first) (each_count (map term_count c.in-Sum.terms)) (c.behind_tree-in-Sum.ensures ∙ ap (λ a. drop (tree_count a) c.args.tokens.now) c.get-in-Sum.ensures) (c.behind_terms.ensures ∙ ap (λ xs. drop (each_count (map term_count xs)) c.behind_tree-in-Sum.result.now) c.as_slice-in-Sum.ensures)) c.in-Sum.is (count-Sum c.in-Sum.first c.in-Sum.terms)
+pub tokens_after_tree-returns-in-Sum : goal.tokens_after_tree-returns-in-Sum
+tokens_after_tree-returns-in-Sum t' c =
+    counted c.args.tree.now (t.Sum c.in-Sum.first c.in-Sum.terms) ((tree_count c.in-Sum.first + each_count (map term_count c.in-Sum.terms))) c.args.tokens.now c.tokens_after_terms.result.now (twice c.args.tokens.now c.tokens_after_tree-in-Sum.result.now c.tokens_after_terms.result.now (tree_count c.in-Sum.first) (each_count (map term_count c.in-Sum.terms)) (c.tokens_after_tree-in-Sum.ensures ∙ ap (λ a. drop (tree_count a) c.args.tokens.now) c.deref-in-Sum.ensures) (c.tokens_after_terms.ensures ∙ ap (λ xs. drop (each_count (map term_count xs)) c.tokens_after_tree-in-Sum.result.now) c.as_slice-in-Sum.ensures)) c.in-Sum.is (count-Sum c.in-Sum.first c.in-Sum.terms)
 
-pub behind_tree-returns-in-Compare : goal.behind_tree-returns-in-Compare
-behind_tree-returns-in-Compare t' c =
-    counted c.args.tree.now (t.Compare c.in-Compare.left c.in-Compare.field-1 c.in-Compare.right) (((tree_count c.in-Compare.left + 1) + tree_count c.in-Compare.right)) c.args.tokens.now c.behind_tree-in-Compare-2.result.now (twice c.args.tokens.now c.skip-in-Compare.result.now c.behind_tree-in-Compare-2.result.now (tree_count c.in-Compare.left + 1) (tree_count c.in-Compare.right) (twice c.args.tokens.now c.behind_tree-in-Compare.result.now c.skip-in-Compare.result.now (tree_count c.in-Compare.left) (1) (c.behind_tree-in-Compare.ensures ∙ ap (λ a. drop (tree_count a) c.args.tokens.now) c.get-in-Compare-2.ensures) c.skip-in-Compare.ensures) (c.behind_tree-in-Compare-2.ensures ∙ ap (λ a. drop (tree_count a) c.skip-in-Compare.result.now) c.get-in-Compare.ensures)) c.in-Compare.is (count-Compare c.in-Compare.left c.in-Compare.field-1 c.in-Compare.right)
+pub tokens_after_tree-returns-in-Compare : goal.tokens_after_tree-returns-in-Compare
+tokens_after_tree-returns-in-Compare t' c =
+    counted c.args.tree.now (t.Compare c.in-Compare.left c.in-Compare.field-1 c.in-Compare.right) (((tree_count c.in-Compare.left + 1) + tree_count c.in-Compare.right)) c.args.tokens.now c.tokens_after_tree-in-Compare-2.result.now (twice c.args.tokens.now c.skip-in-Compare.result.now c.tokens_after_tree-in-Compare-2.result.now (tree_count c.in-Compare.left + 1) (tree_count c.in-Compare.right) (twice c.args.tokens.now c.tokens_after_tree-in-Compare.result.now c.skip-in-Compare.result.now (tree_count c.in-Compare.left) (1) (c.tokens_after_tree-in-Compare.ensures ∙ ap (λ a. drop (tree_count a) c.args.tokens.now) c.deref-in-Compare-2.ensures) c.skip-in-Compare.ensures) (c.tokens_after_tree-in-Compare-2.ensures ∙ ap (λ a. drop (tree_count a) c.skip-in-Compare.result.now) c.deref-in-Compare.ensures)) c.in-Compare.is (count-Compare c.in-Compare.left c.in-Compare.field-1 c.in-Compare.right)
 
-pub behind_tree-returns-in-Has : goal.behind_tree-returns-in-Has
-behind_tree-returns-in-Has t' c =
-    counted c.args.tree.now (t.Has c.in-Has.inner c.in-Has.field-1) ((tree_count c.in-Has.inner + 2)) c.args.tokens.now c.skip-in-Has.result.now (twice c.args.tokens.now c.behind_tree-in-Has.result.now c.skip-in-Has.result.now (tree_count c.in-Has.inner) (2) (c.behind_tree-in-Has.ensures ∙ ap (λ a. drop (tree_count a) c.args.tokens.now) c.get-in-Has.ensures) c.skip-in-Has.ensures) c.in-Has.is (count-Has c.in-Has.inner c.in-Has.field-1)
+pub tokens_after_tree-returns-in-Has : goal.tokens_after_tree-returns-in-Has
+tokens_after_tree-returns-in-Has t' c =
+    counted c.args.tree.now (t.Has c.in-Has.inner c.in-Has.field-1) ((tree_count c.in-Has.inner + 2)) c.args.tokens.now c.skip-in-Has.result.now (twice c.args.tokens.now c.tokens_after_tree-in-Has.result.now c.skip-in-Has.result.now (tree_count c.in-Has.inner) (2) (c.tokens_after_tree-in-Has.ensures ∙ ap (λ a. drop (tree_count a) c.args.tokens.now) c.deref-in-Has.ensures) c.skip-in-Has.ensures) c.in-Has.is (count-Has c.in-Has.inner c.in-Has.field-1)
 
-pub behind_tree-returns-in-Like : goal.behind_tree-returns-in-Like
-behind_tree-returns-in-Like t' c =
-    counted c.args.tree.now (t.Like c.in-Like.inner c.in-Like.field-1) ((tree_count c.in-Like.inner + 2)) c.args.tokens.now c.skip-in-Like.result.now (twice c.args.tokens.now c.behind_tree-in-Like.result.now c.skip-in-Like.result.now (tree_count c.in-Like.inner) (2) (c.behind_tree-in-Like.ensures ∙ ap (λ a. drop (tree_count a) c.args.tokens.now) c.get-in-Like.ensures) c.skip-in-Like.ensures) c.in-Like.is (count-Like c.in-Like.inner c.in-Like.field-1)
+pub tokens_after_tree-returns-in-Like : goal.tokens_after_tree-returns-in-Like
+tokens_after_tree-returns-in-Like t' c =
+    counted c.args.tree.now (t.Like c.in-Like.inner c.in-Like.field-1) ((tree_count c.in-Like.inner + 2)) c.args.tokens.now c.skip-in-Like.result.now (twice c.args.tokens.now c.tokens_after_tree-in-Like.result.now c.skip-in-Like.result.now (tree_count c.in-Like.inner) (2) (c.tokens_after_tree-in-Like.ensures ∙ ap (λ a. drop (tree_count a) c.args.tokens.now) c.deref-in-Like.ensures) c.skip-in-Like.ensures) c.in-Like.is (count-Like c.in-Like.inner c.in-Like.field-1)
 
-pub behind_tree-returns-in-Is : goal.behind_tree-returns-in-Is
-behind_tree-returns-in-Is t' c =
-    counted c.args.tree.now (t.Is c.in-Is.inner c.in-Is.path) (((tree_count c.in-Is.inner + 1) + path_count c.in-Is.path)) c.args.tokens.now c.behind_path-in-Is.result.now (twice c.args.tokens.now c.skip-in-Is.result.now c.behind_path-in-Is.result.now (tree_count c.in-Is.inner + 1) (path_count c.in-Is.path) (twice c.args.tokens.now c.behind_tree-in-Is.result.now c.skip-in-Is.result.now (tree_count c.in-Is.inner) (1) (c.behind_tree-in-Is.ensures ∙ ap (λ a. drop (tree_count a) c.args.tokens.now) c.get-in-Is.ensures) c.skip-in-Is.ensures) c.behind_path-in-Is.ensures) c.in-Is.is (count-Is c.in-Is.inner c.in-Is.path)
+pub tokens_after_tree-returns-in-Is : goal.tokens_after_tree-returns-in-Is
+tokens_after_tree-returns-in-Is t' c =
+    counted c.args.tree.now (t.Is c.in-Is.inner c.in-Is.path) (((tree_count c.in-Is.inner + 1) + path_count c.in-Is.path)) c.args.tokens.now c.tokens_after_path-in-Is.result.now (twice c.args.tokens.now c.skip-in-Is.result.now c.tokens_after_path-in-Is.result.now (tree_count c.in-Is.inner + 1) (path_count c.in-Is.path) (twice c.args.tokens.now c.tokens_after_tree-in-Is.result.now c.skip-in-Is.result.now (tree_count c.in-Is.inner) (1) (c.tokens_after_tree-in-Is.ensures ∙ ap (λ a. drop (tree_count a) c.args.tokens.now) c.deref-in-Is.ensures) c.skip-in-Is.ensures) c.tokens_after_path-in-Is.ensures) c.in-Is.is (count-Is c.in-Is.inner c.in-Is.path)
 
-pub behind_tree-returns-in-IsIn : goal.behind_tree-returns-in-IsIn
-behind_tree-returns-in-IsIn t' c =
-    counted c.args.tree.now (t.IsIn c.in-IsIn.inner c.in-IsIn.path c.in-IsIn.outer) (((((tree_count c.in-IsIn.inner + 1) + path_count c.in-IsIn.path) + 1) + tree_count c.in-IsIn.outer)) c.args.tokens.now c.behind_tree-in-IsIn-2.result.now (twice c.args.tokens.now c.skip-in-IsIn-2.result.now c.behind_tree-in-IsIn-2.result.now (((tree_count c.in-IsIn.inner + 1) + path_count c.in-IsIn.path) + 1) (tree_count c.in-IsIn.outer) (twice c.args.tokens.now c.behind_path-tested.result.now c.skip-in-IsIn-2.result.now ((tree_count c.in-IsIn.inner + 1) + path_count c.in-IsIn.path) (1) (twice c.args.tokens.now c.skip-in-IsIn.result.now c.behind_path-tested.result.now (tree_count c.in-IsIn.inner + 1) (path_count c.in-IsIn.path) (twice c.args.tokens.now c.behind_tree-in-IsIn.result.now c.skip-in-IsIn.result.now (tree_count c.in-IsIn.inner) (1) (c.behind_tree-in-IsIn.ensures ∙ ap (λ a. drop (tree_count a) c.args.tokens.now) c.get-in-IsIn.ensures) c.skip-in-IsIn.ensures) c.behind_path-tested.ensures) c.skip-in-IsIn-2.ensures) (c.behind_tree-in-IsIn-2.ensures ∙ ap (λ a. drop (tree_count a) c.skip-in-IsIn-2.result.now) c.get-in-IsIn-2.ensures)) c.in-IsIn.is (count-IsIn c.in-IsIn.inner c.in-IsIn.path c.in-IsIn.outer)
+pub tokens_after_tree-returns-in-IsIn : goal.tokens_after_tree-returns-in-IsIn
+tokens_after_tree-returns-in-IsIn t' c =
+    counted c.args.tree.now (t.IsIn c.in-IsIn.inner c.in-IsIn.path c.in-IsIn.outer) (((((tree_count c.in-IsIn.inner + 1) + path_count c.in-IsIn.path) + 1) + tree_count c.in-IsIn.outer)) c.args.tokens.now c.tokens_after_tree-in-IsIn-2.result.now (twice c.args.tokens.now c.skip-in-IsIn-2.result.now c.tokens_after_tree-in-IsIn-2.result.now (((tree_count c.in-IsIn.inner + 1) + path_count c.in-IsIn.path) + 1) (tree_count c.in-IsIn.outer) (twice c.args.tokens.now c.tokens_after_path-tested.result.now c.skip-in-IsIn-2.result.now ((tree_count c.in-IsIn.inner + 1) + path_count c.in-IsIn.path) (1) (twice c.args.tokens.now c.skip-in-IsIn.result.now c.tokens_after_path-tested.result.now (tree_count c.in-IsIn.inner + 1) (path_count c.in-IsIn.path) (twice c.args.tokens.now c.tokens_after_tree-in-IsIn.result.now c.skip-in-IsIn.result.now (tree_count c.in-IsIn.inner) (1) (c.tokens_after_tree-in-IsIn.ensures ∙ ap (λ a. drop (tree_count a) c.args.tokens.now) c.deref-in-IsIn.ensures) c.skip-in-IsIn.ensures) c.tokens_after_path-tested.ensures) c.skip-in-IsIn-2.ensures) (c.tokens_after_tree-in-IsIn-2.ensures ∙ ap (λ a. drop (tree_count a) c.skip-in-IsIn-2.result.now) c.deref-in-IsIn-2.ensures)) c.in-IsIn.is (count-IsIn c.in-IsIn.inner c.in-IsIn.path c.in-IsIn.outer)
 
-pub behind_tree-returns-in-If : goal.behind_tree-returns-in-If
-behind_tree-returns-in-If t' c =
-    counted c.args.tree.now (t.If c.in-If.test c.in-If.consequent c.in-If.alternative) ((((((1 + tree_count c.in-If.test) + 1) + tree_count c.in-If.consequent) + 1) + tree_count c.in-If.alternative)) c.args.tokens.now c.behind_tree-in-If.result.now (twice c.args.tokens.now c.skip-in-If-3.result.now c.behind_tree-in-If.result.now ((((1 + tree_count c.in-If.test) + 1) + tree_count c.in-If.consequent) + 1) (tree_count c.in-If.alternative) (twice c.args.tokens.now c.behind_tree-chosen.result.now c.skip-in-If-3.result.now (((1 + tree_count c.in-If.test) + 1) + tree_count c.in-If.consequent) (1) (twice c.args.tokens.now c.skip-in-If-2.result.now c.behind_tree-chosen.result.now ((1 + tree_count c.in-If.test) + 1) (tree_count c.in-If.consequent) (twice c.args.tokens.now c.behind_tree-tested.result.now c.skip-in-If-2.result.now (1 + tree_count c.in-If.test) (1) (twice c.args.tokens.now c.skip-in-If.result.now c.behind_tree-tested.result.now 1 (tree_count c.in-If.test) c.skip-in-If.ensures (c.behind_tree-tested.ensures ∙ ap (λ a. drop (tree_count a) c.skip-in-If.result.now) c.get-in-If.ensures)) c.skip-in-If-2.ensures) (c.behind_tree-chosen.ensures ∙ ap (λ a. drop (tree_count a) c.skip-in-If-2.result.now) c.get-in-If-2.ensures)) c.skip-in-If-3.ensures) (c.behind_tree-in-If.ensures ∙ ap (λ a. drop (tree_count a) c.skip-in-If-3.result.now) c.get-in-If-3.ensures)) c.in-If.is (count-If c.in-If.test c.in-If.consequent c.in-If.alternative)
+pub tokens_after_tree-returns-in-If : goal.tokens_after_tree-returns-in-If
+tokens_after_tree-returns-in-If t' c =
+    counted c.args.tree.now (t.If c.in-If.test c.in-If.consequent c.in-If.alternative) ((((((1 + tree_count c.in-If.test) + 1) + tree_count c.in-If.consequent) + 1) + tree_count c.in-If.alternative)) c.args.tokens.now c.tokens_after_tree-in-If.result.now (twice c.args.tokens.now c.skip-in-If-3.result.now c.tokens_after_tree-in-If.result.now ((((1 + tree_count c.in-If.test) + 1) + tree_count c.in-If.consequent) + 1) (tree_count c.in-If.alternative) (twice c.args.tokens.now c.tokens_after_tree-chosen.result.now c.skip-in-If-3.result.now (((1 + tree_count c.in-If.test) + 1) + tree_count c.in-If.consequent) (1) (twice c.args.tokens.now c.skip-in-If-2.result.now c.tokens_after_tree-chosen.result.now ((1 + tree_count c.in-If.test) + 1) (tree_count c.in-If.consequent) (twice c.args.tokens.now c.tokens_after_tree-tested.result.now c.skip-in-If-2.result.now (1 + tree_count c.in-If.test) (1) (twice c.args.tokens.now c.skip-in-If.result.now c.tokens_after_tree-tested.result.now 1 (tree_count c.in-If.test) c.skip-in-If.ensures (c.tokens_after_tree-tested.ensures ∙ ap (λ a. drop (tree_count a) c.skip-in-If.result.now) c.deref-in-If.ensures)) c.skip-in-If-2.ensures) (c.tokens_after_tree-chosen.ensures ∙ ap (λ a. drop (tree_count a) c.skip-in-If-2.result.now) c.deref-in-If-2.ensures)) c.skip-in-If-3.ensures) (c.tokens_after_tree-in-If.ensures ∙ ap (λ a. drop (tree_count a) c.skip-in-If-3.result.now) c.deref-in-If-3.ensures)) c.in-If.is (count-If c.in-If.test c.in-If.consequent c.in-If.alternative)
 
-pub behind_access-returns-in-Method : goal.behind_access-returns-in-Method
-behind_access-returns-in-Method t' c =
-    twice c.args.tokens.now c.skip-in-Method.result.now c.behind_row.result.now 3 (lone_count (length c.in-Method.arguments) + each_count (map tree_count c.in-Method.arguments)) c.skip-in-Method.ensures c.behind_row.ensures
+pub tokens_after_access-returns-in-Method : goal.tokens_after_access-returns-in-Method
+tokens_after_access-returns-in-Method t' c =
+    twice c.args.tokens.now c.skip-in-Method.result.now c.tokens_after_row.result.now 3 (lone_count (length c.in-Method.arguments) + each_count (map tree_count c.in-Method.arguments)) c.skip-in-Method.ensures c.tokens_after_row.ensures
     ∙ ap (λ n. drop (3 + (lone_count n + each_count (map tree_count c.in-Method.arguments))) c.args.tokens.now) (sym (length-mapped tree_count c.in-Method.arguments))
     ∙ ap (λ x. drop (access_tree_count x) c.args.tokens.now) (sym c.in-Method.is)
 
-pub behind_each-loop-tree-preserved : goal.behind_each-loop-tree-preserved
-behind_each-loop-tree-preserved t' c =
+pub tokens_after_each-loop-tree-preserved : goal.tokens_after_each-loop-tree-preserved
+tokens_after_each-loop-tree-preserved t' c =
     turned each_count tree_count (λ n. n + 1) (λ n ns. refl) c.args.trees.now c.loop-tree.tree-index c.tree-item.result c.loop-tree.rest.now c.skip-rest.result.now c.tree-item.is c.loop-tree-test.true
-    (twice c.loop-tree.rest.now c.behind_tree.result.now c.skip-rest.result.now (tree_count c.tree-item.result) 1 c.behind_tree.ensures c.skip-rest.ensures) ∙ c.loop-tree.invariant
+    (twice c.loop-tree.rest.now c.tokens_after_tree.result.now c.skip-rest.result.now (tree_count c.tree-item.result) 1 c.tokens_after_tree.ensures c.skip-rest.ensures) ∙ c.loop-tree.invariant
 
-pub behind_terms-loop-term-preserved : goal.behind_terms-loop-term-preserved
-behind_terms-loop-term-preserved t' c =
+pub tokens_after_terms-loop-term-preserved : goal.tokens_after_terms-loop-term-preserved
+tokens_after_terms-loop-term-preserved t' c =
     turned each_count term_count (λ n. n + 1) (λ n ns. refl) c.args.terms.now c.loop-term.term-index c.term-item.result c.loop-term.rest.now c.skip-rest.result.now c.term-item.is c.loop-term-test.true
-    (twice c.loop-term.rest.now c.behind_tree.result.now c.skip-rest.result.now (term_count c.term-item.result) 1 c.behind_tree.ensures c.skip-rest.ensures) ∙ c.loop-term.invariant
+    (twice c.loop-term.rest.now c.tokens_after_tree.result.now c.skip-rest.result.now (term_count c.term-item.result) 1 c.tokens_after_tree.ensures c.skip-rest.ensures) ∙ c.loop-term.invariant
 
-pub behind_entries-loop-entry-preserved : goal.behind_entries-loop-entry-preserved
-behind_entries-loop-entry-preserved t' c =
+pub tokens_after_entries-loop-entry-preserved : goal.tokens_after_entries-loop-entry-preserved
+tokens_after_entries-loop-entry-preserved t' c =
     turned each_count entry_count (λ n. n + 1) (λ n ns. refl) c.args.entries.now c.loop-entry.entry-index c.entry-item.result c.loop-entry.rest.now c.skip-rest.result.now c.entry-item.is c.loop-entry-test.true
-    (twice c.loop-entry.rest.now c.behind_tree.result.now c.skip-rest.result.now (entry_count c.entry-item.result) 1 (twice c.loop-entry.rest.now c.skip.result.now c.behind_tree.result.now 2 (tree_count c.entry-item.result.value) c.skip.ensures c.behind_tree.ensures) c.skip-rest.ensures) ∙ c.loop-entry.invariant
+    (twice c.loop-entry.rest.now c.tokens_after_tree.result.now c.skip-rest.result.now (entry_count c.entry-item.result) 1 (twice c.loop-entry.rest.now c.skip.result.now c.tokens_after_tree.result.now 2 (tree_count c.entry-item.result.value) c.skip.ensures c.tokens_after_tree.ensures) c.skip-rest.ensures) ∙ c.loop-entry.invariant

@@ -18,9 +18,9 @@ returns-in_err-access c =
 pub returns : goal.returns
 returns c =
     let past =
-    c.behind_accesses-before.ensures
-    ∙ ap (λ xs. drop (total (map access_tree_count xs)) c.behind_tree.result.now) c.front.ensures
-    ∙ ap (drop (total (map access_tree_count (take c.args.place c.args.accesses.now)))) c.behind_tree.ensures in
+    c.tokens_after_accesses-before.ensures
+    ∙ ap (λ xs. drop (total (map access_tree_count xs)) c.tokens_after_tree.result.now) c.front.ensures
+    ∙ ap (drop (total (map access_tree_count (take c.args.place c.args.accesses.now)))) c.tokens_after_tree.ensures in
     c.argument.ensures
     ∙ ap (λ ts. argument_at c.in_ok-access.access.now ts c.args.index) past
     ∙ ap (option_and_then (piece c.args.first.now c.args.accesses.now c.args.tokens.now c.args.place c.args.index)) c.in_ok-access.ensures

@@ -18,7 +18,7 @@ returns-in_err-entry c =
 pub returns : goal.returns
 returns c =
     let past =
-    c.behind_entries-before.ensures
+    c.tokens_after_entries-before.ensures
     ∙ ap (λ xs. drop (each_count (map entry_count xs)) c.args.tokens.now) c.front.ensures in
     ap (λ f. Some f) (c.whole.ensures ∙ ap (whole c.in_ok-entry.entry.now.value) (c.skip.ensures ∙ ap (drop 2) past))
     ∙ ap (option_map (piece c.args.entries.now c.args.tokens.now c.args.index)) c.in_ok-entry.ensures

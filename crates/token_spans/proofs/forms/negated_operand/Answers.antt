@@ -1,14 +1,14 @@
 use Rattle.std.proofs.Common.{sym, ap, ◌∙◌}
 use Rattle.grammar_trees.specs.declared.tree.ExprTree.{out-ExprTree}
 use Rattle.grammar_trees.specs.declared.tree.ExprTree.TheVariants as t
-use Rattle.token_spans.specs.Forms.{behind_minus}
-use Rattle.token_spans.proofs.Opening.{behind_minus-other}
+use Rattle.token_spans.specs.Forms.{minus_operand}
+use Rattle.token_spans.proofs.Opening.{minus_operand-other}
 use Rattle.token_spans.proofs.forms.negated_operand.Goals as goal
 
 pub returns-in-Number : goal.returns-in-Number
 returns-in-Number c =
-    ap (λ y. behind_minus y c.args.tree.now c.args.tokens.now c.args.index) (sym (ap out-ExprTree c.in-Number.is ∙ t.outs-Number c.in-Number.field-0))
+    ap (λ y. minus_operand y c.args.tree.now c.args.tokens.now c.args.index) (sym (ap out-ExprTree c.in-Number.is ∙ t.outs-Number c.in-Number.field-0))
 
 pub returns-in_default : goal.returns-in_default
 returns-in_default c =
-    c.one_operand.ensures ∙ behind_minus-other c.args.tree.now c.args.tokens.now c.args.index c.in_default.not-Number
+    c.one_operand.ensures ∙ minus_operand-other c.args.tree.now c.args.tokens.now c.args.index c.in_default.not-Number

@@ -17,8 +17,8 @@ returns-in_err-operand c =
 pub returns : goal.returns
 returns c =
     let past =
-    c.behind_each-behind.ensures
-    ∙ ap (λ xs. drop (each_count (map tree_count xs)) c.behind_tree.result.now) c.front.ensures
-    ∙ ap (drop (each_count (map tree_count (take c.args.index c.args.more.now)))) c.behind_tree.ensures in
+    c.tokens_after_each-behind.ensures
+    ∙ ap (λ xs. drop (each_count (map tree_count xs)) c.tokens_after_tree.result.now) c.front.ensures
+    ∙ ap (drop (each_count (map tree_count (take c.args.index c.args.more.now)))) c.tokens_after_tree.ensures in
     ap (λ f. Some f) (c.whole.ensures ∙ ap (whole c.in_ok-operand.operand.now) (c.skip.ensures ∙ ap (drop 1) past))
     ∙ ap (option_map (piece c.args.first.now c.args.more.now c.args.tokens.now c.args.index)) c.in_ok-operand.ensures

@@ -17,7 +17,7 @@ returns-in_err-item c =
 pub returns : goal.returns
 returns c =
     let past =
-    c.behind_each.ensures
+    c.tokens_after_each.ensures
     ∙ ap (λ xs. drop (each_count (map tree_count xs)) c.args.tokens.now) c.front.ensures in
     ap (λ f. Some f) (c.whole.ensures ∙ ap (whole c.in_ok-item.item.now) past)
     ∙ ap (option_map (piece c.args.items.now c.args.tokens.now c.args.index)) c.in_ok-item.ensures

@@ -18,8 +18,8 @@ returns-in_err-term c =
 pub returns : goal.returns
 returns c =
     let past =
-    c.behind_terms-behind.ensures
-    ∙ ap (λ xs. drop (each_count (map term_count xs)) c.behind_tree.result.now) c.front.ensures
-    ∙ ap (drop (each_count (map term_count (take c.args.index c.args.terms.now)))) c.behind_tree.ensures in
+    c.tokens_after_terms-behind.ensures
+    ∙ ap (λ xs. drop (each_count (map term_count xs)) c.tokens_after_tree.result.now) c.front.ensures
+    ∙ ap (drop (each_count (map term_count (take c.args.index c.args.terms.now)))) c.tokens_after_tree.ensures in
     ap (λ f. Some f) (c.whole.ensures ∙ ap (whole c.in_ok-term.term.now.operand) (c.skip.ensures ∙ ap (drop 1) past))
     ∙ ap (option_map (piece c.args.first.now c.args.terms.now c.args.tokens.now c.args.index)) c.in_ok-term.ensures

@@ -10,5 +10,5 @@ returns-in_err-form c =
 
 pub returns : goal.returns
 returns c =
-    ap (λ ts. Some ts) (c.up_to.ensures ∙ ap (up_to c.in_ok-form.form.tokens.now) c.behind_form.ensures)
+    ap (λ ts. Some ts) (c.up_to.ensures ∙ ap (up_to c.in_ok-form.form.tokens.now) c.tokens_after_form.ensures)
     ∙ ap (option_map own_tokens) (c.in_ok-form.ensures ∙ ap (λ f. node_at f c.args.path.now) (c.unwrapped.ensures ∙ ap unwrapped c.whole.ensures))

@@ -7,8 +7,8 @@ pub loop-tree-preserved : goal.loop-tree-preserved
 loop-tree-preserved c =
     let x = c.loop-tree.tree.now in
     let inner = c.in-Parentheses.inner in (
-      ap (λ y. peeled (depth y) y) c.get-tree.ensures ∙ peeled-inner x inner c.in-Parentheses.is ∙ c.loop-tree.invariant.0,
-      ap (λ y. drop (depth y) c.skip-tokens.result.now) c.get-tree.ensures
+      ap (λ y. peeled (depth y) y) c.deref-tree.ensures ∙ peeled-inner x inner c.in-Parentheses.is ∙ c.loop-tree.invariant.0,
+      ap (λ y. drop (depth y) c.skip-tokens.result.now) c.deref-tree.ensures
           ∙ dropped-inner x inner c.loop-tree.tokens.now c.skip-tokens.result.now c.in-Parentheses.is c.skip-tokens.ensures ∙ c.loop-tree.invariant.1,
     )
 

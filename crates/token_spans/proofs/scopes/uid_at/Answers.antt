@@ -17,7 +17,7 @@ returns-in_err-uid c =
 pub returns : goal.returns
 returns c =
     let past =
-    c.behind_uids.ensures
+    c.tokens_after_uids.ensures
     ∙ ap (λ xs. drop (each_count (map uid_count xs)) c.args.tokens.now) c.front.ensures in
     ap (λ ts. Some ts) (c.uid_tokens.ensures ∙ ap (uid_tokens c.in_ok-uid.uid.now) past)
     ∙ ap (option_and_then (piece c.args.uids.now c.args.tokens.now c.args.index)) c.in_ok-uid.ensures

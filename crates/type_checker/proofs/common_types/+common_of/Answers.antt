@@ -1,6 +1,6 @@
 use Rattle.std.proofs.Common.{◌≡◌, ◌∙◌, ◌+◌, ◌<◌, suc, IfOk, option_map, ap, sym, subst, arith}
 use Rattle.type_checker.specs.Views.{static_view}
-use Rattle.type_checker.specs.inner.Parts.{part_view, fields_view, fields_count, fields_behind}
+use Rattle.type_checker.specs.inner.Parts.{part_view, fields_view, fields_count, fields_after}
 use Rattle.type_checker.proofs.CommonFields.{both_at, ends_none, more, last_some, last_none, pair_lighter, step_none, step_apart, is_there}
 use Rattle.type_checker.proofs.Weighing.{weight}
 use Rattle.type_checker.proofs.common_types.+common_of.Goals as goal
@@ -15,7 +15,7 @@ common_record-common_of-requires t c = (
 pub common_record-returns-in-None-2 : goal.common_record-returns-in-None-2
 common_record-returns-in-None-2 t c =
     ends_none (fields_view c.args.left) (fields_view c.args.right) c.loop-at.fields.items
-    (fields_behind c.loop-at.at (fields_view c.args.left)) (fields_behind c.loop-at.at (fields_view c.args.right)) c.loop-at.invariant
+    (fields_after c.loop-at.at (fields_view c.args.left)) (fields_after c.loop-at.at (fields_view c.args.right)) c.loop-at.invariant
     (both_at (fields_view c.args.left) (fields_view c.args.right) c.loop-at.at c.get.result c.get-in-loop-at.result _ c.get.ensures c.get-in-loop-at.ensures
     (step_none c.get.result c.get-in-loop-at.result c.in-Some.pair _ _ (sym c.in-Some.ensures)
     (sym c.in_ok-ty-in-Some.ensures ∙ ap (λ o. option_map (λ u. static_view u) o) c.in-None-2.is)))
@@ -24,7 +24,7 @@ pub common_record-returns-in-None : goal.common_record-returns-in-None
 common_record-returns-in-None t c =
     let less : c.loop-at.at < fields_count (fields_view c.args.left) = omega (arith, c.loop-at-test.true, c.len-count.ensures) in
     ends_none (fields_view c.args.left) (fields_view c.args.right) c.loop-at.fields.items
-    (fields_behind c.loop-at.at (fields_view c.args.left)) (fields_behind c.loop-at.at (fields_view c.args.right)) c.loop-at.invariant
+    (fields_after c.loop-at.at (fields_view c.args.left)) (fields_after c.loop-at.at (fields_view c.args.right)) c.loop-at.invariant
     (both_at (fields_view c.args.left) (fields_view c.args.right) c.loop-at.at c.get.result c.get-in-loop-at.result _ c.get.ensures c.get-in-loop-at.ensures
     (step_apart c.get.result c.get-in-loop-at.result _ _ (sym c.in-None.ensures)
     (is_there (fields_view c.args.left) c.loop-at.at c.get.result _ less c.get.ensures)))

@@ -15,7 +15,7 @@ returns-in-Record-clause-row c =
     let folded : static_view (shown.Record fs) ≡ record_type (built_view fs) =
     ap static_view (sym (shown.rolls-Record fs)) ∙ fold-roll-StaticType types.StaticType static_step (StaticType-F.Record fs) in
     let whole : static_view c.args.whole.now ≡ record_type (built_view c.as_slice.result.now) =
-    ap static_view c.in-Record.is ∙ (folded ∙ sym (ap (λ gs. record_type (built_view gs)) (c.as_slice.ensures ∙ c.get.ensures))) in
+    ap static_view c.in-Record.is ∙ (folded ∙ sym (ap (λ gs. record_type (built_view gs)) (c.as_slice.ensures ∙ c.deref.ensures))) in
     subst (λ t. Answers c.access-in-Record.result (field_type_of (typing_environment c.args.env) c.args.is_known c.args.key.now t))
     (sym whole)
     (subst (λ d. Answers c.access-in-Record.result (access_type c.args.is_known d)) c.found_built.ensures.declared

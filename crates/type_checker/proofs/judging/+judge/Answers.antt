@@ -26,7 +26,7 @@ second_operand-returns-in-Ok level c = λ K a n h.
     let b = c.args.right.now in
     let before = c.args.known.now in
     let t = typed_so E K before a c.in-Ok.is h in
-    c.binary_typed.ensures K _ a b n t.1 (moved E b _ _ t.0 (at_form E _ _ _ (sym c.get.ensures) c.type_of-right.ensures))
+    c.binary_typed.ensures K _ a b n t.1 (moved E b _ _ t.0 (at_form E _ _ _ (sym c.deref.ensures) c.type_of-right.ensures))
 
 pub second_operand-returns-in-Err : goal.second_operand-returns-in-Err
 second_operand-returns-in-Err level c = λ K a n h m.
@@ -40,7 +40,7 @@ second_called-returns-in-Ok level c = λ K a h.
     let b = c.args.right.now in
     let before = c.args.known.now in
     let t = typed_so E K before a c.in-Ok.is h in
-    c.call_typed.ensures E K _ a b t.1 (moved E b _ _ t.0 (at_form E _ _ _ (sym c.get.ensures) c.type_of-right.ensures))
+    c.call_typed.ensures E K _ a b t.1 (moved E b _ _ t.0 (at_form E _ _ _ (sym c.deref.ensures) c.type_of-right.ensures))
 
 pub second_called-returns-in-Err : goal.second_called-returns-in-Err
 second_called-returns-in-Err level c = λ K a h m.
@@ -88,14 +88,14 @@ second_disjunct-returns-in-Some-False level c = λ K a h.
     let E = typing_environment c.args.env in
     let b = c.args.right.now in
     let t = has_kind E K _ a c.in-Ok.is (c.in-Some-False.ensures ∙ ap boolean_view c.in-Some-False.field-0-is) h in
-    c.or_behind_false.ensures E K _ _ a b t.1 (moved E b _ _ t.0 (at_form E _ _ _ (sym c.get.ensures) c.type_of-right.ensures))
+    c.or_behind_false.ensures E K _ _ a b t.1 (moved E b _ _ t.0 (at_form E _ _ _ (sym c.deref.ensures) c.type_of-right.ensures))
 
 pub second_disjunct-returns-in-Some-Either : goal.second_disjunct-returns-in-Some-Either
 second_disjunct-returns-in-Some-Either level c = λ K a h.
     let E = typing_environment c.args.env in
     let b = c.args.right.now in
     let t = has_kind E K _ a c.in-Ok.is (c.in-Some-Either.ensures ∙ ap boolean_view c.in-Some-Either.field-0-is) h in
-    c.or_typed.ensures E K _ a b t.1 (moved E b _ _ t.0 (at_form E _ _ _ (sym c.get-in-Some-Either.ensures) c.type_of-right-in-Some-Either.ensures))
+    c.or_typed.ensures E K _ a b t.1 (moved E b _ _ t.0 (at_form E _ _ _ (sym c.deref-in-Some-Either.ensures) c.type_of-right-in-Some-Either.ensures))
 
 pub second_disjunct-returns-in-None : goal.second_disjunct-returns-in-None
 second_disjunct-returns-in-None level c = λ K a h n.
@@ -143,7 +143,7 @@ type_else-returns-in-Ok-Skipped level c = λ K a b h.
     let E = typing_environment c.args.env in
     let t = then_so E K c.args.known.now a b c.in-Ok-Skipped.is h in
     let i = rw c.in-Ok-Skipped.field-0-is at t.1 in
-    else_only E K i.0 _ a b c.args.alternative.now _ i.1 (moved E c.args.alternative.now _ _ t.0 (at_form E _ _ _ (sym c.get.ensures) c.type_of.ensures))
+    else_only E K i.0 _ a b c.args.alternative.now _ i.1 (moved E c.args.alternative.now _ _ t.0 (at_form E _ _ _ (sym c.deref.ensures) c.type_of.ensures))
 
 pub type_else-returns-in-Err : goal.type_else-returns-in-Err
 type_else-returns-in-Err level c = λ K a b h n.
@@ -163,7 +163,7 @@ type_else-returns-in-Ok-Both level c = λ K a b h.
     let x = c.args.alternative.now in
     let t = then_so E K c.args.known.now a b c.in-Ok-Both.is h in
     let i = rw c.in-Ok-Both.field-0-is at t.1 in
-    c.branches.ensures E K _ a b x i (moved E x _ _ t.0 (at_form E _ _ _ (sym c.get-in-Ok-Both.ensures) c.type_of-other.ensures))
+    c.branches.ensures E K _ a b x i (moved E x _ _ t.0 (at_form E _ _ _ (sym c.deref-in-Ok-Both.ensures) c.type_of-other.ensures))
 
 pub type_under_gained-returns-in-Ok : goal.type_under_gained-returns-in-Ok
 type_under_gained-returns-in-Ok level c =
@@ -173,7 +173,7 @@ type_under_gained-returns-in-Ok level c =
     let ls = c.args.learns.items in
     let M = c.type_of-typed.new.known in
     let j = subst (λ N. Judged E N x c.type_of-typed.result M) c.in-Ok.ensures
-    (at_form E _ _ _ (sym c.get.ensures) c.type_of-typed.ensures) in
+    (at_form E _ _ _ (sym c.deref.ensures) c.type_of-typed.ensures) in
     subst (λ N. JudgedUnder E K (pairs ls) x c.gained_too.result N)
     (sym (c.truncate_to.ensures ∙ ap (λ n. take n M) c.len-height.ensures))
     (behind_judged E x K ls M _ _ j c.gained_too.ensures)
@@ -189,32 +189,32 @@ type_and-returns-in-Some level c =
     let y = c.in-Binary.other in
     let n = c.in-Some.name.now in
     let q = c.in-Some.ensures in
-    let test = sym c.get-in-Binary.ensures ∙ (q.0 ∙ ap (λ z. form.Unary (Is n) z) c.get-in-Binary-2.ensures) in
-    let free = subst (λ z. UndecidedByLiterals E op z y) c.get-in-Binary-2.ensures
-    (subst (λ z. UndecidedByLiterals E op c.get-in-Binary-2.result.now z) c.get-in-Binary-3.ensures q.2) in
-    let f = asked_so E K _ a x n c.type_of-test.result test q.1 (at_form E K _ _ (sym c.get.ensures) c.type_of-test.ensures) in
-    let last = moved E y _ _ f.same (at_form E _ _ _ (sym c.get-in-Some.ensures) c.type_of-other.ensures) in
+    let test = sym c.deref-in-Binary.ensures ∙ (q.0 ∙ ap (λ z. form.Unary (Is n) z) c.deref-in-Binary-2.ensures) in
+    let free = subst (λ z. UndecidedByLiterals E op z y) c.deref-in-Binary-2.ensures
+    (subst (λ z. UndecidedByLiterals E op c.deref-in-Binary-2.result.now z) c.deref-in-Binary-3.ensures q.2) in
+    let f = asked_so E K _ a x n c.type_of-test.result test q.1 (at_form E K _ _ (sym c.deref.ensures) c.type_of-test.ensures) in
+    let last = moved E y _ _ f.same (at_form E _ _ _ (sym c.deref-in-Some.ensures) c.type_of-other.ensures) in
     let second = c.repeated_operand_typed-right.ensures K f.learned _ x y free f.has_type last in
     c.and_typed.ensures E K [] _ a b f.is_true rows.surely
-    (behind_nothing E K _ b _ (at_form E K _ _ (sym c.get-2.ensures ∙ c.in-Binary.is) second))
+    (behind_nothing E K _ b _ (at_form E K _ _ (sym c.deref-2.ensures ∙ c.in-Binary.is) second))
 
 pub type_and-returns-in-None : goal.type_and-returns-in-None
 type_and-returns-in-None level c =
     let E = typing_environment c.args.env in
     let K = c.args.known.now in
-    c.second_conjunct.ensures K c.args.left.now (at_form E K _ _ (sym c.get.ensures) c.type_of-test.ensures)
+    c.second_conjunct.ensures K c.args.left.now (at_form E K _ _ (sym c.deref.ensures) c.type_of-test.ensures)
 
 pub type_and-returns-in_default : goal.type_and-returns-in_default
 type_and-returns-in_default level c =
     let E = typing_environment c.args.env in
     let K = c.args.known.now in
-    c.second_conjunct-in_default.ensures K c.args.left.now (at_form E K _ _ (sym c.get.ensures) c.type_of-test.ensures)
+    c.second_conjunct-in_default.ensures K c.args.left.now (at_form E K _ _ (sym c.deref.ensures) c.type_of-test.ensures)
 
 pub type_or-returns : goal.type_or-returns
 type_or-returns level c =
     let E = typing_environment c.args.env in
     let K = c.args.known.now in
-    c.second_disjunct.ensures K c.args.left.now (at_form E K _ _ (sym c.get.ensures) c.type_of-left.ensures)
+    c.second_disjunct.ensures K c.args.left.now (at_form E K _ _ (sym c.deref.ensures) c.type_of-left.ensures)
 
 pub type_binary-returns-in-Some : goal.type_binary-returns-in-Some
 type_binary-returns-in-Some level c =
@@ -223,8 +223,8 @@ type_binary-returns-in-Some level c =
     let op = c.args.operator in
     let a = c.args.left.now in
     let b = c.args.right.now in
-    let s = subst (λ x. DecidedByLiterals E op x b c.in-Some.truth) c.get.ensures
-    (subst (λ y. DecidedByLiterals E op c.get.result.now y c.in-Some.truth) c.get-2.ensures c.in-Some.ensures) in
+    let s = subst (λ x. DecidedByLiterals E op x b c.in-Some.truth) c.deref.ensures
+    (subst (λ y. DecidedByLiterals E op c.deref.result.now y c.in-Some.truth) c.deref-2.ensures c.in-Some.ensures) in
     plain_judged E K K (form.Binary op a b) c.plain.result
     (ap static_view c.plain.ensures.kind ∙ (c.boolean.ensures ∙ c.truth_type.ensures))
     c.plain.ensures.learns refl (typing.types_settled op a b s)
@@ -236,9 +236,9 @@ type_binary-returns-in-None level c =
     let op = c.args.operator in
     let a = c.args.left.now in
     let b = c.args.right.now in
-    let s = subst (λ x. UndecidedByLiterals E op x b) c.get.ensures
-    (subst (λ y. UndecidedByLiterals E op c.get.result.now y) c.get-2.ensures c.in-None.ensures) in
-    c.second_operand.ensures K a s (at_form E K _ _ (sym c.get-in-None.ensures) c.type_of-left.ensures)
+    let s = subst (λ x. UndecidedByLiterals E op x b) c.deref.ensures
+    (subst (λ y. UndecidedByLiterals E op c.deref.result.now y) c.deref-2.ensures c.in-None.ensures) in
+    c.second_operand.ensures K a s (at_form E K _ _ (sym c.deref-in-None.ensures) c.type_of-left.ensures)
 
 pub type_of-returns-in-Literal : goal.type_of-returns-in-Literal
 type_of-returns-in-Literal level c =
@@ -262,7 +262,7 @@ type_of-returns-in-If level c =
     let E = typing_environment c.args.env in
     let K = c.args.known.now in
     let a = c.in-If.test in
-    let j = at_form E K _ _ (sym c.get.ensures) c.type_of-test.ensures in
+    let j = at_form E K _ _ (sym c.deref.ensures) c.type_of-test.ensures in
     at_form E K _ _ c.in-If.is (c.type_else.ensures K a c.in-If.consequent (c.type_then-then.ensures K a j))
 
 pub type_of-returns-in-And : goal.type_of-returns-in-And
@@ -278,14 +278,14 @@ type_of-returns-in-BinaryCall level c =
     let E = typing_environment c.args.env in
     let K = c.args.known.now in
     at_form E K _ _ c.in-BinaryCall.is
-    (c.second_called.ensures K c.in-BinaryCall.left (at_form E K _ _ (sym c.get-in-BinaryCall.ensures) c.type_of-left.ensures))
+    (c.second_called.ensures K c.in-BinaryCall.left (at_form E K _ _ (sym c.deref-in-BinaryCall.ensures) c.type_of-left.ensures))
 
 pub type_of-returns-in-Unary : goal.type_of-returns-in-Unary
 type_of-returns-in-Unary level c =
     let E = typing_environment c.args.env in
     let K = c.args.known.now in
     at_form E K _ _ c.in-Unary.is
-    (c.unary_typed.ensures E K _ c.in-Unary.operand (at_form E K _ _ (sym c.get-in-Unary.ensures) c.type_of-operand.ensures))
+    (c.unary_typed.ensures E K _ c.in-Unary.operand (at_form E K _ _ (sym c.deref-in-Unary.ensures) c.type_of-operand.ensures))
 
 pub type_of-returns-in-Binary : goal.type_of-returns-in-Binary
 type_of-returns-in-Binary level c =
@@ -296,9 +296,9 @@ type_of-returns-in-Field level c =
     let E = typing_environment c.args.env in
     let K = c.args.known.now in
     let k = c.in-Field.name in
-    let j = at_form E K _ _ (c.get-in-Field-2.ensures ∙ sym c.get-in-Field.ensures) c.type_of-typed.ensures in
-    at_form E K _ _ (c.in-Field.is ∙ (ap (λ x. form.Field x k) (sym c.get-in-Field-2.ensures)
-    ∙ ap (λ n. form.Field c.get-in-Field-2.result.now n) (sym c.as_str.ensures)))
+    let j = at_form E K _ _ (c.deref-in-Field-2.ensures ∙ sym c.deref-in-Field.ensures) c.type_of-typed.ensures in
+    at_form E K _ _ (c.in-Field.is ∙ (ap (λ x. form.Field x k) (sym c.deref-in-Field-2.ensures)
+    ∙ ap (λ n. form.Field c.deref-in-Field-2.result.now n) (sym c.as_str.ensures)))
     (c.field_typed.ensures K j)
 
 pub type_of-returns-in-Has : goal.type_of-returns-in-Has
@@ -306,9 +306,9 @@ type_of-returns-in-Has level c =
     let E = typing_environment c.args.env in
     let K = c.args.known.now in
     let k = c.in-Has.name in
-    let j = at_form E K _ _ (c.get-in-Has-2.ensures ∙ sym c.get-in-Has.ensures) c.type_of-typed-in-Has.ensures in
-    at_form E K _ _ (c.in-Has.is ∙ (ap (λ x. form.Has x k) (sym c.get-in-Has-2.ensures)
-    ∙ ap (λ n. form.Has c.get-in-Has-2.result.now n) (sym c.as_str-in-Has.ensures)))
+    let j = at_form E K _ _ (c.deref-in-Has-2.ensures ∙ sym c.deref-in-Has.ensures) c.type_of-typed-in-Has.ensures in
+    at_form E K _ _ (c.in-Has.is ∙ (ap (λ x. form.Has x k) (sym c.deref-in-Has-2.ensures)
+    ∙ ap (λ n. form.Has c.deref-in-Has-2.result.now n) (sym c.as_str-in-Has.ensures)))
     (c.has_typed.ensures K j)
 
 pub type_of-returns-in-Set : goal.type_of-returns-in-Set
@@ -332,8 +332,8 @@ type_of-returns-in-UnaryCall level c =
     let E = typing_environment c.args.env in
     let K = c.args.known.now in
     let o = c.in-UnaryCall.called in
-    let j = at_form E K _ _ (c.get-in-UnaryCall-2.ensures ∙ sym c.get-in-UnaryCall.ensures) c.type_of-typed-in-UnaryCall.ensures in
-    at_form E K _ _ (c.in-UnaryCall.is ∙ ap (λ x. form.UnaryCall o x) (sym c.get-in-UnaryCall-2.ensures))
+    let j = at_form E K _ _ (c.deref-in-UnaryCall-2.ensures ∙ sym c.deref-in-UnaryCall.ensures) c.type_of-typed-in-UnaryCall.ensures in
+    at_form E K _ _ (c.in-UnaryCall.is ∙ ap (λ x. form.UnaryCall o x) (sym c.deref-in-UnaryCall-2.ensures))
     (c.unary_call_typed.ensures E K _ j)
 
 pub types_of-loop-expr-init : goal.types_of-loop-expr-init

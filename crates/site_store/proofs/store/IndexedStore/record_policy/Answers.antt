@@ -7,8 +7,8 @@ use Rattle.site_store.specs.StoreViews.{StoreView}
 use Rattle.site_store.proofs.Standing.{beside_policy, as_lent, as_held}
 use Rattle.site_store.proofs.store.IndexedStore.record_policy.Goals as goal
 
-pub stand-requires : goal.stand-requires
-stand-requires c = as_lent c.self.inside.schema c.get.result.now c.get.ensures c.self.inside.store c.self.inside.index
+pub rebuild_absent-requires : goal.rebuild_absent-requires
+rebuild_absent-requires c = as_lent c.self.inside.schema c.deref.result.now c.deref.ensures c.self.inside.store c.self.inside.index
     c.self.inside.ancestors c.self.invariant
 
 pub invariant_of-self : goal.invariant_of-self
@@ -16,8 +16,8 @@ invariant_of-self c =
     let old = c.self.inside.store in
     beside_policy c.self.inside.schema c.record_policy.result c.record_policy.new.store old
     (taken string_cmp greater old.policies c.args.id c.args.entry) c.record_policy.ensures.kept c.record_policy.ensures.err
-    c.record_policy.new.index c.record_policy.ensures.indexed c.stand.new.ancestors
-    (as_held c.self.inside.schema c.get.result.now c.get.ensures c.self.inside.store c.stand.new.index c.stand.new.ancestors c.stand.ensures).ancestors_are
+    c.record_policy.new.index c.record_policy.ensures.indexed c.rebuild_absent.new.ancestors
+    (as_held c.self.inside.schema c.deref.result.now c.deref.ensures c.self.inside.store c.rebuild_absent.new.index c.rebuild_absent.new.ancestors c.rebuild_absent.ensures).ancestors_are
 
 pub returns-clause-others : goal.returns-clause-others
 returns-clause-others c =

@@ -8,13 +8,13 @@ use Rattle.site_store.proofs.Standing.{beside_entity, ancestors_as_lent}
 use Rattle.site_store.proofs.store.IndexedStore.take_entity.Goals as goal
 
 pub take_entity-requires : goal.take_entity-requires
-take_entity-requires c = ancestors_as_lent c.self.inside.schema c.get.result.now c.get.ensures c.self.inside.store.entities
+take_entity-requires c = ancestors_as_lent c.self.inside.schema c.deref.result.now c.deref.ensures c.self.inside.store.entities
     c.self.inside.ancestors c.self.invariant.ancestors_are
 
 pub invariant_of-self : goal.invariant_of-self
 invariant_of-self c =
     let old = c.self.inside.store in
-    beside_entity c.self.inside.schema c.get.result.now c.get.ensures c.take_entity.result c.take_entity.new.store old
+    beside_entity c.self.inside.schema c.deref.result.now c.deref.ensures c.take_entity.result c.take_entity.new.store old
     (taken uid_cmp greater old.entities c.args.uid c.args.entry) c.take_entity.ensures.kept c.take_entity.ensures.err
     c.self.inside.index c.self.invariant.index_is c.take_entity.new.ancestors c.take_entity.ensures.followed
 

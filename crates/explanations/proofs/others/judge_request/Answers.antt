@@ -1,4 +1,0 @@
-use Rattle.explanations.proofs.others.judge_request.Goals as goal
-
-pub returns-in-None-clause-refused : goal.returns-in-None-clause-refused
-returns-in-None-clause-refused c = rw c.in-None.is c.judge_bare.ensures.refused

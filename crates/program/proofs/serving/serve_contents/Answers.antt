@@ -1,0 +1,25 @@
+use Rattle.std.proofs.Common.{ℕ, List, option_map, inl, inr, subst}
+use Rattle.std.specs.Process.{exit_status}
+use Rattle.explanations.specs.Files.{Files}
+use Rattle.program.specs.Beginning.{IsInitialSiteRefused}
+use Rattle.program.specs.Events.{Runs}
+use Rattle.program.specs.Explained.{schema_files, IsRefusalText, IsErrorReported, Explains}
+use Rattle.program.proofs.EventLemmas.{runs_as}
+use Rattle.program.proofs.RefusalLemmas.{refused_with}
+use Rattle.program.proofs.serving.serve_contents.Goals as goal
+
+pub returns-in-Ok : goal.returns-in-Ok
+returns-in-Ok g c =
+    runs_as g.H.Host.does _ _ _ _ (λ events told. inl (c.in-Ok.site, c.in-Ok.ensures.begun, told)) c.serve_initial_site.ensures
+
+pub returns-in-Err : goal.returns-in-Err
+returns-in-Err g c =
+    let options = c.args.options.now in
+    let schema = c.args.schema.now in
+    let state = option_map (λ s. s.now) c.args.state in
+    let end = exit_status c.report_rejected.result in
+    let refusal = c.in-Err.refusal in
+    let told = subst (λ (f : Files). Runs g.H.Host.does c.args.host.now c.report_rejected.new.host (λ events. Explains options.explain (IsRefusalText f refusal.code) (IsErrorReported refusal) events end))
+    c.schema_given-given.ensures c.report_rejected.ensures in
+    runs_as g.H.Host.does _ _ _ _ (λ events told. inr (refused_with (IsInitialSiteRefused schema state) options.explain (schema_files options.schema.now schema) refusal end c.in-Err.ensures.refused events told))
+    told

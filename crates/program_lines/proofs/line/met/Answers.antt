@@ -1,5 +1,0 @@
-use Rattle.program_lines.proofs.LineLemmas.{met_is}
-use Rattle.program_lines.proofs.line.met.Goals as goal
-
-pub returns : goal.returns
-returns c = met_is c.args.matches.now _ _ c.subcommand.result c.subcommand.ensures.name c.subcommand.ensures.rows

@@ -1,0 +1,42 @@
+-- Defines the theorems that the example of specs/Example.antt meets the premises of soundness, so that these are not
+-- vacuous.
+use Rattle.std.specs.Prelude.{[], ◌∷◌, true, Ok}
+use Rattle.values.specs.Values.{boolean}
+use Rattle.site_soundness.specs.policy_grammar.Whole.{expression_of}
+use Rattle.site_soundness.specs.evaluator.Evaluation.{EvaluatesTo}
+use Rattle.site_soundness.specs.schema.Schemas.{IsSchemaOf}
+use Rattle.site_soundness.specs.entity_data.Entities.{AreListed}
+use Rattle.site_soundness.specs.entity_hierarchy.Laws.{closed_world}
+use Rattle.site_soundness.specs.entities.Requests.{StatesRequest}
+use Rattle.site_soundness.specs.type_checker.FromSchemas.{typing_environment_of}
+use Rattle.site_soundness.specs.typing.Example.{alice}
+use Rattle.site_soundness.specs.typing.Environment.{attribute_may_be_missing}
+use Rattle.site_soundness.specs.typing.Conforming.{Conforms}
+use Rattle.site_soundness.specs.validator.Faults.{of_typing}
+use Rattle.site_soundness.specs.validator.Passing.{Passes, IsCheckRefused}
+use Rattle.site_soundness.specs.Worlds.{AreRead}
+use Rattle.site_soundness_example.specs.Example.{schema_text, schema, viewing, entities, request_json, request, policy}
+use Rattle.site_soundness_example.specs.Example.{unsure_policy}
+
+-- `ExampleSchemaIsDescribed`: the bytes `schema_text` describe `schema`.
+abbrev pub ExampleSchemaIsDescribed : Type 0
+ExampleSchemaIsDescribed = IsSchemaOf schema_text schema
+
+-- `ExampleDataIsParsed`: the entities and the request are parsed under this schema.
+abbrev pub ExampleDataIsParsed : Type 0
+ExampleDataIsParsed =
+    AreRead schema entities × AreListed entities (alice ∷ []) × StatesRequest schema request_json request
+
+-- `ExampleDataConforms`: these entities and this request conform to an environment of the schema.
+abbrev pub ExampleDataConforms : Type 0
+ExampleDataConforms = Conforms (typing_environment_of schema viewing) (closed_world schema entities) request
+
+-- `ExamplePolicyPasses`: a policy that tests for an optional attribute by `has` before accessing the attribute passes
+-- validation, and is satisfied by this request.
+abbrev pub ExamplePolicyPasses : Type 0
+ExamplePolicyPasses = Passes schema policy
+    × EvaluatesTo (closed_world schema entities) request (expression_of policy) (Ok (boolean true))
+
+-- `UnguardedAccessIsRejected`: the policy without this `has` is rejected.
+abbrev pub UnguardedAccessIsRejected : Type 0
+UnguardedAccessIsRejected = IsCheckRefused schema unsure_policy (of_typing attribute_may_be_missing)

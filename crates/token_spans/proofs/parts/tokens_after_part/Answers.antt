@@ -1,0 +1,30 @@
+use Rattle.std.proofs.Common.{◌+◌, sym, ap, ◌∙◌, drop}
+use Rattle.token_spans.specs.TokenCounts.{path_count, uid_count}
+use Rattle.token_spans.proofs.Dropping.{twice}
+use Rattle.token_spans.specs.Places.{part_count}
+use Rattle.token_spans.proofs.parts.tokens_after_part.Goals as goal
+
+pub returns-in-Equal : goal.returns-in-Equal
+returns-in-Equal c =
+    twice c.args.tokens.now c.skip-in-Equal.result.now c.tokens_after_uid.result.now 2 (uid_count c.in-Equal.uid) c.skip-in-Equal.ensures c.tokens_after_uid.ensures
+    ∙ ap (λ p. drop (part_count p) c.args.tokens.now) (sym c.in-Equal.is)
+
+pub returns-in-In : goal.returns-in-In
+returns-in-In c =
+    twice c.args.tokens.now c.skip-in-In.result.now c.tokens_after_uid-in-In.result.now 2 (uid_count c.in-In.uid) c.skip-in-In.ensures c.tokens_after_uid-in-In.ensures
+    ∙ ap (λ p. drop (part_count p) c.args.tokens.now) (sym c.in-In.is)
+
+pub returns-in-Is : goal.returns-in-Is
+returns-in-Is c =
+    twice c.args.tokens.now c.skip-in-Is.result.now c.tokens_after_path.result.now 2 (path_count c.in-Is.path) c.skip-in-Is.ensures c.tokens_after_path.ensures
+    ∙ ap (λ p. drop (part_count p) c.args.tokens.now) (sym c.in-Is.is)
+
+pub returns-in-IsIn : goal.returns-in-IsIn
+returns-in-IsIn c =
+    let n = path_count c.in-IsIn.path in
+    twice c.args.tokens.now c.skip-in-IsIn-2.result.now c.tokens_after_uid-in-IsIn.result.now (2 + n + 1) (uid_count c.in-IsIn.uid)
+    (twice c.args.tokens.now c.tokens_after_path-in-IsIn.result.now c.skip-in-IsIn-2.result.now (2 + n) 1
+    (twice c.args.tokens.now c.skip-in-IsIn.result.now c.tokens_after_path-in-IsIn.result.now 2 n c.skip-in-IsIn.ensures c.tokens_after_path-in-IsIn.ensures)
+    c.skip-in-IsIn-2.ensures)
+    c.tokens_after_uid-in-IsIn.ensures
+    ∙ ap (λ p. drop (part_count p) c.args.tokens.now) (sym c.in-IsIn.is)

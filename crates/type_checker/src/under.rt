@@ -1,0 +1,38 @@
+//! The type of an expression under known capabilities.
+ghost use Rattle.std.specs.Prelude.{◌≢◌, IfOk, IfErr};
+ghost use Rattle.typing.specs.Typing.{Types};
+ghost use Rattle.typing.specs.Faults.{Faults};
+ghost use Rattle.type_checker.specs.Views.{static_view, fault_view, typing_environment};
+ghost use Rattle.type_capabilities.specs.Pairs.{pairs};
+
+use crate::environment::TypingEnvironment;
+use crate::fault::ExpressionFault;
+use crate::judging::type_of;
+use crate::known::stacked;
+use crate::typed::Typed;
+use grammar_core::Expr;
+use std::alloc::Global;
+use type_capabilities::Capability;
+
+/// Returns the type of an expression under these known capabilities, with the capabilities that it gains.
+///
+/// Takes the time that [`judge_all`](crate::judge_all) takes for `expr`, and one look-up for each of `known`.
+///
+/// # Errors
+///
+/// - The first error of the expression.
+/// - `NoMemory`: an allocation failed; possible at any point.
+pub fn judge_under<'a>(
+    alloc: Global,
+    env: TypingEnvironment<'a>,
+    known: &[Capability<'a>],
+    expr: &'a Expr,
+) -> Result<Typed<'a>, ExpressionFault>
+    ensures typed { IfOk result (λ t. Types (typing_environment env.entry) (pairs known.now) expr.entry.now
+        (static_view t.kind) (pairs t.learns.items)) }
+    ensures faulty { IfErr result (λ f. f ≢ ExpressionFault.NoMemory
+        → Faults (typing_environment env.entry) (pairs known.now) expr.entry.now (fault_view f)) }
+{
+    let mut stack = stacked(alloc, known)?;
+    type_of(alloc, expr, env, &mut stack)
+}
