@@ -1,4 +1,4 @@
-//! The cache's entry of each entity: the list of its ancestors, and its children.
+//! The entries of the ancestor cache: for each entity the list of its ancestors, and its children.
 //!
 //! There is an entry for each entity that has a parent, and for each that is a parent. The entity's uid is stored
 //! twice: as the key, and shared among all lists and sets that contain it.
@@ -12,7 +12,7 @@ use std::alloc::Global;
 use std::collections::{BTreeMap, BTreeSet};
 use values::EntityUid;
 
-/// The cache's entry of an entity.
+/// The ancestor cache's entry of an entity.
 #[derive(Drop)]
 pub struct Relatives {
     /// The entity's uid, shared with the lists and sets that contain it.
@@ -50,8 +50,8 @@ pub(crate) fn is_child(
     }
 }
 
-/// Returns the uid of an entity, shared with the cache's entry, or copied if there is no entry. The only error is
-/// `NoMemory`.
+/// Returns the uid of an entity, shared with the cache's entry, or copied if there is no entry with this uid. The only
+/// error is `NoMemory`.
 pub fn shared(
     alloc: Global,
     relatives: &BTreeMap<EntityUid, Relatives>,
@@ -130,7 +130,7 @@ pub(crate) fn release_all(relatives: &mut BTreeMap<EntityUid, Relatives>, uids: 
     }
 }
 
-/// Replaces the cached ancestors of an entity. Does not allocate.
+/// Replaces the cached ancestors of an entity, which has an entry. Does not allocate.
 pub fn write_list(
     relatives: &mut BTreeMap<EntityUid, Relatives>,
     uid: &EntityUid,

@@ -91,8 +91,9 @@ fn found_by_number<'a, G: Graph>(
     Ok(found)
 }
 
-/// Returns all cyclic entities, in ascending order. Each entity is numbered once, and each edge is visited twice, as
-/// a number. The only error is `NoMemory`.
+/// Returns all cyclic entities of `graph`, in ascending order. The only error is `NoMemory`.
+///
+/// Each entity is numbered once. Each edge is visited twice, as the number of the entity to which it leads.
 pub fn on_cycles<'a, G: Graph>(alloc: Global, graph: &'a G) -> Result<Vec<&'a EntityUid>, NoMemory>
     ensures all { IfOk result (λ found. AreOnCycles (G.parents graph.now) (names found.items)) }
     ensures ascending { IfOk result (λ found. IsAscending (names found.items)) }

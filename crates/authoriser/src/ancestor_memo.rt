@@ -1,4 +1,4 @@
-//! A memo of the ancestors of entities other than the three of a request.
+//! A memo of the ancestors of entities other than a request's principal, action and resource.
 ghost use Rattle.std.specs.Prelude.{◌≡◌, [], ⊤, Contains, IfOk, MatchOption};
 ghost use Rattle.authoriser.specs.inner.Views.{HasAllAbove, HaveAllAbove};
 

@@ -1,23 +1,23 @@
-//! Errors of parsing a value.
+//! Errors of parsing attributes or a context.
 ghost use Rattle.std.specs.Prelude.{◌≡◌};
 
 use plain::NoMemory;
 use std::alloc::AllocFailed;
 use thiserror::Error;
 
-/// An error of parsing a value.
+/// An error of parsing attributes or a context, with its code in docs/codes.md.
 #[derive(Clone, Copy, PartialEq, Eq, Debug, Error)]
 pub enum ValueFault {
     /// An allocation failed.
     #[error("entity 1: out of memory")]
     NoMemory,
-    /// The JSON is not a value of the type.
+    /// The JSON is not a value of the type, or a nested record has an undeclared key or lacks a required one.
     #[error("entity 35: value of the wrong type")]
     WrongType,
-    /// A field of a record is not declared.
+    /// An attribute, or a key of the context, is not declared.
     #[error("entity 33: undeclared attribute")]
     Undeclared,
-    /// A required field of a record is missing.
+    /// A required attribute, or a required key of the context, is missing.
     #[error("entity 34: missing required attribute")]
     Missing,
 }

@@ -1,4 +1,4 @@
-//! Parsing of values by a type.
+//! Parsing of JSON values as values of a Cedar type.
 ghost use Rattle.std.specs.Prelude.{◌≡◌, option_map};
 ghost use Rattle.serde_json.specs.View.{view, items_view, members_view};
 ghost use Rattle.json_words.specs.ReadsAs.{ReadsAs, AlwaysReadsAs, or_fault};
@@ -92,7 +92,7 @@ fn has_required(fields: &Fields, value: &Json) -> bool
 
 // ---- values that are neither sets nor records
 
-/// Returns the string at a key, which must be present.
+/// Returns the string at a key, or `WrongType` if there is none.
 fn read_text_at<'v>(value: &'v Json, key: &str) -> Result<&'v str, ValueFault>
     ensures { AlwaysReadsAs (λ s. s.now) result
         (or_fault ValueFault.WrongType (text_in_json key.now (view value.now))) }
@@ -119,7 +119,7 @@ fn read_plain_call<'v>(value: &'v Json, name: &str) -> Result<&'v str, ValueFaul
     Ok(argument)
 }
 
-/// Returns the argument of a call of this name, which is the value itself or under its only key `__extn`.
+/// Returns the argument of a call of this name. The call is the value itself, or is under its only key `__extn`.
 #[tactic(auto, unfolding(crate::specs::Typing::call_in))]
 fn read_call<'v>(value: &'v Json, name: &str) -> Result<&'v str, ValueFault>
     ensures { AlwaysReadsAs (λ s. s.now) result (call_in name.now (view value.now)) }
@@ -203,7 +203,7 @@ fn read_text(alloc: Global, value: &Json) -> Result<Value, ValueFault>
     }
 }
 
-/// Returns the entity that a value names, which must have this type.
+/// Returns the entity that a value names, or `WrongType` if it names none of this type.
 #[tactic(auto, unfolding(crate::specs::Typing::entity_in))]
 fn read_entity(alloc: Global, value: &Json, name: &TypeName) -> Result<Value, ValueFault>
     ensures { ReadsAs ValueFault.NoMemory (λ v. v) result (entity_in name.now (view value.now)) }
@@ -357,7 +357,7 @@ fn typed_members(
 ///
 /// # Errors
 ///
-/// The first of these:
+/// In this order:
 ///
 /// - `WrongType` (35): the value is not an object, or the type is not a record.
 /// - Of the first faulty member, ascending by key: `Undeclared` (33), the type has no such field; `WrongType` (35), the

@@ -15,8 +15,8 @@ pub(crate) fn meanings_are_given()
     sets_hold_their_members();
 }
 
-/// Proves that each expression has exactly one outcome, if a test decides the ancestor relation, as one does if
-/// finitely many entities have parents; and that no outcome is `NoMemory`, which only the evaluator returns. No-op.
+/// Proves that each expression has exactly one outcome, if a test decides the ancestor relation. One does if finitely
+/// many entities have parents. Proves also that no outcome is `NoMemory`, which only the evaluator returns. No-op.
 pub fn expressions_have_one_outcome()
     ensures decided { HaveOneOutcome }
     ensures finite { HaveOneOutcomeInFiniteHierarchies }

@@ -1,6 +1,7 @@
--- Defines texts that a terminal shows and does not obey, and the theorem that explanations are such texts.
--- Rules of this product: an explanation contains no control character except tabs and the line feeds that end its
--- lines, and none that changes the direction of writing.
+-- Defines readable texts, and the theorem that explanations are readable. A terminal shows such a text, and interprets
+-- no character of it as a command.
+-- Rules of this product: an explanation contains no control character except tabs and line feeds, and no character that
+-- changes the direction of writing.
 use Rattle.std.specs.Prelude.{◌≡◌, ℕ, ◌==◌, Bool, true, not, ◌||◌, List, encode_utf8_all}
 use Rattle.std.specs.List.{list_all}
 use Rattle.explanation_texts.specs.Excerpt.{is_hidden}

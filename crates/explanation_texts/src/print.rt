@@ -7,7 +7,8 @@ use crate::table::CodeWords;
 use plain::NoMemory;
 use std::alloc::Global;
 
-/// Returns the text on an error code: four lines with the code and its name, its meaning, an example, and what to do.
+/// Returns the text on the error code of `words`: four lines with the code and its name, its meaning, an example, and
+/// what to do.
 ///
 /// The last line has no line feed.
 ///

@@ -18,8 +18,8 @@ is_end _ = false
 abbrev pub piece : ℕ → ℕ → Piece
 piece from to = record { start = from; end = to }
 
--- `open_after open_at t` is the byte at which the piece that is open after the token `t` starts, or `None` if none is
--- open; `open_at` is likewise that before `t`.
+-- `open_after open_at t` is the start of the piece that is open after the token `t`, as a byte offset, or `None` if no
+-- piece is open; `open_at` is the same before `t`.
 abbrev pub open_after : Option ℕ → Token → Option ℕ
 open_after open_at t = if is_end t.kind then None else Some (unwrap_or open_at t.start)
 
@@ -27,8 +27,8 @@ open_after open_at t = if is_end t.kind then None else Some (unwrap_or open_at t
 abbrev pub pieces_after : List Piece → Option ℕ → Token → List Piece
 pieces_after ps open_at t = if is_end t.kind then ps ++ piece (unwrap_or open_at t.start) t.end ∷ [] else ps
 
--- `ArePieces ts ps open_at` holds if the tokens `ts` are the pieces `ps` and, unless `open_at` is `None`, the beginning
--- of one more, which starts at that byte.
+-- `ArePieces ts ps open_at` holds if the tokens `ts` consist of the pieces `ps` and, unless `open_at` is `None`, of the
+-- beginning of one more, which starts at that byte.
 pub data ArePieces : List Token → List Piece → Option ℕ → Type 0 where
   none : ArePieces [] [] None
   more : (ts : List Token) (ps : List Piece) (open_at : Option ℕ) (t : Token) → ArePieces ts ps open_at

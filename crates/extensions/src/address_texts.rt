@@ -1,4 +1,4 @@
-//! Parsing and writing of addresses without a prefix, and parsing of prefixes.
+//! Parsing and writing of addresses without a prefix (such as `/24`), and parsing of the lengths of prefixes.
 ghost use Rattle.std.specs.Prelude.{◌≡◌, ℕ, ◌+◌, ◌^◌, ◌<◌, ◌≤◌, ◌↔◌, ◌++◌, length};
 ghost use Rattle.std.specs.Prelude.{slice_index, IsTrue, IsNone, IfSome, string_bytes, string_len};
 ghost use Rattle.std.specs.Prelude.{string_capacity};
@@ -85,7 +85,8 @@ fn is_padded(text: &str) -> bool
     text.starts_with('0') && text.len() > 1
 }
 
-/// Appends an IPv4 address as four decimal numbers with `.` between them, in at most 15 bytes.
+/// Appends the IPv4 address in the low 32 bits of `address` as four decimal numbers with `.` between them, in at most
+/// 15 bytes. `out` has capacity for 15 more.
 pub(crate) fn append_ipv4(address: u128, out: &mut String)
     requires { string_len out.old + 15 ≤ string_capacity out.old }
     ensures bytes { string_bytes out.new ≡ string_bytes out.old ++ ipv4_text address }
@@ -101,7 +102,8 @@ pub(crate) fn append_ipv4(address: u128, out: &mut String)
     append_decimal_byte(out, (address % 256) as u8)
 }
 
-/// Appends an IPv6 address as eight groups of hexadecimal digits with `:` between them, in at most 39 bytes.
+/// Appends an IPv6 address as eight groups of hexadecimal digits with `:` between them, in at most 39 bytes. `out` has
+/// capacity for 39 more.
 pub(crate) fn append_ipv6(address: u128, out: &mut String)
     requires { string_len out.old + 39 ≤ string_capacity out.old }
     ensures bytes { string_bytes out.new ≡ string_bytes out.old ++ ipv6_text address }
@@ -113,7 +115,8 @@ pub(crate) fn append_ipv6(address: u128, out: &mut String)
     append_groups((address % 0x1_0000_0000_0000_0000) as u64, out)
 }
 
-/// Appends a number of 64 bits as four groups of hexadecimal digits with `:` between them, in at most 19 bytes.
+/// Appends a number of 64 bits as four groups of hexadecimal digits with `:` between them, in at most 19 bytes. `out`
+/// has capacity for 19 more.
 fn append_groups(groups: u64, out: &mut String)
     requires { string_len out.old + 19 ≤ string_capacity out.old }
     ensures bytes { string_bytes out.new ≡ string_bytes out.old ++ groups_text groups }

@@ -28,7 +28,8 @@ pub(crate) fn append_decimal_byte(out: &mut String, n: u8)
     append(out, buffer.format(n))
 }
 
-/// Appends a number of at most fifteen decimal digits, in decimal.
+/// Appends the whole part of a decimal, in decimal. It has at most 15 digits, since a decimal is a signed 64-bit number
+/// of ten-thousandths.
 pub(crate) fn append_whole(out: &mut String, n: u64)
     requires small { n < 10 ^ 15 }
     requires room { string_len out.old + 15 ≤ string_capacity out.old }
@@ -52,8 +53,8 @@ pub(crate) fn append_digit(out: &mut String, digit: u32)
     out.push(digit).unwrap()
 }
 
-/// Appends the hexadecimal digit that a sixteen-bit group has at the place value `place`, unless the group is less than
-/// `place`.
+/// Appends the hexadecimal digit of `group` at the place value `place`, a power of 16. If `group` is less than `place`,
+/// the digit would be a leading zero, and nothing is appended.
 fn append_place(out: &mut String, group: u32, place: u32)
     requires room { string_len out.old < string_capacity out.old }
     requires some { 0 < place }

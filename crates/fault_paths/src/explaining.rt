@@ -26,10 +26,11 @@ pub struct PolicyFault {
     pub fault: TypeFault,
     /// The indexes of operands that lead from the policy's whole expression to the form at fault.
     pub path: Vec<usize>,
-    /// The undeclared name, or the attribute that is undeclared or may be missing (error 44); empty for other errors.
+    /// The undeclared name, or the attribute that is undeclared or may be missing (`AttributeMayBeMissing`, 44); empty
+    /// for other errors.
     pub cause: String,
-    /// The first environment that has an error, and there the types that the error is about or, for error 44, whether
-    /// the attribute is declared; empty for an undeclared name.
+    /// The first environment that has an error, and there the types that the error is about or, for
+    /// `AttributeMayBeMissing`, whether the attribute is declared; empty for an undeclared name.
     pub detail: String,
 }
 
@@ -72,6 +73,7 @@ fn report_name(
 ) -> Result<PolicyFault, NoMemory>
     ensures { IfOk result (IsWordedAs (schema_view schema.now) (PolicyBlame.Name blame.entry)) }
 {
+    // only the contract names the schema
     let _ = schema;
     let cause = name_cause(alloc, &blame.name)?;
     Ok(PolicyFault {

@@ -15,8 +15,8 @@ use grammar_trees::{Cursor, ExprTree, StopCause, TokenKind};
 use plain::{Boxed, pair_with};
 use std::alloc::Global;
 
-/// The greatest number of levels of nesting of an expression: its own, and one more inside parentheses, brackets,
-/// braces or call arguments, and in each part of an `if`.
+/// The greatest number of levels of nesting of an expression. The expression itself is on the first level; parentheses,
+/// brackets, braces, call arguments and each part of an `if` add one.
 pub const NESTING_LIMIT: usize = 64;
 
 impl<F: Fn(Global, &mut Cursor<'_>, usize) -> Result<ExprTree, StopCause>> Reader<F> {
@@ -80,7 +80,7 @@ impl<F: Fn(Global, &mut Cursor<'_>, usize) -> Result<ExprTree, StopCause>> Reade
         self.conditional_tail(tokens, test)
     }
 
-    /// Parses "if" Expr "then" Expr "else" Expr | Or.
+    /// Parses "if" Expr "then" Expr "else" Expr | Or. A conditional is `TooDeep` if no level is left.
     #[tactic(auto, unfolding(crate::specs::ExpressionParsing::level))]
     fn level(&self, tokens: &mut Cursor<'_>) -> Result<ExprTree, StopCause>
         requires { Nests self.now.levels (F.pre self.now.expr) (F.post self.now.expr) }
@@ -97,8 +97,8 @@ impl<F: Fn(Global, &mut Cursor<'_>, usize) -> Result<ExprTree, StopCause>> Reade
     }
 }
 
-/// Parses an expression of at most `levels` levels of nesting, its own included, from the front of the tokens, and goes
-/// on as long as an expression can go on with the next token.
+/// Parses an expression of at most `levels` levels of nesting, its own included, from the front of the tokens. Parsing
+/// is greedy: it goes on as long as the next token can continue an expression.
 ///
 /// The cursor is then after the expression, or on an error before the token at which parsing stops.
 ///

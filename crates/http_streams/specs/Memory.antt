@@ -1,4 +1,4 @@
--- Defines devices over memory, and the plan of each.
+-- Defines devices (readers and writers) over memory, and the plan of each.
 -- Rules of this product: a plan has the sizes of pieces, and the call that fails.
 use Rattle.std.specs.Prelude.{◌≡◌, ◌≢◌, ℕ, ◌-◌, ◌^◌, min, max, Option, Some, List, [], ◌∷◌, ◌++◌, length, take}
 use Rattle.http_streams.specs.Devices.{counted}
@@ -35,7 +35,8 @@ FailsByPlan old new =
     (old.fails_at ≡ Some old.calls)
     × (new ≡ record { pieces = old.pieces; fails_at = old.fails_at; calls = counted old.calls })
 
--- A `DeviceInMemory` is a device over memory: the unread or accepted bytes, its plan, and the number of its failures.
+-- A `DeviceInMemory` is a device over memory: the bytes that a reader has left or that a writer accepted, its plan, and
+-- the number of its failures.
 pub record DeviceInMemory : Type 0 where
   pub bytes : List ℕ
   pub plan : Planned

@@ -1,4 +1,4 @@
-//! The fields of a head: the values of a name, the announced length, and whether they ask to close the connection.
+//! The headers of a head: the value of a name, the announced length, and whether a header asks to close the connection.
 ghost use Rattle.std.specs.Prelude.{◌≡◌, ◌<◌, ◌^◌, length, map, All};
 ghost use Rattle.std.specs.Char.{to_ascii_lowercase};
 ghost use Rattle.std.specs.List.{list_any};
@@ -9,7 +9,7 @@ ghost use Rattle.http_streams.specs.inner.FieldValue.{IsFieldValue, skip_ows_bac
 
 use httparse::spans::HeaderSpan;
 
-/// The value of a field that is expected once.
+/// The value of a header that is expected once.
 #[derive(Clone, Copy)]
 pub(crate) enum FieldValue<'b> {
     /// No header has the name.
@@ -27,7 +27,8 @@ pub enum Announced {
     Size(usize),
     /// A length over the limit.
     TooLong,
-    /// No valid length: the value is not decimal digits, or a reply does not have exactly one value.
+    /// No valid length: the value is not decimal digits; or a reply has Transfer-Encoding, or does not have exactly one
+    /// Content-Length.
     NoNumber,
 }
 
@@ -40,7 +41,7 @@ pub(crate) fn has_name(buf: &[u8], header: &HeaderSpan, name: &[u8]) -> bool
     header.name.of(buf).eq_ignore_ascii_case(name)
 }
 
-/// Returns the value of the field with this name. `name` must be in lower case.
+/// Returns the value of the header with this name. `name` must be in lower case.
 pub(crate) fn values_of<'b>(buf: &'b [u8], headers: &[HeaderSpan], name: &[u8]) -> FieldValue<'b>
     requires within { All (IsHeaderWithin (length buf.now)) headers.now }
     requires lower { map to_ascii_lowercase name.now ≡ name.now }
@@ -72,7 +73,8 @@ pub(crate) fn has_header(buf: &[u8], headers: &[HeaderSpan], name: &[u8]) -> boo
     false
 }
 
-/// Parses the text as a decimal number of at most `most`.
+/// Parses the text as a decimal number of at most `most`. `most` must be below 2^32, so that a number of at most `most`
+/// with one more digit does not overflow.
 pub(crate) fn length_of(text: &[u8], most: usize) -> Announced
     requires { most < 2 ^ 32 }
     ensures { result ≡ announced most text.now }
@@ -96,7 +98,7 @@ pub(crate) fn length_of(text: &[u8], most: usize) -> Announced
     }
 }
 
-/// Returns the text from the first byte that is not whitespace (space or tab).
+/// Returns the text without the whitespace (spaces and tabs) at its front.
 fn skip_front(text: &[u8]) -> &[u8]
     ensures { result.now ≡ skip_ows text.now }
 {
@@ -107,7 +109,7 @@ fn skip_front(text: &[u8]) -> &[u8]
     rest
 }
 
-/// Returns the text up to the last byte that is not whitespace (space or tab).
+/// Returns the text without the whitespace (spaces and tabs) at its end.
 fn skip_back(text: &[u8]) -> &[u8]
     ensures { result.now ≡ skip_ows_back text.now }
 {

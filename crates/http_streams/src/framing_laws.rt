@@ -8,8 +8,8 @@ use crate::{MAX_BODY, MAX_FIELDS, MAX_HEAD, MAX_REPLY};
 
 /// Proves that the reply of a stream does not depend on how the stream is split into reads. No-op.
 ///
-/// A stream has at most one reply. A stream that is rejected, or that is less than a reply, has none; no stream is
-/// both.
+/// A stream has at most one reply. A stream that is rejected, or that is less than a reply, has none; no stream is both
+/// rejected and less than a reply.
 pub fn one_reply()
     ensures { (stream : List ℕ) → HasOneReply stream }
 {}

@@ -32,7 +32,8 @@ pub enum ReplyCut {
     Unfinished(usize),
 }
 
-/// Returns the length of the body of a reply. The length must be announced exactly once.
+/// Returns the length of the body of a reply: that of its one Content-Length. A reply with Transfer-Encoding has no
+/// valid length.
 fn length_at(buf: &[u8], headers: &[HeaderSpan]) -> Announced
     requires { All (IsHeaderWithin (length buf.now)) headers.now }
     ensures { result ≡ reply_length (map (header_bytes buf.now) headers.now) }

@@ -1,4 +1,4 @@
--- Defines that the keys of each parsed object ascend strictly by their bytes.
+-- Defines the theorem that the keys of each parsed object ascend strictly, by their bytes.
 -- Rules of this product: JSON is parsed so that the members of an object are in the order of the keys, each key once
 -- (RFC 8259, section 4, leaves both open).
 use Rattle.std.specs.Prelude.{◌≡◌, ⊤, ℕ, List, [], ◌∷◌, Some}

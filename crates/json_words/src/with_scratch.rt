@@ -1,7 +1,7 @@
 //! Parsing of JSON values that reuses memory from text to text.
 //!
-//! `serde_json::Value::from_slice` allocates 16 KiB for each text, and sets each byte of them to zero. A caller that
-//! parses many texts keeps one [`Scratch`] and passes it here.
+//! `serde_json::Value::from_slice` allocates and zeroes 16 KiB for each text. A caller that parses many texts keeps one
+//! [`Scratch`] and passes it here.
 ghost use Rattle.std.specs.Prelude.{◌≡◌, ◌≤◌, option_map, IfOk, IfSome};
 ghost use Rattle.serde_json.specs.Data.{depth};
 ghost use Rattle.serde_json.specs.Read.{max_depth, read};
@@ -17,8 +17,8 @@ use std::alloc::Global;
 /// Arrays and objects may nest at most this deep, as in `serde_json`.
 pub(crate) const MOST_DEPTH: usize = 127;
 
-/// Parses JSON. Returns `None` if the bytes are not UTF-8 or not JSON, nest deeper than 127, or have half of a
-/// surrogate pair in an escape or a number beyond a double.
+/// Parses JSON. Returns `None` if the bytes are not UTF-8 or not JSON, if arrays and objects nest deeper than 127, if
+/// an escape has half of a surrogate pair, or if a number is beyond a double.
 ///
 /// The last value of a duplicate key counts. The scratch grows to the longest string; its earlier content does not
 /// matter. The only error is `NoMemory`.
@@ -36,7 +36,7 @@ pub fn read_json_by(
     }
 }
 
-/// Returns the JSON value of a text, or `None` if the text is not JSON, as [`read_json_by`] defines it.
+/// Returns the JSON value of a text, or `None` in the cases of [`read_json_by`].
 fn read_text(scratch: &mut Scratch, alloc: Global, text: &str) -> Result<Option<Value>, NoMemory>
     ensures value { IfOk result (λ o. option_map view o ≡ read text.now) }
     ensures nests { IfOk result (λ o. IfSome o (λ v. depth (view v) ≤ max_depth)) }

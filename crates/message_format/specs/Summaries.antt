@@ -3,7 +3,7 @@
 -- ..],"version":2}, with {"entity":{"id":..,"type":..}} or {"policy":id} for N. Each key is required, and no others
 -- are allowed; a number is an unsigned 64-bit integer; a site is its name; the names ascend strictly, policies first.
 -- Version 1 is read and never written: there a site is a number from 1 to 65,535, which is parsed as the site whose
--- name is its five digits.
+-- name is the number in five digits (00007 for 7).
 use Rattle.std.specs.Prelude.{◌≡◌, true, Bool, ◌&&◌, ◌==◌, ◌≤◌, nat_le, ℕ, List, [], ◌∷◌, length, map, codes}
 use Rattle.std.specs.Prelude.{option_and_then, Result, Ok, Err, if◌then◌else◌}
 use Rattle.std.specs.List.{AllByRecursion}
@@ -197,7 +197,7 @@ stamps_in version d = do
   ascending ← demand BadShape (ascend stamps)
   Ok stamps
 
--- `is_name_in_range n` tests whether `n` is an entity's uid, or a policy's id of 1 to 256 bytes.
+-- `is_name_in_range n` tests a parsed name: a policy's id has 1 to 256 bytes. The type of a parsed uid is a Path.
 abbrev pub is_name_in_range : Name → Bool
 is_name_in_range (Policy id) = nat_le 1 (length id) && nat_le (length id) 256
 is_name_in_range (Entity uid) = true

@@ -21,7 +21,8 @@ use stamped_store::{COUNT_MAX, SiteName, Stamp, is_site_name};
 use std::alloc::Global;
 use values::Name;
 
-/// Returns the integer in unsigned 64 bits at a key of an object, or `BadShape` if there is none. Does not allocate.
+/// Returns the integer in unsigned 64 bits at a key of an object; `BadShape` if the key is absent or has another value.
+/// Does not allocate.
 fn number_at(value: &Value, key: &str) -> Result<u64, MessageFault>
     ensures { AlwaysReadsAs (λ n. n) result (number_of key.now (view value.now)) }
 {

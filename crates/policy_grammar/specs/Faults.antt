@@ -1,5 +1,5 @@
 -- Defines the codes and byte offsets of parsing errors.
--- Rules of this product: the codes.
+-- Rules of this product: the codes, and the offset 0 of `TooLong` and `BadId`.
 use Rattle.std.specs.Prelude.{ℕ, Option, Some, None}
 use Rattle.grammar_desugaring.specs.grammar_tokens.declared.lex_fault.LexFault.{LexFault}
 use Rattle.grammar_desugaring.specs.grammar_tokens.declared.lex_fault.LexFault.TheVariants as lex
@@ -43,7 +43,7 @@ abbrev pub of_lexing : LexFault → ReadFault
 of_lexing lex.NoMemory = NoMemory
 of_lexing (lex.BadToken at) = BadToken at
 
--- `of_desugaring f` is the parser's error for `f`, an error of a condition or of a repeated name.
+-- `of_desugaring f` is the parser's error for the desugaring error `f`.
 abbrev pub of_desugaring : DesugarFault → ReadFault
 of_desugaring (desugar.NumberRange at) = NumberRange at
 of_desugaring (desugar.UnknownCall at) = UnknownCall at

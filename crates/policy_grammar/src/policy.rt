@@ -1,4 +1,4 @@
-//! Policies as core expressions.
+//! Policies: effect, scope and condition.
 ghost use Rattle.std.specs.Prelude.{◌≡◌, IfOk};
 
 use grammar_core::Expr;
@@ -14,10 +14,10 @@ pub enum Effect {
     Forbid,
 }
 
-/// A condition of a policy's scope on the principal or on the resource.
+/// A scope's constraint on the principal or on the resource.
 #[derive(Drop)]
 pub enum EntityScope {
-    /// No condition.
+    /// No constraint.
     Any,
     /// The entity is this one.
     Equal(EntityUid),
@@ -29,10 +29,10 @@ pub enum EntityScope {
     IsIn(TypeName, EntityUid),
 }
 
-/// The condition of a policy's scope on the action.
+/// A scope's constraint on the action.
 #[derive(Drop)]
 pub enum ActionScope {
-    /// No condition.
+    /// No constraint.
     Any,
     /// The action is this one.
     Equal(EntityUid),
@@ -42,7 +42,7 @@ pub enum ActionScope {
     InList(Items<EntityUid>),
 }
 
-/// The scope of a policy: its conditions on principal, action and resource.
+/// The scope of a policy: its constraints on principal, action and resource.
 #[derive(Drop)]
 pub struct Scope {
     pub principal: EntityScope,
@@ -56,8 +56,8 @@ pub struct Scope {
 pub struct Policy {
     pub effect: Effect,
     pub scope: Shared<Scope>,
-    /// The policy's conditions, joined by `&&` and grouped to the right, where `unless { e }` is `!e`; `true` if the
-    /// policy has none.
+    /// The policy's `when` and `unless` conditions, joined by `&&` and grouped to the right, where `unless { e }` is
+    /// `!e`; `true` if the policy has none.
     pub condition: Shared<Expr>,
 }
 

@@ -20,7 +20,7 @@ use site_loading::{check_texts, decide_texts, decide_under};
 use std::alloc::Global;
 use std::process::ExitCode;
 
-/// Decides a request over the contents of files, under a schema if there is one.
+/// Returns the line of the answer to a request, from the contents of files, under a schema if there is one.
 fn decide(
     alloc: Global,
     schema: Option<&[u8]>,
@@ -90,7 +90,7 @@ fn decide_contents<H: Host>(
 }
 
 /// Reads the schema, if one is named, the policies, the entities and the request, in this order, and then decides the
-/// request.
+/// request. If a file cannot be read, reports that and ends.
 pub(crate) fn run_decide<H: Host>(
     alloc: Global,
     host: &mut H,
@@ -167,7 +167,8 @@ fn check_contents<H: Host>(
     }
 }
 
-/// Reads the schema and the policies, in this order, and then checks the policies.
+/// Reads the schema and the policies, in this order, and then checks the policies. If a file cannot be read,
+/// reports that and ends.
 pub(crate) fn run_check<H: Host>(
     alloc: Global,
     host: &mut H,

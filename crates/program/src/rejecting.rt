@@ -35,7 +35,7 @@ pub(crate) fn policies_of<'n, 't>(source: Option<NamedText<'n, 't>>) -> NamedTex
     }
 }
 
-/// Returns the files of a command over messages, for an explanation: the schema alone.
+/// Returns the files for an explanation why a schema or a state is rejected: the schema alone.
 pub(crate) fn schema_given<'n, 't>(name: &'n str, schema: &'t [u8]) -> Given<'n, 't>
     ensures { files_of result ≡ schema_files name.entry.now schema.entry.now }
 {
@@ -92,7 +92,7 @@ fn refusal_text(alloc: Global, given: &Given<'_, '_>, code: u8) -> Result<String
     text_on(alloc, code)
 }
 
-/// Explains an error on standard error.
+/// Explains on standard error what is rejected in the given files or, if nothing is, the error with this code.
 fn explain_refusal<H: Host>(alloc: Global, host: &mut H, given: &Given<'_, '_>, code: u8)
     ensures { Runs H.does host.old host.new
         (λ events. IsExplanationWritten (IsRefusalText (files_of given.now) code) events) }

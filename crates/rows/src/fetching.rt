@@ -1,4 +1,4 @@
-//! Cases of fetched replies.
+//! Runs the test cases `fetch` and `far`: outcomes of fetching a reply, as main.rt describes them.
 use crate::ways::{IN_SEVENS, PLAIN, SLOW, StreamSplit, by_reads, reader_of, writer_of};
 use crate::written::shown;
 use http::Method;
@@ -45,7 +45,7 @@ fn run(alloc: Global, bytes: &[u8], way: StreamSplit<'_>) -> Fetched {
     Fetched { status, body, left }
 }
 
-/// Returns the word of a row for an error.
+/// Returns the word of a test case for an error. A write fails here only if out of memory.
 fn fault_word(fault: FetchFault) -> &'static str {
     match fault {
         FetchFault::BadReply => "bad reply",
@@ -55,13 +55,13 @@ fn fault_word(fault: FetchFault) -> &'static str {
     }
 }
 
-/// Returns a status and a body as a row shows them.
+/// Returns a status and a body as a test case shows them.
 fn status_and_body(alloc: Global, status: u16, body: &[u8]) -> Result<String, NoMemory> {
     let body = shown(alloc, body)?;
     format!(in alloc; "{status} {body}")
 }
 
-/// Returns the status and the body, or the error. A write fails here only if out of memory.
+/// Returns the status and the body, or the error.
 fn outcome_text(alloc: Global, fetched: &Fetched) -> Result<String, NoMemory> {
     match fetched.status {
         Ok(status) => status_and_body(alloc, status, fetched.body.as_slice()),
@@ -113,14 +113,14 @@ fn outcome_and_left(alloc: Global, bytes: &[u8], said: &str) -> Result<String, N
     format!(in alloc; "{said}, {left} left")
 }
 
-/// Returns the outcome for a reply, and the number of unread bytes if the reply is read in pieces of 7 bytes; `differs`
-/// if the outcome depends on how the reply is split.
+/// Returns the outcome for a reply, with the number of bytes that are left unread when it is read in pieces of 7 bytes;
+/// `differs` if the outcome depends on how the reply is split.
 fn fetched_all(alloc: Global, bytes: &[u8]) -> Result<String, NoMemory> {
     let said = outcome_in(alloc, bytes, SLOW)?;
     outcome_and_left(alloc, bytes, said.as_str())
 }
 
-/// Returns the outcome of fetching a long reply.
+/// Returns the outcome of fetching a long reply that is not split: its status and the size of its body, or the error.
 fn far(alloc: Global, bytes: &[u8]) -> Result<String, NoMemory> {
     let fetched = run(alloc, bytes, PLAIN);
     match fetched.status {
@@ -129,7 +129,7 @@ fn far(alloc: Global, bytes: &[u8]) -> Result<String, NoMemory> {
     }
 }
 
-/// Returns the outcome of a row.
+/// Returns the outcome of the test case `word` for the reply `bytes`.
 pub(crate) fn row_outcome(alloc: Global, word: &str, bytes: &[u8]) -> Result<String, NoMemory> {
     match word {
         "fetch" => fetched_all(alloc, bytes),

@@ -2,7 +2,7 @@
 -- Source: Cedar reference guide 4.0, "Schema JSON format": types `String`, `Long`, `Boolean`, `Set`, `Record`,
 -- `Entity`, `Extension`, `EntityOrCommon`, names of common types.
 -- Rules of this product: `Bool` is `Boolean`; other keys are rejected; `annotations` has any value; null at an optional
--- key counts as missing; the error is 21.
+-- key counts as missing; the error is `BadShape` (21).
 use Rattle.std.specs.Prelude.{◌≡◌, ℕ, List, [], ◌∷◌, Bool, true, false, Some, None, Contains, codes}
 use Rattle.std.specs.Prelude.{if◌then◌else◌}
 use Rattle.serde_json.specs.Data as json
@@ -18,7 +18,7 @@ use Rattle.schema.specs.ObjectKeys.{HasOnly, HasOther, IsAbsent}
 
 -- ---- forms
 
--- `form_words` are the words at `type` that name a form; any other word names a common type.
+-- `form_words` are the strings at the key `type` that name a form of types; any other one names a common type.
 abbrev pub form_words : List (List ℕ)
 form_words = codes "String" ∷ codes "Long" ∷ codes "Boolean" ∷ codes "Bool" ∷ codes "Set" ∷ codes "Record"
     ∷ codes "Entity" ∷ codes "Extension" ∷ codes "EntityOrCommon" ∷ []

@@ -169,7 +169,7 @@ fn sound_schema(alloc: Global, bytes: &[u8], found: &ResolvedFile) -> Result<Sch
 ///
 /// # Errors
 ///
-/// The first of these:
+/// In this order; `NoMemory` is possible at any point:
 ///
 /// - `NotJson` (20): the bytes are not JSON.
 /// - `BadShape` (21): the JSON does not have the form of a schema; then, a shape or a context is not a record.
@@ -177,7 +177,7 @@ fn sound_schema(alloc: Global, bytes: &[u8], found: &ResolvedFile) -> Result<Sch
 /// - `TypeCycle` (23): a common type refers to itself.
 /// - `ActionCycle` (24): an action is its own ancestor.
 /// - `TypeTooLarge` (25): a type, expanded, has over 10,000 nodes or is over 64 deep.
-/// - `NoMemory` (1): an allocation failed; possible at any point.
+/// - `NoMemory` (1): an allocation failed.
 pub fn read_schema(alloc: Global, bytes: &[u8]) -> Result<Schema, SchemaFault>
     ensures { MatchResult result (λ s. IsSchemaOf bytes.now (schema_view s))
         (λ f. f ≢ SchemaFault.NoMemory → RefusedFor bytes.now f) }

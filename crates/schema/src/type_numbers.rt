@@ -1,4 +1,4 @@
-//! The ancestors of each entity type, as numbers.
+//! The ancestors of each entity type, as numbers. A uid with an empty id represents its type ([`type_uid`]).
 ghost use Rattle.std.specs.Prelude.{◌≡◌, Some, IfOk, OnOk, map};
 ghost use Rattle.std.specs.BTreeMap.{get, Updates};
 ghost use Rattle.values.specs.Names.{uid_cmp, text_cmp};
@@ -24,7 +24,7 @@ pub(crate) struct TypeNumbers {
     pub(crate) spans: Items<Items<NumberSpan>>,
 }
 
-/// Sets the number of the type of `uid`.
+/// Sets the number of the type of `uid` in `named` to `number`.
 fn put_name(
     uid: &EntityUid,
     number: usize,
@@ -37,7 +37,7 @@ fn put_name(
     Ok(())
 }
 
-/// Sets the number of the type of `uid` to the number of `uid`, if `uid` has one.
+/// Sets the number of the type of `uid` in `named` to the number of `uid` in `numbers`, if it has one.
 fn add_name(
     numbers: &BTreeMap<EntityUid, usize>,
     uid: &EntityUid,
@@ -51,7 +51,7 @@ fn add_name(
     }
 }
 
-/// Returns the numbers of some entities, by their types.
+/// Returns the numbers that `uids` have in `numbers`, each under the type of its uid.
 fn numbers_by_name(
     alloc: Global,
     numbers: &BTreeMap<EntityUid, usize>,
@@ -66,7 +66,7 @@ fn numbers_by_name(
     Ok(named)
 }
 
-/// Returns entity types as nodes of a hierarchy.
+/// Returns the uids that represent entity types.
 fn points_of(alloc: Global, entity_types: &[ResolvedEntityType]) -> Result<Vec<EntityUid>, NoMemory>
     ensures { IfOk result (λ uids. uids.items ≡ type_points (map found_entity_type_view entity_types.now)) }
 {

@@ -1,4 +1,4 @@
--- Defines the theorems on the expansion of a type (there is at most one, and when there is none), and on the names that
+-- Defines the theorems on the expansion of a type (it has at most one, and the condition for it), and on the names that
 -- a type mentions (they are declared).
 -- Source: Cedar reference guide 4.0, "Schema JSON format".
 use Rattle.std.specs.Prelude.{◌≡◌, ◌⊎◌, ℕ, List, true, Option, Ok}

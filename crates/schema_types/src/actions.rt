@@ -1,4 +1,4 @@
-//! The action that a written type and an id mean.
+//! Actions by type and id: the lookup of the action to which a schema refers.
 ghost use Rattle.std.specs.Prelude.{◌≡◌, IfOk};
 ghost use Rattle.schema_types.specs.Actions.{action_type, action_uid, declared_action, action_of_type};
 ghost use Rattle.schema_types.specs.NamesViews.{is_action_of};
@@ -8,7 +8,7 @@ use plain::{NoMemory, Text};
 use std::alloc::Global;
 use values::{EntityUid, SharedText, TypeName};
 
-/// Returns the type of the actions of a namespace; `None` is the empty namespace. The only error is `NoMemory`.
+/// Returns the type of the actions of the namespace `own`; `None` is the empty one. The only error is `NoMemory`.
 pub fn action_type(alloc: Global, own: &Option<TypeName>) -> Result<TypeName, NoMemory>
     ensures { IfOk result (λ t. t ≡ action_type own.now) }
 {
@@ -40,8 +40,8 @@ pub fn declared_action(
     Ok(None)
 }
 
-/// Returns the declared action that a written type and an id mean. An unqualified type is resolved in the namespace
-/// `own`, then in the empty one. The only error is `NoMemory`.
+/// Returns the declared action to which the type `word` and an id refer, if there is one. An unqualified type is
+/// resolved in the namespace `own`, then in the empty one. The only error is `NoMemory`.
 #[tactic(auto, unfolding(crate::specs::Actions::action_of_type))]
 pub fn find_action_of_type(
     alloc: Global,

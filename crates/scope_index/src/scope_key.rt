@@ -6,14 +6,14 @@ ghost use Rattle.scope_index.specs.Buckets.{represented_key};
 use policy_grammar::{EntityScope, Scope};
 use values::EntityUid;
 
-/// The key of a policy, borrowed from its scope.
+/// The key of a policy, borrowed from its scope. It selects each request that the scope matches, and possibly others.
 #[derive(Clone, Copy)]
 pub(crate) enum ScopeKey<'a> {
-    /// Matches every request: the scope names no entity for the principal or for the resource.
+    /// Selects every request: the scope names no entity for the principal or for the resource.
     Always,
-    /// Matches requests whose principal is this entity or a descendant of it.
+    /// Selects requests whose principal is this entity or a descendant of it.
     Principal(&'a EntityUid),
-    /// Matches requests whose resource is this entity or a descendant of it.
+    /// Selects requests whose resource is this entity or a descendant of it.
     Resource(&'a EntityUid),
 }
 
@@ -30,7 +30,7 @@ fn entity_named(part: &EntityScope) -> Option<&EntityUid>
     }
 }
 
-/// Returns the key of a policy with this scope.
+/// Returns the key of a policy with this scope: by the principal if the scope names one, else by the resource.
 pub(crate) fn key_of(scope: &Scope) -> ScopeKey<'_>
     ensures { represented_key result ≡ index_key scope.now }
 {

@@ -1,4 +1,5 @@
-//! Outcomes in a row, of which many are equal.
+//! A list of outcomes in which equal neighbours are written once, after their number, as in
+//! `477 × refused 50 - -`.
 use crate::line::Line;
 use std::alloc::Global;
 
@@ -10,7 +11,7 @@ pub(crate) struct Repeats {
 }
 
 impl Repeats {
-    /// Creates the beginning, without an outcome.
+    /// Creates the state before the first outcome.
     pub(crate) fn new(alloc: Global) -> Repeats {
         Repeats {
             count: 0,
@@ -18,14 +19,14 @@ impl Repeats {
         }
     }
 
-    /// Begins with another outcome, and appends those before it.
+    /// Appends the last outcomes to `line`, and counts `outcome` as the first of the next.
     fn begin(&mut self, outcome: Vec<u8>, line: &mut Line) {
         self.push_to(line);
         self.count = 1;
         self.outcome = outcome;
     }
 
-    /// Adds an outcome, and appends those before it if they differ from it.
+    /// Adds an outcome. If it differs from the last outcomes, appends these to `line`.
     pub(crate) fn add(&mut self, outcome: Line, line: &mut Line) {
         match outcome.ended() {
             Ok(bytes) if self.outcome == bytes => self.count = self.count.saturating_add(1),
@@ -34,7 +35,7 @@ impl Repeats {
         }
     }
 
-    /// Appends the number of the last outcomes, and one of them.
+    /// Appends the number of the last outcomes, and one of them. Appends nothing if there are none.
     pub(crate) fn push_to(&self, line: &mut Line) {
         if self.count > 0 {
             line.begin_part();

@@ -22,12 +22,12 @@ use Rattle.site_soundness_example.specs.Example.{unsure_policy}
 abbrev pub ExampleSchemaIsDescribed : Type 0
 ExampleSchemaIsDescribed = IsSchemaOf schema_text schema
 
--- `ExampleDataIsParsed`: the entities and the request are parsed under this schema.
+-- `ExampleDataIsParsed`: the entities, of which Alice is the only one, and the request are parsed under this schema.
 abbrev pub ExampleDataIsParsed : Type 0
 ExampleDataIsParsed =
     AreRead schema entities × AreListed entities (alice ∷ []) × StatesRequest schema request_json request
 
--- `ExampleDataConforms`: these entities and this request conform to an environment of the schema.
+-- `ExampleDataConforms`: these entities and this request conform to the environment `viewing` of the schema.
 abbrev pub ExampleDataConforms : Type 0
 ExampleDataConforms = Conforms (typing_environment_of schema viewing) (closed_world schema entities) request
 
@@ -37,6 +37,6 @@ abbrev pub ExamplePolicyPasses : Type 0
 ExamplePolicyPasses = Passes schema policy
     × EvaluatesTo (closed_world schema entities) request (expression_of policy) (Ok (boolean true))
 
--- `UnguardedAccessIsRejected`: the policy without this `has` is rejected.
+-- `UnguardedAccessIsRejected`: the policy without this `has` is rejected, since the attribute may be missing.
 abbrev pub UnguardedAccessIsRejected : Type 0
 UnguardedAccessIsRejected = IsCheckRefused schema unsure_policy (of_typing attribute_may_be_missing)

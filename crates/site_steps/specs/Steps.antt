@@ -1,5 +1,5 @@
 -- Defines the steps of a site, each of which leads from a store `s` to a store `t`, with a result.
--- Rules of this product: a local command is checked for its own errors first and for the clock last, and its stamp's
+-- Rules of this product: a local command is checked for its own errors first, and last for `ClockFull`; its stamp's
 -- count is one more than the greatest in the whole store; updates of another site are applied in their order;
 -- rejected inputs and queries leave the store unchanged.
 use Rattle.std.specs.Prelude.{◌≡◌, ◌↔◌, ◌<◌, ℕ, List, [], ◌∷◌, ◌++◌, length, take, Option, Some, None, IsSome}

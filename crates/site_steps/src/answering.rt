@@ -35,7 +35,7 @@ use std::alloc::Global;
 ///
 /// In this order; the site is then unchanged:
 ///
-/// - `Entity` (30): the bytes are not JSON.
+/// - `Entity` with `BadShape` (30): the bytes are not JSON.
 /// - The errors of [`Site::put_entity`].
 fn put_entity(
     alloc: Global,
@@ -73,8 +73,8 @@ fn updates_of(
 
 /// Applies the updates of a message (a state or a delta of another site of the schema) in their order.
 ///
-/// If an allocation fails while updates are applied, exactly the first ones are applied, and the result has their
-/// number.
+/// If an allocation fails while updates are applied, the result is `Short(k)`, and exactly the first `k` updates are
+/// applied.
 ///
 /// # Errors
 ///
@@ -99,7 +99,7 @@ pub fn take_bytes(alloc: Global, site: &mut Site, bytes: &[u8]) -> Result<Taken,
 ///
 /// In this order:
 ///
-/// - `Request` (63, with 30 within): the bytes are not JSON.
+/// - `Request` (63) with `BadShape` (30): the bytes are not JSON.
 /// - The errors of [`Site::authorize`].
 fn authorize(
     alloc: Global,
@@ -215,6 +215,7 @@ pub fn run(alloc: Global, site: &mut Site, inputs: &[Input<'_>]) -> Result<Vec<R
     let mut scratch = Scratch::new(alloc);
     for input in inputs {
         let reply = answer(alloc, &mut scratch, site, input);
+        // The list was allocated with the capacity for all replies.
         if let Err(_) = replies.push(reply) {
             unreachable!();
         }

@@ -1,4 +1,4 @@
-//! The view of a store under a schema over which requests are decided.
+//! A store under a schema, over which requests are decided.
 ghost use Rattle.std.specs.Prelude.{◌≡◌, ◌↔◌, [], IsTrue, IfOk};
 ghost use Rattle.ancestor_closure.specs.ancestor_search.Decided.{reaches};
 ghost use Rattle.ancestor_closure.specs.ancestor_search.Hierarchy.{IsOnCycle, with_parents};

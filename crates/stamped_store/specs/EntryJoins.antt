@@ -44,7 +44,7 @@ entry_cmp_by_total o = then_total
     (then_total (on_total (λ p. p.count) nat_cmp_total) (on_total (λ p. p.site) o))
     (on_total (λ p. p.body) body_cmp_total)
 
--- The order of entries of named sites is total.
+-- The order of entries whose sites are names is total.
 pub entry_cmp_total : IsTotalOrder entry_cmp
 entry_cmp_total = entry_cmp_by_total nat_list_cmp_total
 
@@ -63,7 +63,7 @@ le_of_reversed Less h = absurd (cc)
 le_of_reversed Equal h = absurd (cc)
 le_of_reversed Greater h = refl
 
--- In a total order the greater of two values is their join.
+-- In a total order `R` the greater of two values is their join; `le_by a b` tests whether `a` is at most `b`.
 module _ {V : Type 0} (R : V → V → Ordering) (o : IsTotalOrder R) where
   abbrev pub le_by : V → V → Bool
   le_by a b = is_le (R a b)

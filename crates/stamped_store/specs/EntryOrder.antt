@@ -1,7 +1,7 @@
 -- Defines entries as a stamp and a body, and their order.
 -- Rules of this product: entries are ordered by count, then site, then body; sites are ordered by the bytes of their
--- names; a tombstone is the least body; texts are ordered by their bytes. Entries have a site of any ordered type,
--- since in version 1 of messages a site is a number (specs/Raised.antt).
+-- names; a tombstone is the least body; texts are ordered by their bytes. `EntryAt` takes the type of sites, since in
+-- version 1 of messages a site is a number, not a name (specs/Raised.antt).
 use Rattle.std.specs.Prelude.{ℕ, List, Bool, Option, Some, None, if◌then◌else◌}
 use Rattle.std.specs.Ordering.{nat_cmp, ordering_then, is_le}
 use Rattle.std.specs.Cmp.Lexicographic.{slice_cmp}

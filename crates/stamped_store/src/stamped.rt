@@ -170,7 +170,7 @@ impl<V: Join + Drop> Stamped<String, V> {
     }
 }
 
-// Sets the value of a key, whether the key had one or not. If an allocation fails, returns the key and the value.
+// Inserts a value at a key; replaces the value that is there. If an allocation fails, returns the key and the value.
 fn insert_new<K: Ord + Drop, V: Drop>(
     map: &mut BTreeMap<K, V>,
     key: K,

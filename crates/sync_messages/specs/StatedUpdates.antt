@@ -13,7 +13,7 @@ use Rattle.message_format.specs.Messages.{body_json}
 use Rattle.sync_messages.specs.MessageForms.{StatesName, StatesSite, number_of, StatesForm, RefusesForm}
 
 -- `StatesEntry version d u` holds if `d` is {"body":null or a text,"count":n,"name":N,"site":S} for the update `u`, in
--- the form of `version`.
+-- the form of `version`, where N describes its name and S its site.
 pub record StatesEntry (version : MessageVersion) (d : Data) (u : Update) : Type 0 where
   pub name : Data
   pub site : Data
@@ -38,7 +38,7 @@ pub record IsUpdates (d : Data) (schema : List ℕ) (us : List Update) : Type 0 
   pub state : AllZip (StatesEntry version) (list_of entries) us
 
 -- `StatesUpdates label bytes us` holds if `bytes` have the form of a state or delta for the schema with this label,
--- with the updates `us`. Whether the counts and names are in their ranges and the texts are valid does not matter.
+-- with the updates `us`. The counts and names may be out of their ranges, and the texts need not be valid.
 abbrev pub StatesUpdates : List ℕ → List ℕ → List Update → Type 0
 StatesUpdates label bytes us = StatesForm IsUpdates label bytes us
 

@@ -1,4 +1,4 @@
-//! The parsing of the messages of a schema: states, deltas and summaries.
+//! The parsing of messages under a schema: states, deltas and summaries.
 ghost use Rattle.std.specs.Prelude.{IfOk, IfErr, MatchResult};
 ghost use Rattle.json_words.specs.ReadsAs.{ReadsAs};
 ghost use Rattle.plain.specs.Refused.{OrNoMemory};
@@ -15,7 +15,7 @@ use message_format::{MessageFault, Policy, Summary, Update, read_message};
 use std::alloc::Global;
 use validator::{Entity, Schema};
 
-/// Parses a state or a delta of a schema.
+/// Parses a state or a delta under a schema.
 ///
 /// Returns the message's updates in their order, with each text parsed under the schema.
 ///
@@ -42,9 +42,9 @@ pub fn read_updates(
     }
 }
 
-/// Parses a summary of the schema with this label.
+/// Parses a summary under the schema with this label.
 ///
-/// In version 1, a site's number stands for the site whose name is the five digits of the number.
+/// In version 1 a site is a number, which becomes the name of five digits: 7 becomes `00007`.
 ///
 /// # Errors
 ///

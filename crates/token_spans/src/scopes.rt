@@ -36,7 +36,7 @@ fn at_second<'t>(path: &[usize], name: Option<&'t [Token]>) -> Option<&'t [Token
     }
 }
 
-/// Returns the type or the uid to which a path leads in `x is T in uid`, which means `x is T && x in uid`.
+/// Returns the type `name` or the `uid` to which a path leads in `x is T in uid`, which means `x is T && x in uid`.
 fn in_both<'t>(
     path: &[usize],
     name: Option<&'t [Token]>,
@@ -54,8 +54,10 @@ fn in_both<'t>(
     }
 }
 
-/// Returns the tokens of the name at a path of the scope's constraint on the principal or the resource, which `tokens`
-/// begin with.
+/// Returns the tokens of the name at a path of `part`, the scope's constraint on the principal or the resource.
+///
+/// `tokens` begin with the constraint. A uid or a type comes after two tokens, as `principal ==`; in `is T in uid`, the
+/// uid is one token (`in`) after the type.
 pub(crate) fn entity_name<'t>(
     part: &PartTree,
     tokens: &'t [Token],
@@ -80,7 +82,7 @@ pub(crate) fn entity_name<'t>(
     }
 }
 
-/// Returns the tokens of a uid of a list, whose opening bracket precedes `tokens`.
+/// Returns the tokens of the uid at `index` in the list `uids`, if there is one. `tokens` begin after the list's `[`.
 fn uid_at<'t>(uids: &[UidTree], tokens: &'t [Token], index: usize) -> Option<&'t [Token]>
     ensures { option_map (λ ts. ts.now) result ≡ spec.uid_at uids.now tokens.entry.now index }
 {
@@ -111,7 +113,10 @@ fn listed_name<'t>(uids: &[UidTree], tokens: &'t [Token], path: &[usize]) -> Opt
     }
 }
 
-/// Returns the tokens of the name at a path of the scope's constraint on the action, which `tokens` begin with.
+/// Returns the tokens of the name at a path of `part`, the scope's constraint on the action.
+///
+/// `tokens` begin with the constraint. A uid comes after two tokens, as `action ==`, and a list's uids after three,
+/// `action in [`.
 pub(crate) fn action_name<'t>(
     part: &ActionTree,
     tokens: &'t [Token],

@@ -27,11 +27,11 @@ pub record Blame : Type 0 where
   -- the types of the operands that the demand is about
   pub types : List StaticType
 
--- `at_itself x ts` blames the expression `x` itself, whose operands have the types `ts`.
+-- `at_itself x ts` blames the expression `x` itself, whose demand is about operands of the types `ts`.
 abbrev pub at_itself : Expr → List StaticType → Blame
 at_itself x ts = record { path = []; form = x; types = ts }
 
--- `at_operand i x ts` blames the operand `i` of the expression `x`, whose demand is about the types `ts`.
+-- `at_operand i x ts` blames the operand `i` of `x`, where the demand of `x` is about operands of the types `ts`.
 abbrev pub at_operand : ℕ → Expr → List StaticType → Blame
 at_operand i x ts = record { path = i ∷ []; form = x; types = ts }
 

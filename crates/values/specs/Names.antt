@@ -1,6 +1,6 @@
 -- Defines the orders of names (ids of policies and uids of entities) and of requests.
 -- Rules of this product: policies before entities; policies by the bytes of the id; entities by the bytes of the
--- type's name, then of the id.
+-- type's name, then of the id; requests by principal, then action, then resource, then context.
 use Rattle.std.specs.Prelude.{◌≡◌, refl}
 use Rattle.std.specs.Ordering.{ordering_then}
 use Rattle.std.specs.Cmp.{IsTotalOrder}

@@ -1,5 +1,5 @@
--- Defines a code of values: each value as a list of tokens. The list determines the value, and the order of these lists
--- is the order of values.
+-- Defines an encoding of values as lists of tokens. The list determines the value, and the order of these lists is the
+-- order of values.
 use Rattle.std.specs.Prelude.{◌≡◌, ℕ, ℤ, pos, List, [], ◌∷◌, ◌++◌, Bool, true, false, cond, ◌==◌, refl}
 use Rattle.std.specs.Coded.{Coded, code_by, coded×, coded_ℕ, coded_ℤ, coded_list}
 use Rattle.std.proofs.Common.{ap, sym, ◌∙◌, append_assoc}
@@ -9,9 +9,9 @@ use Rattle.extensions.specs.Order.{version_number, network_of, network_of-networ
 use Rattle.values.specs.Values.{PlainValue, boolean, long, text, entity, set, record_of, decimal, ipaddr, PlainValues}
 use Rattle.values.specs.Values.{no_values, value, PlainFields, no_fields, field}
 
--- A `Token` is a tag, a number, and two strings. The tag 0 is the end of a set or record; 1 to 8 are the kinds of
--- values by their ranks (`kind_rank` of ValueOrder), where 5 is only the beginning of a set and 6 that of a record; 9
--- is a key of a record.
+-- A `Token` is a tag, a number, and two strings. A tag from 1 to 8 is the rank of a kind of values (`kind_rank` of
+-- ValueOrder): 5 begins a set, 6 begins a record, and the others are whole values. The tag 0 ends a set or record; 9 is
+-- a key of a record.
 abbrev pub Token : Type 0
 Token = ℕ × (ℤ × (List ℕ × List ℕ))
 
@@ -25,7 +25,7 @@ abbrev pub is_one : ℤ → Bool
 is_one (pos n) = n == 1
 is_one z = false
 
--- `network_list n` is the network `n` as a list of three numbers.
+-- `network_list n` is the network `n` as a list of its version, its address and its prefix.
 abbrev pub network_list : Network → List ℕ
 network_list n = version_number n.version ∷ n.address ∷ n.prefix ∷ []
 
@@ -57,7 +57,7 @@ abbrev mutual
   record_tokens no_fields = (0, (pos 0, ([], []))) ∷ []
   record_tokens (field k v fs) = (9, (pos 0, (k, []))) ∷ (tokens v ++ record_tokens fs)
 
--- An `Item` is what reading makes of tokens: the end of a set or record, a key of a record, or a whole value.
+-- An `Item` is the result of reading some tokens: the end of a set or record, a key of a record, or a whole value.
 pub data Item : Type 0 where
   end : Item
   key : List ℕ → Item
@@ -86,8 +86,8 @@ behind (end ∷ st) = st
 behind (key k ∷ st) = behind st
 behind (whole v ∷ st) = behind st
 
--- `read_one n z s t st` are the items of a token with the parts `n`, `z`, `s` and `t`, and of the tokens after it,
--- whose items are `st`. A token that begins a set or record takes its members or fields from `st`.
+-- `read_one n z s t st` are the items of a token with the tag `n`, the number `z` and the strings `s` and `t`, followed
+-- by tokens with the items `st`. A token that begins a set or record takes its members or fields from `st`.
 abbrev pub read_one : ℕ → ℤ → List ℕ → List ℕ → List Item → List Item
 read_one n z s t st =
     cond (n == 0) (end ∷ st) (cond (n == 1) (whole (boolean (is_one z)) ∷ st)
@@ -171,7 +171,7 @@ first_of (whole v ∷ st) = v
 abbrev from_tokens : List Token → PlainValue
 from_tokens ts = first_of (read ts)
 
--- The tokens of a value have that value.
+-- `from_tokens` is a left inverse of `tokens`.
 pub from_tokens-tokens : (v : PlainValue) → from_tokens (tokens v) ≡ v
 from_tokens-tokens v =
     ap from_tokens (sym (append-nil (tokens v))) ∙ ap first_of (read-tokens v [])

@@ -7,8 +7,8 @@ use extensions::NoMemory;
 
 /// The uid of an entity: its type's name and its id. Contracts see a record of two lists of bytes.
 ///
-/// Uids are ordered by the bytes of the type's name, and then by those of the id. Copies share both strings: a copy
-/// takes sixteen bytes, and does not allocate.
+/// Uids are ordered by the bytes of the type's name, and then by those of the id. Copies share both strings: a copy is
+/// two references of eight bytes each, and does not allocate.
 #[derive(PartialEq, Eq, PartialOrd, Ord, Drop)]
 pub struct EntityUid {
     /// The entity's type.

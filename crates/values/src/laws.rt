@@ -1,4 +1,4 @@
-//! Theorems about sets, records, values and names. The functions are no-ops.
+//! Theorems about sets, records and values, and about the tests for identifiers and Paths. The functions are no-ops.
 ghost use Rattle.std.specs.Prelude.{◌≡◌, ◌≢◌, ℕ, List, Some};
 ghost use Rattle.values.specs.Fields.{find_field, put};
 ghost use Rattle.values.specs.Laws.{SetsHoldTheirMembers, SetsAreOneList, MemberTestIsExact, MembersAreFound};
@@ -11,8 +11,8 @@ ghost use Rattle.values.specs.Paths.{IdentTestIsExact, PathTestIsExact};
 use crate::record::Record;
 use crate::value::Value;
 
-/// Proves that a set is determined by its members: its list ascends strictly and has exactly the members that it was
-/// made of, and no other list does; and that the test for a member, and a binary search, find exactly the members.
+/// Proves that a set is determined by its members: its list is the only one that ascends strictly and has exactly the
+/// values that the set was made of. The test for a member finds exactly the members, and so does a binary search.
 /// No-op.
 pub fn sets_hold_their_members()
     ensures made { SetsHoldTheirMembers }
@@ -21,8 +21,9 @@ pub fn sets_hold_their_members()
     ensures found { MembersAreFound }
 {}
 
-/// Proves that a record is a finite map: a field that was set has its value, and the other fields keep theirs; keys
-/// ascend strictly; equal fields make equal records; and the order in which fields are set does not matter. No-op.
+/// Proves that a record is a finite map: a field that was set has its value, the later if it was set twice, and the
+/// other fields keep theirs; keys ascend strictly; equal fields make equal records; and the order in which two fields
+/// are set does not matter. No-op.
 pub fn records_are_maps()
     ensures here { (key : List ℕ) (value : Value) (fields : Record)
         → find_field key (put key value fields) ≡ Some value }

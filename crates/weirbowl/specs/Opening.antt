@@ -13,8 +13,8 @@ use Rattle.weirbowl.specs.declared.embedded.EmbeddedSite.{EmbeddedSite}
 use Rattle.weirbowl.specs.declared.opening.OpenError.{OpenError}
 use Rattle.weirbowl.specs.declared.opening.OpenError.TheVariants.{SiteName, Schema}
 
--- `IsOpened schema name e` holds if `e` is an empty site of this name, under the schema that the bytes describe,
--- without a reply yet.
+-- `IsOpened schema name e` holds if `e` is an empty site of the name `name`, under the schema that the bytes `schema`
+-- describe, without a reply yet.
 pub record IsOpened (schema name : List ℕ) (e : EmbeddedSite) : Type 0 where
   pub described : IsSchemaOf schema (schema_of e.site)
   pub named : e.site.name ≡ name

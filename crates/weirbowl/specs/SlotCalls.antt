@@ -1,5 +1,5 @@
--- Defines what a call on a slot, the memory that a C program keeps for a site, returns and writes, and which site it
--- leaves there.
+-- Defines calls on a slot, which is the memory in which a C program keeps a site: the result of a call, the bytes that
+-- it writes, and the site that it leaves in the slot.
 -- Source: docs/embedding.md.
 -- Rules of this product: a slot has at most one site; a call without a site does nothing and returns the status 0.
 use Rattle.std.specs.Prelude.{◌≡◌, ◌⊎◌, ◌<◌, ℕ, Bool, List, Option, Some, None, is_some, length}

@@ -17,6 +17,7 @@ pub struct EmbeddedSite {
     pub site: Site,
     /// The body of the last reply; empty before the first call.
     pub body: Vec<u8>,
+    // enough for the reply to a change, or for an error: these are written without an allocation
     ghost room: { LINE_ROOM ≤ vec_capacity body },
 }
 

@@ -30,7 +30,7 @@ impl SitePointer {
         unsafe { Box::from_raw(alloc, address as *mut EmbeddedSite) }
     }
 
-    /// Creates the pointer that owns what a box owned. Does not allocate.
+    /// Creates a pointer that owns the site that `raw` owned. Does not allocate.
     pub(crate) fn to(raw: RawBox<EmbeddedSite>) -> SitePointer
         ensures { result.site ≡ Some raw.value }
     {

@@ -107,7 +107,7 @@ ConditionEvaluatesTo W q x (Errs error) = TestFails W q x (fault_of error)
 abbrev pub ids : List (Bor (List ℕ)) → List (List ℕ)
 ids xs = map (λ x. x.now) xs
 
--- `faults xs` are the erroring policies with their errors, where the references of `xs` point to the ids.
+-- `faults xs` are the erroring policies of the pairs `xs`, each a reference to a policy's id and the policy's error.
 abbrev pub faults : List (Bor (List ℕ) × PolicyError) → List ErringPolicy
 faults xs = map (λ x. record { policy = x.0.now; error = x.1 }) xs
 

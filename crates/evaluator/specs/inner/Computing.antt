@@ -1,5 +1,5 @@
--- Defines the outcome of an expression as a function that computes it. If the test of ancestors that the function is
--- given decides the ancestor relation, the result is the outcome by the relation `EvaluatesTo` (Evaluation.antt).
+-- Defines the outcome of an expression as a function that computes it. The function is given a test of ancestors. If
+-- the test decides the ancestor relation, the outcome is the one of the relation `EvaluatesTo` (Evaluation.antt).
 use Rattle.std.specs.Prelude.{◌≡◌, ◌≢◌, ℕ, ℤ, pos, neg_ℤ, ◌+ℤ◌, ◌-ℤ◌, ◌*ℤ◌, int_lt, int_le, List, [], ◌∷◌, Bool, true}
 use Rattle.std.specs.Prelude.{false, not, ◌&&◌, ◌||◌, if◌then◌else◌, Option, Some, None, is_some, Result, Ok, Err}
 use Rattle.std.specs.Prelude.{MatchResult}
@@ -62,12 +62,12 @@ abbrev pub and_then : {A B : Type 0} → Result A EvalFault → (A → Result B 
 and_then (Ok v) f = f v
 and_then (Err e) f = Err e
 
--- `demanded o` is the content `o` of a value, or `TypeError` if the value is of another kind (`None`).
+-- `demanded o` is the content in `o` of a value, or `TypeError` if the value is of another kind (`None`).
 abbrev pub demanded : {A : Type 0} → Option A → Result A EvalFault
 demanded None = Err TypeError
 demanded (Some a) = Ok a
 
--- `two_demanded a b` is the content of two values, or `TypeError` if one of them is of another kind.
+-- `two_demanded a b` are the contents in `a` and `b` of two values, or `TypeError` if one is of another kind (`None`).
 abbrev pub two_demanded : {A B : Type 0} → Option A → Option B → Result (A × B) EvalFault
 two_demanded a b = and_then (demanded a) (λ x. and_then (demanded b) (λ y. Ok (x, y)))
 
@@ -95,7 +95,7 @@ apply_unary Negate v = and_then (demanded (long_in v)) (λ z. bounded (neg_ℤ z
 apply_unary (Like pattern) v = and_then (demanded (text_in v)) (λ t. truth (is_match pattern t))
 apply_unary (Is name) v = and_then (demanded (entity_uid_in v)) (λ u. truth (bytes_eq u.type_name name))
 
--- `is_in E a b` tests whether `a` is `b` or a descendant of `b`, by the test of ancestors of `E`.
+-- `is_in E a b` tests whether `a` is `b` or, by the test `E.above`, a descendant of `b`.
 abbrev pub is_in : DecidedEntities → EntityUid → EntityUid → Bool
 is_in E a b = is_eq (uid_cmp a b) || E.above b a
 

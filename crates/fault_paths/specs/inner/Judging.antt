@@ -1,4 +1,4 @@
--- Defines the report on one environment.
+-- Defines the report on one environment: an error of typing a policy's expression there, and what the error blames.
 use Rattle.std.specs.Prelude.{◌≡◌, ◌≢◌, ℕ, [], Option, Some, None, Result, Ok, Err, MatchOption}
 use Rattle.grammar_core.specs.declared.expr.Expr.{Expr}
 use Rattle.validator.specs.declared.fault.TypeFault.{TypeFault}
@@ -14,7 +14,7 @@ use Rattle.typing.specs.Blamed.{blamed}
 use Rattle.fault_paths.specs.Views.{place_view}
 use Rattle.fault_paths.specs.declared.blaming.TypeBlame.{TypeBlame}
 
--- `IsFault env x f` holds if `f` is the validator's error for the error of typing `x` in `env`.
+-- `IsFault env x f` holds if typing `x` in `env` has an error that the validator reports as `f`.
 abbrev pub IsFault : Environment → Expr → TypeFault → Type 0
 IsFault env x f = (n : ExpressionFault) × (f ≡ of_typing n) × Faults env [] x n
 
@@ -22,8 +22,8 @@ IsFault env x f = (n : ExpressionFault) × (f ≡ of_typing n) × Faults env [] 
 abbrev pub IsFaultyIn : Environment → Expr → Option TypeFault → Type 0
 IsFaultyIn env x o = MatchOption o ((t : StaticType) × HasType x t env) (IsFault env x)
 
--- `IsBlamedAt env i x b` holds if `b` reports the index `i` of `env`, the error of typing `x` in `env`, and what each
--- derivation of this error blames.
+-- `IsBlamedAt env i x b` holds if `b` reports the index `i` of `env`, an error of typing `x` in `env`, and the place
+-- that each derivation of such an error blames.
 abbrev pub IsBlamedAt : Environment → ℕ → Expr → TypeBlame → Type 0
 IsBlamedAt env i x b = (b.environment ≡ i) × IsFault env x b.fault
     × ((n : ExpressionFault) (h : Faults env [] x n) → blamed h ≡ place_view b.place)

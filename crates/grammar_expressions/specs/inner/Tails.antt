@@ -1,4 +1,5 @@
--- Defines how the tail of a relation, which follows its first Sum, is parsed and then joined to that Sum.
+-- Defines how the tail of a Relation, which follows its first Sum, is parsed and then joined to that Sum; both are
+-- productions of Expressions.antt.
 use Rattle.std.specs.Prelude.{Bool, Option, Some, None}
 use Rattle.grammar_trees.specs.grammar_tokens.declared.token.TokenKind.TheVariants as k
 use Rattle.grammar_trees.specs.declared.tree.ExprTree.{ExprTree}
@@ -11,14 +12,14 @@ use Rattle.grammar_expressions.specs.ExpressionParsing.{symbol, key, sum, maybe_
 use Rattle.grammar_expressions.specs.declared.relations.Tail.{Tail}
 use Rattle.grammar_expressions.specs.declared.relations.Tail.TheVariants.{Compared, Has, Like, Is}
 
--- `form x tail` is the tree of the relation of `x` and `tail`.
+-- `form x tail` is the tree of the Relation of the Sum `x` and the tail `tail`.
 abbrev pub form : ExprTree → Tail → ExprTree
 form x (Compared operator y) = tree.Compare x operator y
 form x (Has name) = tree.Has x name
 form x (Like text) = tree.Like x text
 form x (Is type_name y) = is_in x type_name y
 
--- `relate x o` is the tree of the relation of `x` and the tail in `o`, or `x` if `o` is `None`.
+-- `relate x o` is the tree of the Relation of the Sum `x` and the tail in `o`, or `x` if `o` is `None`.
 abbrev pub relate : ExprTree → Option Tail → ExprTree
 relate x None = x
 relate x (Some tail) = form x tail
@@ -40,14 +41,14 @@ like = do
 -- In this module `may` says whether one more level of nesting may be opened, and `inner` parses an expression of that
 -- level.
 module _ (may : Bool) (inner : Parser ExprTree) where
-  -- `compared` parses a comparison with a sum.
+  -- `compared` parses a comparison operator, of which "in" is one, and a Sum.
   unfoldable pub compared : Parser (Option Tail)
   compared = do
     operator ← symbol comparison_of
     y ← sum may inner
     pure (Some (Compared operator y))
 
-  -- `type_test` parses "is", a Path and maybe "in" and a sum.
+  -- `type_test` parses "is", a Path and maybe "in" and a Sum.
   unfoldable pub type_test : Parser (Option Tail)
   type_test = do
     token k.Is
@@ -63,6 +64,6 @@ module _ (may : Bool) (inner : Parser ExprTree) where
   unfoldable pub tail : Parser (Option Tail)
   tail = either comparisons compared test_tail
 
-  -- `joined x` parses a tail after `x`, or nothing, and gives the relation of both.
+  -- `joined x` parses a tail after the Sum `x`, and gives the Relation of both; without a tail it gives `x`.
   unfoldable pub joined : ExprTree → Parser ExprTree
   joined x = tail >>= (λ found. pure (relate x found))
