@@ -92,7 +92,7 @@ fn has_required(fields: &Fields, value: &Json) -> bool
 
 // ---- values that are neither sets nor records
 
-/// Returns the string at a key, or `WrongType` if there is none.
+/// Returns the string at a key, or `WrongType` if the key is absent or has another value.
 fn read_text_at<'v>(value: &'v Json, key: &str) -> Result<&'v str, ValueFault>
     ensures { AlwaysReadsAs (λ s. s.now) result
         (or_fault ValueFault.WrongType (text_in_json key.now (view value.now))) }

@@ -35,7 +35,7 @@ impl Repeats {
         }
     }
 
-    /// Appends the number of the last outcomes, and one of them. Appends nothing if there are none.
+    /// Appends the number of the last outcomes, and one of them. Appends nothing before the first outcome.
     pub(crate) fn push_to(&self, line: &mut Line) {
         if self.count > 0 {
             line.begin_part();
