@@ -8,7 +8,8 @@ use Rattle.values.specs.Names.{uid_cmp}
 use Rattle.ancestor_search.specs.Hierarchy.{Parents, AreAllAncestorsOf, IsAscending, AreOnCycles}
 use Rattle.ancestor_closure.specs.declared.relatives.Relatives.{Relatives}
 
--- `IsListOf parents b xs` holds if `xs` are exactly the ancestors of `b`, in ascending order.
+-- `IsListOf parents b xs` holds if `xs` are exactly the ancestors of `b` in the hierarchy `parents`, in ascending
+-- order.
 abbrev pub IsListOf : Parents → EntityUid → List EntityUid → Type 0
 IsListOf parents b xs = AreAllAncestorsOf parents b xs × IsAscending xs
 
@@ -30,8 +31,8 @@ ancestors_in relatives x = ancestors_or_none (get uid_cmp relatives x)
 abbrev pub children_in : BTreeMap EntityUid Relatives → EntityUid → List EntityUid
 children_in relatives x = children_or_none (get uid_cmp relatives x)
 
--- `IsCacheContent parents ancestors children cyclic` holds if `ancestors` maps each entity to the list of its
--- ancestors, `children` maps it to its children, and `cyclic` are the cyclic entities.
+-- `IsCacheContent parents ancestors children cyclic` holds for the hierarchy `parents` if `ancestors` maps each entity
+-- to the list of its ancestors, `children` maps each entity to its children, and `cyclic` are the cyclic entities.
 pub record IsCacheContent (parents : Parents) (ancestors children : EntityUid → List EntityUid)
     (cyclic : List EntityUid) : Type 0 where
   pub above : (b : EntityUid) → IsListOf parents b (ancestors b)
@@ -42,8 +43,8 @@ pub record IsCacheContent (parents : Parents) (ancestors children : EntityUid �
 abbrev pub AgreeBut : EntityUid → Parents → Parents → Type 0
 AgreeBut uid before after = (q : EntityUid) → is_eq (uid_cmp uid q) ≡ false → before q ≡ after q
 
--- `IsStaleContent uid after ancestors children cyclic` holds if `IsCacheContent` holds for a hierarchy that differs
--- from `after` at most in the parents of `uid`.
+-- `IsStaleContent uid after ancestors children cyclic` holds if `ancestors`, `children` and `cyclic` are the content of
+-- a cache (`IsCacheContent`) for some hierarchy that differs from `after` at most in the parents of `uid`.
 pub record IsStaleContent (uid : EntityUid) (after : Parents) (ancestors children : EntityUid → List EntityUid)
     (cyclic : List EntityUid) : Type 0 where
   pub before : Parents
@@ -67,7 +68,7 @@ abbrev pub StayThere : BTreeMap EntityUid Relatives → BTreeMap EntityUid Relat
 StayThere before after = (q : EntityUid) → IsThere before q → IsThere after q
 
 -- `AddsChild ps child before after` holds if `after` has all children of `before`, and no others, except that `child`
--- may be a further child of some of `ps`.
+-- may be a further child of some of `ps`. `before` and `after` map each entity to its children.
 pub record AddsChild (ps : List EntityUid) (child : EntityUid)
     (before after : EntityUid → List EntityUid) : Type 0 where
   pub kept : (x y : EntityUid) → Contains (before x) y → Contains (after x) y

@@ -83,7 +83,7 @@ impl AncestorCache {
     ///
     /// # Errors
     ///
-    /// - `NoMemory`: an allocation failed, or the budget is exceeded.
+    /// - `NoMemory`: an allocation failed, or the budget `room` is exceeded.
     pub fn of_graph<G: Graph>(
         alloc: Global,
         graph: &G,
@@ -103,13 +103,14 @@ impl AncestorCache {
         })
     }
 
-    /// Updates the cache incrementally after a change of one entity's parents, given the changed graph. Rewrites only
-    /// the lists of that entity and of its descendants.
+    /// Updates the cache incrementally after a change of the parents of `uid`, given the changed graph. The cache must
+    /// be right for a hierarchy that differs from `graph` at most in these parents. Rewrites only the lists of `uid`
+    /// and of its descendants.
     ///
     /// # Errors
     ///
-    /// - `NoMemory`: an allocation failed, or the budget is exceeded. The cache is then still right for the graph
-    ///   before the change.
+    /// - `NoMemory`: an allocation failed, or the budget `room` is exceeded. The cache is then still right for the
+    ///   graph before the change.
     pub fn follow<G: ParentsOf>(
         &mut self,
         graph: &G,
@@ -162,8 +163,8 @@ impl AncestorCache {
         members(self.alloc, &self.cyclic)
     }
 
-    /// Returns the least cycle, as [`ancestor_search::least_cycle`] does, or `None` if there is no cycle. If there is
-    /// none, the call does not search or allocate, and cannot fail.
+    /// Returns the least cycle, as [`ancestor_search::least_cycle`] does, or `None` if there is no cycle. The cache
+    /// must be right for `graph`. If there is no cycle, the call does not search or allocate, and cannot fail.
     pub fn least_cycle<'a, G: Graph>(
         &'a self,
         graph: &'a G,

@@ -130,8 +130,8 @@ fn only_parent<'a>(
     Some(parent)
 }
 
-// Returns the new ancestors of `uid`: its only parent and the parent's ancestors. Fails if the budget does not allow
-// the list in place of the cached one.
+// Returns the new ancestors of `uid`: its only parent and the parent's cached ancestors. Fails if the budget does not
+// allow the list in place of the cached one.
 fn list_by_parent(
     alloc: Global,
     relatives: &BTreeMap<EntityUid, Relatives>,
@@ -167,7 +167,7 @@ fn alone(
 ///
 /// # Errors
 ///
-/// - `NoMemory`: an allocation failed, or the budget is exceeded.
+/// - `NoMemory`: an allocation failed, or the budget `room` is exceeded.
 pub(crate) fn new_lists<G: ParentsOf>(
     alloc: Global,
     graph: &G,

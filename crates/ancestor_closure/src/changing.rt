@@ -99,7 +99,7 @@ pub fn make_room(
     reserve_all(alloc, relatives, parents)
 }
 
-// Appends `entity` to `found` if it has this child.
+// Appends `entity` to `found` if `child` is one of its children.
 fn add_if_parent(
     relatives: &BTreeMap<EntityUid, Relatives>,
     found: &mut Vec<Shared<EntityUid>>,
@@ -149,7 +149,7 @@ fn parents_before(
     those_with_child(alloc, relatives, ancestors_at(relatives, uid), uid)
 }
 
-// Returns the change by which an entity gets the parents that it has in the graph, within the budget.
+// Returns the change that gives an entity the parents that it has in the graph, within the budget `room`.
 fn planned<G: ParentsOf>(
     alloc: Global,
     graph: &G,
@@ -179,7 +179,8 @@ fn planned<G: ParentsOf>(
     })
 }
 
-// Adds the entity to the children of its new parents, and the entities that become cyclic to `cyclic`.
+// Adds the entity to the children of its new parents, and the entities that become cyclic to `cyclic`. After an error
+// some of these may be added.
 fn begin(
     relatives: &mut BTreeMap<EntityUid, Relatives>,
     cyclic: &mut BTreeSet<Shared<EntityUid>>,
@@ -245,8 +246,8 @@ fn finish(
     leave_all(cyclic, relatives, &entities);
 }
 
-// Makes the change by which an entity gets `parents`, within the budget; returns how many lists were written. After an
-// error the cache is right for each graph that it was right for.
+// Makes the change that gives an entity `parents`, within the budget `room`; returns how many lists were written. After
+// an error the cache is right for each graph that it was right for.
 fn make<G: ParentsOf>(
     alloc: Global,
     graph: &G,
@@ -340,13 +341,13 @@ fn has_already(
     Ok(are_among(&before, parents))
 }
 
-/// Updates the cache after a change of one entity's parents, given the changed graph; returns how many lists were
-/// rewritten.
+/// Updates the cache after a change of the parents of `uid`, given the changed graph; returns how many lists were
+/// rewritten. The cache must be right for a hierarchy that differs from `graph` at most in these parents.
 ///
 /// # Errors
 ///
-/// - `NoMemory`: an allocation failed, or the budget is exceeded. The cache is then still right for each graph that
-///   it was right for.
+/// - `NoMemory`: an allocation failed, or the budget `room` is exceeded. The cache is then still right for each graph
+///   that it was right for.
 pub fn follow<G: ParentsOf>(
     alloc: Global,
     graph: &G,

@@ -15,7 +15,7 @@ use std::alloc::Global;
 use std::collections::{BTreeMap, BTreeSet};
 use values::EntityUid;
 
-// Adds each of these children that was not seen to the seen entities and to the work list.
+// Adds each child in `found` that is not in `seen` to `seen` and to `work`.
 fn add_members<'a>(
     found: &'a BTreeSet<Shared<EntityUid>>,
     seen: &mut BTreeSet<&'a EntityUid>,
@@ -32,11 +32,12 @@ fn add_members<'a>(
             work.push(child)?;
         }
     }
+    // `len` ensures the bound of `small`
     let _small = seen.len();
     Ok(())
 }
 
-// Adds each child of an entity that was not seen to the seen entities and to the work list.
+// Adds each child of an entity that is not in `seen` to `seen` and to `work`.
 fn add_children<'a>(
     relatives: &'a BTreeMap<EntityUid, Relatives>,
     uid: &EntityUid,
@@ -50,6 +51,7 @@ fn add_children<'a>(
     match relatives.get(uid) {
         Some(known) => add_members(&known.children, seen, work),
         None => {
+            // `len` ensures the bound of `small`
             let _small = seen.len();
             Ok(())
         }
@@ -88,7 +90,7 @@ pub(crate) fn entity_and_descendants<'a>(
     shared_all(alloc, relatives, &found)
 }
 
-// Adds a child to a parent.
+// Adds a child to a parent, which has an entry.
 fn add_child(
     relatives: &mut BTreeMap<EntityUid, Relatives>,
     parent: &EntityUid,
@@ -109,7 +111,8 @@ fn add_child(
     }
 }
 
-/// Adds a child to each of its parents. The only error is `NoMemory`; after it some of the parents may have the child.
+/// Adds a child to each of its parents, which have entries. The only error is `NoMemory`; after it some of the parents
+/// may have the child.
 pub fn add_to_all(
     relatives: &mut BTreeMap<EntityUid, Relatives>,
     parents: &[Shared<EntityUid>],

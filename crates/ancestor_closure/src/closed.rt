@@ -169,8 +169,8 @@ impl Closed {
         }
     }
 
-    /// Returns how many lists of ancestors the last change rewrote: that of the entity itself, removed or not, and
-    /// those of its descendants; 0 if its parents stayed the same. A failed change leaves the number unchanged.
+    /// Returns how many lists of ancestors the last change rewrote: that of the entity itself, even if it was removed,
+    /// and those of its descendants; 0 if its parents stayed the same. A failed change leaves the number unchanged.
     pub fn touched(&self) -> usize {
         self.kept.touched()
     }

@@ -86,6 +86,7 @@ pub fn members<'a>(
     ensures same { IfOk result (λ all. names all.items ≡ uids.now.keys) }
     ensures ascending { IsAscending uids.now.keys }
 {
+    // `len` ensures `ascending`
     let _ascending = uids.len();
     let mut all = Vec::new(alloc);
     for uid in uids.iter() {

@@ -1,4 +1,4 @@
-//! Lists of ancestors, computed from a graph.
+//! Lists of ancestors: tests for their members, their computation from a graph, and their replacement in the cache.
 ghost use Rattle.std.specs.Prelude.{◌≡◌, ◌↔◌, Contains, IsTrue, IfOk, Vec as PlainVec};
 ghost use Rattle.std.specs.declared.alloc.Global.{Global as PlainGlobal};
 ghost use Rattle.values.specs.declared.entity_uid.EntityUid.{EntityUid as PlainUid};
@@ -70,7 +70,8 @@ pub fn lent<'a>(
     Ok(all)
 }
 
-/// Returns these uids, each shared with the cache's entry of the entity, or copied if there is no entry.
+/// Returns these uids, each shared with the cache's entry of the entity, or copied if there is no entry. The only error
+/// is `NoMemory`.
 pub fn shared_all(
     alloc: Global,
     relatives: &BTreeMap<EntityUid, Relatives>,
@@ -102,7 +103,8 @@ fn list_of<G: ParentsOf>(
 ///
 /// # Errors
 ///
-/// - `NoMemory`: an allocation failed, or the budget does not allow this list in place of the entity's cached list.
+/// - `NoMemory`: an allocation failed, or the budget `room` does not allow this list in place of the entity's cached
+///   list.
 pub fn list_within<G: ParentsOf>(
     alloc: Global,
     graph: &G,

@@ -2,11 +2,12 @@
 
 use plain::NoMemory;
 
-/// A budget: how many ancestors all lists of a cache together have, how many they may have, and how many were written.
+/// A budget: how many ancestors all lists of a cache together have, how many they may have, and how many were written
+/// or visited.
 ///
 /// It is a measure: no contract mentions it, and no answer depends on it. An exceeded budget is reported as a failed
-/// allocation. The lists that were counted before a list is rejected stay counted, so the caller must then drop the
-/// cache.
+/// allocation. Lists that were counted before an error stay counted, although no cache has them, so the budget must
+/// count no further list.
 #[derive(Clone, Copy)]
 pub struct CacheBudget {
     // The greatest number of ancestors that all lists together may have.
@@ -52,7 +53,7 @@ impl CacheBudget {
         Ok(())
     }
 
-    /// Counts a visited list of length `list`, as if it were written.
+    /// Adds the length `list` of a visited list to the count of written and visited ancestors.
     pub fn look(&mut self, list: usize) {
         self.written = self.written.saturating_add(list);
     }

@@ -55,7 +55,8 @@ fn add_edges<G: ParentsOf>(
     add_to_parents(alloc, relatives, uid, &parents)
 }
 
-// Returns the children of each entity by the edges that begin at these entities; the lists of ancestors are empty.
+// Returns entries with the children of each entity, by the edges that begin at the entities `uids`; the lists of
+// ancestors are empty.
 fn children_among<G: ParentsOf>(
     alloc: Global,
     graph: &G,

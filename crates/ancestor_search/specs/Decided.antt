@@ -20,11 +20,11 @@ HaveAllParents parents stored = (b a : EntityUid) → Contains (parents b) a →
 abbrev pub is_same : EntityUid → EntityUid → Bool
 is_same a b = is_eq (uid_cmp a b)
 
--- `reaches parents us a b` tests whether a path leads from `b` to `a` whose edges all begin at entities of `us`. It is
--- defined by recursion on the list. If the list has one more entity `u` before `us`, either the path takes no edge of
--- `u`, or it has three parts: from `b` to `u` by edges of `us` (no edge if `b` is `u`); an edge from `u` to a parent;
--- and from this parent to `a` by edges of `us` (no edge if the parent is `a`). This is Warshall's method: S. Warshall,
--- "A theorem on Boolean matrices", Journal of the ACM 9 (1962).
+-- `reaches parents us a b` tests whether a path in the hierarchy `parents` leads from `b` to `a` whose edges all begin
+-- at entities of `us`. The test is defined by recursion on `us`. If the list has one more entity `u` before `us`,
+-- either the path has no edge from `u`, or it has three parts: from `b` to `u` by edges from `us` (no edge if `b` is
+-- `u`); an edge from `u` to a parent; and from this parent to `a` by edges from `us` (no edge if the parent is `a`).
+-- This is Warshall's method: S. Warshall, "A theorem on Boolean matrices", Journal of the ACM 9 (1962).
 unfoldable pub reaches : Parents → List EntityUid → EntityUid → EntityUid → Bool
 reaches parents [] a b = false
 reaches parents (u ∷ us) a b =

@@ -1,6 +1,6 @@
--- Defines the least cycle of a hierarchy, which an answer reports. A cycle is given as a closed walk: the list of the
--- entities that it visits. A closed walk may visit an entity twice; the least cycle does not, since leaving out what
--- lies between the two visits gives a shorter closed walk from the same entity.
+-- Defines the least cycle of a hierarchy (`parents` in each definition), which an answer reports. A cycle is given as a
+-- closed walk: the list of the entities that it visits. A closed walk may visit an entity twice; the least cycle does
+-- not, since leaving out what lies between the two visits gives a shorter closed walk from the same entity.
 -- Rules of this product: which cycle is reported, and that it begins with the least cyclic entity.
 use Rattle.std.specs.Prelude.{◌≡◌, ◌≤◌, false, List, [], ◌∷◌, length}
 use Rattle.std.specs.Ordering.{is_gt}

@@ -20,7 +20,8 @@ pub fn listed<'a>(
     found.into_iter().collect(alloc)
 }
 
-/// Returns the number of an entity, which is its index in the list; `None` if the list does not contain it.
+/// Returns the number of an entity, which is its index in the ascending list `uids`; `None` if the list does not
+/// contain it.
 pub(crate) fn number_of(uids: &[&EntityUid], uid: &EntityUid) -> Option<usize>
     requires { IsAscending (names uids.now) }
     ensures { MatchOption result (IsNoNumber (names uids.now) uid.now) (λ i. IsNumber (names uids.now) i uid.now) }

@@ -1,4 +1,5 @@
-//! The cyclic numbers of a graph of numbers, by a search for strongly connected components without recursion.
+//! A search for the cyclic numbers of a graph of numbers. A number is cyclic if a path of edges leads from it back to
+//! itself. The search finds strongly connected components, without recursion.
 //!
 //! The search follows one path of edges. Numbers that were found to reach one another form a group. The groups of the
 //! path are consecutive in one list of members and in one list of edges not yet visited; a list of bounds has the
@@ -190,7 +191,7 @@ fn end(members: &[usize], place: &mut Vec<usize>)
     }
 }
 
-// Completes the last group, which has these members.
+// Completes the last group, which has these members: marks the cyclic ones, and then marks all as done.
 fn leave(edges: &[Vec<usize>], members: &[usize], place: &mut Vec<usize>, found: &mut Vec<bool>)
     ensures finds { FindsOpen (edges_of edges.now) place.old.items members.now found.old.items found.new.items }
     ensures ends { Ends members.now place.old.items place.new.items }

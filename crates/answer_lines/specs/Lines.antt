@@ -25,7 +25,7 @@ error_word TypeError = codes "typeError"
 error_word ArithBoundsError = codes "arithBoundsError"
 error_word ExtensionError = codes "extensionError"
 
--- `erring_json e` is the JSON of an erroring policy with its error.
+-- `erring_json e` is the JSON of the erroring policy `e` with its error.
 abbrev pub erring_json : ErringPolicy → Data
 erring_json e = object (member (codes "error") (string (error_word e.error))
     (member (codes "policy") (string e.policy) no_members))
@@ -34,7 +34,8 @@ erring_json e = object (member (codes "error") (string (error_word e.error))
 abbrev pub each_json : {X : Type 0} → (X → Data) → List X → Data
 each_json f xs = array (items_of (map f xs))
 
--- `under_keys cycle decision errors reason` is the object that has these parts of an answer under their keys.
+-- `under_keys cycle decision errors reason` is the object of an answer, with each of these four parts under the key of
+-- its name.
 abbrev pub under_keys : Data → List ℕ → Data → Data → Data
 under_keys cycle decision errors reason = object (member (codes "cycle") cycle
     (member (codes "decision") (string decision)

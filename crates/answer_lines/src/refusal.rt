@@ -17,8 +17,8 @@ use thiserror::Error;
 pub struct Refusal {
     /// The code: 1 for `NoMemory`, else that of the error (docs/codes.md).
     pub code: u8,
-    /// The place, counted from 0: a byte offset in the policies, or an entity's index in its array. `None` if the error
-    /// has no such place.
+    /// The place, counted from 0: a byte offset in the policies; the index of an entity in its array; for an error of
+    /// validation (40 to 46), the index of a policy in its file. `None` if the error has no such place.
     pub place: Option<usize>,
     /// The code of the inner error, if the error has one (docs/codes.md).
     pub within: Option<u8>,
@@ -96,7 +96,7 @@ fn number_or_null(number: Option<u64>) -> Value
     }
 }
 
-/// Returns the members with one more, which has this key and value.
+/// Returns `members` with the value `value` at the key `key`.
 fn with_value(
     alloc: Global,
     members: Map<String, Value>,

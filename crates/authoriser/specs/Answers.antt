@@ -52,13 +52,15 @@ pub record PolicyOutcome : Type 0 where
   pub effect : Effect
   pub outcome : Outcome
 
--- `IsPolicyOutcome W q p j` holds if `j` has the id, the effect and the outcome of the policy `p`.
+-- `IsPolicyOutcome W q p j` holds if `j` has the id, the effect and the outcome of the policy `p` under the request
+-- `q`, over the entities of `W`.
 pub record IsPolicyOutcome (W : Entities) (q : Request) (p : NamedPolicy) (j : PolicyOutcome) : Type 0 where
   pub id : j.id ≡ p.id
   pub effect : j.effect ≡ p.policy.effect
   pub outcome : PolicyEvaluatesTo W q p.policy j.outcome
 
--- `ArePolicyOutcomes W q ps js` holds if `js` are the outcomes of the policies `ps`, in order.
+-- `ArePolicyOutcomes W q ps js` holds if `js` are the outcomes of the policies `ps` under the request `q`, over the
+-- entities of `W`, in order.
 abbrev pub ArePolicyOutcomes : Entities → Request → List NamedPolicy → List PolicyOutcome → Type 0
 ArePolicyOutcomes W q [] [] = Unit {0}
 ArePolicyOutcomes W q [] (j ∷ js) = ⊥
@@ -83,7 +85,7 @@ error_of NotSatisfied id = []
 abbrev pub if_satisfied : Effect → PolicyOutcome → List (List ℕ)
 if_satisfied wanted j = id_if wanted j.effect j.outcome j.id
 
--- `satisfied wanted js` are the ids of the satisfied policies whose effect is `wanted`, in order.
+-- `satisfied wanted js` are the ids of the satisfied policies of `js` whose effect is `wanted`, in order.
 abbrev pub satisfied : Effect → List PolicyOutcome → List (List ℕ)
 satisfied wanted js = flat_map (if_satisfied wanted) js
 
@@ -91,13 +93,13 @@ satisfied wanted js = flat_map (if_satisfied wanted) js
 abbrev pub if_erring : PolicyOutcome → List ErringPolicy
 if_erring j = error_of j.outcome j.id
 
--- `erring js` are the erroring policies, each with its error, in order.
+-- `erring js` are the erroring policies of `js`, each with its error, in order.
 abbrev pub erring : List PolicyOutcome → List ErringPolicy
 erring js = flat_map if_erring js
 
--- `decided permits forbids errors` is the answer with these satisfied permits, satisfied forbids and errors: an allow
--- if there is a permit and no forbid, else a denial. The `reason` (Cedar's determining policies) of an allow is the
--- permits, that of a denial the forbids.
+-- `decided permits forbids errors` is the answer with the satisfied permits `permits`, the satisfied forbids `forbids`
+-- and the errors `errors`: an allow if there is a permit and no forbid, else a denial. The `reason` (Cedar's
+-- determining policies) of an allow is the permits, that of a denial the forbids.
 abbrev pub decided : List (List ℕ) → List (List ℕ) → List ErringPolicy → Answer
 decided permits (f ∷ forbids) errors = record { decision = Deny; reason = f ∷ forbids; errors = errors; cycle = [] }
 decided [] [] errors = record { decision = Deny; reason = []; errors = errors; cycle = [] }
@@ -107,14 +109,14 @@ decided (p ∷ permits) [] errors = record { decision = Allow; reason = p ∷ pe
 abbrev pub answer_by : List PolicyOutcome → Answer
 answer_by js = decided (satisfied Permit js) (satisfied Forbid js) (erring js)
 
--- `IsCycleDenial parents a` holds if some entity is cyclic, and `a` is a denial that names the least cycle and no
--- policies.
+-- `IsCycleDenial parents a` holds if some entity of the hierarchy `parents` is cyclic, and `a` is a denial that names
+-- the least cycle and no policies.
 pub record IsCycleDenial (parents : Parents) (a : Answer) : Type 0 where
   pub least : IsLeastCycle parents a.cycle
   pub rest : a ≡ record { decision = Deny; reason = []; errors = []; cycle = a.cycle }
 
--- `IsPolicyAnswer W q ps a` holds if no entity is cyclic, and `a` is the answer that follows from the outcomes of the
--- policies `ps`.
+-- `IsPolicyAnswer W q ps a` holds if no entity of `W` is cyclic, and `a` is the answer that follows from the outcomes
+-- of the policies `ps` under the request `q`.
 pub record IsPolicyAnswer (W : Entities) (q : Request) (ps : List NamedPolicy) (a : Answer) : Type 0 where
   pub acyclic : (uid : EntityUid) → IsAncestor W.parents uid uid → ⊥
   pub judged : List PolicyOutcome

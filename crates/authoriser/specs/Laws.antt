@@ -46,7 +46,8 @@ OneAnswerInFiniteHierarchies =
 
 -- ---- decisions
 
--- `IsSatisfied W q effect p` holds if the policy `p` has the effect `effect` and is satisfied.
+-- `IsSatisfied W q effect p` holds if the policy `p` has the effect `effect` and is satisfied under the request `q`,
+-- over the entities of `W`.
 abbrev pub IsSatisfied : Entities → Request → Effect → NamedPolicy → Type 0
 IsSatisfied W q effect p = (p.policy.effect ≡ effect) × PolicyEvaluatesTo W q p.policy Satisfied
 
@@ -64,7 +65,8 @@ pub data AreIdsOf (P : NamedPolicy → Type 0) : List NamedPolicy → List (List
   not_its_id : {p : NamedPolicy} {ps : List NamedPolicy} {ids : List (List ℕ)} → ¬ P p → AreIdsOf P ps ids
       → AreIdsOf P (p ∷ ps) ids
 
--- `AreErrorsOf W q ps errors` holds if `errors` are the erroring policies of `ps`, in order, each with its error.
+-- `AreErrorsOf W q ps errors` holds if `errors` are the erroring policies of `ps` under the request `q`, over the
+-- entities of `W`, in order, each with its error.
 pub data AreErrorsOf (W : Entities) (q : Request) : List NamedPolicy → List ErringPolicy → Type 0 where
   no_error : AreErrorsOf W q [] []
   its_error : {p : NamedPolicy} {ps : List NamedPolicy} {errors : List ErringPolicy} {error : PolicyError}
@@ -102,7 +104,8 @@ ErrorsAreReported = (W : Entities) (above : EntityUid → EntityUid → Bool) �
 
 -- ---- policies that may be removed
 
--- `IsIdle W q p` holds if the policy `p` is neither satisfied nor erroring under the request `q`.
+-- `IsIdle W q p` holds if the policy `p` is neither satisfied nor erroring under the request `q`, over the entities of
+-- `W`.
 pub record IsIdle (W : Entities) (q : Request) (p : NamedPolicy) : Type 0 where
   pub satisfied : ¬ PolicyEvaluatesTo W q p.policy Satisfied
   pub erring : (error : PolicyError) → ¬ PolicyEvaluatesTo W q p.policy (Errs error)

@@ -18,12 +18,13 @@ use Rattle.evaluator.specs.Evaluation.{EvaluatesTo, TestFails}
 use Rattle.evaluator.specs.ancestor_search.Hierarchy.{IsIn}
 use Rattle.scope_index.specs.Scopes.{IsEntityScopeTrue, IsActionScopeTrue, IsScopeTrue}
 
--- `GivesWhether W q x P` holds if the expression `x` evaluates to true if `P` holds, and to false if `P` does not hold.
+-- `GivesWhether W q x P` holds if, under the request `q` and over the entities of `W`, the expression `x` evaluates to
+-- true if `P` holds, and to false if `P` does not hold.
 abbrev pub GivesWhether : Entities → Request → Expr → Type 0 → Type 0
 GivesWhether W q x P = (P → EvaluatesTo W q x (Ok (boolean true))) × (¬ P → EvaluatesTo W q x (Ok (boolean false)))
 
--- `PartsDecide W q scope` holds if each part of `scope`, as an expression, evaluates to true if it is true of the
--- request `q`, and to false otherwise.
+-- `PartsDecide W q scope` holds if, over the entities of `W`, each part of `scope` as an expression evaluates to true
+-- if the part is true of the request `q`, and to false otherwise.
 pub record PartsDecide (W : Entities) (q : Request) (scope : Scope) : Type 0 where
   pub principal : GivesWhether W q (entity_part Principal scope.principal)
       (IsEntityScopeTrue (IsIn W.parents q.principal) scope.principal q.principal)
@@ -32,8 +33,9 @@ pub record PartsDecide (W : Entities) (q : Request) (scope : Scope) : Type 0 whe
   pub resource : GivesWhether W q (entity_part Resource scope.resource)
       (IsEntityScopeTrue (IsIn W.parents q.resource) scope.resource q.resource)
 
--- `ConditionDecides W q policy` holds if the whole expression of `policy` has the outcome of its condition: its
--- boolean, or the error with which it fails as a condition.
+-- `ConditionDecides W q policy` holds if, under the request `q` and over the entities of `W`, the whole expression of
+-- `policy` has the outcome of the policy's condition: the condition's boolean, or the error with which it fails as a
+-- condition (`TestFails` of evaluator).
 pub record ConditionDecides (W : Entities) (q : Request) (policy : Policy) : Type 0 where
   pub gives : (t : Bool) → EvaluatesTo W q policy.condition (Ok (boolean t))
       → EvaluatesTo W q (expression_of policy) (Ok (boolean t))

@@ -1,4 +1,4 @@
-//! Whether a policy's scope is true.
+//! Tests whether a policy's scope is true of a request.
 ghost use Rattle.std.specs.Prelude.{◌↔◌, IsTrue, Contains};
 ghost use Rattle.values.specs.declared.entity_uid.EntityUid.{EntityUid};
 ghost use Rattle.evaluator.specs.ancestor_search.Hierarchy.{IsAscending, names};
@@ -37,7 +37,7 @@ fn is_within(known: &KnownEntity<'_>, of: &EntityUid) -> bool
     }
 }
 
-/// Returns whether the principal or resource part of a scope is true.
+/// Returns whether `scope`, the principal or resource part of a scope, is true of the entity `known`.
 fn is_entity_scope_true(scope: &EntityScope, known: &KnownEntity<'_>) -> bool
     requires { IsAscending (names known.now.ancestors.items) }
     ensures { IsTrue result ↔ IsEntityScopeTrue (IsWithin known.now) scope.now known.now.uid.now }
@@ -53,7 +53,7 @@ fn is_entity_scope_true(scope: &EntityScope, known: &KnownEntity<'_>) -> bool
     }
 }
 
-/// Returns whether the action part of a scope is true.
+/// Returns whether `scope`, the action part of a scope, is true of the action `known`.
 fn is_action_scope_true(scope: &ActionScope, known: &KnownEntity<'_>) -> bool
     requires { IsAscending (names known.now.ancestors.items) }
     ensures { IsTrue result ↔ IsActionScopeTrue (IsWithin known.now) scope.now known.now.uid.now }

@@ -2,7 +2,8 @@
 //! entities, the request. It prints what `cedar_site decide` prints without `--schema`, and needs fewer crates.
 //!
 //! The line of the answer goes to standard output, with status 0; the line of an error goes to standard error, with
-//! status 1. The status is 2 for other arguments, and 3 if a file or the arguments can't be read, or a stream fails.
+//! status 1. The status is 2 for another number of arguments, and 3 if a file or the arguments can't be read, or a
+//! stream fails.
 #![tactic(auto)]
 
 use decision_texts::{Refusal, decide_texts, error_line};
@@ -86,8 +87,8 @@ fn decide_from_files(rt: &HostRuntime, policies: &str, entities: &str, request: 
     }
 }
 
-/// Decides the request over the three files that `words` names after the program's name. For another number of words it
-/// prints the usage, with status 2.
+/// Decides the request over the three files that `words`, the arguments, names after the program's name. For another
+/// number of arguments it prints the usage, with status 2.
 fn run(rt: &HostRuntime, words: &[String]) -> ExitCode {
     match words {
         [_, policies, entities, request] => decide_from_files(rt, policies, entities, request),

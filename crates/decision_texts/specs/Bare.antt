@@ -20,7 +20,7 @@ use Rattle.decision_texts.specs.declared.bare.ShapeFault.TheVariants.{BadShape}
 abbrev pub stated_uid : Data → Result EntityUid ShapeFault
 stated_uid d = or_fault BadShape (uid_in d)
 
--- `is_absent_or_empty o` tests for an absent value, or an object without members.
+-- `is_absent_or_empty o` tests whether the value `o` is absent (`None`), or an object without members.
 abbrev pub is_absent_or_empty : Option Data → Bool
 is_absent_or_empty None = true
 is_absent_or_empty (Some d) = has_only [] d

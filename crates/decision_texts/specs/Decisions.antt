@@ -86,17 +86,18 @@ pub record IsInOrder (policies ordered : List NamedPolicy) : Type 0 where
 
 -- ---- entity data
 
--- `stated es` is the data of the entities `es`, each under its uid.
+-- `stated es q` is the data of the first of the entities `es` with the uid `q`; `None` if none has this uid.
 abbrev pub stated : List Entity → EntityMap
 stated [] q = None
 stated (e ∷ es) q = if is_same e.uid q then Some (data_of e) else stated es q
 
--- `entity_data_with actions es` is the entity data that evaluation uses: the entities `es`, and the declared actions.
+-- `entity_data_with actions es` is the entity data that evaluation uses: the entities `es`, and the declared actions
+-- `actions`.
 abbrev pub entity_data_with : Actions → List Entity → Entities
 entity_data_with actions es = entity_data_in (with_actions actions (stated es))
 
 -- `IsAnswerTo policies W asked answer` holds if `answer` is the answer to the request `asked` over the entity data `W`
--- and the policies, in the order of their names.
+-- and `policies`, evaluated in the order of their names.
 pub record IsAnswerTo (policies : List NamedPolicy) (W : Entities) (asked : Request) (answer : Answer) : Type 0 where
   pub ordered : List NamedPolicy
   pub order : IsInOrder policies ordered
@@ -125,8 +126,8 @@ pub data AreInputsRejected (r : Reading) (entities request : List ℕ) (refusal 
 
 -- ---- the three texts
 
--- `IsDecided r policies entities request line` holds if the setting `r` parses the three texts and admits the policies,
--- and `line` is the line of the request's answer.
+-- `IsDecided r policies entities request line` holds if the setting `r` parses the texts `policies`, `entities` and
+-- `request` and admits the policies, and `line` is the line of the request's answer.
 pub record IsDecided (r : Reading) (policies entities request line : List ℕ) : Type 0 where
   pub names : List (List ℕ)
   pub cores : List Policy

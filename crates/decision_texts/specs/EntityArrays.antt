@@ -35,11 +35,12 @@ entity_at r ds place d = do
       (not (list_any (λ earlier. names entity.uid (r.entity earlier)) (take place ds)))
   Ok entity
 
--- `entities_in r ds` are the entities that the items `ds` of an array describe, or the first error with its index.
+-- `entities_in r ds` are the entities that the items `ds` of an array describe in the setting `r`, or the first error
+-- with its index.
 unfoldable pub entities_in : Reading → Items → Result (List Entity) Refusal
 entities_in r ds = each (entity_at r (list_of ds)) 0 (list_of ds)
 
--- `entities_of r text` are the entities that the JSON array `text` describes, or the first error.
+-- `entities_of r text` are the entities that the JSON array `text` describes in the setting `r`, or the first error.
 unfoldable pub entities_of : Reading → List ℕ → Result (List Entity) Refusal
 entities_of r text = do
   d ← or_fault (bad_shape None) (json_of text)

@@ -35,7 +35,7 @@ impl From<NoMemory> for ShapeFault {
     }
 }
 
-/// Returns the uid that a value describes, directly or under `__entity`.
+/// Returns the uid that a value describes, directly or under `__entity`; `BadShape` if it describes none.
 fn read_uid(alloc: Global, value: &Value) -> Result<EntityUid, ShapeFault>
     ensures { ReadsAs ShapeFault.NoMemory (λ u. u) result (stated_uid (view value.now)) }
 {
@@ -45,7 +45,7 @@ fn read_uid(alloc: Global, value: &Value) -> Result<EntityUid, ShapeFault>
     }
 }
 
-/// Returns the uids that the items of an entity's array `parents` describe.
+/// Returns the uids that the items of an entity's array `parents` describe; `BadShape` if one of them describes none.
 fn parent_uids(alloc: Global, values: &[Value]) -> Result<Items<EntityUid>, ShapeFault>
     ensures { ReadsAs ShapeFault.NoMemory (λ us. us) result (uids_of (items_view values.now)) }
 {
@@ -55,7 +55,8 @@ fn parent_uids(alloc: Global, values: &[Value]) -> Result<Items<EntityUid>, Shap
     }
 }
 
-/// Returns the parents of an entity, given the value of its key `parents`; an empty list if the key is absent.
+/// Returns the parents of an entity, given the value of its key `parents`; an empty list if the key is absent, and
+/// `BadShape` if the value is not an array of uids.
 fn read_parents(alloc: Global, parents: Option<&Value>) -> Result<Items<EntityUid>, ShapeFault>
     ensures { ReadsAs ShapeFault.NoMemory (λ us. us) result
         (stated_parents (option_map (λ v. view v.now) parents.entry)) }
@@ -86,7 +87,7 @@ fn is_bare(value: &Value) -> bool
     is_absent_or_empty(value.get("attrs")) && is_absent_or_empty(value.get("tags"))
 }
 
-/// Returns the entity that a value describes, without attributes.
+/// Returns the entity that a value describes, without attributes; `BadShape` if it describes none.
 #[tactic(auto, unfolding(crate::specs::Bare::entity_of))]
 pub(crate) fn read_entity(alloc: Global, value: &Value) -> Result<Entity, ShapeFault>
     ensures { ReadsAs ShapeFault.NoMemory (λ e. e) result (entity_of (view value.now)) }

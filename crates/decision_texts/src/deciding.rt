@@ -96,7 +96,7 @@ fn line_of<S: Setting>(
     answer_line(alloc, &answer)
 }
 
-/// Returns the line of the answer to the request of a text, over these policies and entities.
+/// Returns the line of the answer to the request of a text, over these policies and entities, or the request's error.
 fn line_to<S: Setting>(
     alloc: Global,
     setting: &S,
@@ -113,7 +113,8 @@ fn line_to<S: Setting>(
     Ok(line_of(alloc, setting, policies, store, &request)?)
 }
 
-/// Returns the line of the answer to the request of a text, over these policies and the entities of another text.
+/// Returns the line of the answer to the request of a text, over these policies and the entities of another text. An
+/// error of the entities is returned before one of the request.
 fn answer_texts<S: Setting>(
     alloc: Global,
     setting: &S,

@@ -16,7 +16,8 @@ use json_words::{ArrayMembers, Member, Scratch, members_of};
 use serde_json::Value;
 use std::alloc::Global;
 
-/// Returns the entity at an index of the array.
+/// Returns the entity that `value`, the item of the array at the index `place`, describes. An error has this index as
+/// its place.
 fn read_entity_at<S: Setting>(
     alloc: Global,
     setting: &S,
@@ -33,7 +34,7 @@ fn read_entity_at<S: Setting>(
 }
 
 /// Adds to the store the entity that `value`, the item of the array at the index `place`, describes. Drops the value
-/// before the store grows.
+/// before the store grows. Returns the entity's error, or 30 (bad shape) if the store has its uid.
 fn keep_entity<S: Setting>(
     alloc: Global,
     setting: &S,
@@ -65,7 +66,8 @@ fn if_json(alloc: Global, members: &mut ArrayMembers<'_>, refusal: Refusal) -> R
     }
 }
 
-/// Returns the entities of an array, whose uids are distinct. One member's JSON is in memory at a time.
+/// Returns the entities of an array, whose uids are distinct, or the first error. One member's JSON is in memory at a
+/// time. `members` has fewer than 2^63 JSON tokens left, so that the index of an entity does not overflow.
 fn read_array<S: Setting>(
     alloc: Global,
     setting: &S,
@@ -91,7 +93,7 @@ fn read_array<S: Setting>(
     }
 }
 
-/// Returns the entities of the JSON array in a text.
+/// Returns the entities of the JSON array in a text, or the first error.
 pub(crate) fn read_entities<S: Setting>(
     alloc: Global,
     setting: &S,

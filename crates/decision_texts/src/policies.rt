@@ -55,7 +55,7 @@ pub fn policies_of_file(alloc: Global, bytes: &[u8]) -> Result<Vec<(String, Poli
     }
 }
 
-/// Returns `policies`, or the error of their check `judged`.
+/// Returns `policies`, or the error in `judged`, the result of checking them.
 fn where_admitted<P: Drop>(policies: P, judged: Result<(), Refusal>) -> Result<P, Refusal>
     ensures { MatchResult judged (λ _. result ≡ Ok policies) (λ r. result ≡ Err r) }
 {

@@ -27,7 +27,8 @@ pub trait Setting {
     fn actions(&self) -> Self::Actions
         ensures { Self.Actions.declared result ≡ (reading self.now).actions };
 
-    /// Checks that the policies of a file, in the file's order, are admitted.
+    /// Checks that the policies of a file, in the file's order, are admitted. Returns their first error if they are
+    /// not.
     fn check_policies(&self, alloc: Global, policies: &[(String, Policy)]) -> Result<(), Refusal>
         ensures admitted { IfOk result (λ _. (reading self.now).admits (map (λ p. p.1) policies.now)) }
         ensures refused { IfErr result

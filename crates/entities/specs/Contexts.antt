@@ -17,9 +17,9 @@ use Rattle.entities.specs.declared.fault.EntityFault.{EntityFault}
 use Rattle.entities.specs.declared.fault.EntityFault.TheVariants.{BadShape, NotApplicable}
 use Rattle.entities.specs.Faults.{with_entity_fault}
 
--- A `EnvironmentKey` is the action, the principal type and the resource type of an environment. `context_where passes
--- es` is the type of the context in the first of the environments `es` whose place `passes` accepts. All environments
--- of an action have the same type of context.
+-- `context_where passes es` is the type of the context in the first of the environments `es` whose place `passes`
+-- accepts; `None` if it accepts none. The place of an environment, an `EnvironmentKey`, is its action, its principal
+-- type and its resource type. All environments of an action have the same type of context.
 abbrev pub context_where : (EnvironmentKey → Bool) → List EnvironmentOf → Option Cedar
 context_where passes [] = None
 context_where passes (e ∷ es) = if passes e.place then Some e.context else context_where passes es
@@ -34,7 +34,7 @@ abbrev pub is_place : EntityUid → List ℕ → List ℕ → EnvironmentKey →
 is_place action principal resource place =
     is_same place.action action && (bytes_eq place.principal principal && bytes_eq place.resource resource)
 
--- `context_in s action d` is the context of `action` that `d` describes, or the first error.
+-- `context_in s action d` is the context of `action` that `d` describes under the schema `s`, or the first error.
 unfoldable pub context_in : StatedSchema → EntityUid → Data → Result (List Field) EntityFault
 context_in s action d = do
   shape ← demand BadShape (is_some (as_object d))

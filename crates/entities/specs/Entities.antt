@@ -1,7 +1,7 @@
 -- Defines the entity that JSON describes under a schema, or the first error.
 -- Source: Cedar reference guide 4.0, "Entities and context: JSON format" and "Schema JSON format": an entity's
 -- attributes are those of its type's shape, and its parents are of types that `memberOfTypes` leads to.
--- Rules of this product: the order of the errors; no action is described as an entity; no entity has tags; no entity is
+-- Rules of this product: the order of the errors; no entity has the type of an action; no entity has tags; no entity is
 -- its own parent.
 use Rattle.std.specs.Prelude.{◌||◌, ◌==◌, ℕ, List, [], ◌∷◌, Bool, not, codes, ⊤, Result, Ok}
 use Rattle.std.specs.List.{ends_with}
@@ -23,45 +23,49 @@ use Rattle.entities.specs.Faults.{with_entity_fault}
 use Rattle.entities.specs.Stated.{is_absent_or_empty, or_empty, stated_in}
 use Rattle.entity_data.specs.UidSets.{uid_set}
 
--- `is_action_type name` tests whether the last word of a type's name is `Action`.
+-- `is_action_type name` tests whether the last word of the type's name `name` is `Action`.
 abbrev pub is_action_type : List ℕ → Bool
 is_action_type name = bytes_eq name (codes "Action") || ends_with (λ a b. a == b) name (codes "::Action")
 
--- `shape_of s name` is the shape of the entity type `name`: the attributes that its entities have, as a record.
+-- `shape_of s name` is the shape of the entity type `name` in the schema `s`: the record type of its entities'
+-- attributes. It is `ActionEntity` if `name` is the type of an action, else `UnknownType` if `s` does not declare it.
 unfoldable pub shape_of : StatedSchema → List ℕ → Result Cedar EntityFault
 shape_of s name = do
   other ← demand ActionEntity (not (is_action_type name))
   or_fault UnknownType (s.shape name)
 
--- `attributes_in s name d` are the attributes that `d` describes for an entity of the type `name`, or the first error.
+-- `attributes_in s name d` are the attributes that `d` describes for an entity of the type `name` of the schema `s`, or
+-- the first error.
 unfoldable pub attributes_in : StatedSchema → List ℕ → Data → Result (List Field) EntityFault
 attributes_in s name d = do
   shape ← shape_of s name
   untagged ← demand TagsLeftOut (is_absent_or_empty (get (codes "tags") d))
   with_entity_fault (record_in shape (or_empty (get (codes "attrs") d)))
 
--- `parent_fits s uid parent` checks that the entity `uid` may have the parent `parent`.
+-- `parent_fits s uid parent` checks that the entity `uid` may have the parent `parent` under the schema `s`: it is
+-- `SelfParent` if they are one entity, else `BadParent` if their types do not fit.
 unfoldable pub parent_fits : StatedSchema → EntityUid → EntityUid → Result ⊤ EntityFault
 parent_fits s uid parent = do
   other ← demand SelfParent (not (is_same parent uid))
   demand BadParent (s.may_have_parent uid.type_name parent.type_name)
 
--- `parents_fit s uid ps` checks that the entity `uid` may have each of the parents `ps`; the first that it may not have
--- gives the error.
+-- `parents_fit s uid ps` checks that the entity `uid` may have each of the parents `ps` under the schema `s`; the first
+-- that it may not have gives the error.
 unfoldable pub parents_fit : StatedSchema → EntityUid → List EntityUid → Result ⊤ EntityFault
 parents_fit s uid [] = Ok tt
 parents_fit s uid (p ∷ ps) = do
   fits ← parent_fits s uid p
   parents_fit s uid ps
 
--- `parents_in s uid ps` are the parents `ps`, ascending and without duplicates, if the entity `uid` may have them.
+-- `parents_in s uid ps` are the parents `ps`, ascending and without duplicates, if the entity `uid` may have them under
+-- the schema `s`; else the error of `parents_fit`.
 unfoldable pub parents_in : StatedSchema → EntityUid → List EntityUid → Result (List EntityUid) EntityFault
 parents_in s uid ps = do
   fit ← parents_fit s uid ps
   Ok (uid_set ps)
 
--- `entity_stated_in s d` is the entity that `d` describes, or its first error: of its form, then of its type, its tags,
--- its attributes and its parents.
+-- `entity_stated_in s d` is the entity that `d` describes under the schema `s`, or its first error: of its form, then
+-- of its type, its tags, its attributes and its parents.
 unfoldable pub entity_stated_in : StatedSchema → Data → Result Entity EntityFault
 entity_stated_in s d = do
   stated ← stated_in d

@@ -1,5 +1,4 @@
--- Defines the codes of the errors of entities, contexts and requests, and as which of these errors an error of a value
--- is reported.
+-- Defines the errors of entities, contexts and requests: their codes, and which of them reports an error of a value.
 -- Rules of this product: the codes.
 use Rattle.std.specs.Prelude.{ℕ, Result, Ok, Err}
 use Rattle.entities.specs.declared.value_fault.ValueFault.{ValueFault}

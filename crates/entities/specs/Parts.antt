@@ -26,7 +26,7 @@ fields_in (cedar.set t) = None
 fields_in (cedar.record_of fs) = Some fs
 fields_in (cedar.entity name) = None
 
--- `declared_at k fs` is the type of the first field `k` of `fs`, if there is one.
+-- `declared_at k fs` is the type of the first of the fields `fs` with the name `k`; `None` if none has it.
 abbrev pub declared_at : List ℕ → CedarFields → Option Cedar
 declared_at k no_fields = None
 declared_at k (field l t r fs) = if bytes_eq l k then Some t else declared_at k fs

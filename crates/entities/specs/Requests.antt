@@ -25,16 +25,16 @@ use Rattle.entities.specs.Contexts.{context_where, is_place}
 abbrev pub NamesAt : List ℕ → Data → EntityUid → Type 0
 NamesAt key d uid = MatchOption (get key d) ⊥ (λ found. NamesEntity found uid)
 
--- `Asks d asked` holds if `d` has the form of a request: it names the principal, the action and the resource `asked`,
--- and its context is an object or absent.
+-- `Asks d asked` holds if `d` has the form of a request: it names the principal, the action and the resource of
+-- `asked`, and its context is an object or absent.
 pub record Asks (d : Data) (asked : Asked) : Type 0 where
   pub principal : NamesAt (codes "principal") d asked.principal
   pub action : NamesAt (codes "action") d asked.action
   pub resource : NamesAt (codes "resource") d asked.resource
   pub context : is_absent_or_object (get (codes "context") d) ≡ true
 
--- `context_asked s asked d` is the context that `d` describes, of the type that the environment of the request `asked`
--- declares, or the first error.
+-- `context_asked s asked d` is the context that `d` describes, or the first error. The context has the type that the
+-- environment of the request `asked` in the schema `s` declares.
 unfoldable pub context_asked : StatedSchema → Asked → Data → Result (List Field) EntityFault
 context_asked s asked d = do
   type ← or_fault NotApplicable

@@ -1,4 +1,4 @@
--- Defines the form of an entity's JSON, whatever its type.
+-- Defines the form of an entity's JSON, whatever the entity's type.
 -- Source: Cedar reference guide 4.0, "Entities and context: JSON format": uid, attrs, parents, tags; a uid is
 -- {"type", "id"}, or this object under the key `__entity`.
 -- Rules of this product: absent `attrs`, `parents` and `tags` are empty, and null does not count as absent; other keys
@@ -15,12 +15,12 @@ use Rattle.entities.specs.declared.fault.EntityFault.{EntityFault}
 use Rattle.entities.specs.declared.fault.EntityFault.TheVariants.{BadShape}
 use Rattle.entities.specs.declared.stated.StatedEntity.{StatedEntity}
 
--- `is_absent_or_object o` tests for an absent value, or an object.
+-- `is_absent_or_object o` tests whether the value `o` is absent (`None`), or an object.
 abbrev pub is_absent_or_object : Option Data → Bool
 is_absent_or_object None = true
 is_absent_or_object (Some d) = is_some (as_object d)
 
--- `is_absent_or_empty o` tests for an absent value, or an object without members.
+-- `is_absent_or_empty o` tests whether the value `o` is absent (`None`), or an object without members.
 abbrev pub is_absent_or_empty : Option Data → Bool
 is_absent_or_empty None = true
 is_absent_or_empty (Some d) = has_only [] d

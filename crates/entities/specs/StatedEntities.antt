@@ -32,19 +32,19 @@ pub data ObjectAt (key : List ℕ) (d : Data) : Members → Type 0 where
   object_stands : (ms : Members) → get key d ≡ Some (object ms) → ObjectAt key d ms
   no_object : get key d ≡ None → ObjectAt key d no_members
 
--- `ParentsAt d uids` holds if `d` has an array of the names of `uids` at the key `parents`, or has nothing there and
--- `uids` is empty.
+-- `ParentsAt d uids` holds if `d` has at the key `parents` an array whose items describe `uids`, index by index, or has
+-- nothing there and `uids` is empty.
 pub data ParentsAt (d : Data) : List EntityUid → Type 0 where
   parents_stand : (ds : Items) (uids : List EntityUid) → get (codes "parents") d ≡ Some (array ds)
       → AllZip IsUid (list_of ds) uids → ParentsAt d uids
   no_parents : get (codes "parents") d ≡ None → ParentsAt d []
 
--- `UidAt d uid` holds if the value of `d` at the key `uid` is the name of `uid`.
+-- `UidAt d uid` holds if the value of `d` at the key `uid` describes the uid `uid`.
 abbrev pub UidAt : Data → EntityUid → Type 0
 UidAt d uid = (found : Data) × (get (codes "uid") d ≡ Some found) × IsUid found uid
 
--- `HasForm d uid parents attributes tags` holds if `d` has the form of an entity: its uid, the parents that it lists,
--- and the members of its attributes and of its tags.
+-- `HasForm d uid parents attributes tags` holds if `d` has the form of an entity: the uid `uid`, the list `parents` of
+-- parents, attributes with the members `attributes`, and tags with the members `tags`.
 pub record HasForm (d : Data) (uid : EntityUid) (parents : List EntityUid) (attributes tags : Members) : Type 0 where
   pub named : UidAt d uid
   pub has_attributes : ObjectAt (codes "attrs") d attributes
@@ -60,7 +60,7 @@ pub record HasShape (s : StatedSchema) (name : List ℕ) (shape : Cedar) : Type 
   pub declared : s.shape name ≡ Some shape
 
 -- `MayHaveParent s uid parent` holds if `parent` is another entity than `uid`, and one or more steps by `memberOfTypes`
--- lead from the type of `uid` to that of `parent`.
+-- in the schema `s` lead from the type of `uid` to that of `parent`.
 pub record MayHaveParent (s : StatedSchema) (uid parent : EntityUid) : Type 0 where
   pub other : parent ≡ uid → ⊥
   pub type_fits : IsTrue (s.may_have_parent uid.type_name parent.type_name)
@@ -82,8 +82,8 @@ pub record StatesEntity (s : StatedSchema) (d : Data) (e : Entity) : Type 0 wher
 
 -- ---- JSON that describes no entity
 
--- `RefusesParents s uid parents fault` holds if `fault` is the error of the first of `parents` that `uid` may not
--- have.
+-- `RefusesParents s uid parents fault` holds if `fault` is the error of the first of `parents` that `uid` may not have
+-- under the schema `s`.
 pub data RefusesParents (s : StatedSchema) (uid : EntityUid) : List EntityUid → EntityFault → Type 0 where
   self_parent : (parent : EntityUid) (more : List EntityUid) → parent ≡ uid
       → RefusesParents s uid (parent ∷ more) SelfParent

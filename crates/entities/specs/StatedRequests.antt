@@ -22,8 +22,8 @@ use Rattle.entities.specs.StatedEntities.{ObjectAt, IsReportedAs}
 
 -- ---- the context of an action
 
--- `IsOfAction action place` holds if `place` has the action `action`. (A `EnvironmentKey` is the action, the principal
--- type and the resource type of an environment.)
+-- `IsOfAction action place` holds if `place` has the action `action`. The place of an environment, an `EnvironmentKey`,
+-- is its action, its principal type and its resource type.
 abbrev pub IsOfAction : EntityUid → EnvironmentKey → Type 0
 IsOfAction action place = place.action ≡ action
 
@@ -42,30 +42,31 @@ pub data HasContext (IsPlace : EnvironmentKey → Type 0) : List EnvironmentOf �
   later_place : (e : EnvironmentOf) (more : List EnvironmentOf) (t : Cedar) → (IsPlace e.place → ⊥)
       → HasContext IsPlace more t → HasContext IsPlace (e ∷ more) t
 
--- `ReadsContext IsPlace s ms fields` holds if the object with the members `ms` describes the context `fields` of an
--- environment of the schema `s` for whose place `IsPlace` holds.
+-- `ReadsContext IsPlace s ms fields` holds if the object with the members `ms` describes the context `fields`, by the
+-- type in the first environment of the schema `s` for whose place `IsPlace` holds.
 pub record ReadsContext (IsPlace : EnvironmentKey → Type 0) (s : StatedSchema) (ms : Members) (fields : List Field)
     : Type 0 where
   pub shape : Cedar
   pub applies : HasContext IsPlace s.environments shape
   pub reads : Reads shape (object ms) (record_of (fields_of fields))
 
--- `FailsContext IsPlace s ms fault` holds if the object with the members `ms` describes no such context, and `fault` is
--- the first error: `IsPlace` holds for no environment's place, or the object is not a record of the context's type.
+-- `FailsContext IsPlace s ms fault` holds if the object with the members `ms` describes no context as `ReadsContext`
+-- does, and `fault` is the first error: `IsPlace` holds for the place of no environment of the schema `s`, or the
+-- object is not a record of the context's type.
 pub data FailsContext (IsPlace : EnvironmentKey → Type 0) (s : StatedSchema) (ms : Members) : EntityFault → Type 0 where
   not_applicable : ((t : Cedar) → HasContext IsPlace s.environments t → ⊥) → FailsContext IsPlace s ms NotApplicable
   bad_fields : (t : Cedar) (f : ValueFault) (fault : EntityFault) → HasContext IsPlace s.environments t
       → RefusesRecord t ms f → IsReportedAs f fault → FailsContext IsPlace s ms fault
 
--- `StatesContext s action d fields` holds if `d` is an object that describes the context `fields` of `action` under
--- `s`.
+-- `StatesContext s action d fields` holds if `d` is an object that describes the context `fields` of `action` under the
+-- schema `s`.
 pub record StatesContext (s : StatedSchema) (action : EntityUid) (d : Data) (fields : List Field) : Type 0 where
   pub members : Members
   pub is_object : d ≡ object members
   pub reads : ReadsContext (IsOfAction action) s members fields
 
--- `RefusesContext s action d fault` holds if `d` describes no context of `action` under `s`, and `fault` is the first
--- error.
+-- `RefusesContext s action d fault` holds if `d` describes no context of `action` under the schema `s`, and `fault` is
+-- the first error.
 pub data RefusesContext (s : StatedSchema) (action : EntityUid) (d : Data) : EntityFault → Type 0 where
   other_json : ((ms : Members) → d ≡ object ms → ⊥) → RefusesContext s action d BadShape
   bad_context : (ms : Members) (fault : EntityFault) → d ≡ object ms → FailsContext (IsOfAction action) s ms fault
@@ -73,8 +74,8 @@ pub data RefusesContext (s : StatedSchema) (action : EntityUid) (d : Data) : Ent
 
 -- ---- requests
 
--- `Asks d asked ms` holds if `d` has the form of a request: it names the principal, the action and the resource
--- `asked`, and its context is absent or an object, with the members `ms`.
+-- `Asks d asked ms` holds if `d` has the form of a request: it names the principal, the action and the resource of
+-- `asked`, and its context is an object with the members `ms`, or absent if `ms` is empty.
 pub record Asks (d : Data) (asked : Asked) (ms : Members) : Type 0 where
   pub principal : NamesAt (codes "principal") d asked.principal
   pub action : NamesAt (codes "action") d asked.action
@@ -88,8 +89,8 @@ pub record DescribesRequest (s : StatedSchema) (d : Data) (q : Request) : Type 0
   pub asks : Asks d (asked_by q) members
   pub reads : ReadsContext (AppliesTo (asked_by q)) s members q.context
 
--- `RefusesRequest s d fault` holds if `d` describes no request under `s`, and `fault` is the first error: that of the
--- form, else that the action does not apply, else that of the context.
+-- `RefusesRequest s d fault` holds if `d` describes no request under the schema `s`, and `fault` is the first error:
+-- that of the form, else that the action does not apply, else that of the context.
 pub data RefusesRequest (s : StatedSchema) (d : Data) : EntityFault → Type 0 where
   no_request : ((asked : Asked) (ms : Members) → Asks d asked ms → ⊥) → RefusesRequest s d BadShape
   bad_request : (asked : Asked) (ms : Members) (fault : EntityFault) → Asks d asked ms

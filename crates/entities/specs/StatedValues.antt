@@ -39,7 +39,7 @@ pub data Requires : CedarFields → List ℕ → Type 0 where
   later_required : (other : List ℕ) (u : Cedar) (required : Bool) (more : CedarFields) (key : List ℕ)
       → Requires more key → Requires (type.field other u required more) key
 
--- `HasKey members key` holds if one of the members of an object has the key `key`.
+-- `HasKey members key` holds if one of the members `members` of an object has the key `key`.
 pub data HasKey : Members → List ℕ → Type 0 where
   first_key : (key : List ℕ) (d : Data) (more : Members) → HasKey (member key d more) key
   later_key : (other : List ℕ) (d : Data) (more : Members) (key : List ℕ) → HasKey more key
@@ -102,8 +102,9 @@ mutual
 
 -- ---- objects that are not a record of a type
 
--- `FaultyMember fields ms fault` holds if `fault` is the error of the first faulty member of `ms`, by key: its key is
--- not declared in `fields`, or its JSON describes no value of the type declared for it.
+-- `FaultyMember fields ms fault` holds if `fault` is the error of the first faulty member of `ms`: its key is not
+-- declared in `fields`, or its JSON describes no value of the type declared for it. (In parsed JSON, members ascend by
+-- key.)
 pub data FaultyMember (fields : CedarFields) : Members → ValueFault → Type 0 where
   undeclared : (key : List ℕ) (d : Data) (ms : Members) → ((t : Cedar) → Declares fields key t → ⊥)
       → FaultyMember fields (member key d ms) Undeclared

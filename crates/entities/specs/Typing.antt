@@ -40,13 +40,14 @@ plain_call name d = do
   Ok argument
 
 -- `call_in name d` is the argument of the call of `name` that `d` is, or that is the value of the only key `__extn` of
--- `d`.
+-- `d`; `WrongType` if there is no such call.
 unfoldable pub call_in : List ℕ → Data → Result (List ℕ) ValueFault
 call_in name d = do
   inner ← under_key (codes "__extn") d (get (codes "__extn") d)
   plain_call name inner
 
--- `argument_or_call name d o` is the string `o`, or the argument of the call `d` of `name` if `o` is `None`.
+-- `argument_or_call name d o` is the string in `o` or, if `o` is `None`, the argument of the call of `name` that `d`
+-- describes.
 abbrev pub argument_or_call : List ℕ → Data → Option (List ℕ) → Result (List ℕ) ValueFault
 argument_or_call name d (Some s) = Ok s
 argument_or_call name d None = call_in name d
@@ -56,8 +57,8 @@ argument_or_call name d None = call_in name d
 unfoldable pub argument_in : List ℕ → Data → Result (List ℕ) ValueFault
 argument_in name d = argument_or_call name d (as_str d)
 
--- `boolean_in d`, `long_in d`, `text_in d`, `entity_in name d`, `decimal_in d` and `ipaddr_in d` are the values of
--- these types that `d` describes, or `WrongType`. The entity must have the type `name`.
+-- `boolean_in d`, `long_in d`, `text_in d`, `entity_in name d`, `decimal_in d` and `ipaddr_in d` are the boolean, the
+-- Long, the string, the entity of the type `name`, the decimal and the address that `d` describes, or `WrongType`.
 unfoldable pub boolean_in : Data → Result PlainValue ValueFault
 boolean_in d = do
   b ← or_fault WrongType (as_bool d)
@@ -131,9 +132,9 @@ abbrev pub inside : {A : Type 0} → Result A ValueFault → Result A ValueFault
 inside (Ok x) = Ok x
 inside (Err f) = Err WrongType
 
--- `typed_value t d` is the value of the type `t` that `d` describes, or `WrongType`; `typed_items t ds` are those of
--- the items `ds` of an array. `typed_members fs ms` are the fields that the members `ms` of an object describe by the
--- fields `fs` of a record type, or the first error.
+-- `typed_value t d` is the value of the type `t` that `d` describes, or `WrongType`. `typed_items t ds` are the values
+-- of the type `t` that the items `ds` of an array describe, or `WrongType`. `typed_members fs ms` are the fields that
+-- the members `ms` of an object describe by the fields `fs` of a record type, or the first error.
 unfoldable mutual
   pub typed_value : Cedar → Data → Result PlainValue ValueFault
   typed_value t json.null = leaf t json.null

@@ -28,9 +28,8 @@ abbrev pub CanonicalValueNests : Type 0
 CanonicalValueNests = (t : Cedar) (d : Data) (v : PlainValue) → typed_value t d ≡ Ok v
     → depth (value_json v) ≤ suc (deep t)
 
--- `WrittenIsReadAgain`: let `v` be parsed from some bytes by a type `t` that is not too large for a schema, and let
--- `text` be the canonical JSON of `v`, if that JSON nests within the parser's limit; then `text` is parsed as `v` by
--- `t`.
+-- `WrittenIsReadAgain`: let `v` be parsed from some bytes by a type `t` that is not too large for a schema. Let `text`
+-- be the canonical JSON of `v`, if that JSON nests within the parser's limit. Then `text` is parsed as `v` by `t`.
 abbrev pub WrittenIsReadAgain : Type 0
 WrittenIsReadAgain = (t : Cedar) (bytes text : List ℕ) (v : PlainValue) → (IsTooLarge t → ⊥)
     → text_typed t bytes ≡ Ok v → (depth (value_json v) ≤ max_depth → json_of text ≡ Some (value_json v))

@@ -10,8 +10,10 @@ pub fn json_texts_are_utf8()
     ensures { JsonTextsAreUtf8 }
 {}
 
-/// Proves that the canonical text of an entity that was parsed from bytes is a text of its canonical JSON, is parsed as
-/// that entity under the same schema, and is that of no other entity. No-op.
+/// Proves the round trip of the canonical text of an entity that was parsed from bytes. No-op.
+///
+/// The JSON of the text is the entity's canonical JSON. The text is parsed as that entity under the same schema, and no
+/// other parsed entity has it.
 pub fn canonical_texts_are_read()
     ensures json { CanonicalTextsAreJson }
     ensures back { CanonicalTextsReadBack }

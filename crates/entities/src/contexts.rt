@@ -27,7 +27,7 @@ impl Sought for EntityUid {
     }
 }
 
-/// Returns the context of an action that a value describes.
+/// Returns the context that a value describes for requests of an action, or the first error.
 #[tactic(auto, unfolding(crate::specs::Contexts::context_in))]
 fn context_in(
     alloc: Global,

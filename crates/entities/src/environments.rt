@@ -12,9 +12,9 @@ use schema::{Environment, EnvironmentKey, Schema, stated_schemas_are_well_formed
 use schema_types::CedarType;
 use std::cmp::Ordering;
 
-/// What a search for environments seeks.
+/// The environments that a search seeks, given by how other environments compare with them.
 pub(crate) trait Sought {
-    /// How the action and the types of an environment compare with those sought; equal if the environment is sought.
+    /// The comparison of an environment's action and types with those sought: equal if the environment is sought.
     ghost order: { Self → PlainPlace → PlainOrdering };
 
     /// Compares an environment's action and types with those sought.

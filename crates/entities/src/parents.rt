@@ -1,4 +1,4 @@
-//! The parents that an entity may have.
+//! The check that an entity may have its parents.
 ghost use Rattle.json_words.specs.ReadsAs.{ReadsAs};
 ghost use Rattle.schema.specs.Views.{schema_view};
 ghost use Rattle.entities.specs.declared.fault.EntityFault.TheVariants as EntityFault;
@@ -10,8 +10,8 @@ use plain::Items;
 use schema::Schema;
 use values::EntityUid;
 
-/// Checks that an entity may have this parent: another entity, whose type one or more steps by `memberOfTypes` reach
-/// from the type of `uid`.
+/// Checks that the entity `uid` may have this parent: that `parent` is another entity (else `SelfParent`), and that one
+/// or more steps by `memberOfTypes` lead from the type of `uid` to the type of `parent` (else `BadParent`).
 #[tactic(auto, unfolding(crate::specs::Entities::parent_fits))]
 fn demand_parent(schema: &Schema, uid: &EntityUid, parent: &EntityUid) -> Result<(), EntityFault>
     ensures { ReadsAs EntityFault.NoMemory (λ u. u) result (parent_fits (schema_view schema.now) uid.now parent.now) }
@@ -25,7 +25,7 @@ fn demand_parent(schema: &Schema, uid: &EntityUid, parent: &EntityUid) -> Result
     Ok(())
 }
 
-/// Checks that an entity may have each of these parents, in order.
+/// Checks that an entity may have each of these parents, in order. Returns the first error.
 fn demand_parents(
     schema: &Schema,
     uid: &EntityUid,
@@ -39,7 +39,7 @@ fn demand_parents(
     Ok(())
 }
 
-/// Returns these parents, ascending and without duplicates, if the entity may have each of them.
+/// Returns these parents, ascending and without duplicates, if the entity may have each of them; else the first error.
 #[tactic(auto, unfolding(crate::specs::Entities::parents_in))]
 pub(crate) fn checked_parents(
     schema: &Schema,

@@ -31,7 +31,8 @@ fn is_action_type(name: &TypeName) -> bool
     text == "Action" || text.as_bytes().ends_with(b"::Action")
 }
 
-/// Returns the shape of an entity type: the attributes that its entities have.
+/// Returns the shape of an entity type: the record type of its entities' attributes. Returns `ActionEntity` for an
+/// action type, else `UnknownType` if the type is not declared.
 #[tactic(auto, unfolding(crate::specs::Entities::shape_of))]
 fn shape_of<'s>(schema: &'s Schema, name: &TypeName) -> Result<&'s CedarType, EntityFault>
     ensures { AlwaysReadsAs (λ t. cedar_view t.now) result (shape_of (schema_view schema.now) name.now) }
@@ -45,7 +46,8 @@ fn shape_of<'s>(schema: &'s Schema, name: &TypeName) -> Result<&'s CedarType, En
     }
 }
 
-/// Returns the record of this type that a value describes; for an absent value, that of an empty object.
+/// Returns the record of this type that a value describes, or the first error. An absent value counts as an empty
+/// object.
 pub(crate) fn read_fields(
     alloc: Global,
     found: Option<&Value>,
@@ -63,7 +65,8 @@ pub(crate) fn read_fields(
     }
 }
 
-/// Returns the attributes that a value describes for an entity of this type.
+/// Returns the attributes that a value describes for an entity of this type, or the first error: of the type, then of
+/// the tags, then of the attributes.
 #[tactic(auto, unfolding(crate::specs::Entities::attributes_in))]
 fn read_attributes(
     alloc: Global,
@@ -81,7 +84,8 @@ fn read_attributes(
     read_fields(alloc, value.get("attrs"), shape)
 }
 
-/// Returns the entity that a value describes. Checks its form, then its type, its tags, its attributes and its parents.
+/// Returns the entity that a value describes, or the first error: of its form, then of its type, its tags, its
+/// attributes and its parents.
 #[tactic(auto, unfolding(crate::specs::Entities::entity_stated_in))]
 fn entity_in(alloc: Global, schema: &Schema, value: &Value) -> Result<Entity, EntityFault>
     ensures { ReadsAs EntityFault.NoMemory (λ e. e) result

@@ -31,7 +31,8 @@ pub struct Asked {
     pub resource: EntityUid,
 }
 
-/// Returns the entity that the value at a key names.
+/// Returns the uid of the entity that the value at a key names; `BadShape` if the key is absent or its value names
+/// none.
 fn read_name_at(alloc: Global, value: &Value, key: &str) -> Result<EntityUid, EntityFault>
     ensures read { IfOk result (NamesAt key.now (view value.now)) }
     ensures refused { IfErr result (λ f. f ≢ EntityFault.NoMemory
@@ -46,7 +47,7 @@ fn read_name_at(alloc: Global, value: &Value, key: &str) -> Result<EntityUid, En
     }
 }
 
-/// Returns the principal, action and resource of a request, if the value has the form of one.
+/// Returns the principal, action and resource of a request; `BadShape` if the value does not have the form of one.
 #[tactic(auto, using(crate::proofs::RequestLemmas::no_principal, crate::proofs::RequestLemmas::no_action, crate::proofs::RequestLemmas::no_resource, crate::proofs::RequestLemmas::no_context))]
 fn read_asked(alloc: Global, value: &Value) -> Result<Asked, EntityFault>
     ensures read { IfOk result (Asks (view value.now)) }
@@ -80,7 +81,8 @@ impl Sought for Asked {
     }
 }
 
-/// Returns the context that a value describes for a request.
+/// Returns the context that a value describes for the request `asked`. Returns `NotApplicable` if no environment is
+/// that of the request, else the first error of the context.
 #[tactic(auto, unfolding(crate::specs::Requests::context_asked))]
 fn read_context_of(
     alloc: Global,
@@ -97,7 +99,7 @@ fn read_context_of(
     }
 }
 
-/// Returns the request that a value describes.
+/// Returns the request that a value describes, or the first error.
 fn request_in(alloc: Global, schema: &Schema, value: &Value) -> Result<Request, EntityFault>
     ensures read { IfOk result (StatesRequest (schema_view schema.now) (view value.now)) }
     ensures refused { IfErr result
@@ -125,7 +127,7 @@ fn request_in(alloc: Global, schema: &Schema, value: &Value) -> Result<Request, 
 /// In this order:
 ///
 /// - `BadShape` (30): the value does not have this form.
-/// - `NotApplicable` (39): the action is not declared, or does not apply to the two types.
+/// - `NotApplicable` (39): the action is not declared, or does not apply to the types of principal and resource.
 /// - Of the first faulty member of the context, ascending by key: `Undeclared` (33), the member is not declared;
 ///   `WrongType` (35), its value is of another type.
 /// - `Missing` (34): a required member of the context is missing.

@@ -1,4 +1,4 @@
-//! Parsing of the form of an entity's JSON, whatever its type.
+//! Parsing of the form of an entity's JSON, whatever the entity's type.
 ghost use Rattle.std.specs.Prelude.{◌≡◌, option_map};
 ghost use Rattle.serde_json.specs.View.{view, items_view};
 ghost use Rattle.json_words.specs.ReadsAs.{ReadsAs};
@@ -21,7 +21,7 @@ pub struct StatedEntity {
     pub parents: Items<EntityUid>,
 }
 
-/// Returns the uid that a value describes, directly or under `__entity`.
+/// Returns the uid that a value describes, directly or under `__entity`; `BadShape` if it describes none.
 fn read_uid(alloc: Global, value: &Value) -> Result<EntityUid, EntityFault>
     ensures { ReadsAs EntityFault.NoMemory (λ u. u) result (stated_uid (view value.now)) }
 {
@@ -31,7 +31,7 @@ fn read_uid(alloc: Global, value: &Value) -> Result<EntityUid, EntityFault>
     }
 }
 
-/// Returns the uids that the items of an entity's array `parents` describe.
+/// Returns the uids that the items of an entity's array `parents` describe; `BadShape` if one of them describes none.
 fn parent_uids(alloc: Global, values: &[Value]) -> Result<Items<EntityUid>, EntityFault>
     ensures { ReadsAs EntityFault.NoMemory (λ us. us) result (uids_of (items_view values.now)) }
 {
@@ -41,7 +41,8 @@ fn parent_uids(alloc: Global, values: &[Value]) -> Result<Items<EntityUid>, Enti
     }
 }
 
-/// Returns the parents of an entity, given the value of its key `parents`; an empty list if the key is absent.
+/// Returns the parents of an entity, given the value of its key `parents`; an empty list if the key is absent, and
+/// `BadShape` if the value is not an array of uids.
 fn read_parents(alloc: Global, parents: Option<&Value>) -> Result<Items<EntityUid>, EntityFault>
     ensures { ReadsAs EntityFault.NoMemory (λ us. us) result
         (stated_parents (option_map (λ v. view v.now) parents.entry)) }
@@ -82,7 +83,8 @@ fn has_objects(value: &Value) -> bool
     is_absent_or_object(value.get("attrs")) && is_absent_or_object(value.get("tags"))
 }
 
-/// Returns the uid and the parents that an entity's JSON describes, if it has the form of an entity.
+/// Returns the uid and the parents that an entity's JSON describes; `BadShape` if it does not have the form of an
+/// entity.
 #[tactic(auto, unfolding(crate::specs::Stated::stated_in))]
 pub(crate) fn read_stated(alloc: Global, value: &Value) -> Result<StatedEntity, EntityFault>
     ensures { ReadsAs EntityFault.NoMemory (λ e. e) result (stated_in (view value.now)) }

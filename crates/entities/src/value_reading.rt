@@ -119,7 +119,8 @@ fn read_plain_call<'v>(value: &'v Json, name: &str) -> Result<&'v str, ValueFaul
     Ok(argument)
 }
 
-/// Returns the argument of a call of this name. The call is the value itself, or is under its only key `__extn`.
+/// Returns the argument of a call of this name; `WrongType` if there is no such call. The call is the value itself, or
+/// is under its only key `__extn`.
 #[tactic(auto, unfolding(crate::specs::Typing::call_in))]
 fn read_call<'v>(value: &'v Json, name: &str) -> Result<&'v str, ValueFault>
     ensures { AlwaysReadsAs (λ s. s.now) result (call_in name.now (view value.now)) }
@@ -135,7 +136,8 @@ fn read_call<'v>(value: &'v Json, name: &str) -> Result<&'v str, ValueFault>
     }
 }
 
-/// Returns the argument of an extension function: the string itself, or the argument of a call of this name.
+/// Returns the argument of the extension function `name`: the string itself, or the argument of a call of this name.
+/// Returns `WrongType` for other JSON.
 #[tactic(auto, unfolding(crate::specs::Typing::argument_in))]
 fn read_argument<'v>(value: &'v Json, name: &str) -> Result<&'v str, ValueFault>
     ensures { AlwaysReadsAs (λ s. s.now) result (argument_in name.now (view value.now)) }
@@ -146,21 +148,21 @@ fn read_argument<'v>(value: &'v Json, name: &str) -> Result<&'v str, ValueFault>
     }
 }
 
-/// Parses a decimal.
+/// Parses a decimal. Returns `None` if the string is not a decimal.
 fn parse_decimal(text: &str) -> Option<Decimal>
     ensures { result ≡ decimal_of text.now }
 {
     Decimal::parse(text)
 }
 
-/// Parses an IP address or range.
+/// Parses an IP address or range. Returns `None` if the string is neither.
 fn parse_network(text: &str) -> Option<IpNet>
     ensures { result ≡ network_of text.now }
 {
     IpNet::parse(text)
 }
 
-/// Parses a JSON value as a boolean.
+/// Parses a JSON value as a boolean. Returns `WrongType` for other JSON.
 #[tactic(auto, unfolding(crate::specs::Typing::boolean_in))]
 fn read_boolean(value: &Json) -> Result<Value, ValueFault>
     ensures { AlwaysReadsAs (λ v. v) result (boolean_in (view value.now)) }
@@ -171,14 +173,14 @@ fn read_boolean(value: &Json) -> Result<Value, ValueFault>
     }
 }
 
-/// Returns a 64-bit integer as a Long.
+/// Returns a signed 64-bit integer as a Long; never an error.
 fn long_value(number: i64) -> Result<Value, ValueFault>
     ensures { AlwaysReadsAs (λ v. v) result (long_of number) }
 {
     Ok(Value::long(number))
 }
 
-/// Parses a JSON value as a Long.
+/// Parses a JSON value as a Long. Returns `WrongType` unless it is an integer in signed 64 bits.
 #[tactic(auto, unfolding(crate::specs::Typing::long_in))]
 fn read_long(value: &Json) -> Result<Value, ValueFault>
     ensures { AlwaysReadsAs (λ v. v) result (long_in (view value.now)) }
@@ -192,7 +194,7 @@ fn read_long(value: &Json) -> Result<Value, ValueFault>
     }
 }
 
-/// Parses a JSON value as a string.
+/// Parses a JSON value as a string. Returns `WrongType` for other JSON.
 #[tactic(auto, unfolding(crate::specs::Typing::text_in))]
 fn read_text(alloc: Global, value: &Json) -> Result<Value, ValueFault>
     ensures { ReadsAs ValueFault.NoMemory (λ v. v) result (text_in (view value.now)) }
@@ -217,7 +219,7 @@ fn read_entity(alloc: Global, value: &Json, name: &TypeName) -> Result<Value, Va
     Ok(Value::entity(uid))
 }
 
-/// Parses a JSON value as a decimal.
+/// Parses a JSON value as a decimal. Returns `WrongType` if it describes none.
 #[tactic(auto, unfolding(crate::specs::Typing::decimal_in))]
 fn read_decimal(value: &Json) -> Result<Value, ValueFault>
     ensures { AlwaysReadsAs (λ v. v) result (decimal_in (view value.now)) }
@@ -229,7 +231,7 @@ fn read_decimal(value: &Json) -> Result<Value, ValueFault>
     }
 }
 
-/// Parses a JSON value as an IP address.
+/// Parses a JSON value as an IP address or range. Returns `WrongType` if it describes neither.
 #[tactic(auto, unfolding(crate::specs::Typing::ipaddr_in))]
 fn read_network(value: &Json) -> Result<Value, ValueFault>
     ensures { AlwaysReadsAs (λ v. v) result (ipaddr_in (view value.now)) }
@@ -241,8 +243,8 @@ fn read_network(value: &Json) -> Result<Value, ValueFault>
     }
 }
 
-/// Parses a JSON value as a value that is neither a set nor a record. Does not allocate for a boolean, an integer, a
-/// decimal or an IP address.
+/// Parses a JSON value as a value of a type that is neither a set type nor a record type. Returns `WrongType` for
+/// another type, and for other JSON. Does not allocate for a boolean, an integer, a decimal or an IP address.
 #[tactic(auto, using(crate::proofs::Nothing::always_reads))]
 fn read_leaf(alloc: Global, value: &Json, ty: &CedarType) -> Result<Value, ValueFault>
     ensures reads { ReadsAs ValueFault.NoMemory (λ v. v) result (leaf (cedar_view ty.now) (view value.now)) }
@@ -275,8 +277,8 @@ fn inside(fault: ValueFault) -> ValueFault
 
 /// Parses a JSON value as a value of this type.
 ///
-/// Returns `WrongType` if the JSON is no such value: for another kind of JSON, a number that is not a Long, a string
-/// that is not a decimal or an IP address, an entity of another type, a field that the type does not have, or a missing
+/// Returns `WrongType` if the JSON describes none: another kind of JSON; a number that is not a Long; a string that is
+/// not a decimal or an IP address; an entity of another type; a field that the type does not have; or a missing
 /// required field. Does not allocate for a boolean, an integer, a decimal or an IP address.
 #[cycle(typed_value)]
 #[tactic(auto, unfolding(crate::specs::Typing::typed_value))]
@@ -313,7 +315,7 @@ fn typed_value(alloc: Global, value: &Json, ty: &CedarType) -> Result<Value, Val
     }
 }
 
-/// Parses each item of an array as a value of this type.
+/// Parses each item of an array as a value of this type. Returns `WrongType` if one of them describes none.
 #[cycle(typed_value)]
 fn typed_items(alloc: Global, items: &Vec<Json>, ty: &CedarType) -> Result<Vec<Value>, ValueFault>
     ensures { ReadsAs ValueFault.NoMemory (λ vs. vs.items) result
@@ -328,6 +330,8 @@ fn typed_items(alloc: Global, items: &Vec<Json>, ty: &CedarType) -> Result<Vec<V
 }
 
 /// Parses the members of an object as fields of a record type. The fields are looked up in ascending order of the keys.
+/// Returns the error of the first faulty member: `Undeclared`, its key is not declared; `WrongType`, its value is not
+/// of the field's type.
 #[cycle(typed_value)]
 fn typed_members(
     alloc: Global,

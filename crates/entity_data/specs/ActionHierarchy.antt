@@ -7,17 +7,18 @@ use Rattle.evaluator.specs.ancestor_search.Hierarchy.{Parents}
 use Rattle.evaluator.specs.ancestor_search.LeastCycle.{HasNoCycle}
 use Rattle.entity_data.specs.Entities.{Actions}
 
--- `stated_parents o` are the parents of a uid, where `o` has its parents as a declared action; `[]` if `o` is `None`:
--- the uid is not that of an action.
+-- `stated_parents o` are the parents in `o`, or `[]` if `o` is `None`. Here `o` has the parents of a declared action;
+-- it is `None` for any other uid.
 abbrev pub stated_parents : Option (List EntityUid) → List EntityUid
 stated_parents None = []
 stated_parents (Some parents) = parents
 
--- `edges_of actions` are the edges from the actions to their parents.
+-- `edges_of actions` are the edges from the declared actions `actions` to their parents.
 abbrev pub edges_of : Actions → Parents
 edges_of actions u = stated_parents (actions u)
 
--- `IsActionHierarchy actions` holds if the parents of actions are actions, and no action is cyclic.
+-- `IsActionHierarchy actions` holds if the parents of the declared actions `actions` are among these actions, and none
+-- of these is cyclic.
 pub record IsActionHierarchy (actions : Actions) : Type 0 where
   pub among : (u parent : EntityUid) → Contains (edges_of actions u) parent → IsSome (actions parent)
   pub acyclic : HasNoCycle (edges_of actions)

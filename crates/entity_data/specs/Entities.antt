@@ -14,7 +14,7 @@ use Rattle.entity_data.specs.declared.data.EntityData.{EntityData}
 abbrev pub EntityMap : Type 0
 EntityMap = EntityUid → Option EntityData
 
--- `attributes_of o` are the attributes of the entity data `o`; `None` if `o` is.
+-- `attributes_of o` are the attributes of the entity data `o`; `None` if `o` is `None`.
 abbrev pub attributes_of : Option EntityData → Option (List Field)
 attributes_of None = None
 attributes_of (Some e) = Some e.attrs
@@ -35,7 +35,7 @@ AreListed entities us = (u : EntityUid) → Contains us u ↔ IsSome (entities u
 
 -- ---- actions
 
--- `Actions` are the parents of each declared action, `None` for any other uid.
+-- `Actions` give the parents of each declared action, and `None` for any other uid.
 abbrev pub Actions : Type 0
 Actions = EntityUid → Option (List EntityUid)
 
@@ -47,14 +47,14 @@ no_actions u = None
 abbrev pub AreActions : Actions → List EntityUid → Type 0
 AreActions actions us = (u : EntityUid) → Contains us u ↔ IsSome (actions u)
 
--- `action_or parents other` is the data of an action with the parents `parents` and without attributes; if `parents` is
--- `None`, so that the uid is not an action, it is the data `other` of the stored entity.
+-- `action_or parents other` is the data of an action with the parents in `parents` and without attributes. If `parents`
+-- is `None`, as for a uid of no declared action, it is the data `other` of the stored entity, which may also be `None`.
 abbrev pub action_or : Option (List EntityUid) → Option EntityData → Option EntityData
 action_or (Some parents) other = Some (record { attrs = []; parents = parents })
 action_or None other = other
 
--- `with_actions actions entities` are the stored entities and the declared actions; an action takes precedence over an
--- entity that is stored under its uid.
+-- `with_actions actions entities` are the stored entities `entities` and the declared actions `actions`; an action
+-- takes precedence over an entity that is stored under its uid.
 abbrev pub with_actions : Actions → EntityMap → EntityMap
 with_actions actions entities u = action_or (actions u) (entities u)
 

@@ -14,7 +14,7 @@ use Rattle.entity_data.specs.Listing.{keys_are_found}
 abbrev pub Entries : Type 0
 Entries = List (EntityUid × EntityData)
 
--- `kept_in es u` are the data of the uid `u` in the entries `es`, if it has an entry.
+-- `kept_in es u` are the data of the uid `u` in the entries `es`; `None` if `u` has no entry.
 abbrev pub kept_in : Entries → EntityMap
 kept_in es u = lookup (is_at (uid_cmp u)) es
 

@@ -1,5 +1,5 @@
--- Defines the proof that each stored entity and each action with parents is among the listed uids, so that a test over
--- these uids decides the ancestor relation.
+-- Defines the proof that a test over listed uids decides the ancestor relation. The list has the uids of the stored
+-- entities and of the declared actions, and so each uid with parents.
 use Rattle.std.proofs.Common.{◌≡◌, ◌↔◌, List, [], ◌∷◌, ◌++◌, Option, Some, None, Less, Equal, Greater, Bool, true}
 use Rattle.std.proofs.Common.{false, cond, map, refl, sym, subst, inl, inr}
 use Rattle.std.specs.Prelude.{Contains, IsSome, ◌⊎◌}
@@ -20,9 +20,11 @@ use Rattle.entity_data.specs.Entities.{with_actions, no_actions, uids_with}
 -- ---- the keys of entries are those that have a value
 
 module _ {X : Type 0} where
+  -- `keys_in es` are the keys of the entries `es`.
   abbrev keys_in : List (EntityUid × X) → List EntityUid
   keys_in es = map (λ e. e.0) es
 
+  -- `found_in es u` is the value of the key `u` in the entries `es`; `None` if `u` is not a key.
   abbrev found_in : List (EntityUid × X) → EntityUid → Option X
   found_in es u = lookup (is_at (uid_cmp u)) es
 
@@ -56,6 +58,7 @@ module _ {X : Type 0} where
 
 -- ---- a set of uids has the uids that it was made of
 
+-- `put_here` and `put_kept`: `put_uid u us` has `u` and each member of `us`.
 put_here : (u : EntityUid) (us : List EntityUid) → Contains (put_uid u us) u
 put_here u [] = Contains-here u []
 put_here u (v ∷ vs) =
@@ -115,6 +118,7 @@ pub kept_with_parents : (o : Option EntityData) (a : EntityUid) → Contains (ke
 kept_with_parents None a h = Contains-none a h
 kept_with_parents (Some e) a h = refl
 
+-- `action_or_kept`: a uid with a parent is that of an action or of a stored entity.
 action_or_kept : (actions : Option (List EntityUid)) (o : Option EntityData) (a : EntityUid)
     → Contains (kept_parents (action_or actions o)) a → IsSome actions ⊎ IsSome o
 action_or_kept None o a h = inr (kept_with_parents o a h)
@@ -122,6 +126,7 @@ action_or_kept (Some ps) o a h = inl refl
 
 module _ (actions : Actions) (declared : List EntityUid) (are : AreActions actions declared) (entities : EntityMap)
     (us : List EntityUid) (listed : AreListed entities us) where
+  -- `listed_with`: the uid of an action or of a stored entity is among `uids_with declared us`.
   listed_with : (u : EntityUid) → IsSome (actions u) ⊎ IsSome (entities u) → Contains (uids_with declared us) u
   listed_with u (inl h) = set_has (declared ++ us) u (in_first declared us u ((are u).1 h))
   listed_with u (inr h) = set_has (declared ++ us) u (in_second declared us u ((listed u).1 h))
@@ -137,5 +142,6 @@ module _ (actions : Actions) (declared : List EntityUid) (are : AreActions actio
 
 -- ---- nothing is an action if none is declared
 
+-- `none_is_an_action`: the list of the uids of `no_actions` is empty.
 pub none_is_an_action : AreActions no_actions []
 none_is_an_action u = ((λ h. Contains-none u h), (λ h. cc h))

@@ -1,4 +1,4 @@
--- Defines sets of uids: ascending, without duplicates.
+-- Defines sets of uids as lists that ascend, without duplicates.
 use Rattle.std.specs.Prelude.{List, [], ◌∷◌}
 use Rattle.std.specs.Ordering.{match_ordering}
 use Rattle.values.specs.declared.entity_uid.EntityUid.{EntityUid}

@@ -1,4 +1,4 @@
-//! Sources of actions.
+//! Sources of actions: the trait, and the source without actions.
 ghost use Rattle.std.specs.Prelude.{◌≡◌, [], List, None, option_map};
 ghost use Rattle.values.specs.declared.entity_uid.EntityUid.{EntityUid};
 ghost use Rattle.evaluator.specs.ancestor_search.Hierarchy.{IsAscending};
@@ -10,7 +10,7 @@ use values::EntityUid;
 
 /// A source of actions, each with its parents.
 pub trait ActionSource {
-    /// The parents of each action.
+    /// The parents of each action; `None` for any other uid.
     ghost declared: { Self → Actions };
 
     /// The uids of the actions.

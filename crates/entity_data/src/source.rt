@@ -10,7 +10,7 @@ use values::{EntityUid, Record};
 
 /// A source of entities, each with its attributes and its parents.
 pub trait EntitySource {
-    /// The data of each uid.
+    /// The data of each stored uid; `None` for any other uid.
     ghost kept: { Self → EntityMap };
 
     /// The uids that have data.

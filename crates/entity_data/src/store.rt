@@ -85,6 +85,7 @@ impl EntitySource for EntityStore {
     }
 
     fn kept_uids(&self, alloc: Global) -> Result<Vec<&EntityUid>, NoMemory> {
+        // the contract of `len` states that the keys ascend
         let _ordered = self.entries.len();
         self.entries.keys().collect(alloc)
     }

@@ -1,5 +1,5 @@
-//! The stored entities, as the search for cycles sees them: actions have no outgoing edges, since no cycle contains an
-//! action.
+//! The stored entities, as the graph in which cycles are searched: actions have no outgoing edges, since no cycle
+//! contains an action.
 ghost use Rattle.entity_data.specs.inner.EntityEdges.{entity_edges, edges_are_listed};
 
 use crate::actions::ActionSource;

@@ -22,7 +22,7 @@ use values::{EntityUid, Record};
 #[derive(Drop)]
 pub struct Entities<'a, S: EntitySource, A: ActionSource + Drop> {
     alloc: Global,
-    /// The source and the actions, as the search for cycles sees them.
+    /// The source and the actions, as the graph in which cycles are searched.
     stored_edges: StoredEdges<'a, S, A>,
     /// The attributes of each action: an empty record.
     nothing: Record,

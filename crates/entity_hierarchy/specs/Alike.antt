@@ -21,11 +21,11 @@ LeadAlike parents others = (a b : EntityUid) → IsAncestor parents a b ↔ IsAn
 abbrev pub HaveSameCycles : Parents → Parents → Type 0
 HaveSameCycles parents others = (walk : List EntityUid) → IsClosedWalk parents walk ↔ IsClosedWalk others walk
 
--- `GiveAlike W V` holds if each expression has the same outcome over the entity data `W` and `V`.
+-- `GiveAlike W V` holds if, for each request, each expression has the same outcome over the entity data `W` and `V`.
 abbrev pub GiveAlike : Entities → Entities → Type 0
 GiveAlike W V = (q : Request) (x : Expr) (r : EvaluationResult) → EvaluatesTo W q x r ↔ EvaluatesTo V q x r
 
--- `AnswerAlike W V` holds if each request has the same answer over `W` and `V`, for any policies.
+-- `AnswerAlike W V` holds if each request has the same answer over the entity data `W` and `V`, for any policies.
 abbrev pub AnswerAlike : Entities → Entities → Type 0
 AnswerAlike W V = (q : Request) (policies : List NamedPolicy) (a : Answer)
     → IsAnswer W q policies a ↔ IsAnswer V q policies a

@@ -30,7 +30,8 @@ abbrev pub by_member_of : ResolvedSchema → StatedSchema → Actions
 by_member_of s v u = option_map (λ above. action_parents s u) (v.ancestors u)
 
 -- `stated_world s v entities` is the entity data of the stored entities `entities` and the actions `by_member_of s v`.
--- `closed_world v entities` is the same, except that the parents of an action are all its ancestors.
+-- `closed_world v entities` is that of `entities` and the actions of the schema `v`, each with all its ancestors as its
+-- parents.
 abbrev pub stated_world : ResolvedSchema → StatedSchema → EntityMap → Entities
 stated_world s v entities = entity_data_in (with_actions (by_member_of s v) entities)
 

@@ -16,8 +16,8 @@ pub fn reach_decides()
 /// instead. No-op.
 ///
 /// The ancestor relation and the cyclic entities would be the same, each expression would have the same outcome, and
-/// each request the same answer. No cycle contains an action, whatever entities are stored. An entity that is put,
-/// under any uid and with any parents, is cyclic with the one choice of parents if and only if it is with the other.
+/// each request the same answer, whatever entities are stored. Nor would it change whether an entity is cyclic after it
+/// is put, under any uid and with any parents.
 pub fn actions_may_be_closed()
     ensures kept { MemberOfIsKept }
     ensures alike { MemberOfLeadsAlike }

@@ -17,8 +17,9 @@ fn text_under<'v>(member: (&'v String, &'v Value), key: &str) -> Option<&'v str>
     member.1.as_str()
 }
 
-/// Returns the two strings in an object that has exactly these two keys, each with a string as its value; `None` for
-/// another value. `lesser` must be less than `greater`, else the result is `None`. Visits each key once.
+/// Returns the two strings in an object that has exactly the keys `lesser` and `greater`, each with a string as its
+/// value; `None` for another value. `lesser` must be less than `greater`, else the result is `None`. Visits each key
+/// once.
 pub(crate) fn two_texts<'v>(
     value: &'v Value,
     lesser: &str,

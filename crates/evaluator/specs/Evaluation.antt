@@ -104,15 +104,15 @@ mutual
         → EvaluatesTo W q a (Ok v)
         → EvaluatesTo W q b (Ok w) → BinaryCallGives called v w r → EvaluatesTo W q (form.BinaryCall called a b) r
 
-  -- `TestFails W q x e` holds if `x` fails as a condition with the error `e`: the outcome of `x` is `e`, or it is a
-  -- value that is not a boolean, and `e` is `TypeError`.
+  -- `TestFails W q x e` holds if `x`, under the request `q` and over the entity data `W`, fails as a condition with the
+  -- error `e`: the outcome of `x` is `e`, or it is a value that is not a boolean, and `e` is `TypeError`.
   pub data TestFails (W : Entities) (q : Request) : Expr → EvalFault → Type 0 where
     test_errs : {a : Expr} {e : EvalFault} → EvaluatesTo W q a (Err e) → TestFails W q a e
     no_boolean : {a : Expr} {v : PlainValue} → EvaluatesTo W q a (Ok v) → boolean_in v ≡ None
         → TestFails W q a TypeError
 
-  -- `EachEvaluatesTo W q xs r` holds if `r` are the values of `xs` in order, or the error of the first of them that
-  -- has an error.
+  -- `EachEvaluatesTo W q xs r` holds if, under the request `q` and over the entity data `W`, `r` are the values of `xs`
+  -- in order, or the error of the first of `xs` that has an error.
   pub data EachEvaluatesTo (W : Entities) (q : Request)
       : List Expr → Result (List PlainValue) EvalFault → Type 0 where
     each_none : EachEvaluatesTo W q [] (Ok [])
@@ -125,19 +125,19 @@ mutual
 
 -- ---- contracts of an evaluator
 
--- Soundness: `IsSoundEvaluation W q x answer` holds if the result `answer`, unless it is `NoMemory`, is one that
--- `EvaluatesTo` relates to `x`.
+-- Soundness: `IsSoundEvaluation W q x answer` holds if the result `answer`, unless it is `NoMemory`, is an outcome of
+-- `x` under the request `q`, over the entity data `W`.
 abbrev pub IsSoundEvaluation : Entities → Request → Expr → EvaluationResult → Type 0
 IsSoundEvaluation W q x answer = MatchResult answer (λ v. EvaluatesTo W q x (Ok v))
     (λ e. e ≢ NoMemory → EvaluatesTo W q x (Err e))
 
--- Completeness: `IsCompleteEvaluation W q x answer` holds if each result that `EvaluatesTo` relates to `x` is `answer`,
--- unless `answer` is `NoMemory`.
+-- Completeness: `IsCompleteEvaluation W q x answer` holds if each outcome of `x` under the request `q`, over the entity
+-- data `W`, is the result `answer`, unless `answer` is `NoMemory`.
 abbrev pub IsCompleteEvaluation : Entities → Request → Expr → EvaluationResult → Type 0
 IsCompleteEvaluation W q x answer = (r : EvaluationResult) → EvaluatesTo W q x r → answer ≢ Err NoMemory → answer ≡ r
 
--- `AnswersTest W q x answer` holds if `answer` is the boolean that is the value of `x`, the error with which `x` fails
--- as a condition, or `NoMemory`.
+-- `AnswersTest W q x answer` holds if, under the request `q` and over the entity data `W`, `answer` is the boolean that
+-- is the value of `x`, the error with which `x` fails as a condition, or `NoMemory`.
 abbrev pub AnswersTest : Entities → Request → Expr → Result Bool EvalFault → Type 0
 AnswersTest W q x answer = MatchResult answer (λ t. EvaluatesTo W q x (Ok (boolean t)))
     (λ e. e ≢ NoMemory → TestFails W q x e)

@@ -36,7 +36,7 @@ pub record Entities : Type 0 where
   pub stored : EntityUid → Option (List Field)
   pub parents : Parents
 
--- `entities_with stored parents` is the entity data with these attributes and parents.
+-- `entities_with stored parents` is the entity data with the attributes `stored` and the parents `parents`.
 abbrev pub entities_with : (EntityUid → Option (List Field)) → Parents → Entities
 entities_with stored parents = record { stored = stored; parents = parents }
 
@@ -129,7 +129,7 @@ pub data HasGives (W : Entities) (name : List ℕ) : PlainValue → EvaluationRe
   has_of_other : {v : PlainValue} → record_fields_in v ≡ None → entity_uid_in v ≡ None
       → HasGives W name v (Err TypeError)
 
--- `IsTested called n` holds if the test `called` is true of the address `n`.
+-- `IsTested called n` holds if the test `called` is true of the IP address `n`.
 abbrev pub IsTested : UnaryCall → Network → Type 0
 IsTested IsIpv4 n = n.version ≡ V4
 IsTested IsIpv6 n = n.version ≡ V6

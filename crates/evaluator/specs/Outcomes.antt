@@ -14,8 +14,9 @@ use Rattle.evaluator.specs.declared.fault.EvalFault.TheVariants.{ArithBoundsErro
 abbrev pub EvaluationResult : Type 0
 EvaluationResult = Result PlainValue EvalFault
 
--- Each of these eight functions is the content of a value of one kind, `None` for a value of another kind: a boolean,
--- an integer, a string, an entity, the members of a set, the fields of a record, a decimal, an IP address.
+-- Each of these eight functions gives the content of a value of one kind, and `None` for a value of another kind. In
+-- order, the contents are a boolean, an integer, a string, an entity, the members of a set, the fields of a record, a
+-- decimal, and an IP address.
 
 abbrev pub boolean_in : PlainValue → Option Bool
 boolean_in (boolean b) = Some b

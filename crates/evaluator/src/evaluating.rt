@@ -26,8 +26,8 @@ use plain::Items;
 use std::alloc::Global;
 use values::{Record, Request, Value};
 
-/// Evaluates an expression under a request, over the stored entities. Like [`evaluate_in`], but copies a borrowed
-/// value.
+/// Evaluates an expression under a request, over the stored entities. Like [`evaluate_in`], with the same errors, but
+/// copies a borrowed value.
 pub fn evaluate<'a, L: Lookup>(
     alloc: Global,
     expr: &'a Expr,

@@ -129,7 +129,7 @@ fn field_of_computed<'a, L: Lookup>(
     }
 }
 
-/// Returns the value of a field or an attribute.
+/// Returns the value of a field or an attribute of `owner`.
 pub(crate) fn field<'a, L: Lookup>(
     alloc: Global,
     store: &'a L,

@@ -67,7 +67,7 @@ pub(crate) fn on_operand<'a>(
     }
 }
 
-/// Returns the result of an operator on a value and the value of its second operand.
+/// Returns the result of an operator on `left`, the value of its first operand, and the value of its second.
 #[inline(never)]
 pub(crate) fn on_operands<'a, L: Lookup>(
     store: &L,
@@ -98,7 +98,7 @@ pub(crate) fn called_on<'a>(
     }
 }
 
-/// Returns the result of a call on a value and the value of its second operand.
+/// Returns the result of a call on `left`, the value of its first operand, and the value of its second.
 #[inline(never)]
 pub(crate) fn called_on_two<'a>(
     called: BinaryCall,
@@ -166,7 +166,7 @@ pub(crate) fn owned<'a>(
     Ok(BorrowedOrOwned::computed(value_of(alloc, given)?))
 }
 
-/// Appends the value of the operand to the values.
+/// Appends the value of the operand to `values`.
 pub(crate) fn add_value(
     alloc: Global,
     values: &mut Vec<Value>,

@@ -7,7 +7,7 @@ use Rattle.values.specs.Values.{PlainValue}
 
 -- `AttributeGives unstored missing stored name r` holds if `r` is the result of accessing the attribute `name` of an
 -- entity with the attributes `stored`, which is `None` if the entity is not stored. `r` is the attribute's value, the
--- error `missing` if the entity has no such attribute, or the error `unstored` if it is not stored.
+-- error `missing` if the entity has no such attribute, or the error `unstored` if the entity is not stored.
 pub data AttributeGives {E : Type 0} (unstored missing : E) (stored : Option (List Field)) (name : List ℕ)
     : Result PlainValue E → Type 0 where
   attribute : {v : PlainValue} (fs : List Field) → stored ≡ Some fs → find_field name fs ≡ Some v

@@ -29,7 +29,7 @@ network_cmp_total =
     then_total (on_total (λ n. version_number n.version) nat_cmp_total)
     (then_total (on_total (λ n. n.address) nat_cmp_total) (on_total (λ n. n.prefix) nat_cmp_total))
 
--- `version_of k` is the version of the number `k`.
+-- `version_of k` is the version of the number `k`: IPv4 if `k` is 4, else IPv6.
 abbrev pub version_of : ℕ → Version
 version_of k = if k == 4 then V4 else V6
 
@@ -73,7 +73,7 @@ network_numbers n = (version_number n.version, (n.address, n.prefix))
 abbrev pub network_of : ℕ × (ℕ × ℕ) → Network
 network_of k = record { version = version_of k.0; address = k.1.0; prefix = k.1.1 }
 
--- The three numbers of a network represent that network.
+-- `network_of-network_numbers`: the three numbers of a network represent that network.
 pub network_of-network_numbers : (n : Network) → network_of (network_numbers n) ≡ n
 network_of-network_numbers n =
     λ i. record { version = version_back n.version i; address = n.address; prefix = n.prefix }

@@ -26,7 +26,7 @@ pub(crate) fn address_of_text(text: &str) -> Option<(Version, u128)>
     Some((Version::V6, address))
 }
 
-/// Parses an IPv4 address, or returns `None`.
+/// Parses an IPv4 address. Returns `None` for any other string.
 fn ipv4_of_text(text: &str) -> Option<u32>
     ensures some { IfSome result (IsAddressText V4 text.now) }
     ensures none { IsNone result → (n : ℕ) → ¬ (IsAddressText V4 text.now n) }
@@ -37,7 +37,7 @@ fn ipv4_of_text(text: &str) -> Option<u32>
     }
 }
 
-/// Parses an IPv6 address without an embedded IPv4 address, or returns `None`.
+/// Parses an IPv6 address without an embedded IPv4 address. Returns `None` for any other string.
 fn ipv6_of_text(text: &str) -> Option<u128>
     ensures some { IfSome result (IsAddressText V6 text.now) }
     ensures none { IsNone result → (n : ℕ) → ¬ (IsAddressText V6 text.now n) }
@@ -61,7 +61,7 @@ pub(crate) fn prefix_of_text(text: &str, bits: u8) -> Option<u8>
     if prefix <= bits { Some(prefix) } else { None }
 }
 
-/// Parses a decimal number up to 255 without leading zeros, or returns `None`.
+/// Parses a decimal number up to 255 without leading zeros. Returns `None` for any other string.
 fn decimal_of_text(text: &str) -> Option<u8>
     ensures some { IfSome result (λ n. text.now ≡ decimal n) }
     ensures none { IsNone result → (n : ℕ) → n < 256 → ¬ (text.now ≡ decimal n) }

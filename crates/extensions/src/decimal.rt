@@ -127,7 +127,8 @@ impl Ord for Decimal {
     }
 }
 
-/// Appends a number of ten-thousandths with four digits after the point, in at most 20 bytes.
+/// Appends a number of ten-thousandths with four digits after the point, in at most 20 bytes. `out` has capacity for 20
+/// more.
 fn append_size(size: u64, out: &mut String)
     requires small { size ≤ 2 ^ 63 }
     requires room { string_len out.old + 20 ≤ string_capacity out.old }
@@ -153,7 +154,8 @@ fn size_of_text(text: &str) -> Option<u64>
     joined(whole, fraction)
 }
 
-/// Returns the number of ten-thousandths of a whole part and a fraction, or `None` if it is `2^64` or more.
+/// Returns the number of ten-thousandths in `whole` units and `fraction` ten-thousandths, or `None` if it is `2^64` or
+/// more.
 fn joined(whole: u64, fraction: u64) -> Option<u64>
     ensures { SomeIff result (whole * 10000 + fraction < 2 ^ 64) (whole * 10000 + fraction) }
 {
@@ -186,7 +188,7 @@ fn ten_thousandths(fraction: &str) -> Option<u64>
     Some(number(fraction)? * scale(places))
 }
 
-/// Returns the number of ten-thousandths in a unit of the last of `places` decimal places.
+/// Returns the number of ten-thousandths in a unit of the last of `places` decimal places, as 100 for two places.
 fn scale(places: usize) -> u64
     requires { places ≤ 4 }
     ensures { result ≡ 10 ^ (4 - places) }

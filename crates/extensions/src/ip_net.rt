@@ -31,7 +31,7 @@ pub enum Version {
     V6,
 }
 
-/// A network: an address, unmasked, and the length of its prefix in bits. Contracts see a `Network`.
+/// A network: an IP version, an address, unmasked, and the length of its prefix in bits. Contracts see a `Network`.
 ///
 /// Networks are ordered by version (IPv4 before IPv6), then by address, then by prefix.
 #[derive(Clone, Copy)]
@@ -304,8 +304,8 @@ pub fn one_network_a_text()
     ensures { (text : List ℕ) (m n : Network) → IsNetworkText text m → IsNetworkText text n → m ≡ n }
 {}
 
-/// Proves that `network_of` gives the network of a string if and only if the string denotes it; and that
-/// `within_decided a b` is true if and only if the range of `a` is within that of `b`. No-op.
+/// Proves that `network_of` gives the network of a string if and only if the string denotes it. Proves also that
+/// `within_decided a b` is a proof if and only if the range of `a` is within that of `b`. No-op.
 pub fn network_texts_are_decided()
     ensures texts { (text : List ℕ) (n : Network) → (network_of text ≡ Some n) ↔ IsNetworkText text n }
     ensures ranges { (a b : Network) → IsTrue (is_proved (within_decided a b)) ↔ IsWithin a b }

@@ -1,7 +1,7 @@
 -- Defines the table of operators, functions, methods and variables: names, numbers of arguments, and ranks.
 -- Source: Cedar reference guide 4.0, "Operators and functions", and the extensions "decimal" and "ipaddr".
--- Rules of this product: a rank is the index at which grammar_core declares the operator; ranks serve only for
--- look-ups.
+-- Rules of this product: a rank is the index of an operator, function, method or variable among the variants of its
+-- type in the code; ranks serve only for look-ups.
 use Rattle.std.specs.Prelude.{◌≡◌, refl, ℕ, List, [], ◌∷◌, Option, Some, None, codes, if◌then◌else◌, cond, ◌==◌}
 use Rattle.std.specs.Str.{bytes_eq}
 use Rattle.grammar_core.specs.declared.leaf.Variable.{Variable}

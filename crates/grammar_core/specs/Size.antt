@@ -15,7 +15,7 @@ abbrev pub total : List ℕ → ℕ
 total [] = 0
 total (n ∷ ns) = n + total ns
 
--- `values_of fields` are the values of named fields.
+-- `values_of fields` are the values of the fields `fields` of a record.
 abbrev pub values_of : {X : Type 0} → List (Named X) → List X
 values_of fields = map (λ f. f.value) fields
 

@@ -27,7 +27,8 @@ impl Model for Pattern {
 }
 
 impl Pattern {
-    /// Returns the pattern whose literal texts are `literals`, with a wildcard between each two. Does not allocate.
+    /// Returns the pattern whose literal texts are `literals`, at least one, with a wildcard between each two. Does not
+    /// allocate.
     pub fn from_literals(literals: Vec<Text>) -> Pattern
         requires { 0 < length literals.items }
         ensures { result ≡ literals.items }
@@ -55,7 +56,7 @@ impl Pattern {
     }
 
     /// Returns whether a string matches the pattern: whether it is a concatenation of pieces, one for each literal and
-    /// each wildcard in order, where a literal's piece equals the literal and a wildcard's piece is any string.
+    /// each wildcard in order. A literal's piece equals the literal, and a wildcard's piece is any string.
     ///
     /// O(length of the pattern times length of the string). Does not allocate.
     pub fn matches(&self, text: &str) -> bool

@@ -1,5 +1,5 @@
--- Defines the core expression of a syntax tree over the text that its tokens are in, by one equation for each form of
--- tree. For a tree with errors, which is rejected, the expression means nothing.
+-- Defines the core expression of a syntax tree over the text that its tokens are in (`text` in each definition), by one
+-- equation for each form of tree. For a tree with errors, which is rejected, the expression means nothing.
 -- Source: Cedar reference guide 4.0, "Grammar specification for Cedar policy syntax" and "Operators and functions".
 -- Operators of one level group to the left.
 use Rattle.std.specs.Prelude.{ℕ, ℤ, false, List, [], ◌∷◌, map, Option, Some, None}
@@ -41,7 +41,7 @@ pub record Meaning : Type 0 where
 abbrev pub long : ℤ → Expr
 long n = core.Literal (literal.Long n)
 
--- `number digits` is the meaning of a number. A minus before a number belongs to the number.
+-- `number digits` is the meaning of the number that `digits` denote. A minus before a number belongs to the number.
 abbrev pub number : List ℕ → Meaning
 number digits = record { alone = long (positive digits); negated = long (negative digits) }
 
@@ -49,7 +49,8 @@ number digits = record { alone = long (positive digits); negated = long (negativ
 abbrev pub plain : Expr → Meaning
 plain e = record { alone = e; negated = core.Unary Negate e }
 
--- `compared operator a b` is the comparison of `a` and `b`: `!=`, `>` and `>=` are the negations of `==`, `<=` and `<`.
+-- `compared operator a b` is the comparison of `a` and `b` by `operator`: `!=`, `>` and `>=` are the negations of `==`,
+-- `<=` and `<`.
 abbrev pub compared : Comparison → Expr → Expr → Expr
 compared is.Less a b = core.Binary Less a b
 compared is.LessOrEqual a b = core.Binary LessOrEqual a b

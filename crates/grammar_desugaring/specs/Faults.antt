@@ -1,5 +1,6 @@
--- Defines the errors of a syntax tree over the text that its tokens are in. The list has the errors of a call of a
--- function, or of a record, before those of its parts; and those of an expression before those of each access to it.
+-- Defines the errors of a syntax tree over the text that its tokens are in (`text` in each definition). The list has
+-- the errors of a call of a function, or of a record, before those of its parts; and those of an expression before
+-- those of each access to it.
 -- Source: Cedar reference guide 4.0, "Data types: Long", "Data types: Record", "Operators and functions". The offsets
 -- are a rule of this product.
 use Rattle.std.specs.Prelude.{ℕ, Bool, List, [], ◌∷◌, ◌++◌, map, length, Option, Some, None, nat_eq, if◌then◌else◌}
@@ -26,7 +27,7 @@ pub record Faulty : Type 0 where
   pub alone : List DesugarFault
   pub negated : List DesugarFault
 
--- `either_way faults` are the errors `faults`, by itself and after a minus.
+-- `either_way faults` has the errors `faults` for a tree by itself, and the same for the tree after a minus.
 abbrev pub either_way : List DesugarFault → Faulty
 either_way faults = record { alone = faults; negated = faults }
 
@@ -46,15 +47,15 @@ call_faults at (Some takes) count = if nat_eq count takes then [] else Arity at 
 abbrev pub function_faults : List ℕ → PathTree → ℕ → List DesugarFault
 function_faults text path count = call_faults path.first.start (function_takes (function text path)) count
 
--- `access_faults text access` are the errors of an access, in which every argument is replaced by its errors: that of
--- the call of a method, at the method's name, and then those of the arguments.
+-- `access_faults text access` are the errors of the access `access`, in which every argument is replaced by its errors:
+-- that of the call of a method, at the method's name, and then those of the arguments.
 abbrev pub access_faults : List ℕ → Access (List (List DesugarFault)) → List DesugarFault
 access_faults text (access.Field key) = []
 access_faults text (access.Method name arguments) =
     call_faults name.start (method_takes (method_of (spelling_of text name))) (length arguments)
     ++ flat_map (λ faults. faults) arguments
 
--- `key_of text entry` is the key of a record's entry, with its offset.
+-- `key_of text entry` is the key of `entry`, an entry of a record, with its offset.
 abbrev pub key_of : List ℕ → {A : Type 0} → RecordEntry A → NameAt
 key_of text entry = record { name = name_of text entry.key; at = place_of entry.key }
 

@@ -11,11 +11,11 @@ at (UnknownCall place) = place
 at (Arity place) = place
 at (RepeatedKey place) = place
 
--- `earlier e f` is the error at the lesser offset, or `e` if both are at one offset.
+-- `earlier e f` is the one of the errors `e` and `f` at the lesser offset, or `e` if both are at one offset.
 abbrev pub earlier : DesugarFault → DesugarFault → DesugarFault
 earlier e f = if nat_lt (at f) (at e) then f else e
 
--- `earlier_of a b` is the earlier of the errors that are present.
+-- `earlier_of a b` is the earlier of the errors `a` and `b` that are present; `None` if neither is.
 abbrev pub earlier_of : Option DesugarFault → Option DesugarFault → Option DesugarFault
 earlier_of None other = other
 earlier_of (Some e) None = Some e

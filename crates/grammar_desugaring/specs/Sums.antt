@@ -90,8 +90,8 @@ measured_term text j term = paired j (measured text term.operand)
 abbrev pub measured_entry : List ℕ → Measure → RecordEntry ExprTree → Measure
 measured_entry text j entry = side_by_side j (measured text entry.value)
 
--- `measured_compared operator i j` is the measure of a comparison of operands with the measures `i` and `j`. `>`, `>=`
--- and `!=` become negations, which have one more node.
+-- `measured_compared operator i j` is the measure of a comparison by `operator` of operands with the measures `i` and
+-- `j`. `>`, `>=` and `!=` become negations, which have one more node.
 abbrev pub measured_compared : Comparison → Measure → Measure → Measure
 measured_compared is.Less i j = paired i j
 measured_compared is.LessOrEqual i j = paired i j
@@ -107,7 +107,7 @@ measured_call text path arguments =
     let fault = least (function_faults text path (length arguments)) in
     called fault (with_fault fault (measured_all text arguments))
 
--- `measured_access text j access` is the measure of an access to an expression with the measure `j`.
+-- `measured_access text j access` is the measure of the access `access` to an expression with the measure `j`.
 abbrev pub measured_access : List ℕ → Measure → Access (List ExprTree) → Measure
 measured_access text j (access.Field key) = above j
 measured_access text j (access.Method name arguments) =

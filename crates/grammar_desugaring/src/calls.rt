@@ -23,7 +23,7 @@ fn single(arguments: Items<Expr>) -> Option<Expr>
     if rest.len() == 1 { rest.pop() } else { None }
 }
 
-/// Returns a call of a function, or the placeholder; or the error of its arguments.
+/// Returns a call of a function; or the placeholder, if there is no such call; or the error of its arguments.
 pub(crate) fn call(
     alloc: Global,
     function: Option<UnaryCall>,
@@ -41,7 +41,7 @@ pub(crate) fn call(
     }
 }
 
-/// Returns a call of a method with one argument, or the placeholder.
+/// Returns a call of a method with one argument, or the placeholder if the method takes no argument.
 fn call_with(
     alloc: Global,
     method: Method,
@@ -57,7 +57,7 @@ fn call_with(
     }
 }
 
-/// Returns a call of a method that takes no arguments, or the placeholder.
+/// Returns a call of a method that takes no arguments, or the placeholder if there are some.
 fn call_alone(
     alloc: Global,
     called: UnaryCall,
@@ -73,7 +73,7 @@ fn call_alone(
     }
 }
 
-/// Returns a call of a method, or the placeholder; or the error of its arguments.
+/// Returns a call of a method; or the placeholder, if there is no such call; or the error of its arguments.
 pub(crate) fn call_with_row(
     alloc: Global,
     method: Option<Method>,

@@ -1,5 +1,5 @@
-//! Core expressions made of their operands. An operand is passed as a result, since building it may fail; the functions
-//! return its error.
+//! Core expressions made of their operands. An operand whose building may have failed is passed as a result; the
+//! functions return its error.
 ghost use Rattle.std.specs.Prelude.{◌≡◌, IfOk};
 ghost use Rattle.grammar_trees.specs.grammar_tokens.Lexing.{spelling_of};
 ghost use Rattle.grammar_core.specs.declared.operator.Unary.TheVariants as unary;

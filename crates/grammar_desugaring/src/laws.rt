@@ -4,8 +4,8 @@ ghost use Rattle.grammar_desugaring.specs.Repeats.{RepeatsAreExact, RepeatsAreRe
 ghost use Rattle.grammar_desugaring.specs.Strings.{ValueIsValue, PatternIsPattern};
 ghost use Rattle.grammar_desugaring.specs.Sums.{LiteralIsLeaf, UnaryIsAbove, AndIsPaired};
 
-/// Proves that the error that `least` reports of a list is one of the list at the least offset; that it reports one
-/// unless the list is empty; and that of two lists together it reports the earlier of their reported errors. No-op.
+/// Proves that the error that `least` reports of a list is one of the list at the least offset, and that it reports one
+/// unless the list is empty. Of two lists together it reports the earlier of their reported errors. No-op.
 pub fn least_fault_is_reported()
     ensures least { LeastIsLeast }
     ensures none { NoneOfNone }

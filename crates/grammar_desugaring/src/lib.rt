@@ -1,5 +1,5 @@
 //! Desugaring of syntax trees of expressions into core expressions. Desugaring checks that numbers are in range, that
-//! calls are known and have the right number of arguments, and that keys of records are distinct; and it writes all
+//! calls are known and have the right number of arguments, and that keys of records are distinct. It writes all
 //! operators in terms of the core ones.
 #![tactic(auto)]
 

@@ -65,7 +65,7 @@ fn measure_negated_number(text: &str, token: Token) -> Measure
 }
 
 /// Returns the error of a call at offset `at` with `count` arguments, of a name that takes `takes` arguments, or that
-/// is unknown (`None`).
+/// is unknown (`None`). Returns `None` if the numbers agree.
 fn call_fault(at: usize, takes: Option<usize>, count: usize) -> Option<DesugarFault>
     ensures { result ≡ least (call_faults at takes count) }
 {
@@ -92,7 +92,7 @@ pub(crate) fn function_at(text: &str, path: &PathTree) -> Option<UnaryCall>
     }
 }
 
-/// Returns the error of a call of the function `path` with `count` arguments.
+/// Returns the error of a call of the function `path` with `count` arguments, if there is one.
 fn function_fault(text: &str, path: &PathTree, count: usize) -> Option<DesugarFault>
     requires { PathIn text.now path.now }
     ensures { result ≡ least (function_faults text.now path.now count) }
@@ -104,7 +104,7 @@ fn function_fault(text: &str, path: &PathTree, count: usize) -> Option<DesugarFa
     call_fault(path.first.start, takes, count)
 }
 
-/// Returns the error of a call of the method `name` with `count` arguments.
+/// Returns the error of a call of the method `name` with `count` arguments, if there is one.
 fn method_fault(text: &str, name: Token, count: usize) -> Option<DesugarFault>
     requires { TokenIn text.now identifiers name }
     ensures { result ≡ least (call_faults name.start (method_takes (method_of (spelling_of text.now name))) count) }
@@ -138,7 +138,7 @@ fn record(fault: Result<Option<DesugarFault>, NoMemory>, entries: MeasureResult)
     Ok(entries?.with_fault(fault).above())
 }
 
-/// Returns the measure of `left operator right`: a negated comparison has one more node.
+/// Returns the measure of `left operator right`. `>`, `>=` and `!=` become negations, which have one more node.
 fn compare(operator: Comparison, operands: BothMeasured) -> MeasureResult
     ensures { IfOk result (λ j. Gave operands (λ pair. j ≡ spec.measured_compared operator pair.0 pair.1)) }
 {

@@ -1,4 +1,4 @@
-//! Combinations of the results of building parts.
+//! Functions that combine the results of building the parts of an expression.
 ghost use Rattle.std.specs.Prelude.{◌≡◌, ◌++◌, ◌∷◌, [], IfOk};
 ghost use Rattle.grammar_desugaring.specs.inner.Giving.{Gave};
 

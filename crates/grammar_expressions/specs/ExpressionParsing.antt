@@ -66,7 +66,7 @@ abbrev pub symbol_by : {A : Type 0} → Option A → Token → List Token → Pa
 symbol_by None t ts = Stop Unexpected (t ∷ ts)
 symbol_by (Some a) t ts = Read a ts
 
--- `symbol meaning` parses a token whose kind has a meaning, which is the value.
+-- `symbol meaning` parses a token whose kind has a meaning by `meaning`; this is the value.
 unfoldable pub symbol : {A : Type 0} → (TokenKind → Option A) → Parser A
 symbol meaning [] = Stop Unexpected []
 symbol meaning (t ∷ ts) = symbol_by (meaning t.kind) t ts
@@ -118,7 +118,7 @@ module _ (may : Bool) (inner : Parser ExprTree) where
   unfoldable pub next_argument : Parser ExprTree
   next_argument = token k.Comma >> inner
 
-  -- `rest_of_arguments first` parses the expressions after the first.
+  -- `rest_of_arguments first` parses the arguments after `first`; its value is all of them, `first` included.
   unfoldable pub rest_of_arguments : ExprTree → Parser (List ExprTree)
   rest_of_arguments first = many (only k.Comma) next_argument >>= (λ more. pure (first ∷ more))
 
@@ -146,7 +146,7 @@ module _ (may : Bool) (inner : Parser ExprTree) where
   unfoldable pub next_entry : Parser (RecordEntry ExprTree)
   next_entry = token k.Comma >> entry
 
-  -- `rest_of_entries first` parses the entries after the first.
+  -- `rest_of_entries first` parses the entries after `first`; its value is all of them, `first` included.
   unfoldable pub rest_of_entries : RecordEntry ExprTree → Parser (List (RecordEntry ExprTree))
   rest_of_entries first = many (only k.Comma) next_entry >>= (λ more. pure (first ∷ more))
 
@@ -171,7 +171,7 @@ module _ (may : Bool) (inner : Parser ExprTree) where
   named_as (name.Uid u) = pure (tree.Uid u)
   named_as (name.Path p) = call_or_variable p
 
-  -- `rest_of_named first` parses a Uid, a call or a variable after its first word.
+  -- `rest_of_named first` parses a Uid, a call or a variable after its first word, `first`.
   unfoldable pub rest_of_named : Token → Parser ExprTree
   rest_of_named first = rest_of_name first >>= named_as
 
@@ -219,7 +219,7 @@ module _ (may : Bool) (inner : Parser ExprTree) where
   abbrev pub call_arguments : Parser (Option (List ExprTree))
   call_arguments = called >>= (λ found. pure (Some found))
 
-  -- `maybe_called` parses the arguments of a method if "(" comes next.
+  -- `maybe_called` parses the arguments of a method if "(" comes next, else nothing.
   unfoldable pub maybe_called : Parser (Option (List ExprTree))
   maybe_called = either (only k.LParen) (gate may call_arguments) (pure None)
 
@@ -268,14 +268,14 @@ module _ (may : Bool) (inner : Parser ExprTree) where
   unfoldable pub factors : Parser (List ExprTree)
   factors = many (only k.Star) factor
 
-  -- `product` parses a product: one Unary or several.
+  -- `product` parses a Product: one Unary or several, with "*" between each two.
   unfoldable pub product : Parser ExprTree
   product = do
     x ← unary
     more ← factors
     pure (joined tree.Product x more)
 
-  -- `term` parses "+" or "-" and a product.
+  -- `term` parses "+" or "-" and a Product.
   unfoldable pub term : Parser (Term ExprTree)
   term = do
     sign ← symbol sign_of
@@ -286,43 +286,43 @@ module _ (may : Bool) (inner : Parser ExprTree) where
   unfoldable pub terms : Parser (List (Term ExprTree))
   terms = many signs term
 
-  -- `sum` parses a sum: one product or several.
+  -- `sum` parses a Sum: one Product or several, with "+" or "-" between each two.
   unfoldable pub sum : Parser ExprTree
   sum = do
     x ← product
     more ← terms
     pure (joined tree.Sum x more)
 
-  -- `compared x` parses a comparison of `x` with a sum.
+  -- `compared x` parses a comparison operator, of which "in" is one, and a Sum, after the Sum `x`.
   unfoldable pub compared : ExprTree → Parser ExprTree
   compared x = do
     operator ← symbol comparison_of
     y ← sum
     pure (tree.Compare x operator y)
 
-  -- `has x` parses "has" and a key, after the sum `x`.
+  -- `has x` parses "has" and a key, after the Sum `x`.
   unfoldable pub has : ExprTree → Parser ExprTree
   has x = do
     token k.Has
     name ← key
     pure (tree.Has x name)
 
-  -- `like x` parses "like" and a pattern, after the sum `x`.
+  -- `like x` parses "like" and a pattern, after the Sum `x`.
   unfoldable pub like : ExprTree → Parser ExprTree
   like x = do
     token k.Like
     pattern_text ← take patterns
     pure (tree.Like x pattern_text)
 
-  -- `inside` parses "in" and a sum.
+  -- `inside` parses "in" and a Sum.
   unfoldable pub inside : Parser ExprTree
   inside = token k.In >> sum
 
-  -- `maybe_inside` parses "in" and a sum if "in" comes next.
+  -- `maybe_inside` parses "in" and a Sum if "in" comes next, else nothing.
   unfoldable pub maybe_inside : Parser (Option ExprTree)
   maybe_inside = optional (only k.In) inside
 
-  -- `type_test x` parses "is", a Path and maybe "in" and a sum, after the sum `x`.
+  -- `type_test x` parses "is", a Path and maybe "in" and a Sum, after the Sum `x`.
   unfoldable pub type_test : ExprTree → Parser ExprTree
   type_test x = do
     token k.Is
@@ -335,7 +335,7 @@ module _ (may : Bool) (inner : Parser ExprTree) where
   unfoldable pub test_tail : ExprTree → Parser ExprTree
   test_tail x = either (only k.Has) (has x) (either (only k.Like) (like x) (either (only k.Is) (type_test x) (pure x)))
 
-  -- `related x` parses the tail, which may be empty, of the Relation that begins with the sum `x`.
+  -- `related x` parses the tail, which may be empty, of the Relation that begins with the Sum `x`.
   unfoldable pub related : ExprTree → Parser ExprTree
   related x = either comparisons (compared x) (test_tail x)
 
@@ -351,7 +351,7 @@ module _ (may : Bool) (inner : Parser ExprTree) where
   unfoldable pub ands : Parser (List ExprTree)
   ands = many (only k.And) next_and
 
-  -- `conjunction` parses one Relation or several.
+  -- `conjunction` parses one Relation or several, with "&&" between each two.
   unfoldable pub conjunction : Parser ExprTree
   conjunction = do
     x ← relation
@@ -366,7 +366,7 @@ module _ (may : Bool) (inner : Parser ExprTree) where
   unfoldable pub ors : Parser (List ExprTree)
   ors = many (only k.Or) next_or
 
-  -- `disjunction` parses one conjunction or several.
+  -- `disjunction` parses one conjunction or several, with "||" between each two.
   unfoldable pub disjunction : Parser ExprTree
   disjunction = do
     x ← conjunction
@@ -385,11 +385,11 @@ module _ (may : Bool) (inner : Parser ExprTree) where
   abbrev pub consequent : Parser ExprTree
   consequent = branch k.Then
 
-  -- `decided test then_tree` parses the rest of a conditional after its `then` branch.
+  -- `decided test then_tree` parses the rest of a conditional after its test `test` and its `then` branch `then_tree`.
   unfoldable pub decided : ExprTree → ExprTree → Parser ExprTree
   decided test then_tree = alternative >>= (λ else_tree. pure (tree.If test then_tree else_tree))
 
-  -- `conditional_tail test` parses the rest of a conditional after its test.
+  -- `conditional_tail test` parses the rest of a conditional after its test, `test`.
   unfoldable pub conditional_tail : ExprTree → Parser ExprTree
   conditional_tail test = consequent >>= decided test
 

@@ -32,7 +32,7 @@ use Rattle.grammar_trees.specs.grammar_tokens.Grammar.{identifiers, path, uid}
 
 -- ## Tokens whose kind is all their meaning
 
--- `symbol meaning`: one token whose kind has a meaning, with that meaning as its value
+-- `symbol meaning`: one token whose kind has a meaning by `meaning`, with that meaning as its value
 abbrev pub symbol : {A : Type 0} → (TokenKind → Option A) → Lang A
 symbol meaning ts a = (t : Token) × (ts ≡ t ∷ []) × (meaning t.kind ≡ Some a)
 
@@ -97,7 +97,8 @@ abbrev pub joined : {A : Type 0} → (ExprTree → List A → ExprTree) → Expr
 joined make x [] = x
 joined make x (next ∷ more) = make x (next ∷ more)
 
--- `accessed name arguments` is an access by a dot: a method if there are arguments, else a field.
+-- `accessed name arguments` is an access by a dot: a call of the method `name` if `arguments` is a list, even an empty
+-- one; the field `name` if it is `None`.
 abbrev pub accessed : Token → Option (List ExprTree) → Access (List ExprTree)
 accessed name None = access.Field (Word name)
 accessed name (Some arguments) = access.Method name arguments
@@ -107,7 +108,8 @@ abbrev pub is_in : ExprTree → PathTree → Option ExprTree → ExprTree
 is_in x type_name None = tree.Is x type_name
 is_in x type_name (Some y) = tree.IsIn x type_name y
 
--- `chain first piece make`: First { Piece }, with the tree that `make` builds from the first and the pieces
+-- `chain first piece make`: First { Piece }, where First is `first` and Piece is `piece`, with the tree that `make`
+-- builds from the first and the pieces
 abbrev pub chain : {A : Type 0} → Lang ExprTree → Lang A → (ExprTree → List A → ExprTree) → Lang ExprTree
 chain first piece make = do
   x ← first
@@ -310,8 +312,8 @@ abbrev pub is_positive : ℕ → Bool
 is_positive zero = false
 is_positive (suc n) = true
 
--- `expr levels`: Expr, with at most `levels` levels of nesting: its own, and one more inside parentheses, brackets,
--- braces or call arguments, and in each part of an `if`.
+-- `expr levels`: Expr, with at most `levels` levels of nesting. The expression itself is on the first level;
+-- parentheses, brackets, braces, call arguments and each part of an `if` add one.
 unfoldable pub expr : ℕ → Lang ExprTree
 expr zero = never
 expr (suc levels) = level (is_positive levels) (expr levels)

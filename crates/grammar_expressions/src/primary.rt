@@ -223,7 +223,8 @@ impl<F: Fn(Global, &mut Cursor<'_>, usize) -> Result<ExprTree, StopCause>> Reade
         self.rest_of_entries(tokens, first)
     }
 
-    /// Parses what follows a Path: the arguments of a call, or nothing if the Path names a variable.
+    /// Parses what follows a Path: the arguments of a call, or nothing if the Path names a variable. The "(" of a call
+    /// is `TooDeep` if no level is left.
     #[tactic(auto, unfolding(crate::specs::ExpressionParsing::call_or_variable))]
     fn call_or_variable(
         &self,
@@ -315,7 +316,8 @@ impl<F: Fn(Global, &mut Cursor<'_>, usize) -> Result<ExprTree, StopCause>> Reade
         self.braced(tokens)
     }
 
-    /// Parses Variable | Uid | Call | "(" Expr ")" | "[" Arguments "]" | "{" .. "}" | Literal.
+    /// Parses Variable | Uid | Call | "(" Expr ")" | "[" Arguments "]" | "{" .. "}" | Literal. An opening bracket is
+    /// `TooDeep` if no level is left.
     #[tactic(auto, unfolding(crate::specs::ExpressionParsing::primary))]
     pub(crate) fn primary(&self, tokens: &mut Cursor<'_>) -> Result<ExprTree, StopCause>
         requires { Nests self.now.levels (F.pre self.now.expr) (F.post self.now.expr) }

@@ -101,7 +101,7 @@ impl<F: Fn(Global, &mut Cursor<'_>, usize) -> Result<ExprTree, StopCause>> Reade
         Ok(Some(Tail::Compared(operator, y)))
     }
 
-    /// Parses "in" Sum if "in" comes next.
+    /// Parses "in" Sum if "in" comes next, else returns `None`.
     #[tactic(auto, unfolding(crate::specs::ExpressionParsing::maybe_inside, crate::specs::ExpressionParsing::inside))]
     fn maybe_inside(&self, tokens: &mut Cursor<'_>) -> Result<Option<Boxed<ExprTree>>, StopCause>
         requires { Nests self.now.levels (F.pre self.now.expr) (F.post self.now.expr) }
@@ -163,7 +163,7 @@ impl<F: Fn(Global, &mut Cursor<'_>, usize) -> Result<ExprTree, StopCause>> Reade
         self.test_tail(tokens)
     }
 
-    /// Parses a tail after `x`, and returns the relation of both.
+    /// Parses a tail after the Sum `x`, and returns the relation of both; without a tail it returns `x`.
     #[tactic(auto, unfolding(crate::specs::inner::Tails::joined))]
     fn join_tail(&self, tokens: &mut Cursor<'_>, x: ExprTree) -> Result<ExprTree, StopCause>
         requires { Nests self.now.levels (F.pre self.now.expr) (F.post self.now.expr) }

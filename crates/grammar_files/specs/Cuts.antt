@@ -16,7 +16,7 @@ use Rattle.grammar_policies.specs.grammar_tokens.Lexing.{IsLexed}
 use Rattle.grammar_policies.specs.declared.tree.PolicyTree.{PolicyTree}
 use Rattle.grammar_policies.specs.Grammar.{policies, policy}
 
--- `is_end k` tests for `;`, which ends a policy.
+-- `is_end k` tests whether `k` is the kind of `;`, which ends a policy.
 abbrev pub is_end : TokenKind → Bool
 is_end k.Semicolon = true
 is_end _ = false
@@ -28,7 +28,8 @@ parts_from text from [] = []
 parts_from text from (t ∷ ts) =
     if is_end t.kind then slice_range text from t.end ∷ parts_from text t.end ts else parts_from text from ts
 
--- `left_from from ts` is the byte after the last part of `parts_from`, or `from` if there is no part.
+-- `left_from from ts` is the byte after the last part that `parts_from` gives for the same `from` and `ts`, or `from`
+-- if there is no part.
 abbrev pub left_from : ℕ → List Token → ℕ
 left_from from [] = from
 left_from from (t ∷ ts) = if is_end t.kind then left_from t.end ts else left_from from ts
@@ -81,7 +82,8 @@ abbrev pub AreAsManyAsPolicies : Type 0
 AreAsManyAsPolicies = (levels : ℕ) (text : List ℕ) (ts : List Token) (trees : List PolicyTree) (texts : List (List ℕ))
     → IsLexed text ts → policies levels ts trees → AreTextsOf text texts → length texts ≡ length trees
 
--- `DerivesPolicy levels text` holds if `text` by itself has tokens that derive a policy.
+-- `DerivesPolicy levels text` holds if `text` by itself has tokens that derive a policy of at most `levels` levels of
+-- nesting.
 pub record DerivesPolicy (levels : ℕ) (text : List ℕ) : Type 0 where
   pub tokens : List Token
   pub lexed : IsLexed text tokens

@@ -43,7 +43,7 @@ fn cut<'t>(alloc: Global, text: &'t str, tokens: &[Token]) -> Result<Vec<&'t str
 ///
 /// # Errors
 ///
-/// - `BadToken`: the first byte at which neither whitespace nor a comment nor a token starts.
+/// - `BadToken`: neither whitespace nor a comment nor a token starts at this byte.
 /// - `NoMemory`: an allocation failed; possible at any point.
 pub fn policy_texts<'t>(alloc: Global, text: &'t str) -> Result<Vec<&'t str>, LexFault>
     ensures cut { IfOk result (λ texts. AreTextsOf text.now (map (λ t. t.now) texts.items)) }

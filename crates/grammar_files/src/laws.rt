@@ -5,8 +5,7 @@ ghost use Rattle.grammar_files.specs.Cuts.{EachDerivesPolicy};
 use grammar_policies::lexing_is_unique;
 
 /// Proves that the texts of a file's policies, with the whitespace before each and the rest after the last, are the
-/// file; and that each text by itself has tokens, of which exactly the last is a `;`, and this `;` ends the text.
-/// No-op.
+/// file. Each text by itself has tokens, of which exactly the last is a `;`, and this `;` ends the text. No-op.
 pub fn texts_are_self_contained()
     ensures join { PartsJoin }
     ensures spaced { EachIsSpaced }

@@ -136,7 +136,7 @@ meant_in ((d, meant) ∷ table) c = if nat_eq c d then Some meant else meant_in 
 abbrev pub escaped : ℕ → Option ℕ
 escaped c = meant_in escapes c
 
--- `is_hex c` tests for a hexadecimal digit, of either case.
+-- `is_hex c` tests whether the byte `c` is a hexadecimal digit, of either case.
 unfoldable pub is_hex : ℕ → Bool
 is_hex c = nat_lt (digit_value c) 16
 
@@ -166,7 +166,7 @@ pub data IsBody : List Piece → List ℕ → Type 0 where
   escape : {p : Piece} {ps : List Piece} {w : List ℕ} (e rest : List ℕ) → IsEscape p e → w ≡ e ++ rest → IsBody ps rest
       → IsBody (p ∷ ps) w
 
--- `is_star p` tests for the escape `\*`.
+-- `is_star p` tests whether the piece `p` is the escape `\*`.
 abbrev pub is_star : Piece → Bool
 is_star (piece.Byte b) = false
 is_star (piece.Char c) = false
@@ -195,13 +195,13 @@ pub data IsToken : TokenKind → List ℕ → Type 0 where
   pair : {k : TokenKind} {w : List ℕ} → listed pairs w ≡ Some k → IsToken k w
   slot : {k : TokenKind} {w : List ℕ} → listed slots w ≡ Some k → IsToken k w
 
--- `IsLongest k w rest` holds if `w` is a token of kind `k`, and the text `w` followed by `rest` begins with no longer
--- token.
+-- `IsLongest k w rest` holds if `w` is a token of kind `k`, and the text `w` followed by `rest` does not begin with a
+-- longer token.
 pub record IsLongest (k : TokenKind) (w rest : List ℕ) : Type 0 where
   pub is : IsToken k w
   pub longest : (j : TokenKind) (v more : List ℕ) → IsToken j v → w ++ rest ≡ v ++ more → length v ≤ length w
 
--- `NoToken text` holds if `text` begins with no token.
+-- `NoToken text` holds if `text` does not begin with a token.
 abbrev pub NoToken : List ℕ → Type 0
 NoToken text = (k : TokenKind) (w more : List ℕ) → IsToken k w → text ≡ w ++ more → ⊥
 
@@ -262,7 +262,7 @@ IsFault (BadToken at) text = IsBadAt text at
 
 -- ## The text of a token
 
--- `spelling_of text t` is the text from the start of the token `t` up to its end.
+-- `spelling_of text t` is the part of `text` from the start of the token `t` up to its end.
 abbrev pub spelling_of : List ℕ → Token → List ℕ
 spelling_of text t = take (t.end - t.start) (drop t.start text)
 

@@ -15,8 +15,8 @@ use Rattle.grammar_tokens.specs.declared.fault.SyntaxFault.TheVariants as fault
 use Rattle.grammar_tokens.specs.Kinds.{Kinds}
 use Rattle.grammar_tokens.specs.Lang.{Lang, at_any}
 
--- `Begins L front` holds if `front`, followed by some tokens, derives a value in `L`. For example, `permit ( principal`
--- begins a policy, and so does the empty list; `permit permit` does not.
+-- `Begins L front` holds if `front`, followed by zero or more tokens, derives a value in `L`. For example,
+-- `permit ( principal` begins a policy, and so does the empty list; `permit permit` does not.
 pub record Begins {A : Type 0} (L : Lang A) (front : List Token) : Type 0 where
   pub more : List Token
   pub value : A
@@ -37,8 +37,8 @@ pub record BreaksAt {A : Type 0} (L : Lang A) (ts : List Token) (place : ℕ) (r
   pub begins : Begins L front
   pub stops : StopsBefore L front rest
 
--- `is_slot` tests for `?principal` or `?resource`. They occur in no production, and their error is `Slot`, not
--- `Unexpected`.
+-- `is_slot` are the kinds of `?principal` and `?resource`. These tokens occur in no production, and their error is
+-- `Slot`, not `Unexpected`.
 abbrev pub is_slot : Kinds
 is_slot k.PrincipalSlot = true
 is_slot k.ResourceSlot = true
@@ -55,7 +55,7 @@ GoesOn L front [] = ⊥
 GoesOn L front (token ∷ more) = Begins L (front ++ token ∷ [])
 
 -- `IsRefusedWithin L K ts f` holds if `f` is the error of the tokens `ts`. A token is too deep if `K` goes on with it
--- and `L` does not. `NoMemory` is no error of the tokens.
+-- and `L` does not. `NoMemory` is not an error of the tokens.
 abbrev pub IsRefusedWithin : {A : Type 0} → Lang A → Lang A → List Token → SyntaxFault → Type 0
 IsRefusedWithin L K ts fault.NoMemory = ⊥
 IsRefusedWithin L K ts (fault.Unexpected place) =
@@ -90,8 +90,8 @@ pub record AnsweredWithin {A : Type 0} (L K : Lang A) (ts : List Token) : Type 0
 abbrev pub HasOneAnswerWithin : {A : Type 0} → Lang A → Lang A → Type 0
 HasOneAnswerWithin L K = (ts : List Token) → AnsweredWithin L K ts
 
--- `OpensNextLevel L levels` holds if a token that is too deep in `L levels` opens the next level: with one level more,
--- `L (suc levels)` goes on with it.
+-- `OpensNextLevel L levels` holds if a token that is too deep in `L levels`, the language with at most `levels` levels
+-- of nesting, opens the next level: with one level more, `L (suc levels)` goes on with it.
 abbrev pub OpensNextLevel : {A : Type 0} → (ℕ → Lang A) → ℕ → Type 0
 OpensNextLevel L levels = (ts : List Token) (place : ℕ) → IsRefusedWithin (L levels) (at_any L) ts (fault.TooDeep place)
     → IsRefusedWithin (L levels) (L (suc levels)) ts (fault.TooDeep place)
@@ -123,7 +123,8 @@ ReadsFrontWithin L K ts (Err halt.TooDeep) rest =
 abbrev pub Reads : {A : Type 0} → Lang A → List Token → Result A SyntaxFault → Type 0
 Reads L ts result = ReadsWithin L L ts result
 
--- `ReadsFront L ts result rest` holds if `result` is the result of parsing the front of `ts`, up to `rest`.
+-- `ReadsFront L ts result rest` holds if `result` is the result of parsing the front of `ts`, up to `rest`, in the
+-- language `L`.
 abbrev pub ReadsFront : {A : Type 0} → Lang A → List Token → Result A StopCause → List Token → Type 0
 ReadsFront L ts result rest = ReadsFrontWithin L L ts result rest
 

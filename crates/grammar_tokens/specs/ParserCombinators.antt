@@ -66,11 +66,11 @@ take ks (t ∷ ts) = take_if (ks t.kind) t ts
 abbrev pub token : TokenKind → Parser Token
 token k = take (only k)
 
--- `either ks p q` parses `p` if a token of `ks` comes next, else `q`.
+-- `either ks p q` parses by `p` if a token of `ks` comes next, else by `q`.
 abbrev pub either : {A : Type 0} → Kinds → Parser A → Parser A → Parser A
 either ks p q = λ ts. chosen (sees ks ts) p q ts
 
--- `optional ks p` parses `p` if a token of `ks` comes next, else nothing.
+-- `optional ks p` parses by `p` if a token of `ks` comes next; else it consumes no token, and has the value `None`.
 abbrev pub optional : {A : Type 0} → Kinds → Parser A → Parser (Option A)
 optional ks p = either ks (p >>= (λ a. pure (Some a))) (pure None)
 

@@ -14,7 +14,7 @@ use Rattle.grammar_tokens.specs.Grammar.{identifiers}
 unfoldable pub path_word : Parser Token
 path_word = token k.Colons >> take identifiers
 
--- `rest_of_path first` parses the rest of a Path after its first word.
+-- `rest_of_path first` parses the rest of a Path after its first word, `first`.
 unfoldable pub rest_of_path : Token → Parser PathTree
 rest_of_path first = many (only k.Colons) path_word >>= (λ more. pure (record { first = first; more = more }))
 
@@ -28,7 +28,7 @@ abbrev pub pieces : Kinds
 pieces k.Text = true
 pieces kind = identifiers kind
 
--- `is_text t` tests for a String.
+-- `is_text t` tests whether the token `t` is a String.
 abbrev pub is_text : Token → Bool
 is_text t = same_kind t.kind k.Text
 
@@ -63,7 +63,7 @@ abbrev pub last_of : Token → List Token → Token
 last_of t [] = t
 last_of t (u ∷ us) = last_of u us
 
--- `uid_tree first ts` is the Uid of an identifier and the pieces after it, the last of which is its id.
+-- `uid_tree first ts` is the Uid of the identifier `first` and the pieces `ts` after it, the last of which is its id.
 abbrev pub uid_tree : Token → List Token → UidTree
 uid_tree first ts = record { path = record { first = first; more = beginning ts }; id = last_of first ts }
 
@@ -73,7 +73,7 @@ abbrev pub finished : Bool → Token → List Token → Parser UidTree
 finished true first ts = pure (uid_tree first ts)
 finished false first ts = refuse
 
--- `rest_of_uid first` parses the rest of a Uid after its first word.
+-- `rest_of_uid first` parses the rest of a Uid after its first word, `first`.
 unfoldable pub rest_of_uid : Token → Parser UidTree
 rest_of_uid first = loop ended_by goes_on (λ ended. piece) false >>= (λ ts. finished (ends false ts) first ts)
 
@@ -86,11 +86,12 @@ uid = take identifiers >>= rest_of_uid
 abbrev pub path_of : Token → List Token → PathTree
 path_of first more = record { first = first; more = more }
 
--- `name_by ended first ts` is the name of `first` and the pieces `ts`: a Uid if a String has ended them, else a Path.
+-- `name_by ended first ts` is the name of `first` and the pieces `ts`: a Uid if `ended` is true (a String has ended
+-- them), else a Path.
 abbrev pub name_by : Bool → Token → List Token → PathOrUid
 name_by true first ts = name.Uid (uid_tree first ts)
 name_by false first ts = name.Path (path_of first ts)
 
--- `rest_of_name first` parses the rest of a name after its first word.
+-- `rest_of_name first` parses the rest of a name after its first word, `first`.
 unfoldable pub rest_of_name : Token → Parser PathOrUid
 rest_of_name first = loop ended_by goes_on (λ ended. piece) false >>= (λ ts. pure (name_by (ends false ts) first ts))

@@ -35,7 +35,8 @@ pub record IsStringOf (value spelling : List ℕ) : Type 0 where
   pub no_star : has_star pieces ≡ false
   pub value_is : value ≡ bytes_of pieces
 
--- `is_wildcard p` tests for an unescaped `*`, the wildcard of a pattern; an escaped one is a literal star.
+-- `is_wildcard p` tests whether the piece `p` is an unescaped `*`, the wildcard of a pattern; an escaped one is a
+-- literal star.
 abbrev pub is_wildcard : Piece → Bool
 is_wildcard (Byte b) = b == code "*"
 is_wildcard (Char c) = false

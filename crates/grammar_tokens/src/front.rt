@@ -1,4 +1,4 @@
-//! The token that a text begins with. Each function returns `None` if the text begins with no such token.
+//! The token that a text begins with. Each function returns `None` if the text does not begin with such a token.
 ghost use Rattle.std.specs.Prelude.{◌≡◌, ◌<◌, ◌++◌, List, codes, ℕ};
 ghost use Rattle.grammar_tokens.specs.inner.Tokenizing.{ReportsToken, mark_of};
 
@@ -21,7 +21,7 @@ pub(crate) fn mark(text: &[u8]) -> Option<ScannedToken>
     Some(ScannedToken { kind, len: 1 })
 }
 
-/// Returns the template slot that a text begins with.
+/// Returns the template slot that a text begins with. The text must begin with `?`.
 pub(crate) fn slot(text: &[u8]) -> Option<ScannedToken>
     requires { (rest : List ℕ) × (text.now ≡ codes "?" ++ rest) }
     ensures { ReportsToken text.now result }

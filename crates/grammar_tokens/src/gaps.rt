@@ -27,7 +27,8 @@ fn line_len(text: &[u8]) -> usize
     len
 }
 
-/// Returns the number of bytes of the whitespace character that a text begins with, or `None`.
+/// Returns the number of bytes of the whitespace character that a text begins with, or `None` if it does not begin with
+/// one.
 fn blank(text: &str) -> Option<usize>
     ensures { ReportsBlank text.now result }
 {
@@ -41,7 +42,8 @@ fn blank(text: &str) -> Option<usize>
     }
 }
 
-/// Returns the number of bytes of the whitespace character or comment that a text begins with, or `None`.
+/// Returns the number of bytes of the whitespace character or comment that a text begins with, or `None` if it begins
+/// with neither.
 pub(crate) fn gap(text: &str) -> Option<usize>
     ensures { ReportsGap text.now result }
 {

@@ -3,8 +3,9 @@ ghost use Rattle.grammar_tokens.specs.Lexing.{OneLexing, BadIsNotLexed, OneBadPl
 ghost use Rattle.grammar_tokens.specs.Idents.{IdentsByKind, ReservedByKind, IdentsAreTokens};
 ghost use Rattle.grammar_tokens.specs.Strings.{HasValue, OneValue, HasPattern, OnePattern};
 
-/// Proves that each text has exactly one list of tokens, or exactly one byte at which neither whitespace nor a comment
-/// nor a token starts; and that the text of each token spells a token of its kind. No-op.
+/// Proves that each text has either exactly one list of tokens or exactly one bad byte, and that the text of each token
+/// spells a token of its kind. The text up to a bad byte is whitespace, comments and tokens, and none of these starts
+/// at the byte. No-op.
 pub fn lexing_is_unique()
     ensures one_list { OneLexing }
     ensures not_both { BadIsNotLexed }

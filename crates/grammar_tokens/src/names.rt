@@ -35,8 +35,9 @@ fn rest_of_path(alloc: Global, tokens: &mut Cursor<'_>, first: Token) -> Result<
     Ok(PathTree { first, more })
 }
 
-/// Parses a Path = Ident { "::" Ident } from the front of the tokens, and goes on as long as a Path can go on with the
-/// next token. The cursor is then after the Path, or on an error before the token at which parsing stops.
+/// Parses a Path = Ident { "::" Ident } from the front of the tokens. Parsing is greedy: it goes on as long as the next
+/// token can continue the Path. The cursor is then after the Path, or on an error before the token at which parsing
+/// stops.
 ///
 /// # Errors
 ///

@@ -1,5 +1,5 @@
-//! Strings and their escapes. Each function with an `Option` returns `None` if the bytes are not of the form that it
-//! looks for.
+//! Strings and their escapes. A function that returns an `Option` returns `None` if the bytes are not of the form that
+//! it looks for.
 ghost use Rattle.std.specs.Prelude.{◌≡◌, ◌<◌, ◌≤◌, ◌∷◌, List, ℕ, length};
 ghost use Rattle.std.specs.Option.{SomeIff};
 ghost use Rattle.std.specs.Char.{digit_value};

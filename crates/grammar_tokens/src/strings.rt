@@ -13,7 +13,7 @@ use crate::written::body;
 use plain::{NoMemory, Text};
 use std::alloc::Global;
 
-/// The decoded front of a string's body, and the number of bytes of that front.
+/// The decoded front of a string's body, and the number of bytes that this front has in the body.
 #[derive(Drop)]
 struct Literal {
     value: Text,
@@ -85,9 +85,10 @@ fn read_literal(alloc: Global, body: &str, in_pattern: bool) -> Result<Literal, 
     })
 }
 
-/// Returns the value of the string at `token`: the text between its quotes, with each escape replaced by its meaning.
+/// Returns the value of the string at `token`, which has no `\*`: the text between the string's quotes, with each
+/// escape replaced by its meaning.
 ///
-/// Text between two escapes is copied at once, so a string without escapes is copied whole. The only error is
+/// Text between two escapes is copied in one step, so a string without escapes is copied whole. The only error is
 /// `NoMemory`.
 pub fn decode_string(alloc: Global, text: &str, token: Token) -> Result<Text, NoMemory>
     requires spelled { IsSpelledIn text.now token }

@@ -32,7 +32,7 @@ pub(crate) fn word_kind(word: &str) -> TokenKind
     }
 }
 
-/// Returns the kind of the punctuation mark of one byte, or `None`.
+/// Returns the kind of the punctuation mark that is the byte `byte`, or `None` if there is no such mark.
 pub(crate) fn single(byte: u8) -> Option<TokenKind>
     ensures { result ≡ listed singles (byte ∷ []) }
 {
@@ -58,7 +58,7 @@ pub(crate) fn single(byte: u8) -> Option<TokenKind>
     }
 }
 
-/// Returns the kind of the punctuation mark of two bytes, or `None`.
+/// Returns the kind of the punctuation mark of the bytes `first` and `second`, or `None` if there is no such mark.
 pub(crate) fn pair(first: u8, second: u8) -> Option<TokenKind>
     ensures { result ≡ listed pairs (first ∷ second ∷ []) }
 {

@@ -28,12 +28,12 @@ pub record Part : Type 0 where
 abbrev pub part : Kinds → Token → Part
 part kinds token = record { kinds = kinds; token = token }
 
--- `key_part key` is the part of a key: an identifier or a String.
+-- `key_part key` is the part of the key `key`: an identifier or a String.
 abbrev pub key_part : KeyTree → Part
 key_part (Word word) = part identifiers word
 key_part (Quoted quoted) = part (only k.Text) quoted
 
--- `path_parts path` and `uid_parts uid` are the parts of a Path and of a Uid.
+-- `path_parts path` and `uid_parts uid` are the parts of the Path `path` and of the Uid `uid`.
 abbrev pub path_parts : PathTree → List Part
 path_parts path = part identifiers path.first ∷ map (part identifiers) path.more
 

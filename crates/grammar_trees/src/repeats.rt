@@ -14,7 +14,7 @@ pub struct NameAt<'a> {
     pub at: usize,
 }
 
-/// Returns the lesser of the offsets that are present, or `None`.
+/// Returns the lesser of the offsets that are present, or `None` if neither is.
 fn lesser(a: Option<usize>, b: Option<usize>) -> Option<usize>
     ensures { result ≡ lesser_of a b }
 {
@@ -25,7 +25,8 @@ fn lesser(a: Option<usize>, b: Option<usize>) -> Option<usize>
     }
 }
 
-/// Returns the least offset at which a name occurs that also occurs earlier, or `None` if all names are distinct.
+/// Returns the least offset at which a name occurs that also occurs earlier in `marks`, or `None` if all names are
+/// distinct.
 ///
 /// O(n log n). Source: Cedar reference guide 4.0, "Data types: Record".
 ///

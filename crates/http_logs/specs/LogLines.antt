@@ -24,7 +24,7 @@ abbrev pub string_or_null : Option (List ℕ) → List ℕ
 string_or_null (Some text) = quoted text
 string_or_null None = codes "null"
 
--- `text_of bytes` is `bytes` as a text, if they are UTF-8.
+-- `text_of bytes` is `bytes`, or `None` if they are not UTF-8.
 abbrev pub text_of : List ℕ → Option (List ℕ)
 text_of bytes = if is_utf8 bytes then Some bytes else None
 
@@ -68,8 +68,8 @@ abbrev pub inner_text : Data → Option Data → List ℕ
 inner_text d None = object_text d
 inner_text d (Some inner) = object_text inner
 
--- `name_text d text` is how the line names the entity that a request names by the JSON `d`: if `d` is a string, `text`,
--- by this string, as in "User::\"ann\""; else by the uid in the object `d`.
+-- `name_text d text` is how the line names the entity that a request names by the JSON `d`: if `d` is the string
+-- `text`, by this string, as in "User::\"ann\""; else (`text` is `None`) by the uid in the object `d`.
 abbrev pub name_text : Data → Option (List ℕ) → List ℕ
 name_text d (Some text) = quoted text
 name_text d None = inner_text d (get (codes "__entity") d)

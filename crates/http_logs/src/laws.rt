@@ -1,4 +1,4 @@
-//! Theorems about the lines of a log, as functions that do nothing.
+//! Theorems about the lines of a log. The functions are no-ops.
 ghost use Rattle.std.specs.Prelude.{◌≡◌, ◌++◌, ℕ, List};
 ghost use Rattle.http.specs.declared.status.StatusCode.{StatusCode};
 ghost use Rattle.json_words.specs.Json.{json_of};

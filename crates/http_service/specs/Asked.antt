@@ -14,8 +14,8 @@ use Rattle.http_routes.specs.declared.route.PolicyId.TheVariants.{Named, NotUtf8
 use Rattle.http_routes.specs.declared.route.Route.{Route}
 use Rattle.http_routes.specs.declared.route.Route.TheVariants as route
 
--- `with_policy_id id asks` is what `asks` gives for the policy id `id`; an id that is not UTF-8 is rejected as a bad id
--- (19).
+-- `with_policy_id id asks` is what `asks` gives for the policy id `id`; an id that is not UTF-8 is rejected with
+-- `BadId` (19).
 abbrev pub with_policy_id : PolicyId → (List ℕ → SiteRequest) → SiteRequest
 with_policy_id (Named id) asks = asks id
 with_policy_id NotUtf8 asks = rejects (fault.Policy BadId)

@@ -52,7 +52,7 @@ module _ {R W : Type 0} (left : R → Option (List ℕ)) (read_failures : R → 
   -- reader went from the state `first` to `last`, and the writer from `before` to `after`. The call read requests and
   -- wrote their replies. `inputs` are the inputs of these requests in order, `replies` the site's replies to them, and
   -- the run of `inputs` with `replies` leads from `old` to `new`. `result` is how the stream ended, and so which
-  -- requests are answered: all, or those up to a reply that was sent only in part.
+  -- requests are answered: all, or those up to a reply that ended the stream or was sent only in part.
   -- An example: the call reads `PUT /v1/policies/a` and `GET /nowhere`, and then the stream ends. The one input is the
   -- put of the first request's body under `a`, and the reply to it is a stamp. The call writes the reply 200 with the
   -- stamp, then the reply 404. The new store is the join of the updates that the site had and this put.

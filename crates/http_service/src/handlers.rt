@@ -94,7 +94,7 @@ pub(crate) fn answer(
 
 // ---- with a log
 
-/// Returns the status of a request for no operation, or None for an operation.
+/// Returns the status of a request for no operation, or `None` for an operation.
 fn unserved_status(route: &Route) -> Option<StatusCode>
     ensures { result ≡ unserved_status route.now }
 {
@@ -142,7 +142,7 @@ fn report_undecided(text: &mut Vec<u8>, line: &mut Vec<u8>) -> StatusCode
 }
 
 /// Decides the request whose body was parsed as `json`, and ends its line, of which `line` has the beginning. If the
-/// end cannot be allocated, the reply is the error 1 (status 503) instead of the decision.
+/// end cannot be allocated, the reply is the error of out of memory (1, status 503) instead of the decision.
 fn decide_parsed(
     alloc: Global,
     site: &Site,

@@ -1,4 +1,4 @@
-//! Theorems about streams over a site, as functions that do nothing.
+//! Theorems about streams over a site. The functions are no-ops.
 ghost use Rattle.std.specs.Prelude.{◌≡◌, ◌≤◌, ◌++◌, ℕ, Bool, List, Result, length};
 ghost use Rattle.std.specs.Io.KnownBytes.{Consumes};
 ghost use Rattle.http.specs.declared.status.StatusCode.{StatusCode};
@@ -32,8 +32,8 @@ use http_streams::{Sink, Source};
 use site_calls::{inputs_have_one_outcome, runs_are_sound, runs_leave_what_they_took};
 
 /// Proves that, however a stream of requests ends, the site afterwards is the result of a run of the inputs that the
-/// requests ask for, in order. So the store of the site is the join of the updates that the site had and those that the
-/// run applied. No-op.
+/// first of these requests ask for, in order. So the store of the site is the join of the updates that the site had and
+/// those that the run applied. No-op.
 pub fn streams_leave_runs()
     ensures rests { (old new : SiteView) (bytes out : List ℕ) → Rests answers old bytes out new
         → LeavesRun old bytes new }
@@ -47,8 +47,8 @@ pub fn streams_leave_runs()
 
 /// Proves the parts of `IsServed`, the promise of a call that served a site. No-op.
 ///
-/// - `answered`: each request that was read was answered by the site as it was then, the replies were written, and the
-///   stream ended as the result says.
+/// - `answered`: the first requests that were read were answered, each by the site as it was then, the replies were
+///   written, and the stream ended as the result says.
 /// - `asked`: the inputs of the run are those that the first requests in the bytes read ask for.
 /// - `run`: the site's store is the join of the updates that the site had and those that the run applied.
 pub fn served_streams_are_answered<R: Source, W: Sink>()

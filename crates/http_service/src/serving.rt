@@ -35,16 +35,16 @@ fn serve_borrowed<R: Source, W: Sink>(
 ///
 /// A request makes at most one step of the site; the status and the body of the reply report the outcome. The call ends
 /// at the end of the input or after a reply that ends the stream. An incomplete request changes nothing. The site's
-/// errors, and out of memory for one request, are replies (404, 405, 409, 422, 503), and the stream goes on; schema and
-/// name are unchanged.
+/// errors, an unknown path (404), another method (405), and out of memory for one request (503) are replies, after
+/// which the stream goes on. The schema and the name of the site are unchanged.
 ///
 /// # Errors
 ///
 /// - [`StreamFault::NoMemory`] (1): an allocation failed, before anything was read or before the next read.
-/// - [`StreamFault::Read`] (70): the reader failed.
+/// - [`StreamFault::Read`] (70): the reader failed, or gave `u64::MAX` bytes or more.
 /// - [`StreamFault::Write`] (71): the writer failed; perhaps a part of the last reply was sent.
 ///
-/// All complete requests before the failure are answered; their changes remain.
+/// Changes that were made before the failure remain, also that of a request whose reply was not sent whole.
 pub fn serve<R: Source, W: Sink>(
     alloc: Global,
     site: &mut Site,

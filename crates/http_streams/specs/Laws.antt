@@ -36,8 +36,9 @@ module _ {S : Type 0} (answers : Answering S) where
       Rests answers old stream out new
       ⊎ ((front : List ℕ) × (rest : List ℕ) × (stream ≡ front ++ rest) × Ends answers old front out new)
 
-  -- `DiffersInBadTarget old stream out more new` holds if the stream ends inside a target that is not UTF-8
-  -- (`EndsInBadTarget`), and `more` is `out` followed by the reply 400 to the rest.
+  -- `DiffersInBadTarget old stream out more new` holds if `out` are the replies to some requests, the rest of the
+  -- stream after these ends inside a target that is not UTF-8 (`EndsInBadTarget`), and `more` is `out` followed by the
+  -- reply 400 to the rest.
   abbrev pub DiffersInBadTarget : S → List ℕ → List ℕ → List ℕ → S → Type 0
   DiffersInBadTarget old stream out more new =
       (n : ℕ) × (rest : List ℕ) × Serves answers n old stream rest out new × EndsInBadTarget rest

@@ -67,8 +67,7 @@ module _ {L : Type 0} (lines : LineRelation) (refusal : StatusCode → List ℕ)
 
   -- `IsLastNoted result old bytes out new` describes the end of a stream after its whole replies: `out` is what was
   -- sent of one more reply. By the result:
-  -- - Ok: there is no further reply, or the line of the reply was written, and the reply was sent whole and ended the
-  --   stream.
+  -- - Ok: there is no further reply, or the line of the reply was written, and the reply was sent whole.
   -- - Write: the line of the reply was written, and a proper prefix of the reply was sent.
   -- - Log: a proper prefix of the line was written, and nothing of the reply was sent.
   -- - Read, NoMemory: there is no further reply.

@@ -42,21 +42,23 @@ pub record DeviceInMemory : Type 0 where
   pub plan : Planned
   pub failures : ℕ
 
--- `Delivers old room bytes new` holds if a call with a buffer of the length `room` gave `bytes`: as many as the plan,
--- the unread bytes and the buffer allow.
+-- `Delivers old room bytes new` holds if a call with a buffer of the length `room` led from the reader `old` to `new`,
+-- and gave `bytes`: as many as the plan, the unread bytes and the buffer allow.
 abbrev pub Delivers : DeviceInMemory → ℕ → List ℕ → DeviceInMemory → Type 0
 Delivers old room bytes new =
     (old.bytes ≡ bytes ++ new.bytes)
     × (length bytes ≡ min (min (next_piece old.plan.pieces) (length old.bytes)) room)
     × MakesCall old.plan new.plan × (new.failures ≡ old.failures)
 
--- `AcceptsByPlan old bytes n new` holds if a call with `bytes` accepted `n` of them: as many as the plan allows.
+-- `AcceptsByPlan old bytes n new` holds if a call with `bytes` led from the writer `old` to `new`, and accepted the
+-- first `n` of them: as many as the plan allows.
 abbrev pub AcceptsByPlan : DeviceInMemory → List ℕ → ℕ → DeviceInMemory → Type 0
 AcceptsByPlan old bytes n new =
     (new.bytes ≡ old.bytes ++ take n bytes)
     × (n ≡ min (next_piece old.plan.pieces) (length bytes))
     × MakesCall old.plan new.plan × (new.failures ≡ old.failures)
 
--- `CountsOneFailure old new` holds if a call moved nothing and was counted as a failure.
+-- `CountsOneFailure old new` holds if a call led from the device `old` to `new`, moved nothing, and was counted as a
+-- failure.
 abbrev pub CountsOneFailure : DeviceInMemory → DeviceInMemory → Type 0
 CountsOneFailure old new = (new.bytes ≡ old.bytes) × (new.failures ≡ counted old.failures)

@@ -65,7 +65,8 @@ IsTooLargeReply bytes =
     ((h : ResponseHead) × (rest : List ℕ) × ReadsResponse bytes h rest × (MAX_FIELDS < length h.fields))
     ⊎ (MAX_HEAD < length bytes)
 
--- `IsBadReply bytes` holds if `bytes` do not begin with a readable reply, and cannot, whatever follows.
+-- `IsBadReply bytes` holds if `bytes` do not begin with a reply of one length within the limits, and cannot, whatever
+-- follows.
 abbrev pub IsBadReply : List ℕ → Type 0
 IsBadReply bytes =
     HasNoLength bytes ⊎ (HasNoAdmittedReply bytes × (IsTooLargeReply bytes ⊎ NeverHasResponse bytes))
@@ -90,7 +91,8 @@ pub record IsPartOfReplyHead (bytes : List ℕ) : Type 0 where
 abbrev pub IsUnfinishedReply : List ℕ → Type 0
 IsUnfinishedReply bytes = IsCutOffReply bytes ⊎ IsPartOfReplyHead bytes
 
--- `IsReplyAt bytes p` holds if `bytes` begin with a reply whose parts are at `p`.
+-- `IsReplyAt bytes p` holds if `bytes` begin with a reply whose status is `p.code`, and whose body begins and ends at
+-- the offsets in `p`.
 pub record IsReplyAt (bytes : List ℕ) (p : ReplyParts) : Type 0 where
   pub ordered : (p.body ≤ p.end) × (p.end ≤ length bytes)
   pub reads : ReadsReply bytes p.code (span_bytes bytes (record { start = p.body; end = p.end })) (drop p.end bytes)
@@ -109,8 +111,8 @@ pub record IsUnfinishedReplyBelow (bytes : List ℕ) (needed : ℕ) : Type 0 whe
   pub enough :
       (more : List ℕ) → IsCutOffReply bytes → needed ≤ length (bytes ++ more) → IsUnfinishedReply (bytes ++ more) → ⊥
 
--- `IsReplyCut bytes cut` holds if `cut` describes the front of `bytes` correctly: a reply with its parts, no readable
--- reply, or less than a reply.
+-- `IsReplyCut bytes cut` holds if `cut` describes the front of `bytes` correctly: a reply with its parts, bytes that
+-- cannot begin a reply (`IsBadReply`), or less than a reply.
 abbrev pub IsReplyCut : List ℕ → ReplyCut → Type 0
 IsReplyCut bytes (Variants.Whole p) = IsReplyAt bytes p
 IsReplyCut bytes Variants.Bad = IsBadReply bytes

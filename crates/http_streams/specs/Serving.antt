@@ -19,8 +19,8 @@ module _ {S R W : Type 0} (answers : Answering S) (left : R → Option (List ℕ
   -- `EndsAs first last before after old new bytes out result` describes how a call ended that read `bytes` and wrote
   -- `out`. The reader went from `first` to `last`, the writer from `before` to `after`, and the service from `old` to
   -- `new`. By the result:
-  -- - Ok: neither device failed, and all requests in `bytes` are answered. The input is at its end, as the last read
-  --   reported, or the last reply ended the stream and nothing was read after it.
+  -- - Ok: neither device failed. All requests in `bytes` are answered, and the input is at its end, as the last read
+  --   reported; or the last reply ended the stream, and nothing was read after it.
   -- - Read: the last read failed, or at least 2^64 - 1 bytes were read; all requests in `bytes` are answered.
   -- - NoMemory: neither device failed, and all requests in `bytes` are answered: memory is allocated before a read.
   -- - Write: the last write failed; some requests are answered, and a proper prefix of one more reply may have been

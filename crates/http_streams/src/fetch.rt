@@ -62,8 +62,8 @@ pub fn fetch<R: Source, W: Sink>(
         × ReadsReply bytes reply.0 reply.1.items rest
         × IsUnfinishedReply front × EndsByOneRead R.left R.reads reader.old reader.new bytes front) }
 
-    // The request was written, and the bytes read cannot begin a readable reply. Those before the last read were less
-    // than a reply.
+    // The request was written, and the bytes read cannot begin a reply of one length within the limits. Those before
+    // the last read were less than a reply.
     ensures bad { result ≡ Err FetchFault.BadReply → (bytes : List ℕ) × (front : List ℕ)
         × Consumes (R.left reader.old) (R.left reader.new) bytes
         × Appends (W.holds writer.old) (W.holds writer.new) (request_text ask.now)
@@ -83,11 +83,11 @@ pub fn fetch<R: Source, W: Sink>(
         × Appends (W.holds writer.old) (W.holds writer.new) (request_text ask.now)
         × IsUnfinishedReply bytes × FailsAtLast R.failed R.fails reader.old reader.new }
 
-    // The last write failed, a first part of the request was sent, and nothing was read.
+    // The last write failed, and nothing was read.
     ensures write { result ≡ Err FetchFault.Write → (reader.new ≡ reader.old)
         × FailsAtLast W.failed W.fails writer.old writer.new }
 
-    // After any error nothing, a first part of the request, or all of it was sent.
+    // After any error a prefix of the request was sent, possibly empty or whole.
     ensures err { OnErr result ((bytes : List ℕ) × (front : List ℕ) × (back : List ℕ)
         × Consumes (R.left reader.old) (R.left reader.new) bytes
         × (request_text ask.now ≡ front ++ back) × Appends (W.holds writer.old) (W.holds writer.new) front) }

@@ -15,7 +15,8 @@ pub struct Ask<'a> {
     pub host: &'a [u8],
     /// The target: one or more visible ASCII bytes.
     pub path: &'a [u8],
-    /// The body, any bytes. If it is absent, the request announces no length, and servers reject such a PUT or POST.
+    /// The body, any bytes. If it is absent, the request announces no length, and `cut_request` rejects such a PUT or
+    /// POST with 411 (length required).
     pub body: Option<&'a [u8]>,
     pub ghost is_method: { IsTrue (is_method method.now) },
     pub ghost is_host: { IsTrue (is_host host.now) },

@@ -34,7 +34,7 @@ fn put_number(room: &mut [u8], end: usize, number: usize) -> usize
     itoa::write_digits(number as u64, room, end)
 }
 
-/// Returns the end of the head of a reply.
+/// Returns the end of the head of a reply, with the field `Connection: close` if the reply is the `last` of its stream.
 #[tactic(auto, unfolding(crate::specs::ReplyText::ending))]
 fn ending(last: bool) -> &'static str
     ensures text { result.now ≡ ending last }
@@ -87,8 +87,8 @@ fn put_status(room: &mut [u8], end: usize, status: StatusCode) -> usize
     put_piece(room, digits, b"HTTP/1.1 ")
 }
 
-/// Writes the head of a reply right before its body, which extends from `body` to the end of `room`; returns where
-/// the reply begins.
+/// Writes the head of a reply right before its body, which extends from `body` to the end of `room`; returns where the
+/// reply begins. `last` is whether the reply ends the stream.
 #[tactic(auto, unfolding(crate::specs::ReplyText::reply_text))]
 pub fn put_head(room: &mut [u8], body: usize, last: bool, status: StatusCode) -> usize
     requires fits { HEAD_ROOM ≤ body }

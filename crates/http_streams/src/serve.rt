@@ -47,13 +47,15 @@ pub enum StreamFault {
 /// Answers each whole request of the stream in order, before reading on, and returns at the end of the input or after a
 /// reply that ends the stream.
 ///
-/// Whatever the result, the written bytes are the replies to what was read, the last perhaps cut off. Memory is
-/// allocated before bytes are read; a reply allocates only what its service allocates.
+/// Whatever the result, the written bytes are the replies to the first requests that were read, the last perhaps cut
+/// off. Memory is allocated before bytes are read; a reply allocates only what its service allocates. The `line_room`
+/// of the service must be 0, since no memory for lines is reserved.
 ///
 /// # Errors
 ///
 /// - [`StreamFault::NoMemory`] (1): an allocation failed, before anything was read or before the next read.
-/// - [`StreamFault::Read`] (70): the reader failed; all complete requests are answered.
+/// - [`StreamFault::Read`] (70): the reader failed, or gave `u64::MAX` bytes or more; all complete requests are
+///   answered.
 /// - [`StreamFault::Write`] (71): the writer failed; perhaps a part of the last reply was sent.
 pub fn serve<S: Service, R: Source, W: Sink>(
     alloc: Global,
@@ -72,7 +74,7 @@ pub fn serve<S: Service, R: Source, W: Sink>(
 }
 
 /// Answers a stream like [`serve`], with a log: the line of each reply, also of a rejection, is written to `log` before
-/// anything of the reply is sent. `line` is memory for one line.
+/// anything of the reply is sent. `line` is memory for one line, with capacity for the `line_room` of the service.
 ///
 /// # Errors
 ///

@@ -31,10 +31,11 @@ pub trait Service: Answers {
     /// Appends the body of the reply to `text`, puts the line for the log, if there is one, into `line`, and returns
     /// the status.
     ///
-    /// `text` has room for a short reply (`REPLY_ROOM` bytes), which is made without allocating: if a longer one cannot
-    /// be allocated, a short reply can still report that. `line` has room for a short line (`line_room` bytes). Both
-    /// keep their memory for the next reply.
-    /// Each reply announces a body, so no status is 1xx, 204 or 304 (RFC 9112, section 6.3).
+    /// `text` has spare capacity for a short reply (`REPLY_ROOM` bytes), which is made without allocating: if a longer
+    /// one cannot be allocated, a short reply can still report that. `line` has capacity for a short line (`line_room`
+    /// bytes). Both keep their memory for the next reply.
+    /// Each reply announces a body, so a service should return no status 1xx, 204 or 304 (RFC 9112, section 6.3); the
+    /// contract does not demand this.
     fn call(
         &mut self,
         method: &[u8],

@@ -58,15 +58,15 @@ IsNextMember (Value v) before behind = before ≡ option_map (λ ds. view v ∷ 
 IsNextMember End before behind = before ≡ Some []
 IsNextMember NotJson before behind = before ≡ None
 
--- `IsFewer member before behind` holds if `behind` is less than `before`, or `member` is not a value. These are the
--- numbers of tokens that remain before and after the call that returns `member`.
+-- `IsFewer member before behind` holds if `behind` is less than `before`, or `member` is not a value. `before` and
+-- `behind` are the numbers of tokens that remain before and after the call that returns `member`.
 abbrev pub IsFewer : Member → ℕ → ℕ → Type 0
 IsFewer (Value v) before behind = behind < before
 IsFewer End before behind = ⊤
 IsFewer NotJson before behind = ⊤
 
 -- `each_of none f members` lists the value of `f ds i d` for each member `d`, where `ds` are all members and `i` is the
--- index of `d`; or it is the first error of these, or the error `none` if `members` is `None`.
+-- index of `d`. It is the first error of these if there is one, and the error `none` if `members` is `None`.
 abbrev pub each_of : {B F : Type 0} → F → (List Data → ℕ → Data → Result B F) → Option (List Data) → Result (List B) F
 each_of none f members = do
   ds ← or_fault none members

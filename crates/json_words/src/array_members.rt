@@ -28,7 +28,8 @@ pub enum Member {
     NotJson,
 }
 
-/// Returns the members of the array that `bytes` begin with, or `None` if they are not UTF-8 or begin with no array.
+/// Returns the members of the array that `bytes` begin with, or `None` if they are not UTF-8 or do not begin with an
+/// array.
 ///
 /// Whether the bytes are JSON is found out as the members are read: if they are not, the last call of
 /// [`ArrayMembers::next`] returns [`Member::NotJson`] in place of [`Member::End`]. The last value of a duplicate key
@@ -48,7 +49,7 @@ pub fn members_of<'a>(
     }
 }
 
-/// Returns the members of the array that a text begins with, or `None` if it begins with no array.
+/// Returns the members of the array that a text begins with, or `None` if it does not begin with an array.
 fn members_in<'a>(
     scratch: &'a mut Scratch,
     text: &'a str,

@@ -33,7 +33,7 @@ fn is_signed(bytes: &[u8]) -> bool
     }
 }
 
-/// Returns the number that a numeral without a sign denotes.
+/// Returns the number that a numeral without a sign denotes, or `None` if it is too large for a float.
 fn from_zero(digits: &Numeral<'_>) -> Option<Number>
     ensures { option_map number_view result ≡ number_from false digits.now }
 {
@@ -43,7 +43,7 @@ fn from_zero(digits: &Numeral<'_>) -> Option<Number>
     }
 }
 
-/// Returns the number that a numeral after a minus denotes.
+/// Returns the number that a numeral after a minus denotes, or `None` if its absolute value is too large for a float.
 fn below_zero(digits: &Numeral<'_>) -> Option<Number>
     ensures { option_map number_view result ≡ number_from true digits.now }
 {

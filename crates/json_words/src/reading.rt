@@ -1,4 +1,5 @@
-//! JSON values from the tokens of a reader. Each function returns `None` if the tokens are not such a value.
+//! Parsing of JSON values from the tokens of a reader. A function that parses a value returns `None` if the tokens are
+//! not such a value.
 ghost use Rattle.std.specs.Prelude.{◌≡◌, ◌<◌, length, option_map, IfOk, IfSome};
 ghost use Rattle.json.specs.Reads.{token_of};
 ghost use Rattle.serde_json.specs.View.{view};
@@ -56,8 +57,8 @@ fn opens_object(token: &Token<'_>) -> bool
     matches!(token, Token::BeginObject)
 }
 
-/// Returns the value that a token alone denotes, or `None` if it is a bracket, a brace, a key or not a token of JSON,
-/// or a number that is too large for a float.
+/// Returns the value that a token alone denotes. Returns `None` if the token is a bracket, a brace, a key, not a token
+/// of JSON, or a number that is too large for a float.
 fn scalar_in(alloc: Global, token: Token<'_>) -> Result<Option<Value>, NoMemory>
     ensures { IfOk result (λ o. option_map view o ≡ scalar (token_of token.entry)) }
 {

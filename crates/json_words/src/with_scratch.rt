@@ -14,7 +14,7 @@ use plain::NoMemory;
 use serde_json::Value;
 use std::alloc::Global;
 
-/// Arrays and objects may nest at most this deep, as in `serde_json`.
+/// The greatest depth to which arrays and objects may nest, as in `serde_json`.
 pub(crate) const MOST_DEPTH: usize = 127;
 
 /// Parses JSON. Returns `None` if the bytes are not UTF-8 or not JSON, if arrays and objects nest deeper than 127, if

@@ -1,4 +1,4 @@
-//! Tests of the messages of errors that no row shows (rows show messages by the word `says` of the crate `site_rows`).
+//! Tests of the messages of errors that no test case of `site_rows` shows (its cases show messages by the word `says`).
 use crate::shared::holds;
 use authoriser::PolicyError;
 use evaluator::EvalFault;

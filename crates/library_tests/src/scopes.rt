@@ -180,7 +180,7 @@ fn is_offered(alloc: Global, tried: &TestedIndex, row: &str, but: &str) -> Resul
     ended(request, truth)
 }
 
-// Does as [`is_offered`]; after a failed allocation tries once more.
+// Like [`is_offered`]; after a failed allocation tries once more.
 fn is_row(alloc: Global, tried: &TestedIndex, row: &str, but: &str) -> Result<bool, NoMemory> {
     match is_offered(alloc, tried, row, but) {
         Ok(truth) => Ok(truth),

@@ -44,19 +44,20 @@ message_json kind label us = object (member (codes "entries") (array (items_of (
     (member (codes "schema") (string label)
     (member (codes "version") (number (unsigned 2)) no_members))))
 
--- `state_json label s` is the JSON of the store `s` as a state: its updates in the order of the names.
+-- `state_json label s` is the JSON of the store `s` as a state for the schema with the label `label`: the updates of
+-- `s` in the order of the names.
 abbrev pub state_json : List ℕ → Store → Data
 state_json label s = message_json (codes "state") label (updates s)
 
--- `delta_json label s` is the JSON of a part `s` of a store as a delta.
+-- `delta_json label s` is the JSON of a part `s` of a store as a delta for the schema with the label `label`.
 abbrev pub delta_json : List ℕ → Store → Data
 delta_json label s = message_json (codes "delta") label (updates s)
 
--- `state_text label s` is the text of the store `s` as a state: compact, keys ascending.
+-- `state_text label s` is the text of `state_json label s`: compact, keys ascending.
 unfoldable pub state_text : List ℕ → Store → List ℕ
 state_text label s = compact_text (state_json label s)
 
--- `delta_text label s` is the text of a part `s` of a store as a delta: compact, keys ascending.
+-- `delta_text label s` is the text of `delta_json label s`: compact, keys ascending.
 unfoldable pub delta_text : List ℕ → Store → List ℕ
 delta_text label s = compact_text (delta_json label s)
 

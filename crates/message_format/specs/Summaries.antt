@@ -183,12 +183,13 @@ stamp_in version d = do
   shape ← demand BadShape (has_only (codes "count" ∷ codes "name" ∷ codes "site" ∷ []) d)
   stamped_in version d
 
--- `stamps_of version ds` is the list of the names and stamps that the objects `ds` describe, or the first error.
+-- `stamps_of version ds` is the list of the names and stamps that the objects `ds` describe in the form of `version`,
+-- or the first error.
 unfoldable pub stamps_of : MessageVersion → Items → Result Summary MessageFault
 stamps_of version ds = each (λ i d. stamp_in version d) 0 (list_of ds)
 
--- `stamps_in version d` is the list of the names and stamps of the summary `d`, or the first error; names that do not
--- ascend strictly are an error.
+-- `stamps_in version d` is the list of the names and stamps of the summary `d` in the form of `version`, or the first
+-- error; names that do not ascend strictly are an error.
 unfoldable pub stamps_in : MessageVersion → Data → Result Summary MessageFault
 stamps_in version d = do
   found ← or_fault BadShape (get (codes "stamps") d)
@@ -197,7 +198,8 @@ stamps_in version d = do
   ascending ← demand BadShape (ascend stamps)
   Ok stamps
 
--- `is_name_in_range n` tests a parsed name: a policy's id has 1 to 256 bytes. The type of a parsed uid is a Path.
+-- `is_name_in_range n` tests whether the parsed name `n` is in its range: a policy's id has 1 to 256 bytes. An entity's
+-- uid is in its range, since the type of a parsed uid is a Path.
 abbrev pub is_name_in_range : Name → Bool
 is_name_in_range (Policy id) = nat_le 1 (length id) && nat_le (length id) 256
 is_name_in_range (Entity uid) = true
@@ -206,8 +208,8 @@ is_name_in_range (Entity uid) = true
 abbrev pub bad_id : ℕ
 bad_id = 19
 
--- `judged place u` is the name and stamp `u`, at the index `place`, if the count and then the id of a policy are in
--- their ranges, else the error of the first that is not.
+-- `judged place u` is the name and stamp `u`, at the index `place`, if the count and a policy's id are in their ranges;
+-- else the error of the count, else that of the id.
 unfoldable pub judged : ℕ → Name × Stamp → Result (Name × Stamp) MessageFault
 judged place u = do
   counted ← demand (CountRange place) (nat_le 1 u.1.count && nat_le u.1.count 1_000_000_000_000_000_000)

@@ -1,5 +1,5 @@
--- Defines updates whose strings are UTF-8, as all strings in the code are. Each update of a message is one, since JSON
--- is UTF-8.
+-- Defines updates whose strings are UTF-8, as all strings in the code are. Each update that is parsed from a message
+-- has only such strings, since JSON is UTF-8.
 -- Source: RFC 8259, section 8.1.
 use Rattle.std.specs.Prelude.{ℕ, List, Option, Some, None}
 use Rattle.std.specs.List.{AllByRecursion}

@@ -76,7 +76,7 @@ module _ {P E : Type 0} (Policies : List ℕ → List ℕ → P → Type 0) (Ent
   AreValid us = AllByRecursion IsValid us
 
   -- `IsMessage label bytes us` holds if `bytes` are a state or delta for the schema with the label `label`, with the
-  -- updates `us`, in this order, each in its ranges and with a value of its text.
+  -- updates `us`, in this order. Each update is in its ranges, and has a value of its text.
   pub record IsMessage (label bytes : List ℕ) (us : List (Update P E)) : Type 0 where
     pub stated : updates_stated label bytes ≡ Ok (plain_updates us)
     pub in_range : AreInRange (plain_updates us)
@@ -105,7 +105,7 @@ module _ (NoPolicies : List ℕ → List ℕ → BodyFault → Type 0)
 module _ {P E : Type 0} (Policies : List ℕ → List ℕ → P → Type 0) (Entities : EntityUid → List ℕ → E → Type 0)
     (NoPolicies : List ℕ → List ℕ → BodyFault → Type 0) (NoEntities : EntityUid → List ℕ → BodyFault → Type 0) where
   -- `IsFirstFault place us why` holds if `why` is the error of one of the updates `us`, and those before it are in
-  -- their ranges and valid, where `place` is the index of the first of `us`.
+  -- their ranges and valid. The first of `us` has the index `place`.
   abbrev pub IsFirstFault : ℕ → List PlainUpdate → MessageFault → Type 0
   IsFirstFault place [] why = ⊥
   IsFirstFault place (u ∷ us) why = IsFaultAt NoPolicies NoEntities place u why

@@ -20,7 +20,7 @@ pub enum BodyFault {
     /// Code 55: the text is rejected, with this code within.
     #[error("message 55: body refused with code {0}")]
     Refused(u8),
-    /// Code 56: the text is that of an entity with another uid. Does not occur for a policy.
+    /// Code 56: the text is that of an entity with another uid.
     #[error("message 56: body of another entity")]
     OtherName,
 }

@@ -29,7 +29,8 @@ use stamped_store::laws::site_names_are_recognized;
 ///
 /// If the names and stamps of the updates are in their ranges, the JSON of a state or delta is parsed as the updates
 /// that it was written from. If also the label and the strings of the updates are UTF-8, the text is parsed as these
-/// updates. No bytes are the state of two stores, or the delta of two contents.
+/// updates. If the same bytes are the states of two stores, or deltas with the entries of two stores, these stores are
+/// equal.
 pub fn messages_read_back()
     ensures states { (label : List ℕ) (s : Store) → AreInRange (updates s)
         → updates_in label (state_json label s) ≡ Ok (updates s) }
@@ -51,9 +52,9 @@ pub fn messages_read_back()
 
 /// Proves that bytes have one outcome as a message. No-op.
 ///
-/// If each text of a body has at most one outcome, bytes are a message of at most one list of updates, or have at most
-/// one error, and never both. If each text is also parsed or rejected, bytes are a message or have an error. If no text
-/// of a policy is rejected with `OtherName`, no entry of a policy is rejected with `BodyOfOtherName`.
+/// Let each text of a body have at most one outcome. Then bytes are a message of at most one list of updates, or have
+/// at most one error, and never both. If each text is also parsed or rejected, bytes are a message or have an error. If
+/// no text of a policy is rejected with `OtherName`, no entry of a policy is rejected with `BodyOfOtherName`.
 pub fn messages_have_one_outcome<P: Drop, E: Drop, B: Bodies<P, E>>()
     ensures updates { (b : B)
         → TextsHaveOneOutcome (B.reads_policy b) (B.refuses_policy b) (B.reads_entity b) (B.refuses_entity b)
@@ -90,8 +91,8 @@ pub fn messages_have_one_outcome<P: Drop, E: Drop, B: Bodies<P, E>>()
 /// Proves that a message of version 1 is parsed as the raise of its updates: each site's number, from 1 to 65,535, is
 /// replaced by its five digits. No-op.
 ///
-/// Bytes of version 1 that are parsed as updates are such a message. The JSON of version 1 of numbered updates in their
-/// ranges is parsed as their raise.
+/// Bytes of version 1 that are parsed as updates are a message of version 1. Numbered updates in their ranges, as JSON
+/// of version 1, are parsed as their raise.
 pub fn messages_are_raised()
     ensures raised { (label bytes : List ℕ) (ns : List NumberedUpdate) → IsVersion1Message label bytes ns
         → updates_stated label bytes ≡ Ok (raise ns) }

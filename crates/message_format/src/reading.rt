@@ -23,7 +23,7 @@ use std::alloc::Global;
 use std::collections::VecDeque;
 use values::{EntityUid, Name};
 
-/// Returns the body of a policy: that of a tombstone, or the text with its parsed value.
+/// Returns the body of a policy: the text with its parsed value, or `None` for a tombstone.
 fn policy_body<P: Drop, E: Drop, B: Bodies<P, E>>(
     alloc: Global,
     bodies: &B,
@@ -41,7 +41,7 @@ fn policy_body<P: Drop, E: Drop, B: Bodies<P, E>>(
     Ok(Some(ReadText { text, read }))
 }
 
-/// Returns the body of an entity: that of a tombstone, or the text with its parsed value.
+/// Returns the body of an entity: the text with its parsed value, or `None` for a tombstone.
 fn entity_body<P: Drop, E: Drop, B: Bodies<P, E>>(
     alloc: Global,
     bodies: &B,
@@ -60,7 +60,7 @@ fn entity_body<P: Drop, E: Drop, B: Bodies<P, E>>(
     Ok(Some(ReadText { text, read }))
 }
 
-/// Returns the update of a policy, its text parsed.
+/// Returns the update of a policy with its text parsed, or the error of the text.
 fn read_policy<P: Drop, E: Drop, B: Bodies<P, E>>(
     alloc: Global,
     bodies: &B,
@@ -78,7 +78,7 @@ fn read_policy<P: Drop, E: Drop, B: Bodies<P, E>>(
     Ok(Update::Policy { id, entry })
 }
 
-/// Returns the update of an entity, its text parsed.
+/// Returns the update of an entity with its text parsed, or the error of the text.
 fn read_entity<P: Drop, E: Drop, B: Bodies<P, E>>(
     alloc: Global,
     bodies: &B,
@@ -97,7 +97,7 @@ fn read_entity<P: Drop, E: Drop, B: Bodies<P, E>>(
     Ok(Update::Entity { uid, entry })
 }
 
-/// Returns the update that an entry describes, its text parsed.
+/// Returns the update that an entry describes with its text parsed, or the error of the text.
 fn read_update<P: Drop, E: Drop, B: Bodies<P, E>>(
     alloc: Global,
     bodies: &B,
@@ -128,7 +128,7 @@ fn fault_at(place: usize, fault: BodyFault) -> MessageFault
     }
 }
 
-/// Returns the update of the entry at the index `place`: checks its ranges, then parses its text.
+/// Returns the update of the entry at the index `place`, or its first error. Checks its ranges, then parses its text.
 fn read_at<P: Drop, E: Drop, B: Bodies<P, E>>(
     alloc: Global,
     bodies: &B,
@@ -175,14 +175,14 @@ fn read_all<P: Drop, E: Drop, B: Bodies<P, E>>(
     Ok(updates)
 }
 
-/// Parses a state or a delta of the schema with this label.
+/// Parses a state or a delta under the schema with this label.
 ///
-/// Returns its updates in their order, each text parsed. Names may be in any order, and more than once. In version 1,
-/// each site's number is parsed as the site whose name is its five digits.
+/// Returns its updates in their order, each text parsed. Names may be in any order, and may repeat. In version 1 a site
+/// is a number, which becomes the name of five digits: 7 becomes `00007`.
 ///
 /// # Errors
 ///
-/// The first of these, in this order; the message is then rejected whole:
+/// In this order; the message is then rejected whole:
 ///
 /// - `NotJson` (50): the bytes are not JSON.
 /// - `BadShape` (51): there is no `version` that is an integer in unsigned 64 bits.

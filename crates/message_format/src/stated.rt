@@ -24,7 +24,7 @@ pub struct ReadEntry {
     pub(crate) body: Option<Text>,
 }
 
-/// Returns the body of an entry: a string, or `None` for null.
+/// Returns the body of an entry: a string, or `None` for null; `BadShape` for other JSON.
 #[tactic(auto, unfolding(crate::specs::Messages::body_in, crate::specs::Messages::text_in))]
 fn read_body(alloc: Global, value: &Value) -> Result<Option<Text>, MessageFault>
     ensures { ReadsAs MessageFault.NoMemory (λ b. b) result (body_in (view value.now)) }
@@ -38,7 +38,7 @@ fn read_body(alloc: Global, value: &Value) -> Result<Option<Text>, MessageFault>
     Ok(Some(Text::from_str(alloc, text)?))
 }
 
-/// Returns the entry that an object describes.
+/// Returns the entry that an object describes; `BadShape` if it describes none.
 #[tactic(auto, unfolding(crate::specs::Messages::entry_in, crate::specs::Messages::entry_by))]
 fn read_entry(
     alloc: Global,

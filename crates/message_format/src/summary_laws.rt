@@ -21,10 +21,10 @@ use values::path_tests_are_exact;
 /// Proves the round trip of summaries. No-op.
 ///
 /// If the names and stamps of a summary are in their ranges and its names ascend, its JSON is parsed as that summary.
-/// The JSON of such a summary of version 1 is parsed as the summary in which five digits replace each site's number.
-/// A parsed summary has names and stamps in their ranges, and its names ascend. The names of a store's summary ascend.
-/// For a label in UTF-8, the text of a summary that may be written is parsed as that summary, and two such summaries
-/// with one text are equal.
+/// If also the label and the strings of the summary are UTF-8, its text is parsed as that summary, and two such
+/// summaries with one text are equal. The JSON of a summary of version 1, under the first conditions, is parsed as the
+/// summary in which five digits replace each site's number. A parsed summary has names and stamps in their ranges, and
+/// its names ascend. The names of a store's summary ascend.
 pub fn summaries_read_back()
     ensures back { (label : List ℕ) (m : Summary) → AreStamped m → ascend m ≡ true
         → summary_in label (summary_json label m) ≡ Ok m }

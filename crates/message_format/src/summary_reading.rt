@@ -35,7 +35,7 @@ fn number_at(value: &Value, key: &str) -> Result<u64, MessageFault>
     }
 }
 
-/// Returns the name of a policy that an object describes.
+/// Returns the name of a policy that an object describes; `BadShape` if it describes none.
 #[tactic(auto, unfolding(crate::specs::Summaries::policy_in))]
 fn read_policy(alloc: Global, value: &Value) -> Result<Name, MessageFault>
     ensures { ReadsAs MessageFault.NoMemory (λ n. n) result (policy_in (view value.now)) }
@@ -46,7 +46,7 @@ fn read_policy(alloc: Global, value: &Value) -> Result<Name, MessageFault>
     Ok(Name::Policy(Text::from_str(alloc, id)?))
 }
 
-/// Returns the name of an entity that an object describes.
+/// Returns the name of an entity that an object describes; `BadShape` if it describes none.
 #[tactic(auto, unfolding(crate::specs::Summaries::entity_name_in))]
 fn read_entity(alloc: Global, value: &Value) -> Result<Name, MessageFault>
     ensures { ReadsAs MessageFault.NoMemory (λ n. n) result (entity_name_in (view value.now)) }
@@ -66,7 +66,7 @@ fn read_entity(alloc: Global, value: &Value) -> Result<Name, MessageFault>
     }
 }
 
-/// Returns the name that an object describes.
+/// Returns the name that an object describes; `BadShape` if it describes none.
 #[tactic(auto, unfolding(crate::specs::Summaries::name_in))]
 fn read_name(alloc: Global, value: &Value) -> Result<Name, MessageFault>
     ensures { ReadsAs MessageFault.NoMemory (λ n. n) result (name_in (view value.now)) }
@@ -97,7 +97,7 @@ pub fn read_version(value: &Value) -> Result<MessageVersion, MessageFault>
     Err(MessageFault::Version)
 }
 
-/// Returns the number at an object's key `site`, from 1 to 65,535.
+/// Returns the number at an object's key `site`; `BadShape` if there is no number from 1 to 65,535.
 #[tactic(auto, unfolding(crate::specs::Summaries::numbered_in))]
 fn read_number(value: &Value) -> Result<u16, MessageFault>
     ensures { AlwaysReadsAs (λ n. n) result (numbered_in (view value.now)) }
@@ -109,7 +109,8 @@ fn read_number(value: &Value) -> Result<u16, MessageFault>
     Ok(site as u16)
 }
 
-/// Returns the site whose number is at an object's key `site`; its name is the five digits of the number.
+/// Returns the site whose number is at an object's key `site`; its name is the five digits of the number. Returns
+/// `BadShape` if there is no such number.
 #[tactic(auto, unfolding(crate::specs::Summaries::raised_in))]
 fn read_numbered(value: &Value) -> Result<SiteName, MessageFault>
     ensures { AlwaysReadsAs (λ n. n) result (raised_in (view value.now)) }
@@ -118,7 +119,7 @@ fn read_numbered(value: &Value) -> Result<SiteName, MessageFault>
     Ok(SiteName::from_number(number))
 }
 
-/// Returns the site whose name is at an object's key `site`.
+/// Returns the site whose name is at an object's key `site`; `BadShape` if there is no site name.
 #[tactic(auto, unfolding(crate::specs::Summaries::named_in))]
 fn read_named(value: &Value) -> Result<SiteName, MessageFault>
     ensures { AlwaysReadsAs (λ n. n) result (named_in (view value.now)) }
@@ -132,7 +133,7 @@ fn read_named(value: &Value) -> Result<SiteName, MessageFault>
     Ok(SiteName::new(site))
 }
 
-/// Returns the site at an object's key `site`, in the form of the message's version.
+/// Returns the site at an object's key `site`, in the form of the message's version; `BadShape` if there is none.
 fn read_site(version: MessageVersion, value: &Value) -> Result<SiteName, MessageFault>
     ensures { AlwaysReadsAs (λ n. n) result (site_in version (view value.now)) }
 {
@@ -309,13 +310,13 @@ fn read_summary_value(alloc: Global, label: &str, value: &Value) -> Result<Summa
     Ok(Summary { stamps })
 }
 
-/// Parses a summary of the schema with this label.
+/// Parses a summary under the schema with this label.
 ///
-/// In version 1, each site's number is parsed as the site whose name is its five digits.
+/// In version 1 a site is a number, which becomes the name of five digits: 7 becomes `00007`.
 ///
 /// # Errors
 ///
-/// The first of these, in this order:
+/// In this order:
 ///
 /// - `NotJson` (50): the bytes are not JSON.
 /// - `BadShape` (51): there is no `version` that is an integer in unsigned 64 bits.

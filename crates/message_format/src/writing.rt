@@ -101,8 +101,8 @@ fn push_missing<N: Lent, P>(
     write_entry(out, name, entry)
 }
 
-/// Writes the entries whose names `known` lacks or has with a smaller stamp. The names of `entries` ascend. Returns the
-/// part of `known` from the name of the last entry on.
+/// Writes the entries whose names `known` lacks or has with a smaller stamp. The names of `entries` and those of
+/// `known` ascend. Returns the part of `known` from the name of the last entry on.
 fn push_all<'a, N: Lent + Drop, P: Drop>(
     out: &mut Writer,
     entries: Iter<'_, N, Entry<P>>,
@@ -123,7 +123,7 @@ fn push_all<'a, N: Lent + Drop, P: Drop>(
 }
 
 /// Writes as an array, in the order of the names, the entries of a store whose names `known` lacks or has with a
-/// smaller stamp. Takes one walk over the names of the store and of `known`.
+/// smaller stamp. The names of `known` ascend. Takes one walk over the names of the store and of `known`.
 fn write_entries<P: Drop, E: Drop>(
     out: &mut Writer,
     store: &StampedStore<P, E>,
@@ -139,7 +139,8 @@ fn write_entries<P: Drop, E: Drop>(
     out.end_array()
 }
 
-/// Writes the state or delta as an object.
+/// Writes the state or delta as an object, with the entries of the store whose names `known` lacks or has with a
+/// smaller stamp. The names of `known` ascend.
 fn write_whole<P: Drop, E: Drop>(
     out: &mut Writer,
     kind: &str,
@@ -161,6 +162,7 @@ fn write_whole<P: Drop, E: Drop>(
 }
 
 /// Returns the state or delta as bytes: the entries of the store whose names `known` lacks or has with a smaller stamp.
+/// The names of `known` ascend.
 fn write_message<P: Drop, E: Drop>(
     alloc: Global,
     kind: &str,

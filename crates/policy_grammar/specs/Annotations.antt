@@ -1,4 +1,4 @@
--- Defines the keys, which must be distinct, of a policy's annotations.
+-- Defines the keys, which must be distinct, of a policy's annotations. In each definition `text` is the policy's text.
 -- Source: Cedar reference guide 4.0, "Annotations": a key occurs once in a policy.
 use Rattle.std.specs.Prelude.{ℕ, List, map}
 use Rattle.grammar_desugaring.specs.grammar_tokens.Lexing.{spelling_of}

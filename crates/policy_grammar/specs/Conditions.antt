@@ -1,4 +1,5 @@
--- Defines the core expression of a policy's conditions, and their errors.
+-- Defines the core expression of a policy's conditions, and their errors. In each definition `text` is the text that
+-- the conditions' tokens are in.
 -- Source: Cedar reference guide 4.0, "Basic policy construction" (conditions); cedar-spec,
 -- cedar-lean/Cedar/Spec/Policy.lean (`Condition.toExpr`).
 -- Rules of this product: conditions are joined by `&&`, grouped to the right; without conditions the expression is
@@ -32,10 +33,10 @@ joined [] = truth
 joined (e ∷ []) = e
 joined (e ∷ (f ∷ es)) = core.And e (joined (f ∷ es))
 
--- `conditions_of text conditions` is the core expression of a policy's conditions.
+-- `conditions_of text conditions` is the core expression of the conditions `conditions` of a policy.
 abbrev pub conditions_of : List ℕ → List Condition → Expr
 conditions_of text conditions = joined (map (condition_of text) conditions)
 
--- `condition_faults text conditions` are the errors of a policy's conditions, in order.
+-- `condition_faults text conditions` are the errors of the conditions `conditions` of a policy, in order.
 abbrev pub condition_faults : List ℕ → List Condition → List DesugarFault
 condition_faults text = flat_map (λ c. faults_of text c.expression)

@@ -1,4 +1,5 @@
--- Defines the policy of a syntax tree, and its name, over the text that the tree's tokens are in.
+-- Defines the policy of a syntax tree, and its name, over the text that the tree's tokens are in (`text` in each
+-- definition).
 -- Source: Cedar reference guide 4.0, "Basic policy construction": effect, scope, conditions and annotations; "Grammar
 -- specification for Cedar policy syntax". That a policy is named by its `@id` follows the Cedar command line; the names
 -- of policies without one are a rule of this product.
@@ -37,8 +38,8 @@ IsUidOf text tree uid = uid ≡ uid_of text tree
 abbrev pub AreUidsOf : List ℕ → List UidTree → List EntityUid → Type 0
 AreUidsOf text = AllZip (IsUidOf text)
 
--- `IsEntityScopeOf text part scope` holds if `scope` is the condition that the tree `part` sets on the principal or the
--- resource.
+-- `IsEntityScopeOf text part scope` holds if `scope` is the constraint, on the principal or the resource, that the tree
+-- `part` denotes.
 abbrev pub IsEntityScopeOf : List ℕ → PartTree → EntityScope → Type 0
 IsEntityScopeOf text part.Any entity.Any = Unit {0}
 IsEntityScopeOf text (part.Equal tree) (entity.Equal uid) = IsUidOf text tree uid
@@ -47,7 +48,7 @@ IsEntityScopeOf text (part.Is path) (entity.Is name) = name ≡ path_name text p
 IsEntityScopeOf text (part.IsIn path tree) (entity.IsIn name uid) = (name ≡ path_name text path) × IsUidOf text tree uid
 IsEntityScopeOf text _ _ = ⊥
 
--- `IsActionScopeOf text tree scope` holds if `scope` is the condition that `tree` sets on the action.
+-- `IsActionScopeOf text tree scope` holds if `scope` is the constraint, on the action, that `tree` denotes.
 abbrev pub IsActionScopeOf : List ℕ → ActionTree → ActionScope → Type 0
 IsActionScopeOf text action.Any actions.Any = Unit {0}
 IsActionScopeOf text (action.Equal tree) (actions.Equal uid) = IsUidOf text tree uid

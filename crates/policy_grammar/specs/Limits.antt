@@ -41,8 +41,8 @@ height (both a b) = max (height a) (height b) + 1
 height (literals n) = 2
 height (sized high many) = high
 
--- `part_shape part` is the shape of a scope's part on the principal or the resource: without a constraint it is `true`,
--- and `e is T in f` is `(e is T) && (e in f)`.
+-- `part_shape part` is the shape of `part`, a scope's part on the principal or the resource: without a constraint it is
+-- `true`, and `e is T in f` is `(e is T) && (e in f)`.
 abbrev pub part_shape : PartTree → Shape
 part_shape part.Any = leaf
 part_shape (part.Equal uid) = both leaf leaf
@@ -50,8 +50,8 @@ part_shape (part.In uid) = both leaf leaf
 part_shape (part.Is name) = over leaf
 part_shape (part.IsIn name uid) = both (over leaf) (both leaf leaf)
 
--- `action_shape action` is the shape of a scope's part on the action: `action in []` is `false`, and
--- `action in [E, ..]` is `action in` that set.
+-- `action_shape action` is the shape of `action`, a scope's part on the action: without a constraint it is `true`,
+-- `action in []` is `false`, and `action in [E, ..]` is `action in` that set.
 abbrev pub action_shape : ActionTree → Shape
 action_shape action.Any = leaf
 action_shape (action.Equal uid) = both leaf leaf
@@ -59,12 +59,13 @@ action_shape (action.In uid) = both leaf leaf
 action_shape (action.InList []) = leaf
 action_shape (action.InList (uid ∷ uids)) = both leaf (literals (suc (length uids)))
 
--- `shape_over tree conditions` is the shape of `principal && (action && (resource && conditions))`.
+-- `shape_over tree conditions` is the shape of `principal && (action && (resource && conditions))`, where the first
+-- three parts are those of the policy `tree`, and the last one has the shape `conditions`.
 abbrev pub shape_over : PolicyTree → Shape → Shape
 shape_over tree conditions =
     both (part_shape tree.principal) (both (action_shape tree.action) (both (part_shape tree.resource) conditions))
 
--- `shape_of text tree` is the shape of the whole expression of the policy `tree`.
+-- `shape_of text tree` is the shape of the whole expression of the policy `tree`, whose tokens are in `text`.
 abbrev pub shape_of : List ℕ → PolicyTree → Shape
 shape_of text tree =
     let e = conditions_of text tree.conditions in
@@ -103,8 +104,8 @@ ShapesAreSizes = (text : List ℕ) (tree : PolicyTree) (policy : Policy) → IsC
     (height (shape_of text tree) ≡ size.height (expression_of policy))
     × (node_count (shape_of text tree) ≡ size.node_count (expression_of policy))
 
--- `NineFormsMore`: a policy without conditions, whose only constraint is a list of actions, has nine nodes more than
--- the list has actions.
+-- `NineFormsMore`: a policy without conditions, whose only constraint is a nonempty list of actions, has nine nodes
+-- more than the list has actions.
 abbrev pub NineFormsMore : Type 0
 NineFormsMore = (text : List ℕ) (tree : PolicyTree) (uid : UidTree) (uids : List UidTree) →
     tree.principal ≡ part.Any → tree.action ≡ action.InList (uid ∷ uids) →

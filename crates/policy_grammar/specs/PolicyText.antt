@@ -23,13 +23,13 @@ use Rattle.policy_grammar.specs.Faults.{of_desugaring}
 use Rattle.policy_grammar.specs.Limits.{IsSmallTree, IsSmallPolicy, IsId, most_policy_bytes, most_file_bytes}
 use Rattle.policy_grammar.specs.Repeats.{annotation_keys, policy_names}
 
--- `tree_faults text tree` are the errors of a policy's tree: those of repeated annotations, then those of its
--- conditions.
+-- `tree_faults text tree` are the errors of `tree`, a policy's tree over `text`: those of repeated annotations, then
+-- those of its conditions.
 abbrev pub tree_faults : List ℕ → PolicyTree → List DesugarFault
 tree_faults text tree = repeat_faults (annotation_keys text tree) ++ condition_faults text tree.conditions
 
--- `file_faults text trees names` are the errors of a file's trees with the names `names`: those of repeated names, then
--- those of each tree.
+-- `file_faults text trees names` are the errors of `trees`, the trees of a file `text`, with the names `names`: those
+-- of repeated names, then those of each tree.
 abbrev pub file_faults : List ℕ → List PolicyTree → List (List ℕ) → List DesugarFault
 file_faults text trees names = repeat_faults (policy_names names trees) ++ flat_map (tree_faults text) trees
 
@@ -84,7 +84,8 @@ IsOverLimit text tree (fault.TooDeep at) = (IsSmallTree text tree → ⊥) × (a
 IsOverLimit text tree _ = ⊥
 
 -- `AreOverLimits text trees names why` holds if some policy of `trees` is over the limits of height and nodes, and
--- `why` is `TooDeep` at byte 0; or no policy is over these limits, some name is not an id, and `why` is `BadId`.
+-- `why` is `TooDeep` at byte 0; or if no policy is over these limits, one of `names` is not an id, and `why` is
+-- `BadId`.
 abbrev pub AreOverLimits : List ℕ → List PolicyTree → List (List ℕ) → ReadFault → Type 0
 AreOverLimits text trees names (fault.TooDeep at) = (AllByRecursion (IsSmallTree text) trees → ⊥) × (at ≡ 0)
 AreOverLimits text trees names fault.BadId = AllByRecursion (IsSmallTree text) trees × (All IsId names → ⊥)

@@ -19,6 +19,7 @@ start_after (annotation ∷ more) effect = annotation.at.start
 abbrev pub start_of : PolicyTree → ℕ
 start_of tree = start_after tree.annotations tree.effect
 
--- `policy_names names trees` are the names of a file's policies, each with the offset of its policy's first token.
+-- `policy_names names trees` are the names `names` of a file's policies `trees`, each with the offset of its policy's
+-- first token.
 abbrev pub policy_names : List (List ℕ) → List PolicyTree → List NameAt
 policy_names names trees = map (λ named. record { name = named.0; at = start_of named.1 }) (zip names trees)

@@ -35,10 +35,11 @@ abbrev pub byte_of : List ℕ → Option Token → ℕ
 byte_of text None = length text
 byte_of text (Some token) = token.start
 
--- `StopsAt L K most text why at` holds if the tokens of `text` leave the language `L` at the byte `at`, with the error
--- `why`. The tokens before that byte begin something in `L`. With the token at the byte they begin nothing in `L`; or,
--- if the byte is the text's end, they derive nothing in `L`. For example, the tokens of `permit(principal, action);`
--- leave the language of policies at `)`, byte 24. `K` is the language `L` without the limit of 64 levels of nesting.
+-- `StopsAt L K most text why at` holds if `text` has at most `most` bytes, and its tokens leave the language `L` at the
+-- byte `at`, with an error of the kind `why`. The tokens before that byte begin something in `L`. With the token at the
+-- byte they begin nothing in `L`; or, if the byte is the text's end, they derive nothing in `L`. For example, the
+-- tokens of `permit(principal, action);` leave the language of policies at `)`, byte 24. `K` is the language `L`
+-- without the limit of 64 levels of nesting.
 pub record StopsAt {A : Type 0} (L K : Lang A) (most : ℕ) (text : List ℕ) (why : ℕ → SyntaxFault) (at : ℕ) :
     Type 0 where
   pub short : length text ≤ most
@@ -48,8 +49,8 @@ pub record StopsAt {A : Type 0} (L K : Lang A) (most : ℕ) (text : List ℕ) (w
   pub refused : IsRefusedWithin L K tokens (why place)
   pub byte : at ≡ byte_of text (slice_get tokens place)
 
--- `IsUnread L K most text why` holds if `why` is the error of `text`, which has no tree in `L`: the text is too long;
--- else no token starts at some byte; else the tokens leave the language, or nest too deep.
+-- `IsUnread L K most text why` holds if `why` is the error of `text`, which has no tree in `L`: the text has over
+-- `most` bytes; else it is bad at a byte (`IsBadAt`); else its tokens leave the language, or nest too deep (`StopsAt`).
 abbrev pub IsUnread : {A : Type 0} → Lang A → Lang A → ℕ → List ℕ → ReadFault → Type 0
 IsUnread L K most text fault.TooLong = most < length text
 IsUnread L K most text (fault.BadToken at) = (length text ≤ most) × IsBadAt text at

@@ -2,7 +2,7 @@
 -- the right.
 -- Source: Cedar reference guide 4.0, "Basic policy construction" (scope, conditions); cedar-spec,
 -- cedar-lean/Cedar/Spec/Policy.lean (`Policy.toExpr`).
--- Rules of this product: a part without a condition is `true`, and `action in []` is `false`.
+-- Rules of this product: a part without a constraint is `true`, and `action in []` is `false`.
 use Rattle.std.specs.Prelude.{true, false, [], ◌∷◌, map}
 use Rattle.values.specs.declared.entity_uid.EntityUid.{EntityUid}
 use Rattle.grammar_core.specs.declared.leaf.Literal.TheVariants as literal
@@ -36,7 +36,7 @@ is_equal x uid = core.Binary Equal (core.Variable x) (entity_literal uid)
 abbrev pub is_in : Variable → EntityUid → Expr
 is_in x uid = core.Binary In (core.Variable x) (entity_literal uid)
 
--- `entity_part x scope` is the expression of the condition `scope` on the variable `x`, the principal or the resource.
+-- `entity_part x scope` is the expression of the constraint `scope` on the variable `x`, the principal or the resource.
 abbrev pub entity_part : Variable → EntityScope → Expr
 entity_part x entity.Any = truth
 entity_part x (entity.Equal uid) = is_equal x uid
@@ -44,7 +44,7 @@ entity_part x (entity.In uid) = is_in x uid
 entity_part x (entity.Is name) = core.Unary (Is name) (core.Variable x)
 entity_part x (entity.IsIn name uid) = core.And (core.Unary (Is name) (core.Variable x)) (is_in x uid)
 
--- `action_part scope` is the expression of the condition `scope` on the action.
+-- `action_part scope` is the expression of the constraint `scope` on the action.
 abbrev pub action_part : ActionScope → Expr
 action_part action.Any = truth
 action_part (action.Equal uid) = is_equal Action uid
@@ -53,7 +53,7 @@ action_part (action.InList []) = falsehood
 action_part (action.InList (uid ∷ uids)) =
     core.Binary In (core.Variable Action) (core.Set (map entity_literal (uid ∷ uids)))
 
--- `expression_of policy` is `principal && (action && (resource && condition))`.
+-- `expression_of policy` is the expression of `policy`: `principal && (action && (resource && condition))`.
 abbrev pub expression_of : Policy → Expr
 expression_of policy = core.And (entity_part Principal policy.scope.principal)
     (core.And (action_part policy.scope.action)

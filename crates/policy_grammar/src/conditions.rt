@@ -17,7 +17,7 @@ use grammar_policies::{Condition, ConditionWord};
 use plain::{NoMemory, Shared, pair_with};
 use std::alloc::Global;
 
-/// Returns the measure of a condition: `unless { e }` is `!e`.
+/// Returns the measure of a condition. The core expression of `unless { e }` is `!e`.
 fn judge_condition(alloc: Global, text: &str, condition: &Condition) -> Result<Measure, NoMemory>
     requires { IsBuiltFrom text.now (λ tokens. WellFormedCondition tokens condition.now) }
     ensures { IfOk result (λ j. j ≡ of (condition_of text.now condition.now)

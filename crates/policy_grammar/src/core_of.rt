@@ -59,7 +59,7 @@ fn uids_of(alloc: Global, text: &str, trees: &Items<UidTree>) -> Result<Items<En
     Ok(Items::from_vec(uids))
 }
 
-/// Returns the condition on the principal or the resource, or `NoMemory`. Names are shared with `known` as by
+/// Returns the constraint on the principal or the resource, or `NoMemory`. Names are shared with `known` as by
 /// `uid_like`.
 fn entity_scope_of(
     alloc: Global,
@@ -92,7 +92,7 @@ fn entity_scope_of(
     }
 }
 
-/// Returns the condition on the action, or `NoMemory`. The names of a single uid are shared with `known` as by
+/// Returns the constraint on the action, or `NoMemory`. The names of a single uid are shared with `known` as by
 /// `uid_like`.
 fn action_scope_of(
     alloc: Global,
@@ -165,9 +165,9 @@ fn scope_of(
     })
 }
 
-/// Returns the policy of a tree, or `NoMemory`. Names of its scope are shared with the scope of `known`, such as the
-/// previous policy, as by `scope_of`. Its condition is shared if `tree` has no conditions and the condition of `known`
-/// is `true`.
+/// Returns the policy of a tree, or `NoMemory`. Names of the policy's scope are shared with the scope of `known`, such
+/// as the previous policy, as by `scope_of`. The policy's condition is shared with `known` if `tree` has no conditions
+/// and the condition of `known` is `true`.
 pub(crate) fn core_like(
     alloc: Global,
     text: &str,

@@ -67,8 +67,8 @@ fn text_like(alloc: Global, text: &str, known: Option<&SharedText>) -> Result<Sh
     }
 }
 
-/// Returns the id that the string at `token` states, or `NoMemory`. The id shares the string of `known` if it is equal
-/// to it, and if the string has no escapes.
+/// Returns the id that the string at `token` denotes, or `NoMemory`. The id shares the string of `known` if the ids are
+/// equal and the string at `token` has no escapes.
 pub(crate) fn id_like(
     alloc: Global,
     text: &str,

@@ -71,9 +71,9 @@ pub(crate) fn are_ids(names: &[Text]) -> bool
     names.iter().all(|name| is_id(name))
 }
 
-/// Proves that the size of a policy's core expression is the one computed of its tree; that a policy with only a list
-/// of actions has nine nodes more than that list has actions; and that a scope adds at most three to the height of the
-/// conditions, unless the whole is at most 6 high. No-op.
+/// Proves that the size of a policy's core expression is the one computed of its tree. A policy without conditions,
+/// whose only constraint is a nonempty list of actions, has nine nodes more than that list has actions. A scope adds at
+/// most three to the height of the conditions, unless the whole is at most 6 high. No-op.
 pub fn heads_are_small()
     ensures sizes { ShapesAreSizes }
     ensures list { NineFormsMore }

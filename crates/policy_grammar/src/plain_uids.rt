@@ -24,7 +24,8 @@ fn plain_parts(text: &str) -> Option<(&str, &str)>
     Some((name, id))
 }
 
-/// Returns the uid of a text in the usual form; `None` for other texts. The only error is `NoMemory`.
+/// Returns the uid of a text in the usual form; `None` for other texts, and for a text of over 262,144 bytes. The only
+/// error is `NoMemory`.
 pub(crate) fn plain_uid(alloc: Global, text: &str) -> Result<Option<EntityUid>, NoMemory>
     ensures { IfOk result (λ found. IfSome found (IsUidText text.now)) }
 {

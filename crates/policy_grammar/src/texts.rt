@@ -42,7 +42,7 @@ fn uid_by_tree(alloc: Global, text: &str) -> Result<EntityUid, ReadFault>
 /// In this order:
 ///
 /// - `TooLong` (18): over 262,144 bytes.
-/// - `BadToken` (10): the first byte at which no token starts, anywhere in the text.
+/// - `BadToken` (10): the first invalid token, anywhere in the text.
 /// - `Unexpected` (11), `Slot` (16): the first token that cannot follow those before it in a uid.
 /// - `NoMemory` (1): an allocation failed; possible at any point.
 pub fn parse_uid(alloc: Global, text: &str) -> Result<EntityUid, ReadFault>
@@ -79,7 +79,7 @@ fn policy_of(alloc: Global, text: &str, tree: &PolicyTree) -> Result<Policy, Rea
 /// In this order, all before any part of the core expression is built:
 ///
 /// - `TooLong` (18): over 262,144 bytes.
-/// - `BadToken` (10): the first byte at which no token starts, anywhere in the text.
+/// - `BadToken` (10): the first invalid token, anywhere in the text.
 /// - `Unexpected` (11), `Slot` (16), `TooDeep` (17): the first token that cannot follow those before it in a policy, or
 ///   that would open level 65 of an expression.
 /// - `RepeatedKey` (15) of an annotation or of a record, `NumberRange` (12), `UnknownCall` (13), `Arity` (14): the
@@ -136,7 +136,7 @@ fn policies_of(
 /// In this order, all before any part of a core expression is built:
 ///
 /// - `TooLong` (18): over 8,388,608 bytes.
-/// - `BadToken` (10): the first byte at which no token starts, anywhere in the file.
+/// - `BadToken` (10): the first invalid token, anywhere in the file.
 /// - `Unexpected` (11), `Slot` (16), `TooDeep` (17): the first token that cannot follow those before it in a file, or
 ///   that would open level 65 of an expression.
 /// - `RepeatedKey` (15) of an annotation, of a record or of a policy's name, `NumberRange` (12), `UnknownCall` (13),

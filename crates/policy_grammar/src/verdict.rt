@@ -18,7 +18,7 @@ use std::alloc::Global;
 /// The result of checking one policy, or several.
 #[derive(Clone, Copy)]
 pub(crate) struct Verdict {
-    /// The error at the least offset, of a repeated annotation or of a condition.
+    /// The error at the least offset, of a repeated annotation or of a condition, if there is one.
     pub(crate) fault: Option<DesugarFault>,
     /// Whether each core expression is within the limits of height and nodes.
     pub(crate) small: bool,
@@ -54,7 +54,7 @@ pub(crate) fn judge_policy(
     })
 }
 
-/// Returns the verdict on the policies of a file.
+/// Returns the verdict on the policies of a file, without errors of repeated policy names.
 pub(crate) fn judge_policies(
     alloc: Global,
     text: &str,

@@ -10,7 +10,8 @@ use Rattle.program.specs.declared.device.Stream.TheVariants.{Answers, Faults}
 use Rattle.program.specs.Reports.{ended, IsAnswerReported, IsRefusalReported, IsMemoryReported, IsFileReported}
 use Rattle.program.specs.Reports.{IsFailureReported}
 
--- A `Course` is a relation between the events of the rest of a run and its status.
+-- A `Course` is a relation between the events of the rest of a run and its status. A sentence on a course does not name
+-- these two arguments.
 abbrev pub Course : Type 0 → Type 1
 Course L = List (Event L) → ℕ → Type 0
 
@@ -44,7 +45,8 @@ module _ {L : Type 0} where
   Reads name goes_on events end = (came : Result (List ℕ) FileFault) × (rest : List (Event L))
       × (events ≡ read name came ∷ rest) × GoesOnWith name goes_on came rest end
 
-  -- `ReadsIfNamed name goes_on`: the file is read if its name is present, and the run goes on likewise.
+  -- `ReadsIfNamed name goes_on`: the file is read if its name is present, and the run goes on with its bytes, or with
+  -- `None`; or the run reports the error and ends.
   abbrev pub ReadsIfNamed : Option (List ℕ) → (Option (List ℕ) → Course L) → Course L
   ReadsIfNamed None goes_on = goes_on None
   ReadsIfNamed (Some name) goes_on = Reads name (λ bytes. goes_on (Some bytes))
@@ -56,7 +58,8 @@ module _ {L : Type 0} where
   GoesOnIfThere name goes_on (Err file.Failed) = IsFileReported name file.Failed
   GoesOnIfThere name goes_on (Err file.NoMemory) = IsFileReported name file.NoMemory
 
-  -- `ReadsIfThere name goes_on`: the file is read if it exists, and the run goes on likewise.
+  -- `ReadsIfThere name goes_on`: the file is read if it exists, and the run goes on with its bytes, or with `None`; or
+  -- the run reports the error and ends.
   abbrev pub ReadsIfThere : List ℕ → (Option (List ℕ) → Course L) → Course L
   ReadsIfThere name goes_on events end = (came : Result (List ℕ) FileFault) × (rest : List (Event L))
       × (events ≡ read name came ∷ rest) × GoesOnIfThere name goes_on came rest end
@@ -67,7 +70,8 @@ module _ {L : Type 0} where
   GoesOnWritten name goes_on (Ok done) = goes_on
   GoesOnWritten name goes_on (Err fault) = IsFileReported name fault
 
-  -- `Stores name bytes goes_on`: the file is written, and the run goes on, or reports the error and ends.
+  -- `Stores name bytes goes_on`: `bytes` are written into the file `name`, and the run goes on, or reports the error
+  -- and ends.
   abbrev pub Stores : List ℕ → List ℕ → Course L → Course L
   Stores name bytes goes_on events end = (came : Result (Unit {0}) FileFault) × (rest : List (Event L))
       × (events ≡ stored name bytes came ∷ rest) × GoesOnWritten name goes_on came rest end

@@ -99,7 +99,7 @@ module _ {R W : Type 0} (reader : Source R) (writer : Sink W) where
       × (call_size at.call body ≤ MAX_BODY)
 
   -- `IsNotCalled at body link fault left` holds if `fault` is why the call `at` with `body` got no reply of status 200
-  -- over `link`; nothing of the request was written, a first part, or all of it. `left` is the connection afterwards.
+  -- over `link`; a prefix of the request was written, possibly empty or whole. `left` is the connection afterwards.
   abbrev pub IsNotCalled : RoundCall → List ℕ → Link R W → PullFault → Link R W → Type 0
   IsNotCalled at body link (Network fault) left =
       IsUnanswered reader.left reader.reads reader.failed reader.fails writer.holds writer.failed writer.fails

@@ -14,7 +14,8 @@ use Rattle.program.specs.Explained.{file_with_content, policies_of, schema_files
 use Rattle.program.specs.Explained.{IsLineOrErrorExplained}
 use Rattle.program.specs.Explaining.{file_named}
 
--- `load_files ..` are the files that a run explains if a file or a put is rejected after the initial site was created.
+-- `load_files options schema policies entities` are the files that a run explains if a file or a put is rejected after
+-- the initial site was created: those that `options` name, with these contents.
 abbrev pub load_files : LoadOptions → List ℕ → Option (List ℕ) → Option (List ℕ) → Files
 load_files options schema policies entities = record {
   schema = Some (file_with_content options.schema.now schema);

@@ -50,8 +50,8 @@ module _ {R W : Type 0} (reader : Source R) (writer : Sink W) where
   IsAsked request link body left =
       IsAnswered reader.left reader.reads writer.holds request link.reader left.reader link.writer left.writer 200 body
 
-  -- `IsNotMoreThanAsked schema state address link left` holds if the connection is unchanged, or a first part of the
-  -- request for the missing entries, or all of it, was written.
+  -- `IsNotMoreThanAsked schema state address link left` holds if the connection is unchanged, or a prefix of the
+  -- request for the missing entries was written, possibly empty or whole.
   abbrev pub IsNotMoreThanAsked : List ℕ → Option (List ℕ) → List ℕ → Link R W → Link R W → Type 0
   IsNotMoreThanAsked schema state address link left = (left ≡ link)
       ⊎ ((s : StatedSchema) × (m : Store) × IsReady schema state s m

@@ -17,7 +17,7 @@ use Rattle.program.specs.Events.{Event, wrote, printed}
 abbrev pub ended : List ℕ → List ℕ
 ended line = line ++ code "\n" ∷ []
 
--- `status_after done status` is `status`, or 3 if the stream failed.
+-- `status_after done status` is `status`, or 3 if the stream failed (`done` is false).
 abbrev pub status_after : Bool → ℕ → ℕ
 status_after done status = if done then status else 3
 
@@ -29,6 +29,8 @@ taken_report_line count = codes "{\"taken\":" ++ decimal count ++ codes "}"
 abbrev pub no_memory_line : List ℕ
 no_memory_line = codes "{\"error\":{\"code\":1,\"place\":null,\"within\":null}}"
 
+-- The last two arguments of each relation are the events of the rest of a run, over connections of type `L`, and its
+-- status. The sentences do not name them.
 module _ {L : Type 0} where
   -- `IsReported stream line status`: `line` is written to `stream`, and the run ends with `status`, or with 3 if
   -- writing fails.
@@ -41,8 +43,8 @@ module _ {L : Type 0} where
   abbrev pub IsAnswerReported : List ℕ → List (Event L) → ℕ → Type 0
   IsAnswerReported line = IsReported Answers line 0
 
-  -- `AreLinesReported text some_refused`: the lines of policies, if any, are written to standard output, and the run
-  -- ends with 1 if a policy is rejected, else with 0.
+  -- `AreLinesReported text some_refused`: the lines in `text`, if there are any, are written to standard output, and
+  -- the run ends with 1 if `some_refused` (something is rejected), else with 0.
   abbrev pub AreLinesReported : List ℕ → Bool → List (Event L) → ℕ → Type 0
   AreLinesReported [] some_refused events end = (events ≡ []) × (end ≡ (if some_refused then 1 else 0))
   AreLinesReported (byte ∷ text) some_refused events end =
@@ -76,7 +78,8 @@ module _ {L : Type 0} where
       × (end ≡ status_after done status)
 
   -- `IsFaultReported fault`: help is written to standard output, and the run ends with 0; any other error of the
-  -- command line is written to standard error, and the run ends with 2; out of memory is reported as by every command.
+  -- command line is written to standard error, and the run ends with 2; out of memory is reported by
+  -- `IsMemoryReported`.
   abbrev pub IsFaultReported : LineFault → List (Event L) → ℕ → Type 0
   IsFaultReported (Help error) events end = IsPrinted Answers (Help error) 0 events end
   IsFaultReported (Words error) events end = IsPrinted Faults (Words error) 2 events end

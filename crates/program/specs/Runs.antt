@@ -48,7 +48,8 @@ abbrev pub IsNotDecided : Option (List ℕ) → List ℕ → List ℕ → List �
 IsNotDecided None = bare.IsDecisionRefused bare_reading
 IsNotDecided (Some schema) = typed.IsSchemaDecisionRefused schema
 
--- `decide_files ..` are the files that a run of `decide` explains.
+-- `decide_files options schema policies entities request` are the files that a run of `decide` explains: those that
+-- `options` name, with these contents.
 abbrev pub decide_files : DecideOptions → Option (List ℕ) → List ℕ → List ℕ → List ℕ → Files
 decide_files options schema policies entities request = record {
   schema = file_named (option_map (λ s. s.now) options.schema) schema;
@@ -57,7 +58,8 @@ decide_files options schema policies entities request = record {
   request = Some (file_with_content options.request.now request);
 }
 
--- `check_files ..` are the files that a run of `check` explains.
+-- `check_files options schema policies` are the files that a run of `check` explains: those that `options` name, with
+-- these contents.
 abbrev pub check_files : CheckOptions → List ℕ → List ℕ → Files
 check_files options schema policies = record {
   schema = Some (file_with_content options.schema.now schema);
@@ -67,14 +69,15 @@ check_files options schema policies = record {
 }
 
 module _ {L : Type 0} where
-  -- `IsDecidedOrRefused ..`: the answer line is printed, or the error is reported and, with `--explain`, explained.
+  -- `IsDecidedOrRefused options schema policies entities request`: the answer line of these texts is printed, or their
+  -- error is reported and, with `--explain`, explained.
   abbrev pub IsDecidedOrRefused : DecideOptions → Option (List ℕ) → List ℕ → List ℕ → List ℕ → Course L
   IsDecidedOrRefused options schema policies entities request =
       IsLineOrErrorExplained options.explain (decide_files options schema policies entities request)
       (IsDecided schema policies entities request) (IsNotDecided schema policies entities request)
 
-  -- `AreChecked ..`: the lines of policies under a schema are printed, or the error is reported; with `--explain`, what
-  -- is rejected is explained.
+  -- `AreChecked options schema policies`: the lines of the policies under the schema are printed, or the error is
+  -- reported; with `--explain`, what is rejected is explained.
   abbrev pub AreChecked : CheckOptions → List ℕ → List ℕ → Course L
   AreChecked options schema policies events end =
       ((text : List ℕ) × (some_refused : Bool) × checks.IsChecked schema policies text some_refused
@@ -83,14 +86,16 @@ module _ {L : Type 0} where
       ⊎ IsErrorExplained options.explain (check_files options schema policies) (checks.AreChecksRefused schema policies)
       events end
 
-  -- `AreMerged ..`: the state with the updates of both messages is printed, or the error is reported and, with
-  -- `--explain`, explained, with the name of the message at fault.
+  -- `AreMerged options schema first second`: the state with the updates of both messages, `first` and `second`, is
+  -- printed, or the error is reported and, with `--explain`, explained, with the name of the file of the message at
+  -- fault.
   abbrev pub AreMerged : MergeOptions → List ℕ → List ℕ → List ℕ → Course L
   AreMerged options schema first second = IsLineOrErrorThenText options.explain
       (IsMergeText (schema_files options.schema.now schema) options schema first)
       (merges.IsMerged schema first second) (merges.AreRefused schema first second)
 
-  -- `IsDrilledOrRefused ..`: the lines of a script are printed, or the error is reported.
+  -- `IsDrilledOrRefused sites schema script`: the lines of the script at this number of sites are printed, or the error
+  -- is reported.
   abbrev pub IsDrilledOrRefused : ℕ → List ℕ → List ℕ → Course L
   IsDrilledOrRefused sites schema script =
       IsLineOrRefusal (drills.IsDrilled sites schema script) (drills.IsDrillRefused sites schema script)
@@ -110,7 +115,7 @@ module _ {L : Type 0} where
   IsCheckRun options =
       Reads options.schema.now (λ schema. Reads options.policies.now (λ policies. AreChecked options schema policies))
 
-  -- `IsMergeRun options`: the schema is read, then the two states, which are then merged.
+  -- `IsMergeRun options`: the schema is read, then the two messages, which are then merged.
   abbrev pub IsMergeRun : MergeOptions → Course L
   IsMergeRun options =
       Reads options.schema.now (λ schema.

@@ -46,7 +46,7 @@ fn is_number(word: &str) -> bool
     is_some_text(word) && are_decimals(word)
 }
 
-/// Returns the table's entry for the code that an argument names, or `None` if there is no such code.
+/// Returns the texts on the code that an argument names, or `None` if there is no such code.
 fn words_for(word: &str) -> Option<&'static CodeWords<&'static str>>
     ensures { MatchOption result (IsNoCode word.now) (λ words. AreWordsOn word.now (texts_of words.now)) }
 {

@@ -65,7 +65,8 @@ pub(crate) fn report_answer<H: Host>(host: &mut H, line: &[u8]) -> ExitCode
     report_last_line(host, Stream::Answers, "", line, ANSWERED)
 }
 
-/// Writes the lines of policies, if there are any.
+/// Writes `lines` to standard output, if there are any. The status is 1 if `some_refused`, else 0, and 3 if writing
+/// fails.
 pub(crate) fn report_lines<H: Host>(host: &mut H, lines: &[u8], some_refused: bool) -> ExitCode
     ensures { Runs H.does host.old host.new
         (λ events. AreLinesReported lines.now some_refused events (exit_status result)) }

@@ -39,7 +39,7 @@ fn run_line<H: Host>(alloc: Global, host: &mut H, line: &Line<'_>) -> ExitCode
 
 /// Executes the command of the arguments, the first of which is the program's name: checks policies, decides a request,
 /// loads files into a site and prints its state, serves a site, pulls from one, exchanges between two, merges two
-/// states, executes a script, explains a code or what is rejected in files, or writes help, the version, or the error
+/// messages, executes a script, explains a code or what is rejected in files, or writes help, the version, or the error
 /// of the arguments.
 ///
 /// The status is 0 for an answer or help, 1 for an error, also of one of the checked policies, 2 for arguments that are

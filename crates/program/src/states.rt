@@ -40,7 +40,8 @@ fn unless_no_memory(refusal: Refusal) -> Result<Refusal, NoMemory>
     Ok(refusal)
 }
 
-/// Returns the name of the message at fault: the second if the first merges with itself, and else the first.
+/// Returns the name of the file of the message at fault: the second if the first merges with itself, and else the
+/// first.
 fn message_at_fault<'n>(
     alloc: Global,
     options: &MergeOptions<'n>,
@@ -152,7 +153,7 @@ fn merge_contents<H: Host>(
     }
 }
 
-/// Reads the schema and the two states, in this order, and then merges them.
+/// Reads the schema and the two messages, in this order, and then merges the messages.
 pub(crate) fn run_merge<H: Host>(
     alloc: Global,
     host: &mut H,

@@ -17,10 +17,13 @@ use std::{fs, io, thread};
 /// The files, the network and the clock of the system, and writers of standard output and standard error.
 #[derive(Drop)]
 pub struct SystemHost<'a, R, O, E> {
+    /// The files, the network and the clock.
     pub files: &'a R,
+    /// The writer of standard output.
     pub answers: O,
+    /// The writer of standard error.
     pub faults: E,
-    /// A second writer of standard output, for a log that goes there; opening the log takes it.
+    /// A second writer of standard output, for a log that goes there; `None` once such a log is open.
     pub lines: Option<O>,
 }
 
@@ -55,7 +58,7 @@ pub struct LogLines<D> {
     /// Whether the last accepted byte does not end a line.
     open: bool,
     /// Whether the next write first ends the open line, since a write of that line failed, or the file ended in a line
-    /// that was cut off when the run began.
+    /// that was cut off when the log was opened.
     torn: bool,
 }
 

@@ -1,4 +1,4 @@
--- Defines the output of the command `drill`: for a schema and a script at n sites.
+-- Defines the output of the command `drill` for a schema, and for a script at `n` sites.
 -- Source: docs/formats.md, "Scripts of `drill`".
 -- Rules of this product: the schema is checked first, then the whole script; only then are events executed. The output
 -- has a line for each event, in order, then one for each site, joined by line feeds.

@@ -1,6 +1,6 @@
 -- Defines the lines of a script.
--- Rules of this product: each line ends with a line feed; the last one may end with the text instead. A carriage return
--- before a line feed belongs to the line; in JSON it is whitespace.
+-- Rules of this product: each line ends with a line feed, which the last one may lack. A carriage return before a line
+-- feed belongs to the line; in JSON it is whitespace.
 use Rattle.std.specs.Prelude.{ℕ, ◌==◌, List, [], ◌∷◌, if◌then◌else◌}
 use Prim.Native.Char.{code}
 

@@ -61,7 +61,7 @@ abbrev pub policy_deleted : List ℕ → ScriptOperation
 policy_deleted id = plain (operation.DeletePolicy id)
 
 -- `entity_deleted o` is the deletion of the entity `o`. For JSON that is not a uid (`None`) it is a put of no bytes,
--- which has the same error (30).
+-- which has the same error, `BadShape` (30).
 abbrev pub entity_deleted : Option EntityUid → ScriptOperation
 entity_deleted None = plain (operation.PutEntity [])
 entity_deleted (Some uid) = plain (operation.DeleteEntity uid)

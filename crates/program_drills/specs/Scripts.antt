@@ -1,7 +1,7 @@
 -- Defines the events of a script.
 -- Source: docs/formats.md, "Scripts of `drill`".
--- Rules of this product: each line of a script is one event. If a line is not, the script is rejected (30) with the
--- index of the first such line, from 0.
+-- Rules of this product: each line of a script is one event. If a line is not, the script is rejected (30, bad shape)
+-- with the index of the first such line, from 0.
 use Rattle.std.specs.Prelude.{◌≡◌, ℕ, suc, List, [], ◌∷◌, Some, Result, Ok, Err}
 use Rattle.std.specs.List.{AllZip}
 use Rattle.json_words.specs.ReadsAs.{◌>>=◌, or_fault}
@@ -12,9 +12,9 @@ use Rattle.program_drills.specs.declared.made.MadeCounts.{MadeCounts}
 use Rattle.program_drills.specs.Lines.{lines}
 use Rattle.program_drills.specs.ScriptLines.{ScriptLine, script_line_of, after_script_operation, IsEventOf}
 
--- `script_lines_from n made place ls` are the events that the lines `ls` describe, where `made` counts the messages and
--- summaries of earlier lines and the first of `ls` has the index `place`; or the index of the first line that is not an
--- event.
+-- `script_lines_from n made place ls` are the events that the lines `ls` describe for `n` sites, where `made` counts
+-- the messages and summaries of earlier lines and the first of `ls` has the index `place`; or the index of the first
+-- line that is not an event.
 unfoldable pub script_lines_from : ℕ → MadeCounts → ℕ → List (List ℕ) → Result (List ScriptLine) ℕ
 script_lines_from n made place [] = Ok []
 script_lines_from n made place (l ∷ ls) = do
@@ -37,8 +37,8 @@ pub record AreEventsOf (n : ℕ) (script : List ℕ) (events : List Event) : Typ
   pub is : script_of n script ≡ Ok said
   pub each : AllZip IsEventOf said events
 
--- `IsScriptRefused n script refusal` holds if a line of `script` is not an event, and `refusal` is the error 30 with
--- the index of the first such line.
+-- `IsScriptRefused n script refusal` holds if a line of `script` is not an event, and `refusal` is the error 30 (bad
+-- shape) with the index of the first such line.
 pub record IsScriptRefused (n : ℕ) (script : List ℕ) (refusal : Refusal) : Type 0 where
   pub place : ℕ
   pub is : script_of n script ≡ Err place

@@ -1,10 +1,10 @@
-//! Counts the messages and summaries that a script has made.
+//! Counts the messages and summaries that the lines of a script make.
 ghost use Rattle.std.specs.Prelude.{◌≡◌, ◌<◌, ◌^◌};
 ghost use Rattle.program_drills.specs.ScriptLines.{after_operation};
 
 use http_service::Operation;
 
-/// The number of messages and of summaries made so far.
+/// The number of messages, and that of summaries, that some first lines of a script make.
 #[derive(Clone, Copy)]
 pub(crate) struct MadeCounts {
     pub(crate) messages: usize,

@@ -94,7 +94,7 @@ fn entity_put(alloc: Global, value: &Value) -> Result<Option<Operation>, NoMemor
 }
 
 /// Returns the deletion of an entity, if the uid is present. JSON that is not a uid gives a put of no bytes, which has
-/// the same error (30).
+/// the same error, `BadShape` (30).
 fn entity_deleted(alloc: Global, value: &Value) -> Result<Option<Operation>, NoMemory>
     ensures { IfOk result (IsReadAs
         (option_map (λ uid. entity_deleted (uid_in uid)) (get (codes "uid") (view value.now)))) }
@@ -119,7 +119,7 @@ fn authorized(alloc: Global, value: &Value) -> Result<Option<Operation>, NoMemor
     }
 }
 
-/// Returns the offer of a delta against a summary, if the line has the number of a summary that was made.
+/// Returns the offer of a delta against a summary, if the line has the number of a summary that an earlier line makes.
 fn delta_offered(value: &Value, made: MadeCounts) -> Option<Operation>
     ensures { IsReadAs (option_map delta_offered (number_in (codes "summary") 0 made.summaries (view value.now)))
         result }
@@ -130,7 +130,7 @@ fn delta_offered(value: &Value, made: MadeCounts) -> Option<Operation>
     }
 }
 
-/// Returns the delivery of a message, if the line has the number of a message that was made.
+/// Returns the delivery of a message, if the line has the number of a message that an earlier line makes.
 fn delivered(value: &Value, made: MadeCounts) -> Option<Operation>
     ensures { IsReadAs (option_map delivered (number_in (codes "message") 0 made.messages (view value.now))) result }
 {

@@ -10,7 +10,7 @@ use http_service::Event;
 use schema_decisions::Refusal;
 use std::alloc::Global;
 
-/// Returns the error (30) of the line at an index.
+/// Returns the error (30, bad shape) of the line at an index.
 fn unread_line(place: usize) -> Refusal
     ensures { result ≡ bad_shape (Some place) }
 {
@@ -25,8 +25,9 @@ fn unread_line(place: usize) -> Refusal
 ///
 /// # Errors
 ///
-/// - 30: a line is not an event: it is not a JSON object, lacks a required member, or has the number of a site, a
-///   message or a summary that does not exist at that point. The place is the index of the first such line, from 0.
+/// - 30: a line is not an event: it is not a JSON object, names no operation at `do`, lacks a required member or has
+///   one of another JSON kind, or has the number of a site that does not exist, or of a message or a summary that no
+///   earlier line makes. The place is the index of the first such line, from 0.
 /// - 1, at any point: out of memory.
 pub(crate) fn read_script(alloc: Global, count: u16, script: &[u8]) -> Result<Vec<Event>, Refusal>
     ensures read { IfOk result (λ events. AreEventsOf count script.now events.items) }

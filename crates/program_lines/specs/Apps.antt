@@ -27,12 +27,13 @@ demanded rule = record rule { required = true }
 abbrev pub explain_flag : Rule
 explain_flag = record (new_rule (codes "explain")) { long = Some (codes "explain"); action = Some SetTrue }
 
--- check --schema FILE POLICIES [--explain]
+-- `check_app` is the command `check --schema FILE POLICIES [--explain]`.
 abbrev pub check_app : App
 check_app = with_rule (with_rule (with_rule (new_app (codes "check")) (demanded (value_option (codes "schema"))))
     (demanded (value_word (codes "policies")))) explain_flag
 
--- decide [--schema FILE] --policies FILE --entities FILE --request FILE [--explain], the options in any order
+-- `decide_app` is the command `decide [--schema FILE] --policies FILE --entities FILE --request FILE [--explain]`, with
+-- the options in any order, as in each command.
 abbrev pub decide_app : App
 decide_app = with_rule (with_rule (with_rule (with_rule (with_rule (new_app (codes "decide"))
     (value_option (codes "schema"))) (demanded (value_option (codes "policies"))))
@@ -42,8 +43,9 @@ decide_app = with_rule (with_rule (with_rule (with_rule (with_rule (new_app (cod
 abbrev pub site_option : Rule
 site_option = demanded (value_option (codes "site"))
 
+-- `serve_app` is this command, where NUMBER is below 2^32, and SECONDS is from 1 to 86,400 (a day):
 -- serve --schema FILE --site NAME --listen ADDRESS [--state FILE] [--connections NUMBER] [--idle SECONDS] [--log FILE]
--- [--explain], where NUMBER is below 2^32, and SECONDS is at most a day
+-- [--explain]
 abbrev pub serve_app : App
 serve_app = with_rule (with_rule (with_rule (with_rule (with_rule (with_rule (with_rule (with_rule
     (new_app (codes "serve")) (demanded (value_option (codes "schema")))) site_option)
@@ -51,34 +53,36 @@ serve_app = with_rule (with_rule (with_rule (with_rule (with_rule (with_rule (wi
     (number_option (codes "connections") 0 4294967295)) (number_option (codes "idle") 1 86400))
     (value_option (codes "log"))) explain_flag
 
--- pull --schema FILE --site NAME --from ADDRESS --state FILE
+-- `pull_app` is the command `pull --schema FILE --site NAME --from ADDRESS --state FILE`.
 abbrev pub pull_app : App
 pull_app = with_rule (with_rule (with_rule (with_rule (new_app (codes "pull"))
     (demanded (value_option (codes "schema")))) site_option) (demanded (value_option (codes "from"))))
     (demanded (value_option (codes "state")))
 
--- exchange --schema FILE --between ADDRESS --and ADDRESS
+-- `exchange_app` is the command `exchange --schema FILE --between ADDRESS --and ADDRESS`.
 abbrev pub exchange_app : App
 exchange_app = with_rule (with_rule (with_rule (new_app (codes "exchange"))
     (demanded (value_option (codes "schema")))) (demanded (value_option (codes "between"))))
     (demanded (value_option (codes "and")))
 
--- merge --schema FILE FIRST SECOND [--explain]
+-- `merge_app` is the command `merge --schema FILE FIRST SECOND [--explain]`.
 abbrev pub merge_app : App
 merge_app = with_rule (with_rule (with_rule (with_rule (new_app (codes "merge"))
     (demanded (value_option (codes "schema")))) (demanded (value_word (codes "first"))))
     (demanded (value_word (codes "second")))) explain_flag
 
--- drill --schema FILE --sites NUMBER SCRIPT
+-- `drill_app` is the command `drill --schema FILE --sites NUMBER SCRIPT`, where NUMBER is from 1 to 64.
 abbrev pub drill_app : App
 drill_app = with_rule (with_rule (with_rule (new_app (codes "drill")) (demanded (value_option (codes "schema"))))
     (demanded (number_option (codes "sites") 1 64))) (demanded (value_word (codes "script")))
 
--- explain [--schema FILE] [--entities FILE] [--request FILE] WHAT, a file of policies or a code
+-- `explain_app` is the command `explain [--schema FILE] [--entities FILE] [--request FILE] WHAT`, where WHAT is a file
+-- of policies or a code.
 abbrev pub explain_app : App
 explain_app = with_rule (with_rule (with_rule (with_rule (new_app (codes "explain")) (value_option (codes "schema")))
     (value_option (codes "entities"))) (value_option (codes "request"))) (demanded (value_word (codes "what")))
 
+-- `load_app` is this command:
 -- load --schema FILE --site NAME [--policies FILE] [--entities FILE] [--state FILE] [--explain]
 abbrev pub load_app : App
 load_app = with_rule (with_rule (with_rule (with_rule (with_rule (with_rule (new_app (codes "load"))

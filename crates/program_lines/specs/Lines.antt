@@ -1,4 +1,4 @@
--- Defines the command of arguments, with the value of each of its options.
+-- Defines which command some arguments are, with the value of each of its options.
 -- Source: the contracts of the crate clap; docs/operating.md.
 use Rattle.std.specs.Prelude.{◌≡◌, ◌≤◌, ℕ, Bool, true, false, List, Option, None, Some, option_map, codes}
 use Rattle.std.specs.Str.Parse.{digits_value, without_leading_plus}

@@ -16,7 +16,7 @@ pub enum LineFault {
     /// The arguments are not a command line.
     #[error(transparent)]
     Words(clap::Error),
-    /// The value of `--site` is not a site name. Nothing else is wrong.
+    /// The value of `--site` is not a site name. clap accepted the arguments.
     #[error("error: the value of '--site' is not a site name: 1 to 32 ASCII letters, digits, '-', '_' or '.'\n")]
     Site,
     /// clap accepted the arguments, but a command or a required option is missing. clap demands these, so this does not

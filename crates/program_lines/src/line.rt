@@ -82,8 +82,8 @@ pub struct ExchangeOptions<'a> {
     pub and: &'a str,
 }
 
-/// The options of `merge`: the names of a schema's file and of the files of two states, and whether what is rejected is
-/// explained.
+/// The options of `merge`: the names of a schema's file and of two files, each of a state or a delta, and whether what
+/// is rejected is explained.
 #[derive(Clone, Copy)]
 pub struct MergeOptions<'a> {
     pub schema: &'a str,
@@ -125,7 +125,7 @@ pub enum Line<'a> {
     Pull(PullOptions<'a>),
     /// Brings two sites up to date with each other.
     Exchange(ExchangeOptions<'a>),
-    /// Merges two states.
+    /// Merges two messages, each a state or a delta.
     Merge(MergeOptions<'a>),
     /// Executes a script.
     Drill(DrillOptions<'a>),
@@ -430,7 +430,8 @@ fn why_incomplete(matches: &ArgMatches<'_>) -> LineFault
 ///
 /// - [`LineFault::Help`]: help, or the version, is requested.
 /// - [`LineFault::Words`]: clap rejects the arguments.
-/// - [`LineFault::Site`]: the value of `--site` is not a site name, and nothing else is wrong.
+/// - [`LineFault::Site`]: the value of `--site` is not a site name, and clap accepts the arguments.
+/// - [`LineFault::Incomplete`]: clap accepts the arguments, but they are not a command with its required options.
 /// - [`LineFault::NoMemory`]: an allocation failed, at any point.
 pub fn line_of<'a>(alloc: Global, words: &'a [String]) -> Result<Line<'a>, LineFault>
     ensures ok { IfOk result (IsCommandOf (map string_bytes words.entry.now)) }

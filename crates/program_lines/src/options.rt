@@ -10,7 +10,7 @@ use crate::app::{MOST_CONNECTIONS, MOST_IDLE, MOST_SITES};
 use clap::ArgMatches;
 use stamped_store::{SiteName, is_site_name};
 
-/// Returns the text of an option.
+/// Returns the value of an option, or `None` if the option is absent.
 pub(crate) fn option_text<'a>(options: &ArgMatches<'a>, name: &str) -> Option<&'a str>
     ensures { option_map (λ s. s.now) result ≡ first_of name.now (rows_of (found_of options.now)) }
 {
@@ -48,7 +48,7 @@ pub(crate) fn site_in(options: &ArgMatches<'_>) -> Option<SiteName>
     SiteName::parse(text)
 }
 
-/// Returns whether the site's option has an invalid site name.
+/// Returns whether the option `--site` has a value that is not a site name.
 pub(crate) fn is_given_invalid_site(options: &ArgMatches<'_>) -> bool
     ensures { IsTrue result ↔ IsGivenInvalidSite (rows_of (found_of options.now)) }
 {

@@ -1,4 +1,4 @@
-//! Places in texts, and the lines that show them.
+//! Test cases of positions in texts, and of the excerpts that show them.
 use crate::keeping::ended;
 use crate::pieces::Line;
 use crate::written::bad_row;
@@ -54,8 +54,8 @@ pub(crate) fn marked(alloc: Global, text: &str) -> Result<String, NoMemory> {
     ended(whole, told)
 }
 
-/// Returns the line and the column of a byte of a text, and the first byte of its character; in the row the number of
-/// the byte precedes the text.
+/// Returns the line and the column of a byte of a text, and the offset of the first byte of its character; in `row` the
+/// byte's offset precedes the text.
 pub(crate) fn placed(alloc: Global, row: &str) -> Result<String, NoMemory> {
     let (number, text) = row.split_once(' ').unwrap_or((row, ""));
     let Ok(at) = number.parse::<usize>() else {

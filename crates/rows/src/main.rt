@@ -5,8 +5,10 @@
 //! Texts (`texts`):
 //!
 //! - `name`, `json`: the parsed text in its canonical form.
-//! - `tokens`: the number of tokens, and the kind and the place of each; or the place at which no token begins.
-//! - `place`: after a byte's number, the line and the column of that byte, and the first byte of its character.
+//! - `tokens`: the number of tokens, and the kind and the byte offset of each; or the byte offset at which no token
+//!   begins.
+//! - `place`: for a byte offset and a text, the line and the column of that byte, and the offset of the first byte of
+//!   its character.
 //! - `excerpt`: the lines that show the part between two bars, in one line, with `\n` and `\t` as in a text.
 //!
 //! Policies (`spans`), after the digits of a path, or `-`:
@@ -16,8 +18,9 @@
 //! Streams (`streams`) to a service that answers each request by its body, or by its target, and counts:
 //!
 //! - `serve`: the statuses of the replies, with `!` if the last one ends the stream; the number of calls of the
-//!   service; and the places at which a text that ends there gets more replies. The outcome must be the same for
-//!   the text split in two at each byte, and read byte by byte and written in pieces; else it is `differs`.
+//!   service; and the lengths of the prefixes of the text that get more replies than all shorter ones. The outcome must
+//!   be the same for the text split in two at each byte, and read byte by byte and written in pieces; else it is
+//!   `differs`.
 //! - `whole`: only the statuses, of a long text that is not split; `slow`: of one that is read byte by byte.
 //! - `reply`: the replies themselves.
 //!
@@ -46,7 +49,7 @@ use plain::NoMemory;
 use std::alloc::Global;
 use std::io;
 
-/// Returns the outcome of a row.
+/// Returns the outcome of the test case with this word and this text.
 fn row_outcome(alloc: Global, word: &str, text: &str) -> Result<String, NoMemory> {
     let bytes = unescaped(alloc, text)?;
     match word {

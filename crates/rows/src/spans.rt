@@ -47,7 +47,7 @@ fn spanned(alloc: Global, word: &str, row: &str) -> Result<String, NoMemory> {
     outcome_text(alloc, text, span)
 }
 
-/// Returns the outcome of a row.
+/// Returns the outcome of the test case `word` for the text `bytes`.
 pub(crate) fn row_outcome(alloc: Global, word: &str, bytes: &[u8]) -> Result<String, NoMemory> {
     match std::str::from_utf8(bytes) {
         Ok(text) => spanned(alloc, word, text),

@@ -66,7 +66,7 @@ fn has_one_answer()
     ensures { HasOneAnswer (in_memory counts) asked_alike }
 {}
 
-/// Proves that a stream has one answer, however it is split: the rows observe what is proved here. No-op.
+/// Proves that a stream has one answer, however it is split: the test cases observe what is proved here. No-op.
 fn agrees()
     ensures { (old old2 new new2 : Counter) → (stream out more : List ℕ) → asked_alike old old2
         → AnswersAll (in_memory counts) old stream out new → AnswersAll (in_memory counts) old2 stream more new2
@@ -137,8 +137,8 @@ fn is_one_answer(alloc: Global, bytes: &[u8], whole: &Outcome) -> Result<bool, N
     is_same(alloc, bytes, whole, SLOW)
 }
 
-/// Returns the number of bytes that are sent for a part; `None` after an error, or if they are not a prefix of those
-/// for the whole.
+/// Returns the number of bytes that are sent for the prefix `part` of the stream; `None` after an error, or if they are
+/// not a prefix of those for the whole.
 fn answered(alloc: Global, part: &[u8], whole: &Outcome) -> Result<Option<usize>, NoMemory> {
     let found = run(alloc, part, PLAIN)?;
     if found.fault.is_none() && found.begins(whole) {
@@ -148,13 +148,13 @@ fn answered(alloc: Global, part: &[u8], whole: &Outcome) -> Result<Option<usize>
     }
 }
 
-/// Returns a blank and a place.
+/// Returns a blank and a length.
 fn place_told(alloc: Global, place: usize) -> Result<String, NoMemory> {
     format!(in alloc; " {place}")
 }
 
-/// Appends each place for which the bytes up to it get more of the replies than those up to the place before; returns
-/// `false` if some get less, or an error.
+/// Appends the length of each prefix of the bytes that gets more of the replies than the prefix that is one byte
+/// shorter. Returns `false` if a prefix gets less, or has an error.
 fn push_steps(
     alloc: Global,
     bytes: &[u8],
@@ -206,12 +206,13 @@ fn statuses(alloc: Global, out: &[u8]) -> Result<String, NoMemory> {
     told.ended()
 }
 
-/// Returns the number of calls of the service, as a row shows it.
+/// Returns the number of calls of the service, as a test case shows it.
 fn asked_told(alloc: Global, asked: u64) -> Result<String, NoMemory> {
     format!(in alloc; " ({asked}) at")
 }
 
-/// Appends the statuses, the number of calls of the service, and the places of [`push_steps`], whose result it returns.
+/// Appends the statuses, the number of calls of the service, and the lengths of [`push_steps`], whose result it
+/// returns.
 fn push_served(
     alloc: Global,
     bytes: &[u8],
@@ -223,7 +224,7 @@ fn push_served(
     push_steps(alloc, bytes, whole, told)
 }
 
-/// Returns the statuses, the number of calls, and the places of [`push_steps`]; `differs` if that returns `false`.
+/// Returns the statuses, the number of calls, and the lengths of [`push_steps`]; `differs` if that returns `false`.
 fn outcome_of_steps(alloc: Global, bytes: &[u8], whole: &Outcome) -> Result<String, NoMemory> {
     let mut told = Line::new(alloc);
     if push_served(alloc, bytes, whole, &mut told)? {
@@ -240,7 +241,7 @@ fn served(alloc: Global, bytes: &[u8], whole: &Outcome) -> Result<String, NoMemo
     String::from_str(alloc, "differs")
 }
 
-/// Returns how the stream of a row is split.
+/// Returns how the stream of the test case `word` is split.
 fn way_of(word: &str) -> StreamSplit<'static> {
     match word {
         "slow" => SLOW,
@@ -262,7 +263,7 @@ fn outcome_text(
     }
 }
 
-/// Returns the outcome of a row.
+/// Returns the outcome of the test case `word` for the stream `bytes`.
 pub(crate) fn row_outcome(alloc: Global, word: &str, bytes: &[u8]) -> Result<String, NoMemory> {
     let found = run(alloc, bytes, way_of(word))?;
     outcome_text(alloc, word, bytes, &found)

@@ -1,4 +1,4 @@
-//! Texts of the policy language and of JSON, and places in texts.
+//! Test cases of texts of the policy language and of JSON, and of positions in texts.
 use crate::excerpts::{marked, placed};
 use crate::keeping::ended;
 use crate::pieces::Line;
@@ -10,7 +10,7 @@ use serde_json::Value;
 use std::alloc::Global;
 use values::TypeName;
 
-/// Returns the kind and the place of a token, after a blank.
+/// Returns the kind and the byte offset of a token, after a blank.
 fn token_told(alloc: Global, token: Token) -> Result<String, NoMemory> {
     let (kind, start) = (token.kind, token.start);
     format!(in alloc; " {kind:?} {start}")
@@ -21,7 +21,7 @@ fn count_told(alloc: Global, count: usize) -> Result<String, NoMemory> {
     format!(in alloc; "{count}:")
 }
 
-/// Returns the number of tokens, and the kind and the place of each.
+/// Returns the number of tokens, and the kind and the byte offset of each.
 fn listed(alloc: Global, found: &[Token]) -> Result<String, NoMemory> {
     let mut told = Line::new(alloc);
     told.push_made(count_told(alloc, found.len()));
@@ -31,7 +31,7 @@ fn listed(alloc: Global, found: &[Token]) -> Result<String, NoMemory> {
     told.ended()
 }
 
-/// Returns the tokens of a text, or the place at which no token begins.
+/// Returns the tokens of a text, or the byte offset at which no token begins.
 fn lexed(alloc: Global, text: &str) -> Result<String, NoMemory> {
     match tokens(alloc, text) {
         Ok(found) => listed(alloc, &found),
@@ -68,7 +68,7 @@ fn json(alloc: Global, bytes: &[u8]) -> Result<String, NoMemory> {
     }
 }
 
-/// Returns the outcome of a row whose text is UTF-8.
+/// Returns the outcome of the test case `word` for the text `text`.
 fn of_text(alloc: Global, word: &str, text: &str) -> Result<String, NoMemory> {
     match word {
         "tokens" => lexed(alloc, text),
@@ -79,7 +79,7 @@ fn of_text(alloc: Global, word: &str, text: &str) -> Result<String, NoMemory> {
     }
 }
 
-/// Returns the outcome of a row.
+/// Returns the outcome of the test case `word` for the text `bytes`.
 pub(crate) fn row_outcome(alloc: Global, word: &str, bytes: &[u8]) -> Result<String, NoMemory> {
     if word == "json" {
         return json(alloc, bytes);

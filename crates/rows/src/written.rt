@@ -1,4 +1,4 @@
-//! The bytes that a row denotes, and bytes as a line shows them.
+//! The bytes that the text of a test case denotes, and bytes as a line shows them.
 use crate::pieces::{Bytes, Line};
 use plain::NoMemory;
 use std::alloc::Global;
@@ -75,7 +75,7 @@ pub(crate) fn text_of(alloc: Global, bytes: &[u8]) -> Result<String, NoMemory> {
     }
 }
 
-/// Returns the outcome of a line that is not a row.
+/// Returns the outcome of a line that is not a test case.
 pub(crate) fn bad_row(alloc: Global) -> Result<String, NoMemory> {
     String::from_str(alloc, "bad row")
 }

@@ -1,4 +1,4 @@
--- Defines that a parsing function gives exactly what JSON states, and that JSON has one outcome.
+-- Defines when a parsing function gives exactly what JSON states, and when JSON has exactly one outcome.
 use Rattle.std.specs.Prelude.{◌≡◌, ◌↔◌, ◌⊎◌, Result, Ok, Err}
 
 -- `Gives r States Refuses` holds if `r` is `Ok a` exactly for the value `a` of which `States` holds, and `Err f`

@@ -30,18 +30,20 @@ abbrev pub is_ancestor_at : List (List ℕ × ℕ) → List (List NumberSpan) �
 is_ancestor_at numbers spans None n = false
 is_ancestor_at numbers spans (Some place) n = is_numbered_at spans place (lookup (is_at (text_cmp n)) numbers)
 
--- `is_ancestor numbers spans child parent` tests whether the type `parent` is an ancestor of `child`.
+-- `is_ancestor numbers spans child parent` tests whether the type `parent` is an ancestor of the type `child`, by
+-- `numbers` and `spans` as in `is_ancestor_at`.
 abbrev pub is_ancestor : List (List ℕ × ℕ) → List (List NumberSpan) → List ℕ → List ℕ → Bool
 is_ancestor numbers spans child parent = is_ancestor_at numbers spans (lookup (is_at (text_cmp child)) numbers) parent
 
 -- `is_action_ancestor_at numbers spans o above` is the same test for actions: whether `above` is an ancestor of the
--- action with the number `o`.
+-- action with the number `o`, where `numbers` and `spans` are those of actions.
 abbrev pub is_action_ancestor_at : List (EntityUid × ℕ) → List (List NumberSpan) → Option ℕ → EntityUid → Bool
 is_action_ancestor_at numbers spans None above = false
 is_action_ancestor_at numbers spans (Some place) above =
     is_numbered_at spans place (lookup (is_at (uid_cmp above)) numbers)
 
--- `action_has_ancestor numbers spans u above` tests whether the action `above` is an ancestor of `u`.
+-- `action_has_ancestor numbers spans u above` tests whether the action `above` is an ancestor of the action `u`, by the
+-- same `numbers` and `spans`.
 abbrev pub action_has_ancestor : List (EntityUid × ℕ) → List (List NumberSpan) → EntityUid → EntityUid → Bool
 action_has_ancestor numbers spans u above =
     is_action_ancestor_at numbers spans (lookup (is_at (uid_cmp u)) numbers) above

@@ -56,7 +56,8 @@ pub data Means (IsDeclared : List ℕ → Type 0) (own : Option (List ℕ)) (w :
   in_own : (HasNamespace w → ⊥) → IsDeclared (full_name own w) → Means IsDeclared own w (full_name own w)
   in_empty : (HasNamespace w → ⊥) → (IsDeclared (full_name own w) → ⊥) → IsDeclared w → Means IsDeclared own w w
 
--- `MeansNone IsDeclared own w` holds if the name `w` means nothing that is declared.
+-- `MeansNone IsDeclared own w` holds if the name `w`, used in the namespace `own`, means nothing that is declared
+-- (`IsDeclared`).
 abbrev pub MeansNone : (List ℕ → Type 0) → Option (List ℕ) → List ℕ → Type 0
 MeansNone IsDeclared own w = (q : List ℕ) → Means IsDeclared own w q → ⊥
 

@@ -31,7 +31,8 @@ pub data IsNoRecord (ns : List NamespaceOf) : Option (List ℕ) → Raw → Type
   either_primitive : (own : Option (List ℕ)) (w : List ℕ) (t : Qualified) → MeansNone (IsCommon ns) own w
       → MeansNone (IsEntityType ns) own w → IsPrimitive w t → IsNoRecord ns own (raw.entity_or_common w)
 
--- `SomeIsNotRecord ns` holds if the shape of some entity type, or the context of some action, is not a record.
+-- `SomeIsNotRecord ns` holds if the shape of some entity type, or the context of some action, of the namespaces `ns` is
+-- not a record.
 pub data SomeIsNotRecord (ns : List NamespaceOf) : Type 0 where
   shape : (n : NamespaceOf) (e : EntityTypeOf) (r : Raw) → Contains ns n → Contains n.entity_types e
       → e.shape ≡ Some r → IsNoRecord ns n.name r → SomeIsNotRecord ns

@@ -1,4 +1,4 @@
--- Defines places, their order, and the environment at a place.
+-- Defines the places of environments, the order of places, and the environment at a place.
 -- Source: Cedar reference guide 4.0, "Schema JSON format", `appliesTo`.
 -- Rules of this product: the order of places.
 use Rattle.std.specs.Prelude.{ℕ, List}
@@ -17,7 +17,7 @@ place_cmp p q =
     ordering_then (uid_cmp p.action q.action)
     (ordering_then (text_cmp p.principal q.principal) (text_cmp p.resource q.resource))
 
--- `place_of action principal resource` is the place of the action `action` with these two types.
+-- `place_of action principal resource` is the place of the action `action` with the types `principal` and `resource`.
 abbrev pub place_of : EntityUid → List ℕ → List ℕ → EnvironmentKey
 place_of action principal resource = record { action = action; principal = principal; resource = resource }
 

@@ -51,7 +51,7 @@ pub record StatedSchema : Type 0 where
   -- whether one or more steps by `memberOfTypes` lead from the first type, the child's, to the second
   pub may_have_parent : List ℕ → List ℕ → Bool
 
--- `ActionHasAncestor v u above` holds if the action `u` is declared, and `above` is its ancestor.
+-- `ActionHasAncestor v u above` holds if the action `u` is declared in the schema `v`, and `above` is its ancestor.
 abbrev pub ActionHasAncestor : StatedSchema → EntityUid → EntityUid → Type 0
 ActionHasAncestor v u above = (us : List EntityUid) × (v.ancestors u ≡ Some us) × Contains us above
 
@@ -62,11 +62,11 @@ abbrev pub with_actions : Parents → List ResolvedAction → Parents
 with_actions parents [] = parents
 with_actions parents (a ∷ rest) = with_actions (with_parents parents a.uid a.parents) rest
 
--- `action_parents s` are the parents of each action, as its `memberOf` states them.
+-- `action_parents s` are the parents of each action of `s`, as its `memberOf` states them.
 abbrev pub action_parents : ResolvedSchema → Parents
 action_parents s = with_actions no_parents s.actions
 
--- `type_uid name` is an entity type as a node of a hierarchy: the uid of that type whose id is empty.
+-- `type_uid name` is the entity type `name` as a node of a hierarchy: the uid of this type whose id is empty.
 abbrev pub type_uid : List ℕ → EntityUid
 type_uid name = record { type_name = name; id = [] }
 
@@ -77,28 +77,29 @@ with_types parents [] = parents
 with_types parents (e ∷ rest) =
     with_types (with_parents parents (type_uid e.name) (map type_uid e.parents)) rest
 
--- `type_parents s` are the parents of each entity type, as its `memberOfTypes` states them.
+-- `type_parents s` are the parents of each entity type of `s`, as its `memberOfTypes` states them.
 abbrev pub type_parents : ResolvedSchema → Parents
 type_parents s = with_types no_parents s.entity_types
 
--- `SomeActionIsOnCycle s` holds if some action is its own ancestor.
+-- `SomeActionIsOnCycle s` holds if some action of `s` is its own ancestor.
 abbrev pub SomeActionIsOnCycle : ResolvedSchema → Type 0
 SomeActionIsOnCycle s = (u : EntityUid) × IsOnCycle (action_parents s) u
 
 -- ---- expanded types
 
 -- `IsRecordOf commons r t` holds if `t` is the expansion of the shape or context in `r`, or the record without
--- attributes if `r` is `None`.
+-- attributes if `r` is `None`; `commons` are the declared common types.
 abbrev pub IsRecordOf : Declarations → Option Qualified → Cedar → Type 0
 IsRecordOf commons None t = t ≡ record_of no_fields
 IsRecordOf commons (Some r) t = IsExpansion commons r t
 
--- `IsSchemaType s r` holds if `r` is a type of the schema: a common type by its name, a shape or a context.
+-- `IsSchemaType s r` holds if `r` is a type of the schema `s`: a common type by its name, a shape or a context.
 pub data IsSchemaType (s : ResolvedSchema) : Qualified → Type 0 where
   common : (q : List ℕ) (r : Qualified) → Declares s.commons q r → IsSchemaType s (qualified.common q)
   shape_or_context : (r : Qualified) → IsShapeOrContext s r → IsSchemaType s r
 
--- `IsWritten commons r` holds if `r` has an expansion within the limits.
+-- `IsWritten commons r` holds if the type `r` has an expansion within the limits; `commons` are the declared common
+-- types.
 abbrev pub IsWritten : Declarations → Qualified → Type 0
 IsWritten commons r = (t : Cedar) × IsExpansion commons r t × (IsTooLarge t → ⊥)
 
@@ -112,15 +113,16 @@ pub record SomeTypeIsTooLarge (s : ResolvedSchema) : Type 0 where
 
 -- ---- the schema of a file with resolved names
 
--- `IsAction s u` holds if the action `u` is declared.
+-- `IsAction s u` holds if the action `u` is declared in `s`.
 abbrev pub IsAction : ResolvedSchema → EntityUid → Type 0
 IsAction s u = (a : ResolvedAction) × Contains s.actions a × (a.uid ≡ u)
 
--- `IsShape s n t` holds if `t` is the shape of the declared entity type `n`.
+-- `IsShape s n t` holds if `t` is the expanded shape of the entity type `n`, which is declared in `s`.
 abbrev pub IsShape : ResolvedSchema → List ℕ → Cedar → Type 0
 IsShape s n t = (e : ResolvedEntityType) × Contains s.entity_types e × (e.name ≡ n) × IsRecordOf s.commons e.shape t
 
--- `Applies s p applied` holds if `applied` is the `appliesTo` of the action of `p`, and lists the types of `p`.
+-- `Applies s p applied` holds if `applied` is the `appliesTo` of the action of `p`, which is declared in `s`, and lists
+-- the types of `p`.
 pub record Applies (s : ResolvedSchema) (p : EnvironmentKey) (applied : ResolvedUse) : Type 0 where
   pub action : ResolvedAction
   pub declared : Contains s.actions action
@@ -134,7 +136,7 @@ pub record Applies (s : ResolvedSchema) (p : EnvironmentKey) (applied : Resolved
 abbrev pub IsEnvironment : ResolvedSchema → EnvironmentOf → Type 0
 IsEnvironment s e = (applied : ResolvedUse) × Applies s e.place applied × IsRecordOf s.commons applied.context e.context
 
--- `IsEnvironmentKey s p` holds if the action of `p` applies to the types of `p`.
+-- `IsEnvironmentKey s p` holds if, in `s`, the action of `p` applies to the types of `p`.
 abbrev pub IsEnvironmentKey : ResolvedSchema → EnvironmentKey → Type 0
 IsEnvironmentKey s p = (applied : ResolvedUse) × Applies s p applied
 
@@ -159,7 +161,7 @@ pub record Answers (s : ResolvedSchema) (v : StatedSchema) : Type 0 where
 
 -- ---- the schema of bytes
 
--- `IsSound s` holds if no action is its own ancestor, and each type has an expansion within the limits.
+-- `IsSound s` holds if no action of `s` is its own ancestor, and each type of `s` has an expansion within the limits.
 pub record IsSound (s : ResolvedSchema) : Type 0 where
   pub no_cycle : SomeActionIsOnCycle s → ⊥
   pub is_written : (r : Qualified) → IsSchemaType s r → IsWritten s.commons r
@@ -189,7 +191,7 @@ pub record IsSchemaOf (bytes : List ℕ) (v : StatedSchema) : Type 0 where
   pub label : v.label ≡ encode_lower (sha256 bytes)
   pub answers : Answers named v
 
--- `SomeCommonLeadsBack s` holds if the declaration of some common type names that type, directly or through the
+-- `SomeCommonLeadsBack s` holds if the declaration of some common type of `s` names that type, directly or through the
 -- declarations of other common types.
 abbrev pub SomeCommonLeadsBack : ResolvedSchema → Type 0
 SomeCommonLeadsBack s = (q : List ℕ) × Leads s.commons q q

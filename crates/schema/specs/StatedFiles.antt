@@ -2,7 +2,7 @@
 -- Source: Cedar reference guide 4.0, "Schema JSON format": namespaces, `commonTypes`, `entityTypes`, `actions`.
 -- Rules of this product: a namespace may lack any of the three; null at an optional key counts as missing;
 -- `annotations` has any value; an action's `attributes` is an object without keys; other keys are rejected; the error
--- is 21.
+-- is `BadShape` (21).
 use Rattle.std.specs.Prelude.{◌≡◌, ℕ, List, [], ◌∷◌, Option, Some, None, Contains, codes, false}
 use Rattle.serde_json.specs.Data.{Data, string, object, no_members}
 use Rattle.serde_json.specs.Find.{get}
@@ -37,7 +37,8 @@ pub data IsNamespace : List ℕ → Option (List ℕ) → Type 0 where
 
 -- ---- keys
 
--- The keys that an entity type, a member of `memberOf`, `appliesTo`, an action and a namespace may have.
+-- `entity_type_keys`, `parent_keys`, `use_keys`, `action_keys` and `namespace_keys` are the keys that an entity type, a
+-- member of `memberOf`, `appliesTo`, an action and a namespace may have.
 abbrev pub entity_type_keys : List (List ℕ)
 entity_type_keys = codes "memberOfTypes" ∷ codes "shape" ∷ codes "annotations" ∷ []
 
@@ -77,7 +78,7 @@ pub record StatesParent (d : Data) (p : StatedParent) : Type 0 where
   pub id : text_at (codes "id") d ≡ Some p.id
   pub type_name : MaybeAt IsName (codes "type") d p.type_name
 
--- `StatesUse d u` holds if `d`, at `appliesTo`, states what an action applies to.
+-- `StatesUse d u` holds if `d`, at `appliesTo`, states `u`, what an action applies to.
 pub record StatesUse (d : Data) (u : UseOf) : Type 0 where
   pub only : HasOnly use_keys d
   pub principals : GivenAt (IsArrayOf IsName) (codes "principalTypes") d u.principals
@@ -157,6 +158,6 @@ pub data IsNoNamespace (key : List ℕ) (d : Data) : Type 0 where
 abbrev pub IsNoFile : Data → Type 0
 IsNoFile d = IsNoObjectOf IsNoNamespace d
 
--- `RefusesFile d fault` holds if `d` states no file; the error is `BadShape`, whatever the cause.
+-- `RefusesFile d fault` holds if `d` states no file, and `fault` is `BadShape`, whatever the cause.
 abbrev pub RefusesFile : Data → SchemaFault → Type 0
 RefusesFile d fault = (fault ≡ BadShape) × IsNoFile d

@@ -23,7 +23,7 @@ abbrev pub form_words : List (List ℕ)
 form_words = codes "String" ∷ codes "Long" ∷ codes "Boolean" ∷ codes "Bool" ∷ codes "Set" ∷ codes "Record"
     ∷ codes "Entity" ∷ codes "Extension" ∷ codes "EntityOrCommon" ∷ []
 
--- `HasKeys word keys` holds if a type with `word` at `type` may have `keys`, besides `type` and `annotations`.
+-- `HasKeys word keys` holds if a type with `word` at `type` may have `keys`, in addition to `type` and `annotations`.
 pub data HasKeys : List ℕ → List (List ℕ) → Type 0 where
   of_string : HasKeys (codes "String") []
   of_long : HasKeys (codes "Long") []
@@ -36,14 +36,14 @@ pub data HasKeys : List ℕ → List (List ℕ) → Type 0 where
   of_either : HasKeys (codes "EntityOrCommon") (codes "name" ∷ [])
   of_common : (word : List ℕ) → (Contains form_words word → ⊥) → HasKeys word []
 
--- `all_keys is_attribute keys` are all keys that a type may have: `type`, `annotations`, `keys`, and, if it is the type
--- of an attribute, `required`.
+-- `all_keys is_attribute keys` are all keys that a type may have: `type`, `annotations`, `keys`, and, if the type is an
+-- attribute's (`is_attribute`), `required`.
 abbrev pub all_keys : Bool → List (List ℕ) → List (List ℕ)
 all_keys is_attribute keys =
     codes "type" ∷ codes "annotations" ∷ (if is_attribute then codes "required" ∷ keys else keys)
 
 -- `HasForm is_attribute word d` holds if `d` has `word` at `type`, and only the keys that a type with this word may
--- have.
+-- have (`is_attribute` as in `all_keys`).
 pub record HasForm (is_attribute : Bool) (word : List ℕ) (d : Data) : Type 0 where
   pub keys : List (List ℕ)
   pub may_have : HasKeys word keys
@@ -116,8 +116,8 @@ mutual
 -- ---- JSON that states no type
 
 mutual
-  -- `IsNoType is_attribute d` holds if `d` states no type, by the cause: it has no word at `type`, it has a key that
-  -- this word does not allow, or something that the form demands is missing or wrong.
+  -- `IsNoType is_attribute d` holds if `d` states no type (`is_attribute` as in `StatesType`), by the cause: it has no
+  -- word at `type`, it has a key that this word does not allow, or something that the form demands is missing or wrong.
   pub data IsNoType : Bool → Data → Type 0 where
     no_word : (a : Bool) (d : Data) → text_at (codes "type") d ≡ None → IsNoType a d
     other_key : (a : Bool) (d : Data) (word : List ℕ) (keys : List (List ℕ)) → text_at (codes "type") d ≡ Some word
@@ -149,6 +149,7 @@ mutual
     later_attribute : (key : List ℕ) (d : Data) (ms : Members) → SomeIsNoAttribute ms
         → SomeIsNoAttribute (member key d ms)
 
--- `RefusesType is_attribute d fault` holds if `d` states no type; the error is `BadShape`, whatever the cause.
+-- `RefusesType is_attribute d fault` holds if `d` states no type (`is_attribute` as in `StatesType`), and `fault` is
+-- `BadShape`, whatever the cause.
 abbrev pub RefusesType : Bool → Data → SchemaFault → Type 0
 RefusesType is_attribute d fault = (fault ≡ BadShape) × IsNoType is_attribute d

@@ -21,11 +21,12 @@ environment_view e = record { place = e.place; context = cedar_view e.context }
 abbrev pub shape_at : List (List ℕ × EntityDecl) → List ℕ → Option Cedar
 shape_at types n = option_map (λ d. cedar_view d.shape) (lookup (is_at (text_cmp n)) types)
 
--- `above_in actions numbers spans u` are those of `actions` that are ancestors of the action `u`, by their numbers.
+-- `above_in actions numbers spans u` are those of `actions` that are ancestors of the action `u`, by `numbers` and
+-- `spans` (`action_has_ancestor`).
 abbrev pub above_in : List EntityUid → List (EntityUid × ℕ) → List (List NumberSpan) → EntityUid → List EntityUid
 above_in actions numbers spans u = filter (λ above. action_has_ancestor numbers spans u above) actions
 
--- `schema_view k` is the abstract schema with these entries.
+-- `schema_view k` is the abstract schema with the entries `k`.
 abbrev pub schema_view : SchemaEntries → StatedSchema
 schema_view k = record {
   label = k.label;
@@ -38,6 +39,6 @@ schema_view k = record {
   may_have_parent = is_ancestor k.type_numbers k.type_ancestor_spans;
 }
 
--- `IsStated k` holds if some bytes state the schema with these entries.
+-- `IsStated k` holds if some bytes state the schema with the entries `k`.
 abbrev pub IsStated : SchemaEntries → Type 0
 IsStated k = (bytes : List ℕ) × IsSchemaOf bytes (schema_view k)

@@ -11,9 +11,10 @@ use values::{EntityUid, TypeName};
 
 /// A schema: entity types with their shapes, actions, and environments.
 ///
-/// Look-ups do not allocate and take logarithmic time. A test for an ancestor also takes time linear in the number of
-/// spans that contain the ancestors' numbers: one span in a chain or in layers. Contracts see the entries of a schema,
-/// which are plain data, and state properties of `schema_view`. Some bytes state each schema: [`Schema::is_stated`].
+/// Look-ups do not allocate and take logarithmic time. Actions and entity types are numbered, and the numbers of the
+/// ancestors of each are stored as spans of consecutive numbers. A test for an ancestor also takes time linear in the
+/// number of these spans: one in a chain or in layers. Contracts see the entries of a schema, which are plain data, and
+/// state properties of the abstract schema (`schema_view`). Some bytes state each schema: [`Schema::is_stated`].
 #[derive(Drop)]
 pub struct Schema {
     pub(crate) label: Text,

@@ -1,4 +1,4 @@
-//! The environments of a schema (each an action with the types of principal and resource), with their contexts. A
+//! The environments of a schema (each an action with the types of principal and resource), with their contexts. An
 //! `EnvironmentKey` is an environment without its context. In contracts `commons` are the common types of the schema.
 ghost use Rattle.std.specs.Prelude.{◌≢◌, OnOk, MatchResult, map, option_map};
 ghost use Rattle.schema_types.specs.QualifiedViews.{qualified_view};
@@ -75,7 +75,7 @@ fn add_principals(
 ///
 /// # Errors
 ///
-/// - `TypeTooLarge` (25): the type of the action's context is too large.
+/// - `TypeTooLarge` (25): the type of the action's context, expanded, is too large.
 /// - `NoMemory` (1): an allocation failed; possible at any point.
 fn add_use(
     alloc: Global,
@@ -121,7 +121,7 @@ fn add_action(
 ///
 /// # Errors
 ///
-/// - `TypeTooLarge` (25): one of these types is too large.
+/// - `TypeTooLarge` (25): one of these types, expanded, is too large.
 /// - `NoMemory` (1): an allocation failed; possible at any point.
 pub(crate) fn make_places(
     alloc: Global,

@@ -26,7 +26,7 @@ fn copy_uids(alloc: Global, uids: &[EntityUid]) -> Result<Vec<EntityUid>, NoMemo
     Ok(copies)
 }
 
-/// Returns copies of the uids behind these references.
+/// Returns copies of the uids to which these references point.
 fn copy_all(alloc: Global, uids: &[&EntityUid]) -> Result<Items<EntityUid>, NoMemory>
     ensures { IfOk result (λ copies. copies ≡ names uids.now) }
 {
@@ -46,7 +46,7 @@ pub(crate) fn type_uid(alloc: Global, name: &TypeName) -> Result<EntityUid, NoMe
     Ok(EntityUid { type_name, id })
 }
 
-/// Returns entity types as nodes of a hierarchy.
+/// Returns these entity types as nodes of a hierarchy ([`type_uid`]).
 fn type_uids(alloc: Global, types: &[TypeName]) -> Result<Vec<EntityUid>, NoMemory>
     ensures { IfOk result (λ uids. uids.items ≡ map type_uid types.now) }
 {
@@ -143,7 +143,7 @@ pub(crate) fn make_members(
     Ok(members)
 }
 
-/// Returns the keys of a map, ascending.
+/// Returns the uids that are the keys of `members`, ascending.
 pub(crate) fn uids_of(
     alloc: Global,
     members: &BTreeMap<EntityUid, Items<EntityUid>>,
@@ -151,6 +151,7 @@ pub(crate) fn uids_of(
     ensures items { IfOk result (λ uids. uids ≡ keys members.now) }
     ensures ascending { IsAscending (keys members.now) }
 {
+    // `len` ensures `ascending`
     let _ordered = members.len();
     let uids: Vec<&EntityUid> = members.keys().collect(alloc)?;
     copy_all(alloc, uids.as_slice())

@@ -1,5 +1,6 @@
 //! Look-ups in the parts of a schema. They do not allocate, and take logarithmic time. A test for an ancestor also
-//! takes time linear in the number of spans that contain the ancestors' numbers; these spans are few in layers.
+//! takes time linear in the number of spans that contain the ancestors' numbers; these spans are few in layers
+//! (numbering.rt).
 ghost use Rattle.std.specs.Prelude.{◌≡◌, option_map};
 ghost use Rattle.std.specs.List.{slice_get};
 ghost use Rattle.std.specs.BTreeMap.{get};

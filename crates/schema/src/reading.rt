@@ -82,7 +82,7 @@ fn make_types(alloc: Global, found: &ResolvedFile, table: &Table) -> Result<Type
     })
 }
 
-/// Returns the hierarchies of a file, given the edges of its actions.
+/// Returns the hierarchies of a file, given that of its actions.
 fn make_hierarchies(
     alloc: Global,
     found: &ResolvedFile,

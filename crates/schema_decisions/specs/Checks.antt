@@ -26,12 +26,14 @@ pub record PolicyReport : Type 0 where
   pub id : List ℕ
   pub outcome : CheckResult
 
--- `IsReportOf s policy told` holds if `told` has the id of `policy` and an outcome of validating it under `s`.
+-- `IsReportOf s policy told` holds if `told` has the id of `policy` and an outcome of validating `policy` under the
+-- schema `s`.
 abbrev pub IsReportOf : StatedSchema → NamedPolicy → PolicyReport → Type 0
 IsReportOf s policy told = (told.id ≡ policy.id) × IsCheckResult s policy.policy told.outcome
 
--- `AreReportsOf s policies text some_refused` holds if `text` has a line for the outcome of each of `policies`, in
--- their order, with a line feed between each two, and `some_refused` is whether one of them is rejected.
+-- `AreReportsOf s policies text some_refused` holds if `text` has a line for the outcome of each of `policies` under
+-- the schema `s`, in their order, with a line feed between each two lines; and if `some_refused` is whether one of the
+-- policies is rejected.
 pub record AreReportsOf (s : StatedSchema) (policies : List NamedPolicy) (text : List ℕ)
     (some_refused : Bool) : Type 0 where
   pub told : List PolicyReport
@@ -39,8 +41,8 @@ pub record AreReportsOf (s : StatedSchema) (policies : List NamedPolicy) (text :
   pub text_is : text ≡ join_with_byte line_end (map (λ t. verdict_line t.id t.outcome) told)
   pub some_refused_is : some_refused ≡ list_any (λ t. is_refusal t.outcome) told
 
--- `AreReportsOnFile s policies text some_refused` holds if `policies` is a file of policies, `text` has their lines,
--- and `some_refused` is whether one of them is rejected.
+-- `AreReportsOnFile s policies text some_refused` holds if `policies` is a file of policies, `text` has their lines
+-- under the schema `s`, and `some_refused` is whether one of the policies is rejected.
 pub record AreReportsOnFile (s : StatedSchema) (policies text : List ℕ) (some_refused : Bool) : Type 0 where
   pub names : List (List ℕ)
   pub cores : List Policy
@@ -50,7 +52,7 @@ pub record AreReportsOnFile (s : StatedSchema) (policies text : List ℕ) (some_
 -- ---- the two texts
 
 -- `IsChecked schema policies text some_refused` holds if `schema` is a schema and `policies` a file of policies, `text`
--- has their lines, and `some_refused` is whether one of them is rejected.
+-- has the lines of the policies, and `some_refused` is whether one of the policies is rejected.
 pub record IsChecked (schema policies text : List ℕ) (some_refused : Bool) : Type 0 where
   pub stated : StatedSchema
   pub schema_is : IsSchemaOf schema stated

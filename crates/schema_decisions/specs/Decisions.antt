@@ -8,15 +8,15 @@ use Rattle.decision_texts.specs.Decisions as under
 use Rattle.schema_decisions.specs.Checks.{IsSchemaRefused}
 use Rattle.schema_decisions.specs.UnderSchema.{reading_under}
 
--- `IsDecided schema policies entities request line` holds if none of the four texts has an error, each policy passes
--- validation, and `line` is the line of the answer to the request.
+-- `IsDecided schema policies entities request line` holds if none of the texts `schema`, `policies`, `entities` and
+-- `request` has an error, each policy passes validation, and `line` is the line of the answer to the request.
 pub record IsDecided (schema policies entities request line : List ℕ) : Type 0 where
   pub stated : StatedSchema
   pub states : IsSchemaOf schema stated
   pub decided : under.IsDecided (reading_under stated) policies entities request line
 
 -- `IsSchemaDecisionRefused schema policies entities request refusal` holds if `refusal` is the first error of the four
--- texts: that of `schema` or, under the schema that it describes, that of the other texts.
+-- texts: that of `schema` or, under the schema that it describes, that of `policies`, `entities` and `request`.
 pub data IsSchemaDecisionRefused (schema policies entities request : List ℕ) (refusal : Refusal) : Type 0 where
   by_schema : IsSchemaRefused schema refusal → IsSchemaDecisionRefused schema policies entities request refusal
   under_schema : (s : StatedSchema) → IsSchemaOf schema s

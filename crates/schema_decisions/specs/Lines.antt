@@ -19,7 +19,7 @@ abbrev pub refused_json : List ℕ → ℕ → Data
 refused_json id code = object (member (codes "code") (number (unsigned code))
     (member (codes "id") (string id) (member (codes "verdict") (string (codes "refused")) no_members)))
 
--- `verdict_word impossible` is the word for a policy that passes, by whether it is impossible.
+-- `verdict_word impossible` is the word for a policy that passes; `impossible` is whether the policy is impossible.
 abbrev pub verdict_word : Bool → List ℕ
 verdict_word true = codes "impossible"
 verdict_word false = codes "accepted"

@@ -1,4 +1,4 @@
--- Defines theorems about the decision of four texts (schema, policies, entities, request): they have exactly one
+-- Defines the theorems about the decision of four texts (schema, policies, entities, request): they have exactly one
 -- outcome, a line or an error, and the line's ids ascend.
 -- Rules of this product: the outcome follows from the texts alone, except that any call may return `NoMemory` instead.
 use Rattle.std.specs.Prelude.{◌≡◌, ◌⊎◌, ℕ, List, map}
@@ -38,7 +38,8 @@ ListsOfLinesAscend = (schema policies entities request line : List ℕ)
     (x : IsDecided schema policies entities request line) → let answer = x.decided.answered.answer in
     AreIdsAscending answer.reason × AreIdsAscending (map (λ e. e.policy) answer.errors)
 
--- `MemberOfDecidesAlike`: the answer stays the same if each action has only the parents that its `memberOf` names.
+-- `MemberOfDecidesAlike`: the answer is the one over the entity data in which each action has the parents that its
+-- `memberOf` names (`stated_world`).
 abbrev pub MemberOfDecidesAlike : Type 0
 MemberOfDecidesAlike = (schema policies entities request line : List ℕ)
     (x : IsDecided schema policies entities request line) → let under = x.decided in

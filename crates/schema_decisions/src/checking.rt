@@ -40,7 +40,7 @@ fn refuses(verdict: Result<Verdict, TypeFault>) -> bool
     }
 }
 
-/// Returns whether one of the two is true.
+/// Returns whether at least one of the two is true.
 fn either(first: bool, second: bool) -> bool
     ensures { result ≡ (first || second) }
 {

@@ -11,8 +11,8 @@ use validator::policies_have_one_outcome;
 /// Proves that the texts of a schema, policies, entities and a request have exactly one outcome, a line or an error.
 /// No-op.
 ///
-/// The ids in an answer line ascend, and the answer stays the same if each action has only the parents that its
-/// `memberOf` names.
+/// In an answer line the ids of the determining policies ascend, and so do those of the erroring policies. In the
+/// entity data of the answer, each action has the parents that its `memberOf` names.
 pub fn texts_have_one_outcome()
     ensures one_line { OneLine }
     ensures not_both { NotBoth }

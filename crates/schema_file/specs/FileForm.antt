@@ -72,28 +72,28 @@ name_of d = do
 unfoldable pub names_of : Items → Result (List (List ℕ)) SchemaFault
 names_of ds = each (λ i d. name_of d) 0 (list_of ds)
 
--- `names_in o` are the names in an optional array; none if `o` is `None`.
+-- `names_in o` are the names in the array in `o`, or the first error; none if `o` is `None`.
 abbrev pub names_in : Option Data → Result (List (List ℕ)) SchemaFault
 names_in None = Ok []
 names_in (Some d) = do
   ds ← or_fault BadShape (as_array d)
   names_of ds
 
--- `names_at k d` are the names in the array of `d` at the required key `k`.
+-- `names_at k d` are the names in the array of `d` at the required key `k`, or the first error.
 abbrev pub names_at : List ℕ → Data → Result (List (List ℕ)) SchemaFault
 names_at k d = do
   found ← or_fault BadShape (get k d)
   ds ← or_fault BadShape (as_array found)
   names_of ds
 
--- `type_in o` is the type that an optional value describes; `None` if `o` is `None`.
+-- `type_in o` is the type that the value in `o` describes, or the first error; `None` if `o` is `None`.
 abbrev pub type_in : Option Data → Result (Option Raw) SchemaFault
 type_in None = Ok None
 type_in (Some d) = do
   t ← type_of false d
   Ok (Some t)
 
--- `optional_name o` is the name in an optional string; `None` if `o` is `None`.
+-- `optional_name o` is the name in the string in `o`, or `BadShape`; `None` if `o` is `None`.
 abbrev pub optional_name : Option Data → Result (Option (List ℕ)) SchemaFault
 optional_name None = Ok None
 optional_name (Some d) = do
@@ -102,7 +102,7 @@ optional_name (Some d) = do
 
 -- ---- common types
 
--- `is_common form` tests for `Common`: a name that selects another form may not be that of a common type.
+-- `is_common form` tests whether `form` is `Common`: a name that selects another form may not be that of a common type.
 abbrev pub is_common : Form → Bool
 is_common Text = false
 is_common Long = false
@@ -154,7 +154,8 @@ parent_of d = do
 unfoldable pub parents_of : Items → Result (List StatedParent) SchemaFault
 parents_of ds = each (λ i d. parent_of d) 0 (list_of ds)
 
--- `parents_in o` are the parents in an optional array; none if `o` is `None`.
+-- `parents_in o` are the parents of an action that the array in `o` describes, or the first error; none if `o` is
+-- `None`.
 abbrev pub parents_in : Option Data → Result (List StatedParent) SchemaFault
 parents_in None = Ok []
 parents_in (Some d) = do
@@ -178,7 +179,7 @@ use_in (Some d) = do
   applied ← use_of d
   Ok (Some applied)
 
--- `is_empty_in o` tests for an absent value (`None`), or an object without members.
+-- `is_empty_in o` tests whether `o` is `None`, or the value in `o` is an object without members.
 abbrev pub is_empty_in : Option Data → Bool
 is_empty_in None = true
 is_empty_in (Some d) = has_only [] d
@@ -195,7 +196,8 @@ action_of k d = do
 
 -- ---- namespaces
 
--- `namespace_name k` is the name of the namespace at the key `k`; `None` for the empty string, the empty namespace.
+-- `namespace_name k` is the name of the namespace at the key `k`: `None` for the empty string, which is the empty
+-- namespace, and `BadShape` if `k` is not a Path.
 unfoldable pub namespace_name : List ℕ → Result (Option (List ℕ)) SchemaFault
 namespace_name [] = Ok None
 namespace_name (c ∷ cs) = do
@@ -213,8 +215,8 @@ entity_types_of ms = each_member entity_type_of ms
 unfoldable pub actions_of : Members → Result (List ActionOf) SchemaFault
 actions_of ms = each_member action_of ms
 
--- `commons_in o`, `entity_types_in o` and `actions_in o` are the declarations in an optional object; none if `o` is
--- `None`.
+-- `commons_in found`, `entity_types_in found` and `actions_in found` are the declarations that the object in `found`
+-- describes, or the first error; none if `found` is `None`.
 abbrev pub commons_in : Option Data → Result (List (List ℕ × Raw)) SchemaFault
 commons_in found = do
   ms ← members_in found

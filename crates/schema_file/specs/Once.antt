@@ -1,4 +1,4 @@
--- Defines that the names that a schema file declares are distinct, as the keys of an object are.
+-- Defines when the names that a schema file declares are distinct, as the keys of an object are.
 -- Source: RFC 8259, section 4: names within an object should be unique.
 -- Rules of this product: only the last value of a duplicate key counts.
 use Rattle.std.specs.Prelude.{◌≢◌, ⊤, List, [], ◌∷◌, map}

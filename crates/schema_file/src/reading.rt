@@ -43,7 +43,8 @@ fn read_commons(
     Ok(commons)
 }
 
-/// Returns the common types in an optional object; none if there is no object.
+/// Returns the common types that an object describes; none if `found` is `None`, and `BadShape` (21) if it is not an
+/// object.
 fn read_optional_commons(
     alloc: Global,
     found: Option<&Value>,
@@ -76,7 +77,8 @@ fn read_entity_types(
     Ok(entity_types)
 }
 
-/// Returns the entity types in an optional object; none if there is no object.
+/// Returns the entity types that an object describes; none if `found` is `None`, and `BadShape` (21) if it is not an
+/// object.
 fn read_optional_entity_types(
     alloc: Global,
     found: Option<&Value>,
@@ -108,7 +110,7 @@ fn read_actions(
     Ok(actions)
 }
 
-/// Returns the actions in an optional object; none if there is no object.
+/// Returns the actions that an object describes; none if `found` is `None`, and `BadShape` (21) if it is not an object.
 fn read_optional_actions(
     alloc: Global,
     found: Option<&Value>,

@@ -41,7 +41,8 @@ fn read_parents(alloc: Global, values: &[Value]) -> Result<Items<StatedParent>, 
     Ok(parents)
 }
 
-/// Returns the parents of an action in an optional array; none if there is no array.
+/// Returns the parents of an action that an array describes; none if `found` is `None`, and `BadShape` (21) if it is
+/// not an array.
 fn read_optional_parents(
     alloc: Global,
     found: Option<&Value>,

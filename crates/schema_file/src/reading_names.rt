@@ -46,7 +46,7 @@ fn read_names(alloc: Global, values: &[Value]) -> Result<Items<TypeName>, Schema
     Ok(names)
 }
 
-/// Returns the names in an optional array; none if there is no array.
+/// Returns the names in an array; none if `found` is `None`, and `BadShape` (21) if it is not an array.
 pub(crate) fn read_optional_names(
     alloc: Global,
     found: Option<&Value>,
@@ -62,7 +62,7 @@ pub(crate) fn read_optional_names(
     }
 }
 
-/// Returns the names in the array at a required key.
+/// Returns the names in the array at a required key; `BadShape` (21) if there is no array.
 pub(crate) fn read_names_at(
     alloc: Global,
     value: &Value,
@@ -79,7 +79,7 @@ pub(crate) fn read_names_at(
     }
 }
 
-/// Returns the name of an optional value; `None` if there is no value.
+/// Returns the name in a string; `None` if `found` is `None`, and `BadShape` (21) if it is not a string that is a Path.
 pub(crate) fn read_optional_name(
     alloc: Global,
     found: Option<&Value>,

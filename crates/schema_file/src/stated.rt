@@ -26,12 +26,14 @@ pub struct StatedEntityType {
 pub struct StatedUse {
     pub principals: Items<TypeName>,
     pub resources: Items<TypeName>,
+    /// The type of the context; `None` if the file has none: the context is then empty.
     pub context: Option<RawType>,
 }
 
 /// A parent of an action: its id, and its type if the file has one.
 #[derive(Drop)]
 pub struct StatedParent {
+    /// The action's type; `None` means the type of the actions of the same namespace.
     pub type_name: Option<TypeName>,
     pub id: Text,
 }
@@ -41,6 +43,7 @@ pub struct StatedParent {
 pub struct StatedAction {
     pub id: Text,
     pub parents: Items<StatedParent>,
+    /// What it applies to; `None` if the file has no `appliesTo` for it, so that it applies to no request.
     pub applies_to: Option<StatedUse>,
 }
 

@@ -63,6 +63,9 @@ is_action_in ns u = list_any (λ a. is_eq (uid_cmp a u)) (actions_declared ns)
 
 -- ---- resolved names
 
+-- In the rest of this file `s` has the tests of the declared types of the file, and `is_action` tests for its declared
+-- actions.
+
 -- A `ResolvedEntityType` is an entity type with its full name, and with the names in it resolved.
 pub record ResolvedEntityType : Type 0 where
   pub name : List ℕ
@@ -92,32 +95,37 @@ pub record ResolvedSchema : Type 0 where
 abbrev pub entity_type_named : Scope → Option (List ℕ) → List ℕ → Result (List ℕ) SchemaFault
 entity_type_named s own w = or_fault UnknownName (found s.entities own w)
 
--- `entity_types_named s own ws` are the full names of the entity types that the names `ws` mean, or the first error.
+-- `entity_types_named s own ws` are the full names of the entity types that the names `ws` mean in the namespace `own`,
+-- or the first error.
 unfoldable pub entity_types_named : Scope → Option (List ℕ) → List (List ℕ) → Result (List (List ℕ)) SchemaFault
 entity_types_named s own ws = each (λ i w. entity_type_named s own w) 0 ws
 
--- `type_named s own o` is the type in `o`, if there is one, with resolved names, or the first error.
+-- `type_named s own o` is the type in `o`, written in the namespace `own`, with resolved names, or the first error;
+-- `None` if `o` is `None`.
 abbrev pub type_named : Scope → Option (List ℕ) → Option Raw → Result (Option Qualified) SchemaFault
 type_named s own None = Ok None
 type_named s own (Some r) = do
   t ← qualified_of s own r
   Ok (Some t)
 
--- `action_meant_at is_action own o id` is the declared action that the id `id` and the written type in `o` mean in the
--- namespace `own`; without a type (`None`) an action of that namespace.
+-- `action_meant_at is_action own o id` is the declared action to which the id `id` and the type in `o` refer in the
+-- namespace `own`, if there is one; without a type (`None`) it is an action of that namespace.
 abbrev pub action_meant_at : (EntityUid → Bool) → Option (List ℕ) → Option (List ℕ) → List ℕ → Option EntityUid
 action_meant_at is_action own None id = declared_action is_action (action_type own) id
 action_meant_at is_action own (Some w) id = action_of_type is_action own w id
 
--- `action_meant is_action own p` is the declared action that the member `p` of `memberOf` means, if there is one.
+-- `action_meant is_action own p` is the declared action that the member `p` of `memberOf` means in the namespace `own`,
+-- if there is one.
 abbrev pub action_meant : (EntityUid → Bool) → Option (List ℕ) → StatedParent → Option EntityUid
 action_meant is_action own p = action_meant_at is_action own p.type_name p.id
 
--- `parent_named is_action own p` is the declared action that the member `p` of `memberOf` means, or `UnknownName`.
+-- `parent_named is_action own p` is the declared action that the member `p` of `memberOf` means in the namespace `own`,
+-- or `UnknownName`.
 unfoldable pub parent_named : (EntityUid → Bool) → Option (List ℕ) → StatedParent → Result EntityUid SchemaFault
 parent_named is_action own p = or_fault UnknownName (action_meant is_action own p)
 
--- `parents_named is_action own ps` are the actions that the members `ps` of `memberOf` mean, or the first error.
+-- `parents_named is_action own ps` are the actions that the members `ps` of `memberOf` mean in the namespace `own`, or
+-- the first error.
 unfoldable pub parents_named : (EntityUid → Bool) → Option (List ℕ) → List StatedParent
     → Result (List EntityUid) SchemaFault
 parents_named is_action own ps = each (λ i p. parent_named is_action own p) 0 ps
@@ -145,7 +153,8 @@ qualified_use s own u = do
   context ← type_named s own u.context
   Ok (record { principals = principals; resources = resources; context = context })
 
--- `use_named s own o` is the same for an action that applies to `o`; `None` if it applies to nothing.
+-- `use_named s own o` is what an action of the namespace `own` applies to, given as written in `o`, with resolved
+-- names, or the first error; `None` if the action applies to nothing (`None`).
 abbrev pub use_named : Scope → Option (List ℕ) → Option UseOf → Result (Option ResolvedUse) SchemaFault
 use_named s own None = Ok None
 use_named s own (Some u) = do
@@ -161,8 +170,9 @@ qualified_action s is_action own a = do
   applies_to ← use_named s own a.applies_to
   Ok (record { uid = action_uid (action_type own) a.id; parents = parents; applies_to = applies_to })
 
--- `qualified_commons`, `qualified_entity_types` and `qualified_actions` are lists of declarations with resolved names,
--- or the first error.
+-- `qualified_commons s own cs`, `qualified_entity_types s own es` and `qualified_actions s is_action own us` are the
+-- common types `cs`, the entity types `es` and the actions `us` of the namespace `own` with resolved names, or the
+-- first error.
 unfoldable pub qualified_commons : Scope → Option (List ℕ) → List (List ℕ × Raw)
     → Result (List (List ℕ × Qualified)) SchemaFault
 qualified_commons s own cs = each (λ i x. qualified_common s own x) 0 cs

@@ -1,4 +1,5 @@
-//! The names that a schema file declares.
+//! The names that a schema file declares. `own` is the name of the namespace that has a declaration; `None` is the
+//! empty namespace.
 ghost use Rattle.std.specs.Prelude.{◌≡◌, OnOk, IfOk, map, string_bytes};
 ghost use Rattle.std.specs.Ordering.{is_eq};
 ghost use Rattle.std.specs.Str.{bytes_eq};

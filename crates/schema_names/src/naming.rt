@@ -1,4 +1,4 @@
-//! From bytes to a schema file with resolved names.
+//! Parsing of bytes as a schema file, and the resolution of its names.
 ghost use Rattle.std.specs.Prelude.{◌≢◌, MatchResult, map};
 ghost use Rattle.serde_json.specs.View.{view};
 ghost use Rattle.json_words.specs.ReadsAs.{ReadsAs, or_fault};

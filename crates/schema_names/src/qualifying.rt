@@ -1,4 +1,5 @@
-//! The resolution of the names in a schema file.
+//! The resolution of the names in a schema file. `own` is the name of the namespace that uses a name; `None` is the
+//! empty namespace.
 ghost use Rattle.std.specs.Prelude.{◌≡◌, IfOk, map, option_map};
 ghost use Rattle.json_words.specs.ReadsAs.{ReadsAs};
 ghost use Rattle.schema_types.specs.Views.{raw_view};
@@ -28,16 +29,22 @@ use values::{EntityUid, SharedText, TypeName};
 /// An entity type with its full name, and with the names in it resolved.
 #[derive(Drop)]
 pub struct ResolvedEntityType {
+    /// Its full name.
     pub name: TypeName,
+    /// The full names of the types that the parents of its entities may have.
     pub parents: Items<TypeName>,
+    /// The type of its entities' attributes, if the file has one.
     pub shape: Option<QualifiedType>,
 }
 
 /// What an action applies to, with resolved names.
 #[derive(Drop)]
 pub struct ResolvedUse {
+    /// The full names of the types of principals.
     pub principals: Items<TypeName>,
+    /// The full names of the types of resources.
     pub resources: Items<TypeName>,
+    /// The type of the context, if the file has one.
     pub context: Option<QualifiedType>,
 }
 
@@ -45,7 +52,9 @@ pub struct ResolvedUse {
 #[derive(Drop)]
 pub struct ResolvedAction {
     pub uid: EntityUid,
+    /// The uids of its parents, in the order of `memberOf`.
     pub parents: Items<EntityUid>,
+    /// What it applies to; `None` if the file has no `appliesTo` for it, so that it applies to no request.
     pub applies_to: Option<ResolvedUse>,
 }
 

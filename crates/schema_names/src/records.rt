@@ -1,4 +1,5 @@
-//! The check that shapes and contexts are records.
+//! The check that shapes and contexts are records. `own` is the name of the namespace in which a type is written;
+//! `None` is the empty namespace.
 ghost use Rattle.std.specs.Prelude.{◌≡◌, ◌∷◌, [], ◌<◌, ◌^◌, OnOk, IfOk, MatchResult, map, option_map, true};
 ghost use Rattle.std.specs.Prelude.{false, slice_get};
 ghost use Rattle.std.specs.BTreeSet.{btree_set_len};

@@ -1,4 +1,4 @@
--- Defines which action a written type and an id mean.
+-- Defines the action to which a schema refers by a type and an id.
 -- Source: Cedar reference guide, "Schema JSON format": action types, `memberOf`.
 -- Rules of this product: an action of the empty namespace has the type `Action`, one of a namespace NS the type
 -- `NS::Action`; an unqualified type is resolved in the namespace that uses it, then in the empty one.
@@ -10,7 +10,7 @@ use Rattle.schema_types.specs.Names.{full_name, is_qualified}
 abbrev pub action_type : Option (List ℕ) → List ℕ
 action_type own = full_name own (codes "Action")
 
--- `action_uid type_name id` is the uid of the action of this type and id.
+-- `action_uid type_name id` is the uid of the action with the type `type_name` and the id `id`.
 abbrev pub action_uid : List ℕ → List ℕ → EntityUid
 action_uid type_name id = record { type_name = type_name; id = id }
 
@@ -24,8 +24,9 @@ abbrev pub first_of : {A : Type 0} → Option A → Option A → Option A
 first_of (Some x) later = Some x
 first_of None later = later
 
--- `action_of_type is_action own w id` is the declared action that the type `w`, written in the namespace `own`, and the
--- id `id` mean: an unqualified type is resolved in that namespace, then in the empty one.
+-- `action_of_type is_action own w id` is the action to which the type `w`, written in the namespace `own`, and the id
+-- `id` refer, if it is declared: an unqualified type is resolved in that namespace, then in the empty one. `is_action`
+-- tests for declared actions.
 unfoldable pub action_of_type : (EntityUid → Bool) → Option (List ℕ) → List ℕ → List ℕ → Option EntityUid
 action_of_type is_action own w id =
     if is_qualified w then declared_action is_action w id

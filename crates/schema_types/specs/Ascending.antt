@@ -1,4 +1,4 @@
--- Defines that the keys of each record in a type ascend strictly by their bytes, at every depth.
+-- Defines when the keys of each record in a type ascend strictly by their bytes, at every depth.
 use Rattle.std.specs.Prelude.{⊤, ℕ, List, [], ◌∷◌}
 pub use Rattle.json_words.specs.Ascending.{Ascend, member_keys, DataAscends, ItemsAscend, MembersAscend}
 use Rattle.schema_types.specs.Raw as raw

@@ -22,7 +22,7 @@ FoundTypesAscend =
     (s : Scope) (own : Option (List ℕ)) (r : Raw) (n : Qualified) → qualified_of s own r ≡ Ok n → RawAscends r
     → QualifiedAscends n
 
--- `AllAscend commons` holds if the keys in each declared common type ascend.
+-- `AllAscend commons` holds if the keys in each common type that `commons` declares ascend.
 abbrev pub AllAscend : Declarations → Type 0
 AllAscend commons = (q : List ℕ) (r : Qualified) → Declares commons q r → QualifiedAscends r
 

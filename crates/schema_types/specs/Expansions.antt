@@ -31,6 +31,7 @@ mutual
     common : (q : List ℕ) (r : Qualified) (t : Cedar) → Declares commons q r → IsExpansion commons r t
         → IsExpansion commons (qualified.common q) t
 
+  -- `AreFieldExpansions commons rs ts` holds if `ts` are the fields `rs`, with each type replaced by its expansion.
   pub data AreFieldExpansions (commons : Declarations) : QualifiedFields → CedarFields → Type 0 where
     no_fields : AreFieldExpansions commons qualified.no_fields cedar.no_fields
     field : (k : List ℕ) (r : Qualified) (t : Cedar) (required : Bool) (rs : QualifiedFields) (ts : CedarFields)

@@ -33,8 +33,8 @@ own_keys Extension = codes "name" ∷ []
 own_keys EntityOrCommon = codes "name" ∷ []
 own_keys Common = []
 
--- `keys_of is_attribute form` are all keys that JSON of the form `form` may have; only an attribute may have
--- `required`.
+-- `keys_of is_attribute form` are all keys that JSON of the form `form` may have; only an attribute (`is_attribute`)
+-- may have `required`.
 abbrev pub keys_of : Bool → Form → List (List ℕ)
 keys_of is_attribute form =
     codes "type" ∷ codes "annotations" ∷ (if is_attribute then codes "required" ∷ own_keys form else own_keys form)

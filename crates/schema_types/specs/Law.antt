@@ -1,5 +1,5 @@
 -- Defines the theorems on the expansion of a type (it has at most one, and the condition for it), and on the names that
--- a type mentions (they are declared).
+-- a type mentions (they are declared). In this file `commons` are the declared common types, each with its definition.
 -- Source: Cedar reference guide 4.0, "Schema JSON format".
 use Rattle.std.specs.Prelude.{◌≡◌, ◌⊎◌, ℕ, List, true, Option, Ok}
 use Rattle.schema_types.specs.Raw.{Raw}

@@ -1,4 +1,5 @@
--- Defines which common types and entity types are mentioned in a type.
+-- Defines which common types and entity types are mentioned in a type. In this file `commons` are the declared common
+-- types, each with its definition.
 -- Source: Cedar reference guide 4.0, "Schema JSON format".
 use Rattle.std.specs.Prelude.{◌≡◌, ◌⊎◌, ℕ, List}
 use Rattle.schema_types.specs.Qualified as qualified

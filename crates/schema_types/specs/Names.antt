@@ -29,12 +29,13 @@ abbrev pub full_name : Option (List ℕ) → List ℕ → List ℕ
 full_name None w = w
 full_name (Some namespace) w = namespace ++ codes "::" ++ w
 
--- `as_declared declared w` is the name `w`, if it is declared.
+-- `as_declared declared w` is the name `w`, if it is declared; `declared` tests for declared names.
 unfoldable pub as_declared : (List ℕ → Bool) → List ℕ → Option (List ℕ)
 as_declared declared w = if declared w then Some w else None
 
--- `found declared own w` is the full name of the declaration that `w`, written in the namespace `own`, means: an
--- unqualified name is resolved in that namespace, then in the empty one.
+-- `found declared own w` is the full name of the declaration that `w`, written in the namespace `own`, means, if there
+-- is one: an unqualified name is resolved in that namespace, then in the empty one. `declared` tests for declared
+-- names.
 unfoldable pub found : (List ℕ → Bool) → Option (List ℕ) → List ℕ → Option (List ℕ)
 found declared own w =
     if is_qualified w then as_declared declared w else
@@ -60,23 +61,25 @@ abbrev pub or_common : Option (List ℕ) → Option Qualified → Option Qualifi
 or_common (Some q) later = Some (qualified.common q)
 or_common None later = later
 
--- `any_named s own w` is the common type that `w` means, else the entity type, else the primitive or extension type.
+-- `any_named s own w` is the type that `w`, written in the namespace `own`, means, if there is one: a common type of
+-- `s`, else an entity type of `s`, else a primitive or extension type.
 unfoldable pub any_named : Scope → Option (List ℕ) → List ℕ → Option Qualified
 any_named s own w = or_common (found s.commons own w) (or_entity (found s.entities own w) (built_in w))
 
--- `entity_named s own w` is the entity type that `w` means, or `UnknownName`.
+-- `entity_named s own w` is the entity type of `s` that `w`, written in the namespace `own`, means, or `UnknownName`.
 unfoldable pub entity_named : Scope → Option (List ℕ) → List ℕ → Result Qualified SchemaFault
 entity_named s own w = do
   q ← or_fault UnknownName (found s.entities own w)
   Ok (qualified.entity q)
 
--- `common_named s own w` is the common type that `w` means, or `UnknownName`.
+-- `common_named s own w` is the common type of `s` that `w`, written in the namespace `own`, means, or `UnknownName`.
 unfoldable pub common_named : Scope → Option (List ℕ) → List ℕ → Result Qualified SchemaFault
 common_named s own w = do
   q ← or_fault UnknownName (found s.commons own w)
   Ok (qualified.common q)
 
--- `qualified_of s own r` is the type `r`, written in the namespace `own`, with resolved names, or the first error.
+-- `qualified_of s own r` is the type `r`, written in the namespace `own`, with its names resolved to declarations of
+-- `s`, or the first error. `fields_of s own rs` are the fields `rs`, each with its type resolved.
 unfoldable mutual
   pub qualified_of : Scope → Option (List ℕ) → Raw → Result Qualified SchemaFault
   qualified_of s own raw.text = Ok qualified.text

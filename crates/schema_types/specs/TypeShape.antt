@@ -59,7 +59,7 @@ extension_named w =
     if bytes_eq w (codes "ipaddr") then Some raw.ipaddr else
     if bytes_eq w (codes "decimal") then Some raw.decimal else None
 
--- `there o` is the result at a required key, or `BadShape` if the key is missing.
+-- `there o` is the result in `o`, read at a required key, or `BadShape` if the key is missing (`None`).
 abbrev pub there : {A : Type 0} → Option (Result A SchemaFault) → Result A SchemaFault
 there None = Err BadShape
 there (Some read) = read
@@ -93,7 +93,7 @@ by_form Common w d element fields = do
   Ok (raw.common n)
 
 -- `formed is_attribute d element fields` is the type that `d` describes, or the first error. The keys of `d` must be
--- those of its form; `element` and `fields` are as in `by_form`.
+-- those of its form; `element` and `fields` are as in `by_form`, `is_attribute` as in `type_of`.
 unfoldable pub formed : Bool → Data → Option (Result Raw SchemaFault) → Option (Result RawFields SchemaFault)
     → Result Raw SchemaFault
 formed is_attribute d element fields = do
@@ -101,7 +101,8 @@ formed is_attribute d element fields = do
   keys ← demand BadShape (has_only (keys_of is_attribute (form_named w)) d)
   by_form (form_named w) w d element fields
 
--- `required_in d` is whether the attribute `d` is required: its boolean at the key `required`, true if that is missing.
+-- `required_in d` is whether the attribute `d` is required: its boolean at the key `required`, true if the key is
+-- missing, or `BadShape` for another value.
 abbrev pub required_in : Data → Result Bool SchemaFault
 required_in d = truth_or true (optional (codes "required") d)
 

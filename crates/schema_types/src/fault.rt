@@ -14,7 +14,7 @@ pub enum SchemaFault {
     /// The bytes are not JSON.
     #[error("schema 20: not JSON")]
     NotJson,
-    /// The JSON does not have the form of a schema.
+    /// The JSON does not have the form of a schema, or a shape or a context is not a record.
     #[error("schema 21: JSON without the form of a schema")]
     BadShape,
     /// A name is not declared where it is used.
@@ -34,7 +34,7 @@ pub enum SchemaFault {
 impl SchemaFault {
     ghost use Rattle.schema_types.specs.Codes.{code_of};
 
-    /// Returns the error's code.
+    /// Returns the error's code (docs/codes.md).
     pub fn code(self) -> u8
         ensures { result ≡ code_of self }
     {

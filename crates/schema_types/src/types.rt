@@ -27,7 +27,7 @@ pub fn read_type_name(alloc: Global, word: &str) -> Result<TypeName, SchemaFault
     }
 }
 
-/// Returns the name at the key `name`, or `BadShape` (21).
+/// Returns the name at the key `name`, or `BadShape` (21) if there is no string at the key, or it is not a Path.
 fn name_in(alloc: Global, value: &Value) -> Result<TypeName, SchemaFault>
     ensures { ReadsAs SchemaFault.NoMemory (λ t. t) result (name_in (view value.now)) }
 {
@@ -61,7 +61,8 @@ fn reserved_type(word: &str) -> Option<RawType>
     None
 }
 
-/// Returns the type with this name at an `EntityOrCommon`, before it is resolved.
+/// Returns the type with this name at an `EntityOrCommon`, before it is resolved; `BadShape` (21) if the name is not a
+/// Path and not one of the six with the prefix `__cedar::`.
 fn entity_or_common(alloc: Global, word: &str) -> Result<RawType, SchemaFault>
     ensures { ReadsAs SchemaFault.NoMemory raw_view result (entity_or_common word.now) }
 {

@@ -14,7 +14,7 @@ Graph = List (List ℕ)
 abbrev pub graph_of : List (Vec ℕ Global) → Graph
 graph_of edges = map (λ v. v.items) edges
 
--- `ends_of g a` are the successors of the node `a` in the graph `g`; none past the end.
+-- `ends_of g a` are the successors of the node `a` in the graph `g`; `[]` if `a` is not a node of `g`.
 abbrev pub ends_of : Graph → ℕ → List ℕ
 ends_of [] a = []
 ends_of (ends ∷ g) zero = ends

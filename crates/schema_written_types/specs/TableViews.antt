@@ -7,7 +7,8 @@ use Rattle.schema_written_types.specs.declared.table.Known.{Known}
 use Rattle.schema_types.specs.CedarViews.{cedar_view}
 use Rattle.schema_written_types.specs.TypeTables.{Extent, TableEntry, TypeTable}
 
--- `size_view s`, `known_view k` and `type_table table` are the abstract views of a size, of an entry and of a table.
+-- `size_view s`, `known_view k` and `type_table table` are the abstract views of the size `s`, of the entry `k` and of
+-- the table `table`.
 abbrev pub size_view : Size → Extent
 size_view s = record { parts = s.parts; deep = s.deep }
 

@@ -1,4 +1,5 @@
 -- Defines a table of common types: for each name the size of its expansion, and the expansion unless it is too large.
+-- In this file `commons` are the declared common types, each with its definition.
 -- Rules of this product: the limits, 10,000 nodes and a depth of 64.
 use Rattle.std.specs.Prelude.{◌≡◌, ℕ, min, List, Option, Some, None}
 use Rattle.schema_types.specs.Qualified.{Qualified, common}

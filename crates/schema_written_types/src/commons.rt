@@ -21,7 +21,8 @@ use schema_types::{CedarType, QualifiedType, ResolvedCommon, SchemaFault};
 use std::alloc::Global;
 use std::collections::BTreeMap;
 
-/// Returns the expansion of a type, given its size. If it is too large, returns `None` and builds nothing.
+/// Returns the expansion of a type, given the size of the expansion. If it is too large, returns `None` and builds
+/// nothing.
 #[tactic(auto, using(crate::proofs::Sizes::counted))]
 fn write_within(
     alloc: Global,

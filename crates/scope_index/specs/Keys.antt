@@ -40,11 +40,11 @@ key_by (Some e) r = Principal e
 key_by None (Some e) = Resource e
 key_by None None = Always
 
--- `index_key scope` is the key of a policy with this scope.
+-- `index_key scope` is the key of a policy with the scope `scope`.
 abbrev pub index_key : Scope → IndexKey
 index_key scope = key_by (entity_named scope.principal) (entity_named scope.resource)
 
--- `IsMet parents q key` holds if the request `q` matches `key` in the hierarchy with these parents.
+-- `IsMet parents q key` holds if the request `q` matches `key` in the hierarchy `parents`.
 abbrev pub IsMet : Parents → Request → IndexKey → Type 0
 IsMet parents q Always = Unit {0}
 IsMet parents q (Principal e) = IsIn parents q.principal e
@@ -70,7 +70,8 @@ lent ps = map (λ p. (p.0.now, p.1.now)) ps
 abbrev pub ids : List Candidate → List (List ℕ)
 ids os = map (λ o. o.0) os
 
--- `IsCandidate kept parents q o` holds if `o` is a policy of the index `kept`, and its key matches the request `q`.
+-- `IsCandidate kept parents q o` holds if `o` is a policy of the index `kept` with its id, and the policy's key matches
+-- the request `q` in the hierarchy `parents`.
 pub record IsCandidate (kept : Kept) (parents : Parents) (q : Request) (o : Candidate) : Type 0 where
   pub is_kept : kept_at kept o.0 ≡ Some o.1
   pub met : IsMet parents q (index_key o.1.scope)

@@ -1,7 +1,8 @@
 //! An index of policies by scope: finds the candidates of a request without visiting the other policies.
 //!
-//! A policy whose scope names an entity for the principal (or else for the resource) is a candidate for that entity
-//! and for its descendants; every other policy is a candidate for each request.
+//! If the scope of a policy names an entity for the principal (or else for the resource), the policy is a candidate
+//! only of some requests: those whose principal (or resource) is that entity or a descendant of it. Every other policy
+//! is a candidate of each request.
 #![tactic(auto)]
 
 mod buckets;

@@ -1,4 +1,5 @@
--- Defines the view of a system as the code has it: the sites themselves, and the bytes of messages and summaries.
+-- Defines when the values of the code (the sites, and the bytes of messages and summaries) represent the state of a
+-- system.
 use Rattle.std.specs.Prelude.{◌≡◌, ℕ, List, [], ◌∷◌, map}
 use Rattle.site_steps.specs.schema.Schemas.{StatedSchema}
 use Rattle.site_steps.specs.stamped_store.Store.{Store}
@@ -22,7 +23,7 @@ AreSitesOf schema (n ∷ ns) (s ∷ ss) (a ∷ rest) = IsSiteOf schema n s a × 
 AreSitesOf schema _ _ _ = ⊥
 
 -- `IsViewOf schema sites seen ms ss w` holds if `seen` are sites of `schema` with the names `sites` and the stores of
--- the state `w`, and `ms` and `ss` are the bytes of its messages and summaries.
+-- the state `w`, and `ms` and `ss` are the bytes of the messages and of the summaries of `w`.
 pub record IsViewOf (schema : StatedSchema) (sites : List SiteName) (seen : List SiteView) (ms ss : List (List ℕ))
     (w : World) : Type 0 where
   pub hold : AreSitesOf schema sites w.stores seen

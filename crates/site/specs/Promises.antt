@@ -31,8 +31,8 @@ module _ (Steps : SiteName → Store → Input → Reply → Store → Type 0) (
   -- `KeepsPromises sites es rs w` holds if each promise below holds in the state `w` of a system of the sites `sites`,
   -- after the events `es` with the replies `rs`.
   pub record KeepsPromises (sites : List SiteName) (es : List Event) (rs : List EventReply) (w : World) : Type 0 where
-    -- No entry is invented: each entry in a store, and each entry in a message, was issued by a local command whose
-    -- reply was its stamp, at the site that the stamp names.
+    -- No entry is invented: each entry in a store, and each entry in a message, was issued by a local command, whose
+    -- reply has the entry's stamp, at the site that the stamp names.
     pub stored : (k : ℕ) (s : Store) → numbered w.stores k ≡ Some s → (u : Update) → Contains (updates s) u
         → WasIssued Issues sites es rs u
     pub sent : (k : ℕ) (m : SentMessage) (us : List Update) → slice_get w.messages k ≡ Some m → States m.bytes us

@@ -1,7 +1,7 @@
 -- Defines the runs of a system of sites: each event is one step of one site. A message or summary that the step makes
 -- is added to those of the system, and may be delivered to any site, again and in any order.
 -- Rules of this product: an event that names a site, a message or a summary that does not exist gets the reply
--- `Unknown` (30) and changes nothing; there is no promise of time or order, or that a message is delivered.
+-- `Unknown` (30, bad shape) and changes nothing; there is no promise of time or order, or that a message is delivered.
 use Rattle.std.specs.Prelude.{◌≡◌, ℕ, List, [], ◌∷◌, ◌++◌, length, map, slice_get}
 use Rattle.std.specs.Prelude.{Option, Some, None, option_map, Ok, Err}
 use Rattle.std.specs.Str.{IsUtf8}

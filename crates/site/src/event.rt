@@ -39,12 +39,12 @@ pub struct Event {
 /// The reply to an event.
 #[derive(Drop)]
 pub enum EventReply {
-    /// No site, message or summary has the number that the event names (code 30). Nothing changed.
+    /// No site, message or summary has the number that the event names (code 30, bad shape). Nothing changed.
     Unknown,
     /// The site's reply to a command, a request or a delivered message.
     Replied(Reply),
-    /// The number of the message that was made, from 0.
+    /// The number of the message that was made, from 0; or why none was made.
     Message(Result<usize, SiteFault>),
-    /// The number of the summary that was made, from 0.
+    /// The number of the summary that was made, from 0; or why none was made.
     Summary(Result<usize, SiteFault>),
 }

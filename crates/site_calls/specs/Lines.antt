@@ -37,7 +37,7 @@ found_json text s = object
 unfoldable pub found_line : List ℕ → Stamp → List ℕ
 found_line text s = compact_text (found_json text s)
 
--- `fault_line code place within` is the line of an error with this code, its place, and the code of the error inside:
+-- `fault_line code place within` is the line of an error with this code, its place, and the code of the inner error:
 -- {"error":{"code":30,"place":0,"within":null}}
 abbrev pub fault_line : ℕ → Option ℕ → Option ℕ → List ℕ
 fault_line code place within = error_line (record { code = code; place = place; within = within })

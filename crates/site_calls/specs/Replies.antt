@@ -18,7 +18,7 @@ use Rattle.site_calls.specs.Lines.{fault_line, found_line, put_line, stamp_line,
 abbrev pub fault_reply : SiteFault → StatusCode × List ℕ
 fault_reply f = (refusal_status (code_of f), fault_line (code_of f) (place_of f) (within_of f))
 
--- `status_reply s` is the reply to an error without a code: its status takes the place of the code.
+-- `status_reply s` is the reply to an error that has only the status `s`: the line of the error has `s` as its code.
 abbrev pub status_reply : StatusCode → StatusCode × List ℕ
 status_reply s = (s, fault_line s None None)
 

@@ -73,8 +73,8 @@ pub fn reply_to_request(
     report_reply(alloc, text, &reply)
 }
 
-/// Returns the first error of a policy whose text is not UTF-8: of its id (19), of its length (18), else of its bytes
-/// (10).
+/// Returns the first error of a policy whose text is not UTF-8: of its id (`BadId`, 19), of its length (`TooLong`, 18),
+/// else of its bytes (`BadToken`, 10).
 fn not_text(id: &str, text: &[u8]) -> ReadFault
     ensures { result ≡ not_text id.now text.now }
 {

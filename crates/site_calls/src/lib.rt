@@ -2,7 +2,7 @@
 //!
 //! A call is at most one step of the site, and has the same reply as the HTTP route for it. Routes and streams are not
 //! in this crate. A body is one line of compact JSON. Replies to changes, and errors of any kind, allocate nothing:
-//! they are appended to a text that has room for them.
+//! they are appended to a text with enough spare capacity.
 #![tactic(auto)]
 
 mod answering;

@@ -1,4 +1,4 @@
-//! Appends the lines that need no allocation, to a text that has room for them.
+//! Appends the lines that need no allocation, to a text with enough spare capacity.
 ghost use Rattle.std.specs.Prelude.{◌≡◌, ◌≤◌, ◌+◌, ◌++◌, length, vec_len, decimal};
 ghost use Rattle.std.specs.Vec.{vec_capacity};
 ghost use Rattle.site_calls.specs.Lines.{fault_line, put_line, stamp_line, taken_line};
@@ -115,7 +115,7 @@ fn place_number(place: Option<usize>) -> Option<u64>
     }
 }
 
-/// Returns the code of an error inside as a number of 64 bits.
+/// Returns the code of an inner error as a number of 64 bits.
 fn within_number(within: Option<u8>) -> Option<u64>
     ensures { result ≡ within }
 {

@@ -1,7 +1,8 @@
 //! Reports each outcome: appends the body of the reply to a text, and returns the status of the reply.
 //!
-//! Each function demands room in the text for a short line. If a longer body cannot be allocated, the error of code 1
-//! (out of memory) is appended in this room, so there is always a reply. The text keeps its memory.
+//! Each function requires that the text has spare capacity for a short line (`LINE_ROOM` bytes). If a longer body
+//! cannot be allocated, the error of code 1 (out of memory) is appended there, so there is always a reply. The text
+//! keeps its memory.
 ghost use Rattle.std.specs.Prelude.{◌≡◌, ◌≤◌, ◌+◌, ◌++◌, List, ℕ, OnOk, OnErr, option_map, vec_len};
 ghost use Rattle.std.specs.Vec.{vec_capacity};
 ghost use Rattle.site_calls.specs.Replies.{answer_reply, fault_reply, found_reply, message_reply, put_reply};
@@ -17,7 +18,7 @@ use plain::{Items, NoMemory};
 use site::{Put, SiteFault, Stamp, Taken};
 use std::alloc::Global;
 
-/// Appends an error of the site: its code, its place and the code of the error inside. Allocates nothing.
+/// Appends an error of the site: its code, its place and the code of the inner error. Allocates nothing.
 pub fn report_fault(text: &mut Vec<u8>, fault: SiteFault) -> StatusCode
     requires room { vec_len text.old + LINE_ROOM ≤ vec_capacity text.old }
     ensures status { result ≡ (fault_reply fault).0 }

@@ -44,14 +44,14 @@ items_of bytes = option_map list_of (option_and_then as_array (json_of bytes))
 
 -- ---- a file that may be absent
 
--- `LoadsIfNamed Loads s bytes t` holds if `Loads` leads from the store `s` to the store `t` by the file `bytes`, or the
--- file is absent and `t` is `s`.
+-- `LoadsIfNamed Loads s bytes t` holds if the file `bytes` leads from the store `s` to the store `t` by the relation
+-- `Loads`, or the file is absent and `t` is `s`.
 abbrev pub LoadsIfNamed : (Store → List ℕ → Store → Type 0) → Store → Option (List ℕ) → Store → Type 0
 LoadsIfNamed Loads s None t = t ≡ s
 LoadsIfNamed Loads s (Some bytes) t = Loads s bytes t
 
--- `RefusesIfNamed Refuses s bytes refusal` holds if the file `bytes` is present, and `Refuses` rejects it over the
--- store `s` with the error `refusal`.
+-- `RefusesIfNamed Refuses s bytes refusal` holds if the file `bytes` is present, and `refusal` is its error over the
+-- store `s` by the relation `Refuses`.
 abbrev pub RefusesIfNamed : (Store → List ℕ → Refusal → Type 0) → Store → Option (List ℕ) → Refusal → Type 0
 RefusesIfNamed Refuses s None refusal = ⊥
 RefusesIfNamed Refuses s (Some bytes) refusal = Refuses s bytes refusal

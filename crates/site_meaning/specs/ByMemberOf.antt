@@ -1,6 +1,6 @@
 -- Defines answers and cycles over a store in which each action has only the parents that its `memberOf` names in the
 -- schema's bytes. A theorem of this crate, `stored_actions_answer_alike`, shows that they are the answers and cycles of
--- StoreMeaning.antt, which takes the parents from the view of the schema (`member_of`).
+-- StoreMeaning.antt, which takes the parents from the field `member_of` of the described schema.
 -- Source: Cedar reference guide 4.0, "Schema JSON format", `actions` and `memberOf`.
 use Rattle.std.specs.Prelude.{◌↔◌, ℕ, List, Option}
 use Rattle.values.specs.declared.entity_uid.EntityUid.{EntityUid}

@@ -1,4 +1,4 @@
--- Proves that `uids_read` lists exactly the uids for which the entries have an entity.
+-- Proves that `uids_read es` (TextsRead.antt) lists exactly the uids for which the entries `es` have an entity.
 use Rattle.std.specs.Prelude.{◌≡◌, List, [], ◌∷◌, Contains, Option, Some, None, IsSome, is_some, Bool, true, false}
 use Rattle.std.specs.Prelude.{cond, refl, option_and_then, option_map}
 use Rattle.std.proofs.Common.{subst, sym, ◌∙◌, inl, inr}
@@ -46,7 +46,7 @@ into_filter p (x ∷ xs) u h is = elim (Contains-cases x xs u h) [
       ]
 ]
 
--- each uid at which the entries have a value is one of their keys
+-- each uid at which the entries `es` have a value is one of their keys
 key_at : (es : List (EntityUid × Entry Entity)) (u : EntityUid) → IsSome (value_at uid_cmp es u)
     → Contains (keys_of es) u
 key_at [] u h = cc h
@@ -59,7 +59,7 @@ key_at (e ∷ es) u h =
       | false ↦ λ apart h. Contains-there e.0 (keys_of es) u (key_at es u h)
     ] refl h
 
--- an option has a value if `option_and_then` of it has one
+-- `o` has a value if `option_and_then f o` has one
 some_before : {A B : Type 0} (f : A → Option B) (o : Option A) → IsSome (option_and_then f o) → IsSome o
 some_before f None h = h
 some_before f (Some x) h = refl

@@ -23,8 +23,8 @@ use Rattle.stamped_store.specs.Contents.{text_under, policies_of}
 abbrev pub HaveOneReading : {N X : Type 0} → (N → List ℕ → X → Type 0) → Type 0
 HaveOneReading {N} {X} Reads = (name : N) (text : List ℕ) (x y : X) → Reads name text x → Reads name text y → x ≡ y
 
--- `ArePolicies Reads s ps` holds if `ps` are the policies of the store `s`, ascending by id: one for each id that has a
--- text in `s`, a value of that text by `Reads`.
+-- `ArePolicies Reads s ps` holds if `ps` are the policies of the store `s`, ascending by id. Each id that has a text in
+-- `s` has one policy, which is a value of that text by `Reads`; no other id has one.
 abbrev pub ArePolicies : (List ℕ → List ℕ → Policy → Type 0) → Store → List NamedPolicy → Type 0
 ArePolicies Reads s ps = AllZip (λ t p. (p.id ≡ t.0) × Reads t.0 t.1 p.policy) (policies_of s) ps
 

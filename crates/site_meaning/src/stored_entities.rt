@@ -71,7 +71,7 @@ impl EntitySource for StoredEntities<'_> {
     }
 }
 
-/// Returns the uids of those entries that have a text, in their order.
+/// Returns the uids of the entities whose entries have a text, in the order of the entries.
 fn uids_with_text<'s>(
     alloc: Global,
     store: &'s StampedStore<Policy, Entity>,

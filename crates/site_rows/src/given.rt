@@ -1,4 +1,4 @@
-//! What the cases above a case have set up.
+//! The schema and the sites that earlier cases have set up.
 use crate::inputs::{all_lent, inputs_of};
 use crate::line::{BAD_ROW, Line, NO_MEMORY};
 use crate::replies::{push_caches, push_reply};
@@ -15,7 +15,7 @@ struct Started {
     site: Site,
 }
 
-/// The schema and the sites of the cases above.
+/// The schema and the sites of the earlier cases.
 #[derive(Drop)]
 pub(crate) struct Given {
     schema: Option<Shared<Schema>>,
@@ -106,7 +106,7 @@ impl Given {
         self.schema.as_ref()
     }
 
-    /// Sets the schema of the cases below.
+    /// Sets the schema of the following cases: the one that `text` describes, or none if `text` describes none.
     pub(crate) fn set_schema(&mut self, alloc: Global, text: &str, line: &mut Line) {
         self.schema = schema_in(alloc, text);
         line.push(b"given");
@@ -123,7 +123,7 @@ impl Given {
         }
     }
 
-    /// Appends which caches of a site are present, or how many policies its last answer tried.
+    /// Appends which caches of a site are present, or how many policies its last answer evaluated.
     pub(crate) fn push_measure(&self, word: &str, name: &str, line: &mut Line) {
         match (word, site_of(&self.sites, name)) {
             ("tried", Some(site)) => line.push_number(site.tried() as u64),

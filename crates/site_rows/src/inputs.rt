@@ -64,7 +64,7 @@ pub(crate) fn uid_of(alloc: Global, type_name: TypeName, id: &str) -> Result<Ent
 }
 
 /// Returns the deletion of an entity, which a string gives by its type, a blank and its id. If the type is not a path,
-/// returns a put of no bytes, which has the error (30) that a served site reports for a malformed uid.
+/// returns a put of no bytes, which has the error that a served site reports for a malformed uid: `BadShape` (30).
 fn entity_deleted(alloc: Global, text: &str) -> Result<Option<OwnedInput>, NoMemory> {
     let (type_name, id) = first_word(text);
     match TypeName::parse(alloc, type_name)? {

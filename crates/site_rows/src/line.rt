@@ -23,7 +23,7 @@ pub(crate) struct Line {
     is_whole: bool,
 }
 
-/// Returns a value if it is whole.
+/// Returns a value, or `NoMemory` if it is not whole.
 fn whole<T: Drop>(value: T, is_whole: bool) -> Result<T, NoMemory> {
     if is_whole { Ok(value) } else { Err(NoMemory) }
 }

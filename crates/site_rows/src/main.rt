@@ -10,10 +10,10 @@
 //!   `delete_entity TYPE ID`, `authorize JSON`, `take MESSAGE`, `get_policy ID`, `state`, `summary` or
 //!   `delta SUMMARY`.
 //! - `prefixes NAME INPUT` gives the site each proper prefix of the bytes of an input `put_entity`, `take`, `authorize`
-//!   or `delta`, and prints the replies. Equal replies in a row are printed once, after their number and ` × `.
+//!   or `delta`, and prints the replies. Equal consecutive replies are printed once, after their number and ` × `.
 //! - `says NAME INPUT` does as `NAME INPUT`, and prints the message of an error in place of its code.
-//! - `standing NAME` prints which caches of the site are present, its ancestors and its index of policies, and
-//!   `tried NAME` how many policies its last answer tried.
+//! - `standing NAME` prints which caches of the site are present, its ancestors and its index of policies.
+//! - `tried NAME` prints how many policies its last answer evaluated.
 //! - `context TYPE ID JSON` reads the context of a request for this action, and prints it as the attributes of an
 //!   entity.
 //! - `network ERROR` prints the message of an error of a served stream (`served read`) or of a request (`read`).

@@ -3,7 +3,7 @@
 use crate::line::Line;
 use std::alloc::Global;
 
-/// The last outcome, and how many equal ones came in a row.
+/// The last outcome, and the number of equal consecutive ones.
 #[derive(Drop)]
 pub(crate) struct Repeats {
     count: u64,

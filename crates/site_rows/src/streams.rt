@@ -26,7 +26,7 @@ struct Devices<'a> {
     reads: &'a [usize],
     /// The number of the read that fails, from 0, if one does.
     failing_read: Option<u64>,
-    /// How many bytes each write takes at most.
+    /// How many bytes each write accepts at most.
     writes: &'a [usize],
     /// The number of the write that fails, from 0, if one does.
     failing_write: Option<u64>,

@@ -41,8 +41,8 @@ StoredPoliciesAreSound = (bytes : List ℕ) (schema : StatedSchema) → IsSchema
     → EvaluatesTo (entity_data_under schema entities) q (expression_of p.policy) r
     → Fits boolean_type r × (IsImpossible schema p.policy → r ≢ Ok (boolean true))
 
--- `StoredAnswersAreSound`: an answer to such a request over such a store has no errors other than `EntityDoesNotExist`
--- and `ArithBoundsError`.
+-- `StoredAnswersAreSound`: over a store whose texts were each parsed under a schema that bytes describe, an answer to a
+-- request that was parsed under the same schema has no errors other than `EntityDoesNotExist` and `ArithBoundsError`.
 abbrev pub StoredAnswersAreSound : Type 0
 StoredAnswersAreSound = (bytes : List ℕ) (schema : StatedSchema) → IsSchemaOf bytes schema → (s : Store)
     → (d : Data) (q : Request) → StatesRequest schema d q → (a : Answer)

@@ -41,8 +41,9 @@ WhatIsReadConforms = (bytes : List ℕ) (s : StatedSchema) → IsSchemaOf bytes 
     → AreRead s entities → (d : Data) (q : Request) → StatesRequest s d q
     → (e : EnvironmentOf) × Contains s.environments e × Conforms (typing_environment_of s e) (closed_world s entities) q
 
--- `WhatIsStoredIsSound`: over finitely many such entities with these actions, and for such a request, a policy that
--- passes validation gives a boolean, `EntityDoesNotExist` or `ArithBoundsError`; an impossible policy never gives true.
+-- `WhatIsStoredIsSound`: let finitely many entities and a request be parsed under a schema that bytes describe. Over
+-- these entities and the schema's actions, and for this request, a policy that passes validation gives a boolean,
+-- `EntityDoesNotExist` or `ArithBoundsError`; an impossible policy never gives true.
 abbrev pub WhatIsStoredIsSound : Type 0
 WhatIsStoredIsSound = (bytes : List ℕ) (s : StatedSchema) → IsSchemaOf bytes s → (entities : EntityMap)
     → AreRead s entities → (us : List EntityUid) → AreListed entities us → (d : Data) (q : Request)

@@ -1,4 +1,5 @@
-//! Theorems about what is parsed under a schema, and about answers over it. The functions are no-ops.
+//! Theorems about what is parsed under a schema, and about answers over a store of such texts. The functions are
+//! no-ops.
 ghost use Rattle.site_soundness.specs.Laws.{ValuesAreOfTheirTypes, RecordsAreOfTheirTypes};
 ghost use Rattle.site_soundness.specs.Laws.{EntitiesAreOfTheirTypes, RequestsAreOfAnEnvironment};
 ghost use Rattle.site_soundness.specs.Worlds.{WhatIsReadConforms, WhatIsStoredIsSound};

@@ -1,9 +1,9 @@
-//! Theorems: what is parsed under a schema has the types that the schema declares, and validation is sound over it.
+//! Theorems about what is parsed under a schema: it has the types that the schema declares, and validation is sound.
 //!
 //! Values and the attributes of entities have their declared types, and requests are of an environment of the schema.
 //! So parsed entities and a parsed request conform to the schema, and policies that pass validation are sound over
-//! them. It follows that no answer over a store whose texts were parsed under the schema reports an error of type. All
-//! functions are no-ops.
+//! them. It follows that no answer over a store whose texts were parsed under the schema reports an error of type, of
+//! an attribute or of an extension function. All functions are no-ops.
 #![tactic(auto)]
 
 mod laws;

@@ -1,5 +1,5 @@
--- Defines runs of a site: a sequence of steps, each an input with its reply, and the updates that the run applies. The
--- first store and these updates determine the store at the end.
+-- Defines the runs of a site (sequences of steps, each an input with its reply), and the updates that a run applies.
+-- The first store and these updates determine the store at the end.
 -- Rules of this product: a message is rejected whole or its updates are applied in order; rejected inputs and queries
 -- leave the store unchanged.
 use Rattle.std.specs.Prelude.{◌≡◌, ℕ, List, [], ◌∷◌, ◌++◌, take, Option, Some, None, option_map, Result, Ok, Err}
@@ -114,8 +114,8 @@ updates_of_message (Ok us) = us
 updates_of_message (Err f) = []
 
 -- `took_by schema i r` is the list of the updates that the input `i` with the reply `r` applied: for a command that got
--- a stamp, its one update; for a message, all of its updates or the first `k`, including those that lose to a greater
--- entry.
+-- a stamp, its one update; for a message, all of its updates, or the first ones that `r` counts, including those that
+-- lose to a greater entry.
 abbrev pub took_by : StatedSchema → Input → Reply → List Update
 took_by schema (input.PutPolicy id text) (reply.Put (Ok put)) = (policy_name id, issued put.stamp (Some text)) ∷ []
 took_by schema (input.DeletePolicy id) (reply.Stamped (Ok stamp)) = (policy_name id, issued stamp None) ∷ []

@@ -1,4 +1,4 @@
--- Defines the view of a site: its schema, its name, and its store.
+-- Defines what contracts see of a site: its schema, its name, and its store.
 -- Rules of this product: a site has a store of stamped texts, each with its parsed value. Its caches, an index of its
 -- policies and the ancestors of its entities, change no answer, and contracts do not see them.
 use Rattle.std.specs.Prelude.{◌≡◌, ℕ, List}
@@ -19,7 +19,7 @@ pub record SiteView : Type 0 where
   pub name : List ℕ
   pub kept : StoreEntries Policy Entity
 
--- `schema_of a` is the view of the schema of the site `a`.
+-- `schema_of a` is the schema of the site `a`, as a `StatedSchema`.
 abbrev pub schema_of : SiteView → StatedSchema
 schema_of a = schema_view a.schema
 

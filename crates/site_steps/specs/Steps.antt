@@ -48,8 +48,8 @@ pub record Records (n : List ℕ) (s : Store) (name : Name) (body : Option (List
 abbrev pub IsClockFull : Store → Store → Type 0
 IsClockFull s t = (greatest_count s ≡ most_count) × (t ≡ s)
 
--- `PutsPolicy schema n s id text r t` holds if putting `text` under the policy's id `id` may lead from `s` to `t` with
--- the result `r`.
+-- `PutsPolicy schema n s id text r t` holds if, at the site of `schema` named `n`, putting `text` under the policy's id
+-- `id` may lead from `s` to `t` with the result `r`.
 abbrev pub PutsPolicy : StatedSchema → List ℕ → Store → List ℕ → List ℕ → Result Put SiteFault → Store → Type 0
 PutsPolicy schema n s id text (Ok put) t =
     (p : Policy) × IsAdmitted schema id text p × (IsTrue put.impossible ↔ IsImpossible schema p)
@@ -59,9 +59,9 @@ PutsPolicy schema n s id text (Err fault.ClockFull) t =
     ((p : Policy) × IsAdmitted schema id text p) × IsClockFull s t
 PutsPolicy schema n s id text (Err f) t = IsNotAdmitted schema id text f × (t ≡ s)
 
--- `PutsEntity schema n s json r t` holds if putting the entity that `json` describes, as its canonical text, may lead
--- from `s` to `t` with the result `r`. The cycle is checked before the clock; `None` stands for bytes that are not
--- JSON.
+-- `PutsEntity schema n s json r t` holds if, at the site of `schema` named `n`, putting the entity that `json`
+-- describes, as its canonical text, may lead from `s` to `t` with the result `r`. The cycle is checked before the
+-- clock; `None` stands for bytes that are not JSON.
 abbrev pub PutsEntity : StatedSchema → List ℕ → Store → Option Data → Result Stamp SiteFault → Store → Type 0
 PutsEntity schema n s json (Ok stamp) t =
     (e : Entity) × (entity_stated schema json ≡ Ok e) × MakesNoCycle (IsEntityUnder schema) schema s e
@@ -75,8 +75,8 @@ PutsEntity schema n s json (Err fault.ClockFull) t =
     × IsClockFull s t
 PutsEntity schema n s json (Err _) t = ⊥
 
--- `Deletes n s name r t` holds if deleting `name`, that is, writing a tombstone under `name` if it has a text, may lead
--- from `s` to `t` with the result `r`.
+-- `Deletes n s name r t` holds if, at the site named `n`, deleting `name` may lead from `s` to `t` with the result `r`.
+-- A deletion writes a tombstone under `name` if `name` has a text.
 abbrev pub Deletes : List ℕ → Store → Name → Result Stamp SiteFault → Store → Type 0
 Deletes n s name (Ok stamp) t = IsSome (text_under s name) × Records n s name None stamp t
 Deletes n s name (Err fault.NoMemory) t = t ≡ s

@@ -82,7 +82,8 @@ fn next_stamp(store: &StampedStore<Policy, Entity>, name: SiteName) -> Option<St
 }
 
 impl Site {
-    /// Stores the body of a policy with the next stamp.
+    /// Stores the body of a policy with the next stamp. After an error (`ClockFull` or `NoMemory`) the store is
+    /// unchanged.
     fn record_policy(
         &mut self,
         id: String,
@@ -107,7 +108,8 @@ impl Site {
         }
     }
 
-    /// Stores the body of an entity with the next stamp.
+    /// Stores the body of an entity with the next stamp. After an error (`ClockFull` or `NoMemory`) the store is
+    /// unchanged.
     fn record_entity(
         &mut self,
         uid: EntityUid,
@@ -183,7 +185,8 @@ impl Site {
         has_text(self.store.store().get_entity(uid))
     }
 
-    /// Stores a tombstone of a policy with the next stamp.
+    /// Stores a tombstone of a policy with the next stamp. After an error (`ClockFull` or `NoMemory`) the store is
+    /// unchanged.
     fn remove_policy(&mut self, id: &str) -> Result<Stamp, SiteFault>
         requires { IsName (policy_name id.now) }
         ensures records { RecordsOr self.old.name (store_in self.old) (policy_name id.now) None result
@@ -220,7 +223,8 @@ impl Site {
         self.remove_policy(id)
     }
 
-    /// Stores a tombstone of an entity with the next stamp.
+    /// Stores a tombstone of an entity with the next stamp. After an error (`ClockFull` or `NoMemory`) the store is
+    /// unchanged.
     fn remove_entity(&mut self, uid: &EntityUid) -> Result<Stamp, SiteFault>
         requires { IsName (entity_name uid.now) }
         ensures records { RecordsOr self.old.name (store_in self.old) (entity_name uid.now) None result

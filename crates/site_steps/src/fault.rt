@@ -71,7 +71,8 @@ impl SiteFault {
         }
     }
 
-    /// Returns the code that is reported within the error, of an entry of a message or of a request; else `None`.
+    /// Returns the code of the inner error, which an error of a message's entry and an error of a request have; else
+    /// `None`.
     pub fn within(self) -> Option<u8>
         ensures { result ≡ within_of self }
     {

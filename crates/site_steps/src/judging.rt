@@ -84,7 +84,7 @@ fn copy_text(alloc: Global, text: &str) -> Result<Text, NoMemory>
     Text::from_str(alloc, text)
 }
 
-/// Checks a policy that is to be put: first its id, then its text, then the parsed policy.
+/// Returns a policy that may be put, or the first error: of its id, else of its text, else of its validation.
 pub(crate) fn judged_policy(
     alloc: Global,
     schema: &Schema,

@@ -171,9 +171,9 @@ impl Site {
     ///
     /// Each error in the answer is `EntityDoesNotExist` or `ArithBoundsError`.
     ///
-    /// Evaluates only the policies that the index offers for the request, and looks up ancestors in the ancestor cache.
-    /// If the index is absent, every policy is evaluated; if the cache is absent, the hierarchy is searched for cycles.
-    /// Both are linear in the store.
+    /// Evaluates only the candidates that the policy index has for the request, and looks up ancestors in the ancestor
+    /// cache. If the index is absent, every policy is evaluated; if the cache is absent, the hierarchy is searched for
+    /// cycles. Both are linear in the store.
     ///
     /// # Errors
     ///

@@ -73,7 +73,8 @@ impl Site {
         }
     }
 
-    /// Applies updates in their order. Updates the caches after each, as long as that costs less than a rebuild.
+    /// Applies updates in their order. Updates the caches after each, as long as that does not cost much more than a
+    /// rebuild.
     fn take_all(&mut self, updates: Vec<Update<Policy, Entity>>) -> Taken
         requires { AllByRecursion (IsValidUnder (schema_of self.old)) updates.items }
         ensures takes { TakesUpdates (store_in self.old) (plain_updates updates.items) result (store_in self.new) }
@@ -96,8 +97,7 @@ impl Site {
     /// applied, and the others are not. An update that makes an entity cyclic is applied too. Absent caches are rebuilt
     /// after the updates.
     ///
-    /// Each update must be valid under the site's schema, as the updates are that [`message_format::read_message`]
-    /// returns.
+    /// Each update must be valid under the site's schema, as those are that `sync_messages::read_updates` returns.
     pub fn take(&mut self, updates: Vec<Update<Policy, Entity>>) -> Taken
         requires { AllByRecursion (IsValidUnder (schema_of self.old)) updates.items }
         ensures takes { TakesUpdates (store_in self.old) (plain_updates updates.items) result (store_in self.new) }

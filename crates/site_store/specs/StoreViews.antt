@@ -1,4 +1,4 @@
--- Defines the view of a store with its caches: a schema, and the entries of the store.
+-- Defines what contracts see of a store with caches (its schema and its entries), and when the caches are valid.
 use Rattle.std.specs.Option.{IfSome}
 use Rattle.std.specs.Prelude.{Option}
 use Rattle.scope_index.specs.policy_grammar.declared.policy.Policy.{Policy}

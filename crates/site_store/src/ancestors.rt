@@ -130,8 +130,8 @@ fn take_and_follow(
 
 /// Joins an entry at an entity's uid, and updates the cache.
 ///
-/// The cache is dropped if its update fails, or if the updates for one message cost more than a rebuild; the entry is
-/// joined all the same.
+/// The cache is dropped if its update fails, or if the updates for one message have cost much more than a rebuild
+/// (`RebuildRule::is_dear`). The entry is joined all the same.
 ///
 /// # Errors
 ///

@@ -111,9 +111,9 @@ fn needs_nothing<E: Drop>(
     stored_wins(store.get_policy(id), entry)
 }
 
-/// Joins an entry that wins at a policy's id, and updates the index without a comparison with the stored entry.
+/// Joins an entry at a policy's id, and updates the index without first comparing the entry with the stored one.
 ///
-/// Otherwise like [`take_policy`].
+/// Intended for an entry that wins. Otherwise like [`take_policy`].
 pub(crate) fn record_policy<E: Drop>(
     alloc: Global,
     store: &mut StampedStore<Policy, E>,

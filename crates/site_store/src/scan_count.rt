@@ -4,8 +4,8 @@ use scope_index::{EntityScope, Policy};
 use stamped_store::Entry;
 use std::cell::Cell;
 
-/// How many policies the last answer evaluated, and whether any policy that was ever joined names an entity in its
-/// constraint on the principal or the resource. As long as none does, all policies are candidates, and listing the
+/// The number of policies that the last answer evaluated, and whether any policy that was ever joined names an entity
+/// in its constraint on the principal or the resource. As long as no policy does, all are candidates, and listing the
 /// candidates would cost more than it saves.
 ///
 /// No contract and no answer depends on these measures.
@@ -32,7 +32,7 @@ impl ScanCount {
         }
     }
 
-    /// Records the scope of a policy that is to be stored.
+    /// Records the scope of the policy of an entry that is to be joined; a tombstone has none.
     pub(crate) fn note(&mut self, entry: &Entry<Policy>) {
         if let Some(text) = &entry.body {
             let scope = &*text.read.scope;

@@ -139,9 +139,9 @@ impl IndexedStore {
 
     /// Joins an entry at an entity's uid. Every other name keeps its entry.
     ///
-    /// The ancestor cache is dropped if an allocation for it fails, if it would be too large, or once incremental
-    /// updates have cost more than a rebuild; the entry is joined all the same. Call [`Self::rebuild`] after the last
-    /// update to rebuild the cache.
+    /// The ancestor cache is dropped if an allocation for it fails, if it would be too large, or once the incremental
+    /// updates for one message have cost much more than a rebuild. The entry is joined all the same. Call
+    /// [`Self::rebuild`] after the last update to rebuild the cache.
     ///
     /// # Errors
     ///
@@ -173,9 +173,9 @@ impl IndexedStore {
         )
     }
 
-    /// Rebuilds the absent caches, if there is memory, and joins an entry that wins at a policy's id.
+    /// Rebuilds the absent caches, if there is memory, and joins an entry at a policy's id.
     ///
-    /// Otherwise like [`Self::take_policy`].
+    /// Intended for an entry that wins. Otherwise like [`Self::take_policy`].
     pub fn record_policy(
         &mut self,
         id: String,
@@ -204,9 +204,9 @@ impl IndexedStore {
         record_policy(self.alloc, &mut self.store, &mut self.index, id, entry)
     }
 
-    /// Rebuilds the absent caches, if there is memory, and joins an entry that wins at an entity's uid.
+    /// Rebuilds the absent caches, if there is memory, and joins an entry at an entity's uid.
     ///
-    /// Otherwise like [`Self::take_entity`].
+    /// Intended for an entry that wins. Otherwise like [`Self::take_entity`].
     pub fn record_entity(
         &mut self,
         uid: EntityUid,

@@ -1,11 +1,12 @@
--- Defines the main theorem about sites, by what JSON and bytes describe: what runs of a site and systems of sites keep.
+-- Defines the main theorem about sites, over relations between bytes and what they describe: the promises that all runs
+-- of a site and all systems of sites keep.
 -- Rules of this product: each site's store is the join of the updates that it applied, whatever their order, repeats or
 -- grouping; no reply has an error of type, of an attribute or of an extension function.
 use Rattle.site_theorems.specs.Runs.{RunsLeaveApplied, EqualUpdatesLeaveEqualStores, RunsReplyHarmlessly}
 use Rattle.site_theorems.specs.SiteStores.{SitesHoldApplied}
 use Rattle.site_theorems.specs.Promises.{AllWorldsKeepPromises}
 
--- `SitesAreAsStated` holds if all runs of sites and all systems of sites keep these promises.
+-- `SitesAreAsStated` holds if all runs of a site and all systems of sites keep these promises:
 pub record SitesAreAsStated : Type 0 where
   -- for each run of a site, from any store
   pub leave : RunsLeaveApplied

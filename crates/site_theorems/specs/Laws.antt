@@ -1,4 +1,5 @@
--- Defines the theorem that the steps of a site, as its contracts cite them, are those that JSON and bytes describe.
+-- Defines the theorem that the steps of a site, as its contracts cite them, are those over relations between bytes and
+-- what they describe.
 use Rattle.std.specs.Prelude.{◌↔◌, ℕ, List}
 use Rattle.site.specs.site_steps.schema.Schemas.{StatedSchema}
 use Rattle.site.specs.site_steps.stamped_store.Store.{Store}

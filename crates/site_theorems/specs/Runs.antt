@@ -1,8 +1,9 @@
--- Defines the runs of a site by what JSON and bytes describe, the updates that the runs apply, and the stores that they
--- leave.
+-- Defines the runs of a site over relations between bytes and what they describe, the updates that runs apply, and the
+-- stores that runs leave.
 -- Source: docs/formats.md, "Messages between sites".
 -- Rules of this product: a command applies an update if its reply is a stamp; a message applies its updates in their
--- order, all or the first k, including those that lose to a greater entry; other inputs and replies apply none.
+-- order, all or the first ones that its reply counts, including those that lose to a greater entry; other inputs and
+-- replies apply none.
 use Rattle.std.specs.Prelude.{◌≡◌, ◌↔◌, ℕ, List, [], ◌∷◌, ◌++◌, take, Some, None, Ok, Contains}
 use Rattle.json_words.specs.Json.{json_of}
 use Rattle.site.specs.site_steps.schema.Schemas.{StatedSchema, IsSchemaOf}

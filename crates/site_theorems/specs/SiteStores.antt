@@ -1,5 +1,5 @@
--- Defines which updates each site of a system applied, by what JSON and bytes describe, and that the site's store is
--- their join.
+-- Defines the updates that each site of a system applied, over relations between bytes and what they describe, and the
+-- theorem that the site's store is their join.
 -- Rules of this product: sites have numbers from 1 and are empty at first; an event that names a site, a message or a
 -- summary that does not exist applies nothing, and neither does an event that makes a message or a summary.
 use Rattle.std.specs.Prelude.{◌≡◌, ℕ, List, [], ◌∷◌, ◌++◌, Option, Some}

@@ -1,4 +1,5 @@
--- Defines the steps of a site by what JSON and bytes describe: an input leads from a store to a store, with a reply.
+-- Defines the steps of a site over relations between bytes and what they describe: an input leads from a store to a
+-- store, with a reply.
 -- Source: Cedar reference guide 4.0, "Entities and context: JSON format" and "Authorization request"; docs/formats.md.
 -- Rules of this product: bytes that are not JSON have the error `BadShape`; the cycle is checked before the clock; a
 -- message is rejected whole or its updates are applied in order; rejected inputs and queries leave the store unchanged.

@@ -1,4 +1,4 @@
-//! Theorems over what JSON and bytes describe. The functions are no-ops.
+//! Theorems over relations between bytes and what they describe. The functions are no-ops.
 ghost use Rattle.site_theorems.specs.Laws.{StepsAreAsStated};
 ghost use Rattle.site_theorems.specs.Runs.{RunsLeaveApplied, EqualUpdatesLeaveEqualStores, RunsReplyHarmlessly};
 ghost use Rattle.site_theorems.specs.SiteStores.{SitesHoldApplied};
@@ -26,7 +26,8 @@ pub fn steps_are_as_stated()
     messages_are_read_as_stated();
 }
 
-/// Proves what each run of each site leaves, from any store, by what bytes describe. No-op.
+/// Proves, over relations between bytes and what they describe, what each run of each site leaves, from any store.
+/// No-op.
 ///
 /// - `leave`: the run applied exactly one list of updates, and the store at the end is the join of the updates that the
 ///   site had and the applied ones: at each name the greatest entry.
@@ -57,7 +58,7 @@ pub fn sites_hold_what_they_applied()
     runs_leave_what_they_took();
 }
 
-/// Proves the promises of [`worlds_keep_promises`] by what bytes describe. No-op.
+/// Proves the promises of [`worlds_keep_promises`] over relations between bytes and what they describe. No-op.
 ///
 /// They hold in each system of sites with distinct names under a schema that bytes describe, whatever was delivered, in
 /// whatever order and however often.
@@ -70,8 +71,8 @@ pub fn worlds_keep_promises_as_stated()
     updates_are_read_as_stated();
 }
 
-/// Proves all promises about sites at once, by what bytes describe: those of [`runs_leave_what_was_applied`],
-/// [`sites_hold_what_they_applied`] and [`worlds_keep_promises_as_stated`]. No-op.
+/// Proves all promises about sites at once, over relations between bytes and what they describe: those of
+/// [`runs_leave_what_was_applied`], [`sites_hold_what_they_applied`] and [`worlds_keep_promises_as_stated`]. No-op.
 pub fn sites_are_as_stated()
     ensures { SitesAreAsStated }
 {

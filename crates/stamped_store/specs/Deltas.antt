@@ -18,7 +18,7 @@ use Rattle.stamped_store.specs.Store.{Store, updates}
 abbrev pub stamp_of : PlainEntry → Stamp
 stamp_of e = record { count = e.count; site = e.site }
 
--- `stamp_cmp a b` orders stamps by count, then by site.
+-- `stamp_cmp a b` compares the stamps `a` and `b` by count, then by site.
 abbrev pub stamp_cmp : Stamp → Stamp → Ordering
 stamp_cmp a b = ordering_then (nat_cmp a.count b.count) (site_cmp a.site b.site)
 

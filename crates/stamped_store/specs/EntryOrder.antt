@@ -10,8 +10,8 @@ use Rattle.std.specs.declared.cmp.Ordering.TheVariants.{Less, Equal, Greater}
 use Rattle.stamped_store.specs.declared.entry.Entry.{Entry}
 use Rattle.stamped_store.specs.declared.entry.ReadText.{ReadText}
 
--- An `EntryAt Site` is an entry without the parsed form of its text: a stamp, and a body that is the bytes of a text
--- or a tombstone.
+-- An `EntryAt Site` is an entry without the parsed form of its text: a stamp, whose site has the type `Site`, and a
+-- body that is the bytes of a text or a tombstone.
 pub record EntryAt (Site : Type 0) : Type 0 where
   pub count : ℕ
   pub site : Site
@@ -30,27 +30,27 @@ body_bytes (Some t) = Some t.text
 abbrev pub plain_entry : {P : Type 0} → Entry P → PlainEntry
 plain_entry e = record { count = e.stamp.count; site = e.stamp.site; body = body_bytes e.body }
 
--- `body_cmp a b` orders bodies: a tombstone is the least, and texts are ordered by their bytes.
+-- `body_cmp a b` compares the bodies `a` and `b`: a tombstone is the least, and texts are ordered by their bytes.
 abbrev pub body_cmp : Option (List ℕ) → Option (List ℕ) → Ordering
 body_cmp None None = Equal
 body_cmp None (Some b) = Less
 body_cmp (Some a) None = Greater
 body_cmp (Some a) (Some b) = slice_cmp nat_cmp a b
 
--- `entry_cmp_by sites a b` orders entries by count, then by site in the order `sites`, then by body.
+-- `entry_cmp_by sites a b` compares the entries `a` and `b` by count, then by site in the order `sites`, then by body.
 abbrev pub entry_cmp_by : {Site : Type 0} → (Site → Site → Ordering) → EntryAt Site → EntryAt Site → Ordering
 entry_cmp_by sites a b =
     ordering_then (ordering_then (nat_cmp a.count b.count) (sites a.site b.site)) (body_cmp a.body b.body)
 
--- `site_cmp a b` orders sites by the bytes of their names.
+-- `site_cmp a b` compares the sites `a` and `b` by the bytes of their names.
 abbrev pub site_cmp : List ℕ → List ℕ → Ordering
 site_cmp a b = slice_cmp nat_cmp a b
 
--- `entry_cmp a b` orders entries by count, then site, then body.
+-- `entry_cmp a b` compares the entries `a` and `b` by count, then site, then body.
 abbrev pub entry_cmp : PlainEntry → PlainEntry → Ordering
 entry_cmp a b = entry_cmp_by site_cmp a b
 
--- `greater_of cmp a b` is the greater of `a` and `b`; `a` if they are equal.
+-- `greater_of cmp a b` is the greater of `a` and `b` in the order `cmp`; `a` if they are equal.
 abbrev pub greater_of : {V : Type 0} → (V → V → Ordering) → V → V → V
 greater_of cmp a b = if is_le (cmp b a) then a else b
 
@@ -58,11 +58,13 @@ greater_of cmp a b = if is_le (cmp b a) then a else b
 abbrev pub greater_entry : PlainEntry → PlainEntry → PlainEntry
 greater_entry a b = greater_of entry_cmp a b
 
--- `read_cmp a b` orders entries with parsed forms by their stamps and bodies; the parsed forms do not matter.
+-- `read_cmp a b` compares the entries `a` and `b`, which have parsed forms, by their stamps and bodies; the parsed
+-- forms do not matter.
 abbrev pub read_cmp : {P : Type 0} → Entry P → Entry P → Ordering
 read_cmp a b = entry_cmp (plain_entry a) (plain_entry b)
 
--- `greater a b` is the greater of two entries with parsed forms; `a` if they are equal.
+-- `greater a b` is the greater of the entries `a` and `b`, which have parsed forms; `a` if their stamps and bodies are
+-- equal.
 abbrev pub greater : {P : Type 0} → Entry P → Entry P → Entry P
 greater a b = greater_of read_cmp a b
 

@@ -1,5 +1,5 @@
 -- Defines the store of a list of updates: each name has the greatest entry that the updates have for it. Entries may be
--- of any ordered type.
+-- of any type; in this file `cmp` is their order, and `R` is the order of the names.
 use Rattle.std.specs.Prelude.{◌≡◌, ℕ, max, List, [], ◌∷◌, ◌++◌, Option, Some, None, true, if◌then◌else◌}
 use Rattle.std.specs.List.{Contains}
 use Rattle.std.specs.Ordering.{eq_by_cmp, is_le}
@@ -40,7 +40,7 @@ module _ {N V : Type 0} (cmp : V → V → Ordering) (R : N → N → Ordering) 
   store_of [] = empty
   store_of (u ∷ us) = insert (store_of us) u.0 (joined_onto (greater_of cmp) (get (store_of us) u.0) u.1)
 
-  -- `joined_stores s t` is the join of two stores: the store of the updates of both.
+  -- `joined_stores s t` is the join of the stores `s` and `t`: the store of the updates of both.
   abbrev pub joined_stores : FinMap R V → FinMap R V → FinMap R V
   joined_stores s t = store_of (entries s ++ entries t)
 

@@ -10,7 +10,7 @@ pub record IsLeastAbove {V : Type 0} (Below : V → V → Type 0) (a b j : V) : 
   pub above_right : Below b j
   pub least : (c : V) → Below a c → Below b c → Below j c
 
--- `Alike Below a b` holds if each of `a` and `b` is at most the other.
+-- `Alike Below a b` holds if each of `a` and `b` is at most the other, by the order `Below`.
 abbrev pub Alike : {V : Type 0} → (V → V → Type 0) → V → V → Type 0
 Alike Below a b = Below a b × Below b a
 
@@ -50,13 +50,14 @@ join_from_least Below join r t l m u = record {
   idempotent = λ a. (u a a a (r a) (r a), l a a);
 }
 
--- `option_below below a b` extends the order `below` to `None`, as the least value.
+-- `option_below below a b` tests whether `a` is at most `b` in the order `below`, where `None` is the least value.
 abbrev pub option_below : {V : Type 0} → (V → V → Bool) → Option V → Option V → Bool
 option_below below None b = true
 option_below below (Some a) None = false
 option_below below (Some a) (Some b) = below a b
 
--- `option_joined join a b` is the join of `a` and `b`, or the one of them that is not `None`.
+-- `option_joined join a b` is the join of the values in `a` and `b` by `join`; if `a` or `b` is `None`, it is the other
+-- one.
 abbrev pub option_joined : {V : Type 0} → (V → V → V) → Option V → Option V → Option V
 option_joined join None b = b
 option_joined join (Some a) None = Some a

@@ -23,7 +23,7 @@ NumberedEntry = EntryAt ℕ
 abbrev pub NumberedUpdate : Type 0
 NumberedUpdate = UpdateAt ℕ
 
--- `numbered_cmp a b` orders entries by count, then the number of the site, then body.
+-- `numbered_cmp a b` compares the entries `a` and `b` by count, then the number of the site, then body.
 abbrev pub numbered_cmp : NumberedEntry → NumberedEntry → Ordering
 numbered_cmp a b = entry_cmp_by nat_cmp a b
 

@@ -9,7 +9,7 @@ use Rattle.std.specs.Fmt.{decimal}
 use Rattle.std.specs.Str.{IsUtf8}
 use Rattle.plain.specs.Words.{AllAre, is_word_byte}
 
--- `is_site_byte c` tests for an ASCII letter, a digit, `_`, `-` or `.`.
+-- `is_site_byte c` tests whether the byte `c` is an ASCII letter, a digit, `_`, `-` or `.`.
 unfoldable pub is_site_byte : ℕ → Bool
 is_site_byte c = is_word_byte c || ((c == code "-") || (c == code "."))
 

@@ -25,7 +25,7 @@ StoreAt Site = map.FinMap name_cmp (EntryAt Site)
 abbrev pub Store : Type 0
 Store = StoreAt (List ℕ)
 
--- `UpdateAt Site` is the type of updates: a name, and an entry for it.
+-- `UpdateAt Site` is the type of updates: a name, and an entry for it, whose site has the type `Site`.
 abbrev pub UpdateAt : Type 0 → Type 0
 UpdateAt Site = Name × EntryAt Site
 
@@ -94,11 +94,11 @@ pub record StoreEntries (P E : Type 0) : Type 0 where
 abbrev pub kept : {P E : Type 0} → List (String Global × Entry P) → List (EntityUid × Entry E) → StoreEntries P E
 kept ps es = record { policies = ps; entities = es }
 
--- `policy_name bytes` is the name of the policy whose id has these bytes.
+-- `policy_name bytes` is the name of the policy whose id has the bytes `bytes`.
 abbrev pub policy_name : List ℕ → Name
 policy_name bytes = Policy bytes
 
--- `id_name id` is the name of the policy with this id.
+-- `id_name id` is the name of the policy with the id `id`.
 abbrev pub id_name : String Global → Name
 id_name id = Policy (string_bytes id)
 
@@ -123,8 +123,8 @@ all_kept k l = kept (all_joined string_cmp greater k.policies l.policies)
 abbrev pub first_kept : {P E : Type 0} → ℕ → StoreEntries P E → StoreEntries P E
 first_kept n k = kept (take n k.policies) (take (n - length k.policies) k.entities)
 
--- `IsCounted k greatest` is the invariant of the concrete store: `greatest` is its greatest count, and its updates
--- are those of the abstract store, in order.
+-- `IsCounted k greatest` is the invariant of the concrete store: it holds if `greatest` is the greatest count of the
+-- entries `k`, and the updates of `k` are those of the abstract store, in order.
 pub record IsCounted {P E : Type 0} (k : StoreEntries P E) (greatest : ℕ) : Type 0 where
   pub counted : greatest ≡ updates_of.greatest_count (abstract_store k)
   pub in_order : updates (abstract_store k) ≡ abstract_updates k

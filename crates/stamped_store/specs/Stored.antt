@@ -50,6 +50,6 @@ module _ {K V : Type 0} where
   abbrev pub IsJoined : (K → K → Ordering) → (V → V → V) → List (K × V) → List (K × V) → List (K × V) → Type 0
   IsJoined cmp join s t n = (q : K) → value_at cmp n q ≡ joined_at join (value_at cmp s) (value_at cmp t) q
 
--- `value_at_text s bytes` is the value of `s` at the key with these bytes.
+-- `value_at_text s bytes` is the value of `s` at the key with the bytes `bytes`, if there is one.
 abbrev pub value_at_text : {V : Type 0} → List (String Global × V) → List ℕ → Option V
 value_at_text s bytes = lookup (is_at (λ k. slice_cmp nat_cmp bytes (string_bytes k))) s

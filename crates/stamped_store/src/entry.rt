@@ -19,7 +19,7 @@ pub struct Stamp {
     pub site: SiteName,
 }
 
-/// A text with its parsed form. Orders and equalities ignore the parsed form.
+/// A text with its parsed form. The order and the equality of entries ignore the parsed form.
 #[derive(Drop)]
 pub struct ReadText<P> {
     /// The text itself.

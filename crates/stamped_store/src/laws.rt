@@ -132,8 +132,8 @@ pub fn deltas_are_joined()
 
 /// Proves that a store keeps the property that each text has a permitted parsed form ([`Readings`]). No-op.
 ///
-/// The empty store has it; and so has a store after a policy or an entity with a permitted parsed form is applied, and
-/// after a merge of two stores that have it, whole or cut short.
+/// The empty store has the property. A store that has it keeps it if a policy or an entity with a permitted parsed form
+/// is applied, and if it is merged with a store that has it, whole or cut short.
 pub fn readings_are_preserved<P: Drop, E: Drop, R: Readings<P, E>>()
     ensures empty { (r : R) → AreEntriesRead {P = P} {E = E} (R.reads_policy r) (R.reads_entity r) (kept [] []) }
     ensures policy { (r : R) (k : StoreEntries P E) (id : String Global) (entry : Entry P)

@@ -119,7 +119,8 @@ impl<P: Drop, E: Drop> StampedStore<P, E> {
         }
     }
 
-    /// Joins an entry at a policy's id. Every other name keeps its entry. O(log n).
+    /// Joins an entry with the one at a policy's id; adds it if there is none. Every other name keeps its entry. O(log
+    /// n).
     ///
     /// If an allocation fails, returns the id and the entry, and the store is unchanged.
     pub fn take_policy(&mut self, id: String, entry: Entry<P>) -> Result<(), (String, Entry<P>)>
@@ -136,7 +137,8 @@ impl<P: Drop, E: Drop> StampedStore<P, E> {
         Ok(())
     }
 
-    /// Joins an entry at an entity's uid. Every other name keeps its entry. O(log n).
+    /// Joins an entry with the one at an entity's uid; adds it if there is none. Every other name keeps its entry.
+    /// O(log n).
     ///
     /// If an allocation fails, returns the uid and the entry, and the store is unchanged.
     pub fn take_entity(

@@ -77,7 +77,7 @@ impl<K: Ord + Drop, V: Join + Drop> Stamped<K, V> {
         self.map.iter()
     }
 
-    /// Joins a value at a key. Every other key keeps its value. O(log n).
+    /// Joins a value with the one at a key; adds it if there is none. Every other key keeps its value. O(log n).
     ///
     /// If an allocation fails, returns the key and the value, and the map is unchanged.
     pub fn take(&mut self, key: K, value: V) -> Result<(), (K, V)>

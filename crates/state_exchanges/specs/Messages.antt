@@ -1,7 +1,7 @@
 -- Defines messages of a schema, and the stores into which they are joined.
 -- Source: docs/formats.md, "Messages between sites".
 -- Rules of this product: a message (a state or a delta) is rejected whole, with its first error, or all its updates are
--- applied in order, including those that lose; an error has a code, a place and the code of an error inside.
+-- applied in order, including those that lose; an error has a code, a place and the code of an inner error.
 use Rattle.std.specs.Prelude.{◌≡◌, ℕ, List, ◌++◌, length}
 use Rattle.schema_decisions.specs.policy_grammar.declared.policy.Policy.{Policy}
 use Rattle.sync_messages.specs.schema.Schemas.{StatedSchema}
@@ -17,8 +17,7 @@ use Rattle.schema_decisions.specs.answer_lines.declared.refusal.Refusal.{Refusal
 
 -- ---- messages
 
--- `message_refusal f` is the report of the error `f` of a message: its code, its place and the code of the error
--- inside.
+-- `message_refusal f` is the report of the error `f` of a message: its code, its place and the code of the inner error.
 abbrev pub message_refusal : MessageFault → Refusal
 message_refusal f = record { code = code_of f; place = place_of f; within = within_of f }
 

@@ -63,7 +63,7 @@ fn call_path(call: ExchangeCall) -> &'static [u8]
     }
 }
 
-/// Returns the body that a call sends.
+/// Returns the body that a call sends: `body`, or `None` if the call asks for a summary.
 fn call_body(call: ExchangeCall, body: &[u8]) -> Option<&[u8]>
     ensures { result ≡ call_body call body.entry }
 {
@@ -88,7 +88,7 @@ fn call_size(call: ExchangeCall, body: &[u8]) -> usize
 /// Makes one call to a site over a reader and a writer, and returns the body of the reply, whose status is 200.
 ///
 /// `host` is the value of the field `Host`. `body` is the summary or the message that the call sends; a call for a
-/// summary sends none. After an error nothing, a first part of the request, or all of it was sent.
+/// summary sends none. After an error a prefix of the request was sent, possibly empty or whole.
 ///
 /// # Errors
 ///

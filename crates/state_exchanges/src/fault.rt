@@ -33,7 +33,7 @@ pub enum NetworkFault {
     TooLarge,
 }
 
-/// An error of a pull, after which there is no new state.
+/// An error of a pull, or of one call of an exchange. After an error of a pull there is no new state.
 #[derive(Clone, Copy, PartialEq, Eq, Debug, Error)]
 pub enum PullFault {
     /// The schema, the state or the received message is rejected (20 to 25, 50 to 56), or an allocation failed (1).

@@ -16,7 +16,7 @@ use sync_messages::{
     updates_have_one_store, valid_messages_are_read, write_state,
 };
 
-/// Returns the report of a message's error: its code (50 to 56, or 1), its place, and the code of the error inside.
+/// Returns the report of a message's error: its code (50 to 56, or 1), its place, and the code of the inner error.
 pub fn message_refusal(fault: MessageFault) -> Refusal
     ensures { result ≡ message_refusal fault }
 {
@@ -80,7 +80,7 @@ pub struct Joined {
 ///
 /// After any error the store is dropped, so no store has only some of the updates.
 ///
-/// - The message is rejected whole, with its first error (50 to 56, with its place and the code of the error inside).
+/// - The message is rejected whole, with its first error (50 to 56, with its place and the code of the inner error).
 /// - Out of memory (1), at any point.
 pub fn join_message(
     alloc: Global,

@@ -55,7 +55,7 @@ fn merge_under(alloc: Global, schema: &Schema, f: &[u8], g: &[u8]) -> Result<Vec
 /// In the order checked:
 ///
 /// - 20 to 25, without a place: the schema is rejected.
-/// - 50 to 56, with the place and the code of the error inside: the first message is rejected, or else the second.
+/// - 50 to 56, with the place and the code of the inner error: the first message is rejected, or else the second.
 /// - 1, at any point: out of memory.
 pub fn merge_texts(alloc: Global, schema: &[u8], f: &[u8], g: &[u8]) -> Result<Vec<u8>, Refusal>
     ensures merged { IfOk result

@@ -168,7 +168,7 @@ fn pull_under<R: Source, W: Sink>(
 /// In the order checked; after any of them there is no new state. The first four come before anything is sent.
 ///
 /// - 20 to 25, without a place: the schema is rejected.
-/// - 50 to 56, with the place and the code of the error inside: the state is rejected.
+/// - 50 to 56, with the place and the code of the inner error: the state is rejected.
 /// - 75: `host` is not a host.
 /// - 77: the summary is longer than a site accepts.
 /// - 70 to 74: the network failed, or the reply has a status other than 200.
@@ -205,7 +205,7 @@ pub fn pull_over<R: Source, W: Sink>(
         × IsUnanswered R.left R.reads R.failed R.fails W.holds W.failed W.fails (request_for host.now s m)
         reader.old reader.new writer.old writer.new f }
 
-    // After any error nothing, a first part of the request, or all of it was sent.
+    // After any error a prefix of the request was sent, possibly empty or whole.
     ensures err { OnErr result (((reader.new ≡ reader.old) × (writer.new ≡ writer.old))
         ⊎ ((s : StatedSchema) × (m : Store) × IsReady schema.now (option_map (λ b. b.now) state.entry) s m
         × IsRequestBegun R.left W.holds (request_for host.now s m) reader.old reader.new writer.old writer.new)) }

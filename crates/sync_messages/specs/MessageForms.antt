@@ -45,18 +45,18 @@ number_of Two = 2
 
 -- ---- bytes
 
--- `StatesForm Form label bytes content` holds if `bytes` are a message for the schema with this label in the form
--- `Form`, with this content. `Form d schema content` says that the JSON `d` is a message for the schema with the label
--- `schema`, with this content.
+-- `StatesForm Form label bytes content` holds if `bytes` are a message in the form `Form` for the schema with the label
+-- `label`, with the content `content`. `Form d schema content` says that the JSON `d` is a message for the schema with
+-- the label `schema`, with the content `content`.
 pub record StatesForm {A : Type 0} (Form : Data → List ℕ → A → Type 0) (label bytes : List ℕ) (content : A) : Type 0
   where
     pub value : Data
     pub json : json_of bytes ≡ Some value
     pub form : Form value label content
 
--- `RefusesForm Form label bytes fault` holds if `bytes` are not such a message, and `fault` is the first error: not
--- JSON; no `version` that is an integer in unsigned 64 bits; a version other than 1 and 2; another form, whatever the
--- label and the content; or another label.
+-- `RefusesForm Form label bytes fault` holds if `bytes` are not a message in the form `Form` for the schema with the
+-- label `label`, and `fault` is the first error: not JSON; no `version` that is an integer in unsigned 64 bits; a
+-- version other than 1 and 2; another form, whatever the label and the content; or another label.
 pub data RefusesForm {A : Type 0} (Form : Data → List ℕ → A → Type 0) (label bytes : List ℕ) : MessageFault → Type 0
   where
     not_json : json_of bytes ≡ None → RefusesForm Form label bytes NotJson

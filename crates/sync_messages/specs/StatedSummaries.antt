@@ -79,14 +79,14 @@ pub data RefusesStamps : ℕ → Summary → MessageFault → Type 0 where
 
 -- ---- bytes
 
--- `StatesSummary label bytes m` holds if `bytes` are the summary `m` for the schema with this label, and each count and
--- name of `m` is in its range.
+-- `StatesSummary label bytes m` holds if `bytes` are the summary `m` for the schema with the label `label`, and each
+-- count and name of `m` is in its range.
 pub record StatesSummary (label bytes : List ℕ) (m : Summary) : Type 0 where
   pub states : StatesForm IsSummary label bytes m
   pub fit : AllByRecursion Fits m
 
--- `RefusesSummary label bytes fault` holds if `bytes` are not a summary for the schema with this label, and `fault` is
--- the first error: of the form, of the label, and then of a stamp.
+-- `RefusesSummary label bytes fault` holds if `bytes` are not a summary for the schema with the label `label`, and
+-- `fault` is the first error: of the form, of the label, and then of a stamp.
 pub data RefusesSummary (label bytes : List ℕ) : MessageFault → Type 0 where
   no_summary : (fault : MessageFault) → RefusesForm IsSummary label bytes fault → RefusesSummary label bytes fault
   bad_stamps : (m : Summary) (fault : MessageFault) → StatesForm IsSummary label bytes m → RefusesStamps 0 m fault

@@ -37,12 +37,12 @@ pub record IsUpdates (d : Data) (schema : List ℕ) (us : List Update) : Type 0 
   pub is_kind : (kind ≡ codes "state") ⊎ (kind ≡ codes "delta")
   pub state : AllZip (StatesEntry version) (list_of entries) us
 
--- `StatesUpdates label bytes us` holds if `bytes` have the form of a state or delta for the schema with this label,
--- with the updates `us`. The counts and names may be out of their ranges, and the texts need not be valid.
+-- `StatesUpdates label bytes us` holds if `bytes` have the form of a state or delta for the schema with the label
+-- `label`, with the updates `us`. The counts and names may be out of their ranges, and the texts need not be valid.
 abbrev pub StatesUpdates : List ℕ → List ℕ → List Update → Type 0
 StatesUpdates label bytes us = StatesForm IsUpdates label bytes us
 
--- `RefusesUpdates label bytes fault` holds if `bytes` do not have the form of a state or delta for the schema with this
--- label, and `fault` is the first error.
+-- `RefusesUpdates label bytes fault` holds if `bytes` do not have the form of a state or delta for the schema with the
+-- label `label`, and `fault` is the first error.
 abbrev pub RefusesUpdates : List ℕ → List ℕ → MessageFault → Type 0
 RefusesUpdates label bytes fault = RefusesForm IsUpdates label bytes fault

@@ -32,8 +32,8 @@ pub record ReadsPolicy (s : StatedSchema) (text : List ℕ) (p : Policy) : Type 
   pub is_text : IsPolicyText text p
   pub passes : Passes s p
 
--- `RefusesPolicy s text f` holds if `text` is not the text of a policy, or is that of a policy that does not pass
--- validation under `s`, and `f` has the code of the error.
+-- `RefusesPolicy s text f` holds if `text` is not the text of a policy that passes validation under the schema `s`, and
+-- `f` has the code of the error: that of the text as a policy, else that of validation.
 pub data RefusesPolicy (s : StatedSchema) (text : List ℕ) : BodyFault → Type 0 where
   no_policy : (f : ReadFault) → IsPolicyRefused text f → RefusesPolicy s text (Refused (grammar.code_of f))
   not_passing : (p : Policy) (f : TypeFault) → IsPolicyText text p → IsCheckRefused s p f

@@ -48,7 +48,7 @@ pub fn entity_texts_are_read_as_stated()
     entities_are_read_as_stated();
 }
 
-/// Proves that parsing a message of a schema gives the updates that bytes describe, with their texts parsed, or the
+/// Proves that parsing a message under a schema gives the updates that bytes describe, with their texts parsed, or the
 /// first error. No-op.
 ///
 /// Bytes describe exactly one list of updates or are rejected with exactly one error, never both.

@@ -70,7 +70,7 @@ fn validation_fault(fault: TypeFault) -> BodyFault
     }
 }
 
-/// Checks that a policy passes validation.
+/// Checks that a policy passes validation. Returns `Refused` with the code of its error if it does not.
 fn demand_passing(alloc: Global, schema: &Schema, policy: &Policy) -> Result<(), BodyFault>
     ensures passes { IfOk result (λ _. Passes (schema_view schema.now) policy.now) }
     ensures refused { IfErr result (λ f. (text : List ℕ) → IsPolicyText text policy.now
@@ -92,7 +92,8 @@ fn where_passing<P: Drop>(policy: P, passing: Result<(), BodyFault>) -> Result<P
     }
 }
 
-/// Parses the text of a policy, and checks that the policy passes validation.
+/// Parses the text of a policy, and checks that the policy passes validation. Returns `Refused` with the code of the
+/// first error.
 fn passing_policy(alloc: Global, schema: &Schema, text: &str) -> Result<Policy, BodyFault>
     ensures read { IfOk result (ReadsPolicy (schema_view schema.now) text.now) }
     ensures refused { IfErr result (OrNoMemory BodyFault.NoMemory (RefusesPolicy (schema_view schema.now) text.now)) }
@@ -106,7 +107,7 @@ fn passing_policy(alloc: Global, schema: &Schema, text: &str) -> Result<Policy, 
     }
 }
 
-/// Parses a text as JSON. A text that is not JSON has the error 30.
+/// Parses a text as JSON. A text that is not JSON is rejected with the code 30 (bad shape).
 fn json_in(alloc: Global, scratch: &mut Scratch, text: &str) -> Result<Value, BodyFault>
     ensures { ReadsAs BodyFault.NoMemory view result (or_fault (BodyFault.Refused 30) (json_of text.now)) }
 {
@@ -128,7 +129,7 @@ fn allowed_entity(alloc: Global, schema: &Schema, json: &Value) -> Result<Entity
     }
 }
 
-/// Checks that a text is the canonical text of an entity. Another text has the error 57.
+/// Checks that a text is the canonical text of an entity. Another text is rejected with the code 57 (not canonical).
 fn demand_canonical(alloc: Global, entity: &Entity, text: &str) -> Result<(), BodyFault>
     ensures { ReadsAs BodyFault.NoMemory (λ u. u) result
         (demand (BodyFault.Refused 57) (bytes_eq (canonical_text entity.now) text.now)) }
@@ -141,7 +142,7 @@ fn demand_canonical(alloc: Global, entity: &Entity, text: &str) -> Result<(), Bo
     }
 }
 
-/// Checks that an entity has this uid. An entity with another uid has the error `OtherName`.
+/// Checks that an entity has this uid. An entity with another uid is rejected with `OtherName`.
 fn demand_uid(entity: &Entity, uid: &EntityUid) -> Result<(), BodyFault>
     ensures { AlwaysReadsAs (λ u. u) result (demand BodyFault.OtherName (is_same entity.now.uid uid.now)) }
 {
@@ -152,7 +153,7 @@ fn demand_uid(entity: &Entity, uid: &EntityUid) -> Result<(), BodyFault>
     }
 }
 
-/// Parses a text as the canonical text of the entity with this uid.
+/// Parses a text as the canonical text of the entity with this uid, or returns the first error of the text.
 #[tactic(auto, unfolding(crate::specs::Texts::entity_of_text))]
 fn canonical_entity(
     alloc: Global,

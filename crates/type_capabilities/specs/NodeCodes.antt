@@ -151,6 +151,7 @@ module _ (A : Type 0) (step : Expr-F A → A) where
   folded_values [] = refl
   folded_values (f ∷ fs) = ap (λ vs. fold-Expr A step f.value ∷ vs) (folded_values fs)
 
+-- `every_value`: if `P` holds for the value of each field, it holds for each member of the list of these values.
 pub every_value : (P : Expr → Type 0) (fs : List (Named Expr)) → Every (λ f. P f.value) fs
     → Every P (map (λ f. f.value) fs)
 every_value P [] h = tt
@@ -173,6 +174,7 @@ codes_record fs =
     (same_names (List NodeCode) codes_step fs)
     ∙ ap (λ vs. (10, (0, (length fs, (pos 0, names fs)))) ∷ joined vs) (folded_values (List NodeCode) codes_step fs)))
 
+-- `codes_roll`: the node codes of the expression that a node forms are the node codes of that node.
 codes_roll : (l : Expr-F Expr) → node_codes (roll-Expr l) ≡ layer_codes l
 codes_roll (Expr-F.Literal l) = ap node_codes (form.rolls-Literal l) ∙ fold_literal (List NodeCode) codes_step l
 codes_roll (Expr-F.Variable x) = ap node_codes (form.rolls-Variable x) ∙ fold_variable (List NodeCode) codes_step x
@@ -219,7 +221,7 @@ unary_of r ts =
 
 -- Below, `st` are the expressions read so far; a node takes as many of them as it has operands.
 
--- `first st` is the first of these expressions, and `behind st` are the others.
+-- `first st` is the first of the expressions `st`, and `behind st` are the others.
 abbrev first : List Expr → Expr
 first [] = form.Literal (literal.Boolean false)
 first (x ∷ st) = x
@@ -288,6 +290,7 @@ named_back (f ∷ fs) = ap (λ gs. f ∷ gs) (named_back fs)
 abbrev IsReadBack : Expr → Type 0
 IsReadBack x = (ts : List NodeCode) → read (node_codes x ++ ts) ≡ x ∷ read ts
 
+-- `operands_back`: if each of `xs` is read back, so is their list, from their node codes one after another.
 operands_back : (xs : List Expr) → Every IsReadBack xs → (ts : List NodeCode)
     → read (joined (map node_codes xs) ++ ts) ≡ xs ++ read ts
 operands_back [] h ts = refl
@@ -302,6 +305,7 @@ from_operands : (x : Expr) (l : Expr-F Expr) → node_codes x ≡ layer_codes l 
 from_operands x l e h b ts =
     ap (λ us. read (us ++ ts)) e ∙ (ap (read_one (head l)) (operands_back (operands l) h ts) ∙ b (read ts))
 
+-- `set_built` and `record_built`: `read_one` builds a set from its members, and a record from the values of its fields.
 set_built : (xs st : List Expr) → read_one (head (Expr-F.Set xs)) (xs ++ st) ≡ form.Set xs ∷ st
 set_built xs st =
     ap (λ ys. form.Set ys ∷ drop (length xs) (xs ++ st)) (take_front xs st)
@@ -317,6 +321,7 @@ record_built fs st =
     ∙ (ap (λ gs. form.Record gs ∷ drop (length xs) (xs ++ st)) (named_back fs)
     ∙ ap (λ ys. form.Record fs ∷ ys) (drop_front xs st)))
 
+-- `all_read_back`: an expression of each kind is read back if its operands are.
 all_read_back : Cases IsReadBack
 all_read_back = record {
   literal = λ l. from_operands (form.Literal l) (Expr-F.Literal l) (fold_literal (List NodeCode) codes_step l) tt

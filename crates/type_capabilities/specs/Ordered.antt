@@ -95,6 +95,8 @@ abbrev AreByCodes : Ordering → List Expr → List Expr → Type 0
 AreByCodes o xs ys = (s t : List NodeCode) → ordering_then o (codes_cmp s t)
     ≡ codes_cmp (joined (map node_codes xs) ++ s) (joined (map node_codes ys) ++ t)
 
+-- `one_more`: one more operand on each side is compared before the others. The next lemmas apply this to no operand,
+-- one, two, three, and equally many.
 one_more : (x y : Expr) (xs ys : List Expr) (o : Ordering) → IsByCodes x → AreByCodes o xs ys
     → AreByCodes (ordering_then (expr_cmp x y) o) (x ∷ xs) (y ∷ ys)
 one_more x y xs ys o h g s t =
@@ -133,14 +135,14 @@ as_many (x ∷ xs) [] h e = absurd (omega (arith, e))
 as_many (x ∷ xs) (y ∷ ys) h e =
     one_more x y xs ys (each_cmp (map expr_cmp xs) ys) h.0 (as_many xs ys h.1 (omega (arith, e)))
 
--- `headed`: an expression whose content compares as `o`, and whose operands compare as `p` if `o` is `Equal`
+-- `headed`: an expression whose content compares as `o`, and whose operands compare as `p` if `o` is `Equal`.
 headed : (o p : Ordering) (t r : Ordering) → (o ≡ Equal → ordering_then p t ≡ r)
     → ordering_then (ordering_then o p) t ≡ ordering_then o r
 headed Less p t r h = refl
 headed Equal p t r h = h refl
 headed Greater p t r h = refl
 
--- `headed_as`: the same, if the node codes of the contents compare as `k`, which equals `o`
+-- `headed_as`: the same as `headed`, if the node codes of the contents compare as `k`, which equals `o`.
 headed_as : (o k p t r : Ordering) → k ≡ o → (o ≡ Equal → ordering_then p t ≡ r)
     → ordering_then (ordering_then o p) t ≡ ordering_then k r
 headed_as o k p t r e h = headed o p t r h ∙ ap (λ z. ordering_then z r) (sym e)
@@ -153,6 +155,7 @@ abbrev LayerIs : Expr-F (Expr → Ordering) → Expr-F Expr → Expr-F Expr → 
 LayerIs f l m = (s t : List NodeCode)
     → ordering_then (layers_cmp f m) (codes_cmp s t) ≡ codes_cmp (layer_codes l ++ s) (layer_codes m ++ t)
 
+-- The lemmas `at_..`, one for each kind: a node of this kind compares with any node as their node codes do.
 at_literal : (l : Literal) (m : Expr-F Expr) → LayerIs (Expr-F.Literal l) (Expr-F.Literal l) m
 at_literal l (Expr-F.Literal m) s t = ap (λ o. ordering_then o (codes_cmp s t)) (sym (literal_by_content l m))
 at_literal l m s t = refl
@@ -217,6 +220,7 @@ at_set xs h (Expr-F.Set ys) s t =
     (λ e. as_many xs ys h (nat_cmp-IsAntisymmetric (length xs) (length ys) e) s t)
 at_set xs h m s t = refl
 
+-- `compared_fields fs` are the fields `fs`, each value replaced by its comparison with other expressions.
 abbrev compared_fields : List (Named Expr) → List (Named (Expr → Ordering))
 compared_fields fs = map (λ f. record { name = f.name; value = expr_cmp f.value }) fs
 
@@ -229,6 +233,8 @@ compared_values : (fs : List (Named Expr))
 compared_values [] = refl
 compared_values (f ∷ fs) = ap (λ vs. expr_cmp f.value ∷ vs) (compared_values fs)
 
+-- `fields_cmp n ks vs gs` compares a record of `n` fields, with the names `ks` and values that compare as `vs`, with
+-- the record of the fields `gs`.
 abbrev fields_cmp : ℕ → List (List ℕ) → List (Expr → Ordering) → List (Named Expr) → Ordering
 fields_cmp n ks vs gs =
     ordering_then (ordering_then (nat_cmp n (length gs)) (slice_cmp text_cmp ks (names gs)))
@@ -273,6 +279,7 @@ at_binary_call o a b f g (Expr-F.BinaryCall p c d) s t =
     (λ e. two a b c d f g s t)
 at_binary_call o a b f g m s t = refl
 
+-- `from_layer`: an expression compares with any other as their node codes do, if its node does.
 from_layer : (x : Expr) (f : Expr-F (Expr → Ordering)) (l : Expr-F Expr)
     → expr_cmp x ≡ (λ y. layers_cmp f (out-Expr y)) → node_codes x ≡ layer_codes l
     → ((m : Expr-F Expr) → LayerIs f l m) → IsByCodes x
@@ -282,6 +289,8 @@ from_layer x f l e d h y s t =
     ∙ sym (ap (λ us. codes_cmp (us ++ s) (node_codes y ++ t)) d
     ∙ ap (λ us. codes_cmp (layer_codes l ++ s) (us ++ t)) (codes_out y)))
 
+-- `Step l y` compares the node `l`, given how its operands compare with other expressions, with the expression `y`. `A`
+-- and `B` are the results of folding an expression by `Step` and by `codes_step`.
 abbrev Step : Expr-F (Expr → Ordering) → Expr → Ordering
 Step l y = layers_cmp l (out-Expr y)
 
@@ -322,6 +331,7 @@ all_by_codes = record {
       (at_binary_call c a b f g);
 }
 
+-- `by_codes`: expressions compare as their node codes do.
 by_codes : (x y : Expr) → expr_cmp x y ≡ codes_cmp (node_codes x) (node_codes y)
 by_codes x y =
     sym (then_equal (expr_cmp x y)) ∙ (by_forms IsByCodes all_by_codes x y [] []

@@ -46,5 +46,6 @@ pair_cmp-IsAntisymmetric p q e =
     ap (λ x. (x, p.1)) (expr_cmp-IsAntisymmetric p.0 q.0 h.1)
     ∙ ap (λ k. (q.0, k)) (text_cmp-IsAntisymmetric p.1 q.1 h.0)
 
+-- The order of the code's capabilities is total.
 pub borrowed_cmp-IsTotalOrder : IsTotalOrder borrowed_cmp
 borrowed_cmp-IsTotalOrder = on_total pair_of pair_cmp-IsTotalOrder

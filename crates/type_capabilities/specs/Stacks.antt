@@ -18,7 +18,6 @@ pub record IsFound (ps : List PairValue) (at : PairValue → Option ℕ) (i : �
   pub low : place ≤ i
   pub there : slice_get ps place ≡ Some p
 
--- `AreFound ps at` holds if `at` records for each pair of the stack `ps` an index of the pair that is not above any of
--- its indexes.
+-- `AreFound ps at` holds if `at` records, for each pair of the stack `ps`, the lowest index of that pair in `ps`.
 abbrev pub AreFound : List PairValue → (PairValue → Option ℕ) → Type 0
 AreFound ps at = (i : ℕ) (p : PairValue) → slice_get ps i ≡ Some p → IsFound ps at i p

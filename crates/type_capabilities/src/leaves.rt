@@ -31,7 +31,7 @@ pub(crate) fn compare_literals(one: &Literal, other: &Literal) -> Ordering
     }
 }
 
-/// Returns the rank of a variable: its index in the declaration.
+/// Returns the rank of a variable: its index in the declaration of `Variable`, from 0.
 pub(crate) fn variable_rank(variable: Variable) -> u8
     ensures { result ≡ variable_rank variable }
 {
@@ -73,21 +73,21 @@ pub(crate) fn compare_unary(one: &Unary, other: &Unary) -> Ordering
     }
 }
 
-/// Returns the rank of an operator with two operands: its index in the declaration.
+/// Returns the rank of an operator with two operands: its index in the declaration of `Binary`, from 0.
 pub(crate) fn binary_rank(operator: Binary) -> u8
     ensures { result ≡ binary_rank operator }
 {
     operator as u8
 }
 
-/// Returns the rank of a call with one operand: its index in the declaration.
+/// Returns the rank of a call with one operand: its index in the declaration of `UnaryCall`, from 0.
 pub(crate) fn unary_call_rank(called: UnaryCall) -> u8
     ensures { result ≡ unary_call_rank called }
 {
     called as u8
 }
 
-/// Returns the rank of a call with two operands: its index in the declaration.
+/// Returns the rank of a call with two operands: its index in the declaration of `BinaryCall`, from 0.
 pub(crate) fn binary_call_rank(called: BinaryCall) -> u8
     ensures { result ≡ binary_call_rank called }
 {

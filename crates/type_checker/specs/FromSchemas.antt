@@ -43,7 +43,7 @@ shape_fields (Some t) = field_types_in t
 abbrev pub attributes_of : StatedSchema → List ℕ → FieldTypes
 attributes_of s n = if is_action_type n then no_field_types else shape_fields (s.shape n)
 
--- `declared_ancestors o` are the ancestors `o` of a declared action; an undeclared one (`None`) has none.
+-- `declared_ancestors o` are the ancestors in `o` of a declared action; `[]` if `o` is `None`, for an undeclared one.
 abbrev pub declared_ancestors : Option (List EntityUid) → List EntityUid
 declared_ancestors None = []
 declared_ancestors (Some us) = us

@@ -39,7 +39,7 @@ pub(crate) fn and_truth(left: BooleanType, right: BooleanType) -> BooleanType
 }
 
 /// Returns the judgement on `&&` whose left side has the type `left` and may be true, given the judgement on its right
-/// side, which has the capabilities of both sides.
+/// side. The capabilities in this judgement are those that both sides gain.
 pub(crate) fn and_typed<'a>(
     left: BooleanType,
     right: Result<Typed<'a>, ExpressionFault>,

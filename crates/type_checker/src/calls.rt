@@ -64,7 +64,9 @@ fn if_literal<'a>(is_literal: bool, leaf: Leaf<'a>) -> Result<StaticType<'a>, Ex
     }
 }
 
-/// Returns the type of a call, given its operand and the operand's type `kind`.
+/// Returns the type of a call, given its operand and the operand's type `kind`. Returns `BadExtensionLiteral` if `ip`
+/// or `decimal` has no literal of its grammar, and `Unexpected` if a test of an IP address has an operand of another
+/// type.
 pub(crate) fn unary_call_type<'a>(
     called: UnaryCall,
     operand: &Expr,

@@ -13,9 +13,9 @@ use std::alloc::Global;
 
 /// Returns the common type of two types, or `None` if they have none.
 ///
-/// Equal types have that type as their common type, different boolean types have Bool, sets the set of their members'
-/// common type, and records with equal keys and requirements a record, field by field. Takes time linear in the nodes
-/// of the smaller type. Allocates only if the result differs from the left type.
+/// Equal types have that type as their common type. Different boolean types have Bool. Sets have the sets of their
+/// members' common type. Records with equal keys and requirements have the record of their fields' common types. Takes
+/// time linear in the nodes of the smaller type. Allocates only if the result differs from the left type.
 ///
 /// # Errors
 ///

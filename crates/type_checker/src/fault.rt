@@ -5,7 +5,7 @@ use plain::NoMemory;
 use std::alloc::AllocFailed;
 use thiserror::Error;
 
-/// Why an expression has no type.
+/// The first error of typing an expression.
 #[derive(Clone, Copy, PartialEq, Eq, Debug, Error)]
 pub enum ExpressionFault {
     /// Code 1: an allocation failed.

@@ -205,7 +205,8 @@ pub(crate) fn has_typed<'a>(
     has_row(alloc, row, owner, name)
 }
 
-/// Returns the judgement on a set literal, given the types of its members, up to repeats.
+/// Returns the judgement on a set literal, given the types of its members. A member that repeats the previous one may
+/// be left out.
 pub(crate) fn set_typed<'a>(
     alloc: Global,
     types: Result<Vec<StaticType<'a>>, ExpressionFault>,

@@ -43,7 +43,7 @@ fn known_left<'a>(
 }
 
 /// Types a left side of `&&` under the capabilities `known`, returns its boolean type, and pushes the capabilities that
-/// it gains onto `known`.
+/// it gains onto `known`. Returns the error of the left side, or `Unexpected` if it is not boolean.
 pub(crate) fn left_type<'a>(
     alloc: Global,
     env: TypingEnvironment<'a>,
@@ -62,8 +62,8 @@ pub(crate) fn left_type<'a>(
     }
 }
 
-/// Returns the type of the conjunction of the parts so far, of the type `so_far` (`None` without parts), and one
-/// more part.
+/// Returns the type of a conjunction with one more part, of the type `truth`. Without it, the conjunction has the type
+/// `so_far`, or no part if `so_far` is `None`.
 pub(crate) fn and_one_more(so_far: Option<BooleanType>, truth: BooleanType) -> Option<BooleanType>
     ensures { option_map boolean_view result
         ≡ Some (and_so_far (option_map boolean_view so_far) (boolean_view truth)) }
@@ -74,8 +74,8 @@ pub(crate) fn and_one_more(so_far: Option<BooleanType>, truth: BooleanType) -> O
     }
 }
 
-/// Returns the type of the conjunction of the parts so far, of the type `so_far` (`None` without parts), and the
-/// last part. Returns `Unexpected` if there are other parts and the last part is not boolean.
+/// Returns the type of a conjunction with its last part, of the type `last`. Without it, the conjunction has the type
+/// `so_far`, or no part if `so_far` is `None`. Returns `Unexpected` if there are other parts and `last` is not boolean.
 pub(crate) fn and_last<'a>(
     so_far: Option<BooleanType>,
     last: StaticType<'a>,

@@ -104,8 +104,8 @@ fn type_under_gained<'a>(
     }
 }
 
-/// Returns the judgement on `&&`. Types the left side, then the right side, and does not type the first operand of the
-/// right side again if the left side is an `is` test of an equal operand.
+/// Returns the judgement on `&&`. Types the left side, then the right side. Does not type the first operand of the
+/// right side again if [`tested_operand_type`] finds its type in the left side.
 #[cycle(judge)]
 #[inline(never)]
 fn type_and<'a>(
@@ -354,7 +354,7 @@ fn second_called<'a>(
     }
 }
 
-/// Returns the types of the members of a set, except those that repeat the previous member.
+/// Returns the types of the members of a set, in order. A member that repeats the previous one is left out.
 #[cycle(judge)]
 #[inline(never)]
 fn types_of<'a>(

@@ -14,7 +14,7 @@ use plain::{Items, NoMemory, Shared};
 use std::alloc::Global;
 use std::collections::BTreeMap;
 
-/// Returns the type of a known boolean.
+/// Returns the type of an expression that is known to give `truth`.
 pub(crate) fn truth_type(truth: bool) -> BooleanType
     ensures { boolean_view result ≡ truth_type truth }
 {
@@ -51,7 +51,8 @@ fn joined_with<'a>(
     wider
 }
 
-/// Returns the type of a set literal whose members have the type `first` and the types `rest`.
+/// Returns the type of a set literal whose members have the type `first` and the types `rest`; `NoCommonType` if these
+/// have no common type.
 fn set_type_of<'a>(
     alloc: Global,
     first: &StaticType<'a>,
@@ -76,7 +77,8 @@ fn set_type_of<'a>(
 ///
 /// - `EmptySet`: there are no members.
 /// - `NoCommonType`: the types have no common type.
-/// - `NoMemory`: an allocation failed; possible at any point.
+/// - `NoMemory`: an allocation failed, or the count of references to a shared type would overflow; possible at any
+///   point.
 pub fn set_literal_type<'a>(
     alloc: Global,
     members: Vec<StaticType<'a>>,
@@ -89,7 +91,7 @@ pub fn set_literal_type<'a>(
     }
 }
 
-/// Sets the type of `key` to `ty`, and replaces its type if it has one.
+/// Returns `map` with the type `ty` at `key`, in place of the type that is there, if there is one.
 fn put_field<'a>(
     map: BTreeMap<&'a str, StaticType<'a>>,
     key: &'a str,

@@ -50,7 +50,8 @@ fn same_literal(one: LiteralRef<'_>, other: LiteralRef<'_>) -> bool
     }
 }
 
-/// Returns the literal that an expression is, or `None`; the variable `action` counts as the uid of its action.
+/// Returns the literal that an expression is, or `None`; the variable `action` counts as the uid of the environment's
+/// action.
 fn as_literal<'a>(env: TypingEnvironment<'a>, expr: &'a Expr) -> Option<LiteralRef<'a>>
     ensures { MatchOption result ((l : Literal) → ¬ IsLiteral (typing_environment env.entry) expr.now l)
         (λ b. IsLiteral (typing_environment env.entry) expr.now (literal_of b)) }
@@ -100,7 +101,7 @@ fn is_action_in(env: TypingEnvironment<'_>, action: &EntityUid, other: &EntityUi
     action.same(other) || env.is_action_ancestor(action, other)
 }
 
-/// Returns whether one of the two is true.
+/// Returns whether at least one of the two is true.
 fn either(one: bool, other: bool) -> bool
     ensures { IsTrue result ↔ (IsTrue one ⊎ IsTrue other) }
 {

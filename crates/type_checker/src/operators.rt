@@ -32,7 +32,7 @@ fn negation_type(truth: BooleanType) -> BooleanType
     }
 }
 
-/// Returns the type of a unary operator on an operand of this kind.
+/// Returns the type of a unary operator on an operand of this kind, or `Unexpected`.
 fn unary_of<'a>(
     operator: &Unary,
     operand: TypeKind<'_, 'a>,
@@ -82,7 +82,7 @@ pub fn unary_type<'a>(
 /// In this order:
 ///
 /// - `Unexpected`: the operator demands other types.
-/// - `NoCommonType`: the operator demands a common type, which does not exist.
+/// - `NoCommonType`: the operator demands a common type, and there is none.
 pub fn binary_type<'a>(
     _alloc: Global,
     env: TypingEnvironment<'a>,
@@ -155,7 +155,8 @@ fn entities_of<'a>(kind: TypeKind<'_, 'a>) -> Option<&'a TypeName>
     }
 }
 
-/// Returns the type of `==`: False for two different entity types, else Bool if there is a common type.
+/// Returns the type of `==`: False for two different entity types, else Bool if there is a common type, else
+/// `NoCommonType`.
 fn equal_of<'a>(left: Part<'_, 'a>, right: Part<'_, 'a>) -> Result<StaticType<'a>, ExpressionFault>
     ensures row { Answers result (equal_type (part_view left.entry) (part_view right.entry)) }
     ensures memory { TakesNoMemory result }
@@ -190,7 +191,8 @@ fn may_be_in(env: TypingEnvironment<'_>, left: &TypeName, right: &TypeName) -> b
         || env.may_have_ancestor(left, right)
 }
 
-/// Returns the type of `in` on operands of these kinds.
+/// Returns the type of `in` on operands of these kinds. Returns `Unexpected` unless the left one is an entity, and the
+/// right one an entity or a set of entities.
 fn in_of<'a>(
     env: TypingEnvironment<'a>,
     left: TypeKind<'_, 'a>,
@@ -225,7 +227,8 @@ fn of_numbers<'a>(
     }
 }
 
-/// Returns the type of `contains` on a set of this kind and a member of this type.
+/// Returns the type of `contains` on operands of this kind and this type. Returns `Unexpected` if the left one is not a
+/// set, else `NoCommonType` if its members and the right one have no common type.
 fn contains_of<'a>(
     left: TypeKind<'_, 'a>,
     right: Part<'_, 'a>,
@@ -239,7 +242,8 @@ fn contains_of<'a>(
     }
 }
 
-/// Returns the type of `containsAll` or `containsAny` on operands of these kinds.
+/// Returns the type of `containsAll` or `containsAny` on operands of these kinds. Returns `Unexpected` if one is not a
+/// set, else `NoCommonType` if their members have no common type.
 fn sets_of<'a>(
     left: TypeKind<'_, 'a>,
     right: TypeKind<'_, 'a>,
@@ -267,6 +271,7 @@ pub fn address_test_type<'a>(operand: StaticType<'a>) -> Result<StaticType<'a>, 
     row
 }
 
+/// Returns the type of a test of an IP address on an operand of this kind, or `Unexpected`.
 fn address_test_of<'a>(operand: TypeKind<'_, 'a>) -> Result<StaticType<'a>, ExpressionFault>
     ensures row { Answers result (address_test_type (kind_view operand.entry)) }
     ensures memory { TakesNoMemory result }
@@ -300,19 +305,21 @@ pub fn call_type<'a>(
     row
 }
 
+/// Returns whether this is the type of decimals.
 fn is_decimal(kind: TypeKind<'_, '_>) -> bool
     ensures { result ≡ is_decimal (kind_view kind.entry) }
 {
     matches!(kind, TypeKind::Leaf(Leaf::Decimal))
 }
 
+/// Returns whether this is the type of IP addresses.
 fn is_ipaddr(kind: TypeKind<'_, '_>) -> bool
     ensures { result ≡ is_ipaddr (kind_view kind.entry) }
 {
     matches!(kind, TypeKind::Leaf(Leaf::Ipaddr))
 }
 
-/// Returns the type of a call of an extension's method on operands of these kinds.
+/// Returns the type of a call of an extension's method on operands of these kinds, or `Unexpected`.
 fn call_of<'a>(
     called: BinaryCall,
     left: TypeKind<'_, 'a>,

@@ -1,4 +1,4 @@
-//! Types taken apart one layer at a time, in one form for those that expressions build and those that schemas declare.
+//! Types by their outermost layer, in one form for the types that expressions build and those that schemas declare.
 ghost use Rattle.std.specs.Prelude.{◌≡◌, suc, IsTrue, IfOk, IfErr};
 ghost use Rattle.schema_types.specs.CedarViews.{cedar_view, cedar_fields_view};
 ghost use Rattle.type_checker.specs.FromSchemas.{static, static_fields};
@@ -129,18 +129,21 @@ impl<'r, 'a> Fields<'r, 'a> {
     }
 }
 
+/// Returns the number of fields that an expression built.
 fn built_len(fields: &[(&str, StaticType<'_>, bool)]) -> usize
     ensures { result ≡ fields_count (built_view fields.now) }
 {
     fields.len()
 }
 
+/// Returns the number of declared fields.
 fn declared_len(fields: &[(Text, CedarType, bool)]) -> usize
     ensures { result ≡ fields_count (static_fields (cedar_fields_view fields.now)) }
 {
     fields.len()
 }
 
+/// Returns the field at an index of fields that an expression built, or `None` past the end.
 fn built_at<'r, 'a>(
     fields: &'r [(&'a str, StaticType<'a>, bool)],
     at: usize,
@@ -158,6 +161,7 @@ fn built_at<'r, 'a>(
     }
 }
 
+/// Returns the field at an index of declared fields, or `None` past the end.
 fn declared_at<'r, 'a>(
     fields: &'a [(Text, CedarType, bool)],
     at: usize,

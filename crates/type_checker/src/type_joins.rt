@@ -23,6 +23,7 @@ pub(crate) enum Join {
 }
 
 impl Join {
+    /// Returns whether there is no common type.
     fn is_apart(self) -> bool
         ensures { Decides result (self ≡ Join.Apart) }
     {

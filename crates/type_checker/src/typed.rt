@@ -31,7 +31,7 @@ pub(crate) enum Then<'a> {
     Both(Typed<'a>),
 }
 
-/// Returns the type of a known boolean.
+/// Returns the type of an expression that is known to give `truth`.
 pub(crate) fn truth_type(truth: bool) -> BooleanType
     ensures { boolean_view result ≡ types.truth_type truth }
 {

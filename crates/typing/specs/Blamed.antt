@@ -66,7 +66,8 @@ abbrev mutual
   blamed (fault_in_else a b c h i g) = under 2 (blamed g)
   blamed (branches_differ a b c {s} {t} h g i e) = at_itself (form.If a b c) (s ∷ t ∷ [])
 
-  -- `blamed_each i g` is what the first operand with an error blames, where the first of the operands has the index `i`
+  -- `blamed_each i g` is what the derivation `g` of an error blames, in the first operand with an error. The first of
+  -- the operands has the index `i`.
   pub blamed_each : {env : Environment} {K : Pairs} {xs : List Expr} {n : ExpressionFault} → ℕ → FaultsEach env K xs n
       → Blame
   blamed_each i (fault_here g) = under i (blamed g)

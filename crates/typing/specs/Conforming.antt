@@ -20,10 +20,10 @@ use Rattle.typing.specs.Membership.{Of}
 use Rattle.typing.specs.Environment.{Environment}
 use Rattle.typing.specs.Gained.{Capability, Pairs}
 
--- `Conforms env W q` holds if the request `q` has the action of the environment `env` and its types of principal,
--- resource and context, and if in the entity data `W` the attributes of each stored entity are of the record type that
--- `env` declares for its type, the ancestors of an action are those that `env` declares, and the ancestors of any other
--- entity are of types that may be ancestor types of that entity's type.
+-- `Conforms env W q` holds if the request `q` and the entity data `W` conform to the environment `env`. The request has
+-- the action of `env` and its types of principal, resource and context. The attributes of each stored entity are of the
+-- record type that `env` declares for its type. The ancestors of an action are those that `env` declares. The ancestors
+-- of any other entity are of types that may be ancestor types of that entity's type.
 pub record Conforms (env : Environment) (W : Entities) (q : Request) : Type 0 where
   pub principal : q.principal.type_name ≡ env.principal
   pub action : q.action ≡ env.action
@@ -36,7 +36,7 @@ pub record Conforms (env : Environment) (W : Entities) (q : Request) : Type 0 wh
   pub ancestors : (u a : EntityUid) → IsFalse (env.is_action_type u.type_name) → IsAncestor W.parents a u
       → IsTrue (env.may_have_ancestor u.type_name a.type_name)
 
--- `IsPermittedError e` holds for the two errors that typing does not exclude: `EntityDoesNotExist` and
+-- `IsPermittedError e` holds if `e` is one of the two errors that typing does not exclude: `EntityDoesNotExist` and
 -- `ArithBoundsError`.
 pub data IsPermittedError : EvalFault → Type 0 where
   entity_is_missing : IsPermittedError EntityDoesNotExist
@@ -47,16 +47,17 @@ abbrev pub Fits : StaticType → EvaluationResult → Type 0
 Fits t (Ok v) = Of v t
 Fits t (Err e) = IsPermittedError e
 
--- `IsPresent W q p` holds if the value of the expression of the capability `p` has the field of `p`.
+-- `IsPresent W q p` holds if, for the request `q` over the entity data `W`, the value of the expression of the
+-- capability `p` has the field of `p`.
 abbrev pub IsPresent : Entities → Request → Capability → Type 0
 IsPresent W q p = EvaluatesTo W q (form.Has p.0 p.1) (Ok (boolean true))
 
--- `ArePresent W q K` holds if `IsPresent W q p` does for each capability `p` of `K`.
+-- `ArePresent W q K` holds if `IsPresent W q p` holds for each capability `p` of `K`.
 pub record ArePresent (W : Entities) (q : Request) (K : Pairs) : Type 0 where
   pub each : (p : Capability) → Contains K p → IsPresent W q p
 
 -- `IsSoundOutcome W q t L r` holds if `r` fits the type `t` and, if `r` is true, the fields of the capabilities `L` are
--- present.
+-- present for the request `q` over the entity data `W`.
 pub record IsSoundOutcome (W : Entities) (q : Request) (t : StaticType) (L : Pairs) (r : EvaluationResult)
     : Type 0 where
   pub fits : Fits t r

@@ -24,15 +24,15 @@ pub record Environment : Type 0 where
   -- the ancestors of each action
   pub action_ancestors : EntityUid → List EntityUid
 
--- An `ExpressionFault` is the reason why an expression has no type; the numbers are the codes of the errors.
+-- An `ExpressionFault` is the error of an expression that has no type; the numbers are the codes of the errors.
 pub data ExpressionFault : Type 0 where
   -- 42: another type is required
   unexpected : ExpressionFault
   -- 43: the operands have no common type
   no_common_type : ExpressionFault
-  -- 44: not declared, or optional without a capability
+  -- 44: the attribute is not declared, or it is optional and there is no capability for it
   attribute_may_be_missing : ExpressionFault
   -- 45: a set literal without members
   empty_set : ExpressionFault
-  -- 46: not a string literal of the extension's grammar
+  -- 46: the operand is not a string literal of the extension's grammar
   bad_extension_literal : ExpressionFault

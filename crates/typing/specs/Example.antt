@@ -19,7 +19,7 @@ use Rattle.typing.specs.Types.{FieldTypes, no_field_types, field_type, boolean_t
 use Rattle.typing.specs.Environment.{Environment}
 use Rattle.typing.specs.Gained.{Capability}
 
--- `uid type_name id` is the uid of these parts.
+-- `uid type_name id` is the uid with the type `type_name` and the id `id`.
 abbrev pub uid : List ℕ → List ℕ → EntityUid
 uid type_name id = record { type_name = type_name; id = id }
 
@@ -64,7 +64,7 @@ environment = record {
 abbrev pub parents : Parents
 parents = with_parents (with_parents no_parents alice (staff ∷ [])) view (readers ∷ [])
 
--- `stored u` are the attributes of `u`: Alice's age; the plan has none.
+-- `stored u` are the attributes of the entity `u`: Alice has an age, the plan has none, and no other entity is stored.
 abbrev pub stored : EntityUid → Option (List Field)
 stored u =
     if is_eq (uid_cmp alice u) then Some ((codes "age", long (pos 30)) ∷ [])

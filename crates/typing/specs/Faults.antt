@@ -21,7 +21,7 @@ use Rattle.typing.specs.Rows.{set_literal_type, address_test_type, call_type}
 use Rattle.typing.specs.Typing.{Types, TypesEach}
 
 -- `NeedsTypes env x xs` holds if `x` needs the types of all of its operands `xs`, in order. `if`, `&&` and `||` need
--- only some of them; an `==` or `in` that literals decide needs none.
+-- only some of them; an `==` or `in` that literals decide in the environment `env` needs none.
 pub data NeedsTypes (env : Environment) : Expr → List Expr → Type 0 where
   of_unary : (op : Unary) (a : Expr) → NeedsTypes env (form.Unary op a) (a ∷ [])
   of_binary : (op : Binary) (a b : Expr) → UndecidedByLiterals env op a b
@@ -34,7 +34,7 @@ pub data NeedsTypes (env : Environment) : Expr → List Expr → Type 0 where
   of_binary_call : (called : BinaryCall) (a b : Expr) → NeedsTypes env (form.BinaryCall called a b) (a ∷ b ∷ [])
 
 mutual
-  -- `Faults env K x n` holds if `x` has the error `n`, where the capabilities `K` are known.
+  -- `Faults env K x n` holds if `x` has the error `n` in the environment `env`, where the capabilities `K` are known.
   pub data Faults (env : Environment) : Pairs → Expr → ExpressionFault → Type 0 where
     -- the first operand with an error decides
     fault_in_operand : {K : Pairs} {x : Expr} {xs : List Expr} {n : ExpressionFault} → NeedsTypes env x xs
@@ -92,7 +92,8 @@ mutual
         → Types env (K ++ L) b s M → Types env K c t N → common s t ≡ None
         → Faults env K (form.If a b c) no_common_type
 
-  -- `FaultsEach env K xs n` holds if `n` is the error of the first of `xs` that has one.
+  -- `FaultsEach env K xs n` holds if `n` is the error of the first of `xs` that has one in `env`, where the
+  -- capabilities `K` are known.
   pub data FaultsEach (env : Environment) : Pairs → List Expr → ExpressionFault → Type 0 where
     fault_here : {K : Pairs} {x : Expr} {xs : List Expr} {n : ExpressionFault} → Faults env K x n
         → FaultsEach env K (x ∷ xs) n

@@ -11,7 +11,8 @@ pub data Judgement : Type 0 where
   typed : StaticType → Pairs → Judgement
   faulty : ExpressionFault → Judgement
 
--- `Judges env K x r` holds if `r` is the judgement on `x`, where the capabilities `K` are known.
+-- `Judges env K x r` holds if `r` is the judgement on `x` in the environment `env`, where the capabilities `K` are
+-- known.
 abbrev pub Judges : Environment → Pairs → Expr → Judgement → Type 0
 Judges env K x (typed t L) = Types env K x t L
 Judges env K x (faulty n) = Faults env K x n

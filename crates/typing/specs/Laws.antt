@@ -44,9 +44,9 @@ abbrev pub TypesAreOrdered : Type 0
 TypesAreOrdered = (env : Environment) → HasOrderedTypes env → (K L : Pairs) (x : Expr) (t : StaticType)
     → Types env K x t L → IsOrdered t
 
--- `AreSoundIn W` holds if typing is sound over the entity data `W`: if a request and `W` conform and the fields of the
--- known capabilities are present, each outcome of an expression of type `t` is a value of `t` or a permitted error, and
--- if the outcome is true, the fields of the gained capabilities are present.
+-- `AreSoundIn W` holds if typing is sound over the entity data `W`. Let a request and `W` conform, and the fields of
+-- the known capabilities be present. Each outcome of an expression of type `t` is a value of `t` or a permitted error.
+-- If the outcome is true, the fields of the gained capabilities are present.
 abbrev pub AreSoundIn : Entities → Type 0
 AreSoundIn W = (env : Environment) (q : Request) → Conforms env W q → (K L : Pairs) (x : Expr) (t : StaticType)
     → ArePresent W q K → Types env K x t L → (r : EvaluationResult) → EvaluatesTo W q x r → IsSoundOutcome W q t L r
@@ -60,9 +60,9 @@ abbrev pub TypedIsSoundInFiniteHierarchies : Type 0
 TypedIsSoundInFiniteHierarchies = (W : Entities) (stored : List EntityUid) → HaveAllParents W.parents stored
     → AreSoundIn W
 
--- `PoliciesAreSound`: if a test decides the ancestor relation, and a request and `W` conform to an environment, an
--- expression of boolean type there, typed without known capabilities, gives only a boolean or a permitted error, and
--- never true if its type is False.
+-- `PoliciesAreSound`: let a test decide the ancestor relation of `W`, and let a request and `W` conform to an
+-- environment. An expression that has a boolean type there, without known capabilities, gives only a boolean or a
+-- permitted error. If its type is False, it never gives true.
 abbrev pub PoliciesAreSound : Type 0
 PoliciesAreSound = (W : Entities) (above : EntityUid → EntityUid → Bool) → Decides W.parents above
     → (env : Environment) (q : Request) → Conforms env W q → (x : Expr) (t : StaticType) (L : Pairs) → IsBoolean t
@@ -85,14 +85,14 @@ SomethingIsFaulty = Faults environment [] (form.Or has_age is_aged) attribute_ma
 abbrev pub IsTransitive : (List ℕ → List ℕ → Bool) → Type 0
 IsTransitive below = (l m n : List ℕ) → IsTrue (below l m) → IsTrue (below m n) → IsTrue (below l n)
 
--- `ParentsAreAllowed env parents` holds if, for each entity that is not an action, no parent is an action, and the type
--- of each parent may be an ancestor type of the entity's type.
+-- `ParentsAreAllowed env parents` holds if the environment `env` allows the parents `parents` of each entity that is
+-- not an action: none of them is an action, and their types may be ancestor types of the entity's type.
 abbrev pub ParentsAreAllowed : Environment → Parents → Type 0
 ParentsAreAllowed env parents = (u p : EntityUid) → IsFalse (env.is_action_type u.type_name) → Contains (parents u) p
     → IsTrue (env.may_have_ancestor u.type_name p.type_name) × IsFalse (env.is_action_type p.type_name)
 
--- `ParentsDetermineAncestors`: if the parents of entities that are not actions are allowed, and the relation of
--- ancestor types is transitive, then the types of all ancestors of such an entity are allowed.
+-- `ParentsDetermineAncestors`: let the parents of entities that are not actions be allowed, and the relation of
+-- ancestor types be transitive. Then the types of all ancestors of such an entity are allowed.
 abbrev pub ParentsDetermineAncestors : Type 0
 ParentsDetermineAncestors = (env : Environment) (parents : Parents) → IsTransitive env.may_have_ancestor
     → ParentsAreAllowed env parents → (u a : EntityUid) → IsFalse (env.is_action_type u.type_name)

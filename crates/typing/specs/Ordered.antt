@@ -5,13 +5,13 @@ use Rattle.values.specs.Uids.{text_cmp}
 use Rattle.typing.specs.Types.{StaticType, set_type, record_type, FieldTypes, no_field_types, field_type}
 use Rattle.typing.specs.Environment.{Environment}
 
--- `IsBefore k ts` holds if the key `k` is less than the first key of `ts`.
+-- `IsBefore k ts` holds if the key `k` is less than the first key of `ts`, or `ts` has no key.
 abbrev pub IsBefore : List ℕ → FieldTypes → Type 0
 IsBefore k no_field_types = ⊤
 IsBefore k (field_type l t r ts) = text_cmp k l ≡ Less
 
--- `IsOrdered t` holds if the keys of each record type in `t` ascend strictly, and `AreOrdered ts` holds if the keys of
--- the fields `ts` do, and those of each record type in the types of these fields.
+-- `IsOrdered t` holds if the keys of each record type in `t` ascend strictly. `AreOrdered ts` holds if the keys of the
+-- fields `ts` do, and those of each record type in the types of these fields.
 abbrev mutual
   pub IsOrdered : StaticType → Type 0
   IsOrdered (set_type t) = IsOrdered t

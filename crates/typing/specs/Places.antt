@@ -8,7 +8,7 @@ use Rattle.grammar_core.specs.declared.expr.Expr.{Expr}
 use Rattle.grammar_core.specs.declared.expr.Expr.TheOpen.{Expr-F}
 use Rattle.grammar_core.specs.declared.expr.Expr.TheViews.{out-Expr}
 
--- `operands_in f` are the operands of the form `f`.
+-- `operands_in f` are the operands of `f`, the outermost form of an expression.
 abbrev pub operands_in : Expr-F Expr → List Expr
 operands_in (Expr-F.Literal l) = []
 operands_in (Expr-F.Variable x) = []

@@ -40,7 +40,7 @@ literal_type (literal.Long z) = long_type
 literal_type (literal.Text t) = text_type
 literal_type (literal.Entity u) = entity_type u.type_name
 
--- `variable_type env x` is the type of the variable `x`.
+-- `variable_type env x` is the type of the variable `x` in the environment `env`.
 abbrev pub variable_type : Environment → Variable → StaticType
 variable_type env Principal = entity_type env.principal
 variable_type env Action = entity_type env.action.type_name
@@ -64,19 +64,19 @@ abbrev pub if_common : Option StaticType → Row
 if_common None = Err no_common_type
 if_common (Some t) = Ok boolean_type
 
--- `equal_type s t` is the type of `==` on operands of these types: False for two different entity types; else Bool, if
--- they have a common type.
+-- `equal_type s t` is the type of `==` on operands of the types `s` and `t`: False for two different entity types; else
+-- Bool, if they have a common type.
 abbrev pub equal_type : StaticType → StaticType → Row
 equal_type (entity_type m) (entity_type n) = Ok (if bytes_eq m n then boolean_type else false_type)
 equal_type s t = if_common (common s t)
 
--- `may_be_in env m n` tests whether an entity of type `m` may be in one of type `n`: one of them is an action type, or
--- they are equal, or `n` is an ancestor type of `m`.
+-- `may_be_in env m n` tests whether, in the environment `env`, an entity of the type `m` may be in one of the type `n`:
+-- one of the types is an action type, or they are equal, or `n` is an ancestor type of `m`.
 abbrev pub may_be_in : Environment → List ℕ → List ℕ → Bool
 may_be_in env m n =
     env.is_action_type m || (env.is_action_type n || (bytes_eq m n || env.may_have_ancestor m n))
 
--- `in_type env m n` is the type of `in` between entities of the types `m` and `n`.
+-- `in_type env m n` is the type of `in` between entities of the types `m` and `n` in the environment `env`.
 abbrev pub in_type : Environment → List ℕ → List ℕ → StaticType
 in_type env m n = if may_be_in env m n then boolean_type else false_type
 
@@ -85,7 +85,8 @@ abbrev pub of_numbers : StaticType → StaticType → StaticType → Row
 of_numbers t long_type long_type = Ok t
 of_numbers t r s = Err unexpected
 
--- `binary_type env op s t` is the type of the operator `op` on operands of the types `s` and `t`.
+-- `binary_type env op s t` is the type of the operator `op` on operands of the types `s` and `t` in the environment
+-- `env`.
 abbrev pub binary_type : Environment → Binary → StaticType → StaticType → Row
 binary_type env Equal s t = equal_type s t
 binary_type env In (entity_type m) (entity_type n) = Ok (in_type env m n)
@@ -112,14 +113,15 @@ pub data MayBeFalse : StaticType → Type 0 where
   surely_not : MayBeFalse false_type
   perhaps_not : MayBeFalse boolean_type
 
--- `and_type s t` is the type of `&&` whose left side may be true: False if the right side is False; True if both are
--- True; else Bool.
+-- `and_type s t` is the type of `&&` whose left side has the type `s`, True or Bool, and whose right side has the type
+-- `t`: False if `t` is False; True if both are True; else Bool.
 abbrev pub and_type : StaticType → StaticType → StaticType
 and_type s false_type = false_type
 and_type true_type true_type = true_type
 and_type s t = boolean_type
 
--- `or_type t` is the type of `||` whose left side is Bool: True if the right side is True; else Bool.
+-- `or_type t` is the type of `||` whose left side has the type Bool, and whose right side has the type `t`: True if `t`
+-- is True; else Bool.
 abbrev pub or_type : StaticType → StaticType
 or_type true_type = true_type
 or_type t = boolean_type
@@ -127,34 +129,36 @@ or_type t = boolean_type
 -- ---- fields; `is_known` says whether there is a capability for the field
 
 -- `access_type is_known declared` is the type of `e.f`, where `declared` is the declaration of `f`: the type of a
--- required field, or of an optional one with a capability.
+-- required field, or of an optional one if `is_known`.
 abbrev pub access_type : Bool → Declared → Row
 access_type is_known undeclared = Err attribute_may_be_missing
 access_type is_known (required t) = Ok t
 access_type true (optional t) = Ok t
 access_type false (optional t) = Err attribute_may_be_missing
 
--- `field_type_of env is_known k t` is the type of `e.k`, where `e` is of the type `t`.
+-- `field_type_of env is_known k t` is the type of `e.k` in the environment `env`, where `e` is of the type `t`, and
+-- `is_known` is whether there is a capability for `e.k`.
 abbrev pub field_type_of : Environment → Bool → List ℕ → StaticType → Row
 field_type_of env is_known k (record_type ts) = access_type is_known (field_declared_at k ts)
 field_type_of env is_known k (entity_type n) = access_type is_known (field_declared_at k (env.attributes n))
 field_type_of env is_known k t = Err unexpected
 
--- `record_has declared` is the type of `e has f` for a record `e` without the capability, where `declared` is the
--- declaration of `f`.
+-- `record_has declared` is the type of `e has f` for a record `e` without a capability for `e.f`, where `declared` is
+-- the declaration of `f`.
 abbrev pub record_has : Declared → StaticType
 record_has undeclared = false_type
 record_has (required t) = true_type
 record_has (optional t) = boolean_type
 
--- `entity_has declared` is the type of `e has f` for an entity `e` without the capability, where `declared` is the
--- declaration of `f`: Bool also for a required field, since the entity may not be stored.
+-- `entity_has declared` is the type of `e has f` for an entity `e` without a capability for `e.f`, where `declared` is
+-- the declaration of `f`: Bool also for a required attribute, since the entity may not be stored.
 abbrev pub entity_has : Declared → StaticType
 entity_has undeclared = false_type
 entity_has (required t) = boolean_type
 entity_has (optional t) = boolean_type
 
--- `has_type env is_known k t` is the type of `e has k`, where `e` is of the type `t`.
+-- `has_type env is_known k t` is the type of `e has k` in the environment `env`, where `e` is of the type `t`, and
+-- `is_known` is whether there is a capability for `e.k`.
 abbrev pub has_type : Environment → Bool → List ℕ → StaticType → Row
 has_type env is_known k (record_type ts) = Ok (if is_known then true_type else record_has (field_declared_at k ts))
 has_type env is_known k (entity_type n) =
@@ -180,7 +184,8 @@ abbrev pub address_test_type : StaticType → Row
 address_test_type ipaddr_type = Ok boolean_type
 address_test_type t = Err unexpected
 
--- `of_decimals s t` is Bool if the types `s` and `t` are both decimal, and `of_addresses s t` if they are both ipaddr.
+-- `of_decimals s t` is Bool if the types `s` and `t` are both decimal, else the error `unexpected`. `of_addresses s t`
+-- is Bool if both are ipaddr, else the same error.
 abbrev pub of_decimals : StaticType → StaticType → Row
 of_decimals decimal_type decimal_type = Ok boolean_type
 of_decimals s t = Err unexpected

@@ -57,7 +57,7 @@ abbrev pub put_each : List (List ℕ) → List StaticType → FieldTypes → Fie
 put_each (k ∷ ks) (t ∷ ts) fields = put_each ks ts (put_required k t fields)
 put_each ks ts fields = fields
 
--- `truth_type b` is the type of a known boolean.
+-- `truth_type b` is the type of an expression that is known to give the boolean `b`.
 abbrev pub truth_type : Bool → StaticType
 truth_type true = true_type
 truth_type false = false_type

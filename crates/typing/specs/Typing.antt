@@ -24,7 +24,8 @@ use Rattle.typing.specs.Rows.{literal_type, variable_type, unary_type, binary_ty
 use Rattle.typing.specs.Rows.{field_type_of, has_type, set_literal_type, address_test_type, call_type}
 
 mutual
-  -- `Types env K x t L` holds if `x` has the type `t` and gains `L`, where the capabilities `K` are known.
+  -- `Types env K x t L` holds if, in the environment `env`, `x` has the type `t` and gains the capabilities `L`, where
+  -- the capabilities `K` are known.
   pub data Types (env : Environment) : Pairs → Expr → StaticType → Pairs → Type 0 where
     types_literal : {K : Pairs} (l : Literal) → Types env K (form.Literal l) (literal_type l) []
     types_variable : {K : Pairs} (x : Variable) → Types env K (form.Variable x) (variable_type env x) []
@@ -74,7 +75,8 @@ mutual
     types_call : {K L M : Pairs} (called : BinaryCall) (a b : Expr) {s t u : StaticType} → Types env K a s L
         → Types env K b t M → call_type called s t ≡ Ok u → Types env K (form.BinaryCall called a b) u []
 
-  -- `TypesEach env K xs ts` holds if `ts` are the types of `xs`, in order.
+  -- `TypesEach env K xs ts` holds if `ts` are the types of `xs` in `env`, in order, where the capabilities `K` are
+  -- known.
   pub data TypesEach (env : Environment) : Pairs → List Expr → List StaticType → Type 0 where
     types_none : {K : Pairs} → TypesEach env K [] []
     types_more : {K L : Pairs} {x : Expr} {xs : List Expr} {t : StaticType} {ts : List StaticType}

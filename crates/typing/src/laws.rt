@@ -49,8 +49,8 @@ pub fn something_conforms()
 /// Proves that the types of ancestors are allowed if those of parents are, and the relation of ancestor types is
 /// transitive. No-op.
 ///
-/// For entities that are not actions: if no parent is an action, and the type of each parent may be an ancestor type of
-/// the entity's type, then the type of each ancestor may be one too.
+/// This is about entities that are not actions. If no parent is an action, and the type of each parent may be an
+/// ancestor type of the entity's type, then the type of each ancestor may be one too.
 pub fn parents_determine_ancestors()
     ensures { ParentsDetermineAncestors }
 {}

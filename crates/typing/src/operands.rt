@@ -4,7 +4,7 @@ ghost use Rattle.typing.specs.Places.{IsAt, operands_of, follow};
 
 use grammar_core::{Expr, Named};
 
-/// Returns the only operand if the index is 0.
+/// Returns the only operand, `a`, if the index is 0, else `None`.
 fn one_at<'a>(a: &'a Expr, at: usize) -> Option<&'a Expr>
     ensures item { IsAt (a.entry.now ∷ []) at result }
     ensures few { IsSome result → at < usize.MAX }
@@ -12,7 +12,7 @@ fn one_at<'a>(a: &'a Expr, at: usize) -> Option<&'a Expr>
     if at == 0 { Some(a) } else { None }
 }
 
-/// Returns the operand at an index of two operands.
+/// Returns the operand at the index `at` of the two operands `a` and `b`, or `None` past the end.
 fn two_at<'a>(a: &'a Expr, b: &'a Expr, at: usize) -> Option<&'a Expr>
     ensures item { IsAt (a.entry.now ∷ b.entry.now ∷ []) at result }
     ensures few { IsSome result → at < usize.MAX }
@@ -24,7 +24,7 @@ fn two_at<'a>(a: &'a Expr, b: &'a Expr, at: usize) -> Option<&'a Expr>
     }
 }
 
-/// Returns the operand at an index of three operands.
+/// Returns the operand at the index `at` of the three operands `a`, `b` and `c`, or `None` past the end.
 fn three_at<'a>(a: &'a Expr, b: &'a Expr, c: &'a Expr, at: usize) -> Option<&'a Expr>
     ensures item { IsAt (a.entry.now ∷ b.entry.now ∷ c.entry.now ∷ []) at result }
     ensures few { IsSome result → at < usize.MAX }
@@ -37,7 +37,7 @@ fn three_at<'a>(a: &'a Expr, b: &'a Expr, c: &'a Expr, at: usize) -> Option<&'a 
     }
 }
 
-/// Returns the member at an index.
+/// Returns the member at an index, or `None` past the end.
 fn member_at<'a>(members: &'a [Expr], at: usize) -> Option<&'a Expr>
     ensures item { IsAt members.entry.now at result }
     ensures few { IsSome result → at < usize.MAX }
@@ -49,7 +49,7 @@ fn member_at<'a>(members: &'a [Expr], at: usize) -> Option<&'a Expr>
     }
 }
 
-/// Returns the value of the field at an index.
+/// Returns the value of the field at an index, or `None` past the end.
 fn field_at<'a>(fields: &'a [Named<Expr>], at: usize) -> Option<&'a Expr>
     ensures item { IsAt (map (λ f. f.value) fields.entry.now) at result }
     ensures few { IsSome result → at < usize.MAX }
@@ -85,7 +85,8 @@ pub fn operand<'a>(expr: &'a Expr, at: usize) -> Option<&'a Expr>
     }
 }
 
-/// Returns the expression to which a path leads, if it leads to one. Does not allocate.
+/// Returns the expression to which a path, a list of indexes of operands, leads from `whole`; `None` if it leads to
+/// none. Does not allocate.
 pub fn at_path<'a>(whole: &'a Expr, path: &[usize]) -> Option<&'a Expr>
     ensures { MatchOption result (follow path.now whole.entry.now ≡ None) (λ y. follow path.now whole.entry.now
         ≡ Some y.now) }

@@ -44,9 +44,9 @@ abbrev pub NoEnvironmentIsImpossible : Type 0
 NoEnvironmentIsImpossible = (s : StatedSchema) (policy : Policy) → s.environments ≡ []
     → All (IsKnown s) (names_of policy) → IsCheckResult s policy (passes true)
 
--- `PassingPoliciesAreSound`: if the request and the entities conform to an environment of the schema, each result of
--- the expression of a policy that passes is a boolean, `EntityDoesNotExist` or `ArithBoundsError`; if the policy is
--- impossible, no result is true.
+-- `PassingPoliciesAreSound`: let a test decide the ancestor relation of the entities, and let the request and the
+-- entities conform to an environment of the schema. Each result of the expression of a policy that passes is a boolean,
+-- `EntityDoesNotExist` or `ArithBoundsError`; if the policy is impossible, no result is true.
 abbrev pub PassingPoliciesAreSound : Type 0
 PassingPoliciesAreSound = (s : StatedSchema) (policy : Policy) → Passes s policy
     → (W : Entities) (above : EntityUid → EntityUid → Bool) → hierarchy.Decides W.parents above

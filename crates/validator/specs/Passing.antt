@@ -41,23 +41,24 @@ pub data FirstFaulty (x : Expr) : List Environment → ExpressionFault → Type 
   faulty_later : {env : Environment} {envs : List Environment} {n : ExpressionFault} → HasBooleanType x env
       → FirstFaulty x envs n → FirstFaulty x (env ∷ envs) n
 
--- `Passes s policy` holds if each name in `policy` is declared and its expression has a boolean type in each
--- environment.
+-- `Passes s policy` holds if the schema `s` declares each name in `policy`, and the expression of `policy` has a
+-- boolean type in each environment of `s`.
 pub record Passes (s : StatedSchema) (policy : Policy) : Type 0 where
   pub known : All (IsKnown s) (names_of policy)
   pub typed : All (HasBooleanType (expression_of policy)) (environments_of s)
 
--- `IsImpossible s policy` holds if the type of `policy`'s expression is False in each environment.
+-- `IsImpossible s policy` holds if the type of `policy`'s expression is False in each environment of the schema `s`.
 abbrev pub IsImpossible : StatedSchema → Policy → Type 0
 IsImpossible s policy = All (HasType (expression_of policy) false_type) (environments_of s)
 
--- `IsVerdict s policy told` holds if `policy` passes, and `told` is true if and only if `policy` is impossible.
+-- `IsVerdict s policy told` holds if `policy` passes under the schema `s`, and `told` is true if and only if `policy`
+-- is impossible.
 pub record IsVerdict (s : StatedSchema) (policy : Policy) (told : Bool) : Type 0 where
   pub passes : Passes s policy
   pub impossible : IsTrue told ↔ IsImpossible s policy
 
--- `IsCheckRefused s policy f` holds if `f` is the error of the first undeclared name in the order of the text or, if
--- each name is declared, the error of the first environment that has one.
+-- `IsCheckRefused s policy f` holds if `f` is the error of the first name in `policy`, in the order of the text, that
+-- the schema `s` does not declare; or, if each name is declared, the error of the first environment that has one.
 pub data IsCheckRefused (s : StatedSchema) (policy : Policy) : TypeFault → Type 0 where
   for_name : {f : TypeFault} → FirstUnknown s (names_of policy) f → IsCheckRefused s policy f
   for_type : {n : ExpressionFault} → All (IsKnown s) (names_of policy)

@@ -50,7 +50,8 @@ fn is_declared_action(schema: &Schema, uid: &EntityUid) -> bool
     schema.is_action(uid)
 }
 
-/// Checks that the type after an `is` is a declared entity type or the type of a declared action.
+/// Checks that the type after an `is` is a declared entity type or the type of a declared action; else returns
+/// `UnknownType`.
 pub(crate) fn check_tested_type(schema: &Schema, name: &TypeName) -> Result<(), TypeFault>
     ensures { result ≡ tested_type_check (schema_view schema.now) name.now }
 {
@@ -63,7 +64,7 @@ pub(crate) fn check_tested_type(schema: &Schema, name: &TypeName) -> Result<(), 
     Err(TypeFault::UnknownType)
 }
 
-/// Checks that the type of an entity literal is a declared entity type.
+/// Checks that the type of an entity literal is a declared entity type; else returns `UnknownType`.
 fn check_other(schema: &Schema, uid: &EntityUid) -> Result<(), TypeFault>
     ensures { result ≡ other_check (schema_view schema.now) uid.now }
 {
@@ -73,8 +74,8 @@ fn check_other(schema: &Schema, uid: &EntityUid) -> Result<(), TypeFault>
     }
 }
 
-/// Checks that an entity literal is a declared action, if its type is an action type, or else that its type is a
-/// declared entity type.
+/// Checks that an entity literal of an action type is a declared action (else `UnknownAction`), and that any other
+/// entity literal has a declared entity type (else `UnknownType`).
 pub(crate) fn check_entity(schema: &Schema, uid: &EntityUid) -> Result<(), TypeFault>
     ensures { result ≡ entity_check (schema_view schema.now) uid.now }
 {

@@ -1,4 +1,4 @@
--- Defines the theorems about sets and records.
+-- Defines the theorems about sets, records and well-formed values.
 use Rattle.std.specs.Prelude.{◌≡◌, ◌≢◌, ◌↔◌, ℕ, List, length, Result, IsTrue, Contains, Some, is_ok}
 use Rattle.std.specs.List.Sorted.{IsStrictlySortedBy, IsBinarySearchResult, IsSearchInRange}
 use Rattle.values.specs.Fields.{Field, AreKeysAscending, put, find_field}
@@ -41,7 +41,7 @@ abbrev pub FieldsDetermineRecords : Type 0
 FieldsDetermineRecords = (a b : List Field) → AreKeysAscending a → AreKeysAscending b
     → ((key : List ℕ) → find_field key a ≡ find_field key b) → a ≡ b
 
--- `OrderOfFieldsDoesNotMatter`: the order in which two fields are set does not matter.
+-- `OrderOfFieldsDoesNotMatter`: the order in which two fields with different keys are set does not matter.
 abbrev pub OrderOfFieldsDoesNotMatter : Type 0
 OrderOfFieldsDoesNotMatter = (key other : List ℕ) (value next : PlainValue) (fields : List Field)
     → AreKeysAscending fields → key ≢ other →

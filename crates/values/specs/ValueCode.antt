@@ -63,8 +63,8 @@ pub data Item : Type 0 where
   key : List ℕ → Item
   whole : PlainValue → Item
 
--- `members st` are the values at the beginning of the items `st`, up to the first end; `fields st` are the keys with
--- their values up to that end; and `behind st` are the items after it.
+-- `members st` are the values that the items `st` begin with, and `fields st` the keys, each with the value after it,
+-- that they begin with; `behind st` are the items after the first end in `st`.
 abbrev pub members : List Item → PlainValues
 members [] = no_values
 members (end ∷ st) = no_values

@@ -28,7 +28,7 @@ mutual
     no_fields : PlainFields
     field : List ℕ → PlainValue → PlainFields → PlainFields
 
--- `list_of vs` are the members of a set, as a list.
+-- `list_of vs` are the members `vs` of a set, as a list.
 abbrev pub list_of : PlainValues → List PlainValue
 list_of no_values = []
 list_of (value v vs) = v ∷ list_of vs
@@ -38,7 +38,7 @@ abbrev pub values_of : List PlainValue → PlainValues
 values_of [] = no_values
 values_of (v ∷ vs) = value v (values_of vs)
 
--- `pairs_of fs` are the fields of a record, as a list.
+-- `pairs_of fs` are the fields `fs` of a record, as a list.
 abbrev pub pairs_of : PlainFields → List (List ℕ × PlainValue)
 pairs_of no_fields = []
 pairs_of (field k v fs) = (k, v) ∷ pairs_of fs

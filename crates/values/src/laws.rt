@@ -21,9 +21,9 @@ pub fn sets_hold_their_members()
     ensures found { MembersAreFound }
 {}
 
-/// Proves that a record is a finite map: a field that was set has its value, the later if it was set twice, and the
-/// other fields keep theirs; keys ascend strictly; equal fields make equal records; and the order in which two fields
-/// are set does not matter. No-op.
+/// Proves that a record is a finite map. A field that was set has its value, the later one if it was set twice, and the
+/// other fields keep theirs. Keys ascend strictly. Records with equal fields are equal. The order in which two fields
+/// with different keys are set does not matter. No-op.
 pub fn records_are_maps()
     ensures here { (key : List ℕ) (value : Value) (fields : Record)
         → find_field key (put key value fields) ≡ Some value }

@@ -60,8 +60,8 @@ pub fn values_are_ordered()
     ensures exact { IsAntisymmetric value_cmp }
 {}
 
-/// Proves that sets are compared member by member, as ascending lists, where a prefix comes before a longer list; that
-/// `==` is true if and only if the sets are equal; and that two sets with the same members are equal. No-op.
+/// Proves that sets are compared member by member, as ascending lists, where a prefix comes before a longer list. `==`
+/// is true if and only if the sets are equal, and two sets with the same members are equal. No-op.
 pub fn sets_are_ordered()
     ensures by { (a b : Set) → ⟦<Set as Ord>⟧.cmp a b ≡ slice_cmp value_cmp a b }
     ensures same { (a b : Set) → IsTrue (⟦<Set as PartialEq>⟧.eq a b) ↔ (a ≡ b) }
@@ -70,7 +70,7 @@ pub fn sets_are_ordered()
 {}
 
 /// Proves that records are compared field by field, by key and then by value, as lists that ascend by keys, where a
-/// prefix comes before a longer list; and that `==` is true if and only if the records are equal. No-op.
+/// prefix comes before a longer list. `==` is true if and only if the records are equal. No-op.
 pub fn records_are_ordered()
     ensures by { (a b : Record) → ⟦<Record as Ord>⟧.cmp a b ≡ slice_cmp field_cmp a b }
     ensures same { (a b : Record) → IsTrue (⟦<Record as PartialEq>⟧.eq a b) ↔ (a ≡ b) }

@@ -50,7 +50,8 @@ impl TypeName {
         Ok(Some(TypeName { text }))
     }
 
-    /// Returns the type name of the identifiers `words`, with `::` between each two. The only error is `NoMemory`.
+    /// Returns the type name of the identifiers `words`, at least one, with `::` between each two. The only error is
+    /// `NoMemory`.
     ///
     /// The parser of policies calls this for a Path, which may have whitespace and comments between its words there.
     pub fn from_words(alloc: Global, words: &[&str]) -> Result<TypeName, NoMemory>

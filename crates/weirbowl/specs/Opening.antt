@@ -1,5 +1,5 @@
 -- Defines an opened site, and why a site is not opened.
--- Sources: docs/formats.md, "Schemas"; docs/operating.md, NAME; docs/codes.md, "Schemas".
+-- Source: docs/formats.md, "Schemas"; docs/operating.md, NAME; docs/codes.md, "Schemas".
 -- Rules of this product: the name is checked before the schema; a new site has nothing stored; the number of a name's
 -- error is 2.
 use Rattle.std.specs.Prelude.{◌≡◌, ℕ, List, []}

@@ -34,7 +34,7 @@ pub extern "C" fn weirbowl_close(alloc: Global, slot: &mut SiteSlot) -> bool
     close_in(alloc, slot)
 }
 
-/// Copies the body of the last reply to `out` again.
+/// Copies the body of the last reply to `out` again. The status is 200, whatever the status of the last reply.
 #[unsafe(no_mangle)]
 pub extern "C" fn weirbowl_last_body(
     alloc: Global,

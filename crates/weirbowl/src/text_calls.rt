@@ -1,4 +1,7 @@
 //! The exports for C over texts, without a site.
+//!
+//! Each copies its result to the beginning of `out`, if `out` is long enough, and returns a status and the length of
+//! the result. Out of memory has the status 503 and no result.
 ghost use Rattle.std.specs.Prelude.{◌≡◌, length};
 ghost use Rattle.schema_decisions.specs.answer_lines.Refusals.{no_memory as memory_refused};
 ghost use Rattle.weirbowl.specs.Copies.{copied};

@@ -1,4 +1,4 @@
--- Defines one update of the cache, step by step.
+-- Defines one update of the ancestor cache, step by step.
 use Rattle.std.specs.Prelude.{◌≡◌, ◌↔◌, ◌⊎◌, List, [], ◌∷◌, map, Vec, Contains, if◌then◌else◌}
 use Rattle.std.specs.declared.alloc.Global.{Global}
 use Rattle.std.specs.Ordering.{is_eq}
@@ -21,7 +21,7 @@ pub record TakesChild (xs ps : List EntityUid) (child : EntityUid)
 abbrev pub firsts : List (EntityUid × Vec EntityUid Global) → List EntityUid
 firsts xs = map (λ x. x.0) xs
 
--- `written xs q old` is the list that the pairs `xs` have for `q`, or `old` if they have none.
+-- `written xs q old` is the list that the first pair of `q` in `xs` has, or `old` if `q` has no pair.
 abbrev pub written : List (EntityUid × Vec EntityUid Global) → EntityUid → List EntityUid → List EntityUid
 written [] q old = old
 written (x ∷ xs) q old = if is_eq (uid_cmp x.0 q) then x.1.items else written xs q old
@@ -41,7 +41,7 @@ pub record Enters (lists : List (EntityUid × Vec EntityUid Global)) (before aft
   pub from : (x : EntityUid) → Contains after x → Contains before x ⊎ IsInOwn lists x
 
 -- `Leaves entities ancestors before after` holds if `after` is `before` without those of `entities` that are not their
--- own ancestors.
+-- own ancestors; `ancestors` maps each entity to its ancestors.
 pub record Leaves (entities : List EntityUid) (ancestors : EntityUid → List EntityUid)
     (before after : List EntityUid) : Type 0 where
   pub from : (x : EntityUid) → Contains after x → Contains before x

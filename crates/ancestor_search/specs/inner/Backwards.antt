@@ -1,5 +1,6 @@
 -- Defines a breadth-first search from an entity to its children, their children and so on, and the least of the
--- shortest walks. An edge leads from an entity to its parents: the search follows the edges backwards.
+-- shortest walks. An edge leads from an entity to each of its parents in the hierarchy (`parents` in each definition):
+-- the search follows the edges backwards.
 use Rattle.std.specs.Prelude.{◌≡◌, ℕ, ◌+◌, ◌≤◌, Bool, false, cond, List, [], ◌∷◌, length, Option, Some, None, Contains}
 use Rattle.std.specs.Prelude.{IsSome, ◌⊎◌, ◌↔◌, Vec}
 use Rattle.std.specs.declared.alloc.Global.{Global}
@@ -81,7 +82,7 @@ pub record Reaches (test : EntityUid → Bool) (far : ℕ) (dist dist' : EntityU
 abbrev pub is_one_of : List EntityUid → EntityUid → Bool
 is_one_of xs x = list_any (λ k. is_same k x) xs
 
--- `is_child_of children ys x` tests whether `x` is a child of one of `ys`.
+-- `is_child_of children ys x` tests whether `x` is a child of one of `ys`, by the map `children`.
 abbrev pub is_child_of : (EntityUid → List EntityUid) → List EntityUid → EntityUid → Bool
 is_child_of children ys x = list_any (λ y. is_one_of (children y) x) ys
 
@@ -94,14 +95,14 @@ pub record IsLeastFrom (parents : Parents) (end x : EntityUid) (ws : List Entity
   pub least : (ds : List EntityUid) → Path parents x ds end → length ds ≡ length ws →
       is_gt (slice_cmp uid_cmp ws ds) ≡ false
 
--- `IsLeastAt ps dist d y` holds if `y` is the least of the parents `ps` at distance `d`.
+-- `IsLeastAt ps dist d y` holds if `y` is the least of the parents `ps` whose distance in `dist` is `d`.
 pub record IsLeastAt (ps : List EntityUid) (dist : EntityUid → Option ℕ) (d : ℕ) (y : EntityUid) : Type 0 where
   pub among : Contains ps y
   pub at : dist y ≡ Some d
   pub least : (e : EntityUid) → Contains ps e → dist e ≡ Some d → is_gt (uid_cmp y e) ≡ false
 
--- `IsLeastOf ps dist d o` holds if `o` is the least of the parents `ps` at distance `d`, or `None` if no parent is at
--- that distance.
+-- `IsLeastOf ps dist d o` holds if `o` is the least of the parents `ps` whose distance in `dist` is `d`, or `None` if
+-- no parent is at that distance.
 abbrev pub IsLeastOf : List EntityUid → (EntityUid → Option ℕ) → ℕ → Option EntityUid → Type 0
 IsLeastOf ps dist d None = (e : EntityUid) → Contains ps e → dist e ≡ Some d → ⊥
 IsLeastOf ps dist d (Some y) = IsLeastAt ps dist d y

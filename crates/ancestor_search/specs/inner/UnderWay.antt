@@ -9,12 +9,12 @@ use Rattle.ancestor_search.specs.inner.Walking.{Edges, IsWalking, IsWalkingWithR
 abbrev pub IsUnderWay : Edges → Walk → Type 0
 IsUnderWay e w = IsWalking e w.place.items w.found.items w.members.items w.pending.items w.bounds.items
 
--- `IsWaiting e w last y` holds if `w` is such a search, except that the bound `last` of the last group was removed from
--- `w`, and so was an edge of that group, which leads to `y` and is to be visited next.
+-- `IsWaiting e w last y` holds if `w` is such a search of `e`, except that two items were removed from `w`: the bound
+-- `last` of the last group, and an edge of that group, which leads to `y` and is to be visited next.
 abbrev pub IsWaiting : Edges → Walk → Bound → ℕ → Type 0
 IsWaiting e w last y =
     IsWalkingWithRemovedEdge e w.place.items w.found.items w.members.items w.pending.items w.bounds.items last y
 
--- `effort_of w` is the measure of the search: it decreases at each step.
+-- `effort_of w` is the measure of the search `w`: it decreases at each step.
 abbrev pub effort_of : Walk → ℕ
 effort_of w = effort w.place.items w.pending.items w.bounds.items

@@ -1,12 +1,13 @@
--- Defines graphs of numbers, and the invariants of a search for their cyclic numbers: it follows a path of groups, each
--- of numbers that reach one another.
+-- Defines graphs of numbers, and the invariants of a search for their cyclic numbers, which reach themselves. The
+-- search follows a path of groups, each of numbers that reach one another.
 use Rattle.std.specs.Prelude.{◌≡◌, ℕ, ◌+◌, ◌-◌, ◌*◌, ◌^◌, ◌<◌, ◌≤◌, Bool, false, List, [], ◌∷◌, ◌++◌, length}
 use Rattle.std.specs.Prelude.{Contains, IsTrue, ◌⊎◌, ◌↔◌, slice_index_or, Vec}
 use Prim.Native.Nat.{zero, suc}
 use Rattle.std.specs.declared.alloc.Global.{Global}
 use Rattle.ancestor_search.specs.declared.walk.Bound.{Bound}
 
--- `Edges` is the type of graphs of numbers: each maps a number to those to which its edges lead.
+-- `Edges` is the type of graphs of numbers: each maps a number to those to which its edges lead. In each definition `e`
+-- is the graph, and `place` lists the marks of its numbers (`mark_of`).
 abbrev pub Edges : Type 0
 Edges = ℕ → List ℕ
 
@@ -48,7 +49,8 @@ pub record Group : Type 0 where
   pub members : List ℕ
   pub pending : List ℕ
 
--- `members_of` and `pending_of` are the concatenated lists of the groups of a path, the last group first.
+-- `members_of gs` and `pending_of gs` concatenate the lists of the groups `gs` of a path, from the first group to the
+-- last; `gs` has the last group first.
 abbrev pub members_of : List Group → List ℕ
 members_of [] = []
 members_of (g ∷ gs) = members_of gs ++ g.members
@@ -57,8 +59,8 @@ abbrev pub pending_of : List Group → List ℕ
 pending_of [] = []
 pending_of (g ∷ gs) = pending_of gs ++ g.pending
 
--- `bound_at members pending` is the bound of a group that begins after these members and edges: the lengths of both
--- lists.
+-- `bound_at members pending` is the bound of a group that begins after the members `members` and the edges `pending`:
+-- the lengths of both lists.
 abbrev pub bound_at : List ℕ → List ℕ → Bound
 bound_at members pending = record { members = length members; pending = length pending }
 
@@ -88,13 +90,13 @@ pub record IsGroup (e : Edges) (Beyond : ℕ → Type 0) (g : Group) (before : L
   pub apart : (x : ℕ) → Contains g.members x → Beyond x → ⊥
 
 -- `IsPath e Beyond gs` holds if each of `gs`, the last group first, is such a group (`IsGroup`) after the groups before
--- it.
+-- it, where the numbers beyond it are those in `Beyond` and the members of later groups.
 abbrev pub IsPath : Edges → (ℕ → Type 0) → List Group → Type 0
 IsPath e Beyond [] = Unit {0}
 IsPath e Beyond (g ∷ gs) = IsGroup e Beyond g gs × IsPath e (λ x. Beyond x ⊎ Contains g.members x) gs
 
--- `IsAccounted place members x` holds if `x` is done, or not seen and not among the members, or marked with its index
--- among the members, counted from 1.
+-- `IsAccounted place members x` holds if `x` is done, or not seen and not among `members`, or marked with its index
+-- among `members`, counted from 1.
 abbrev pub IsAccounted : List ℕ → List ℕ → ℕ → Type 0
 IsAccounted place members x =
     IsDone place x
@@ -177,8 +179,8 @@ KeepsSeen place place' = (x : ℕ) → IsSeen place x → IsSeen place' x
 abbrev pub HasOpen : List ℕ → List ℕ → Type 0
 HasOpen ys place = (y : ℕ) × Contains ys y × (IsDone place y → ⊥)
 
--- `FindsOpen e place members found found'` holds if `found'` marks what `found` marks, and the members from which an
--- edge leads to a number that is not done.
+-- `FindsOpen e place members found found'` holds if `found'` marks what `found` marks, and those of `members` from
+-- which an edge leads to a number that is not done.
 pub record FindsOpen (e : Edges) (place members : List ℕ) (found found' : List Bool) : Type 0 where
   pub len : length found' ≡ length found
   pub same : (x : ℕ) → IsTrue (slice_index_or found' x false)

@@ -27,20 +27,22 @@ use Rattle.authoriser.specs.Answers.{PolicyOutcome, fault_of, satisfied, erring}
 abbrev pub IsWithin : KnownEntity → EntityUid → Type 0
 IsWithin p of = (p.uid.now ≡ of) ⊎ Contains (names p.ancestors.items) of
 
--- `HasItsAncestors parents entity p` holds if `p` is `entity` with all its ancestors, ascending.
+-- `HasItsAncestors parents entity p` holds if `p` is `entity` with all its ancestors in the hierarchy `parents`,
+-- ascending.
 pub record HasItsAncestors (parents : Parents) (entity : EntityUid) (p : KnownEntity) : Type 0 where
   pub same : p.uid.now ≡ entity
   pub all : AreAllAncestorsOf parents entity (names p.ancestors.items)
   pub ascending : IsAscending (names p.ancestors.items)
 
--- `HasRequestAncestors parents q s` holds if `s` has the three entities of the request `q`, each with all its
--- ancestors.
+-- `HasRequestAncestors parents q s` holds if `s` has the three entities of the request `q`, each with all its ancestors
+-- in the hierarchy `parents`.
 pub record HasRequestAncestors (parents : Parents) (q : Request) (s : RequestEntities) : Type 0 where
   pub principal : HasItsAncestors parents q.principal s.principal
   pub action : HasItsAncestors parents q.action s.action
   pub resource : HasItsAncestors parents q.resource s.resource
 
--- `AllHaveTheirAncestors parents s` holds if each of the three entities of `s` has all its ancestors.
+-- `AllHaveTheirAncestors parents s` holds if each of the three entities of `s` has all its ancestors in the hierarchy
+-- `parents`.
 pub record AllHaveTheirAncestors (parents : Parents) (s : RequestEntities) : Type 0 where
   pub principal : HasItsAncestors parents s.principal.uid.now s.principal
   pub action : HasItsAncestors parents s.action.uid.now s.action
@@ -52,7 +54,8 @@ pub record HasItsAttributes (W : Entities) (entity : EntityUid) (p : KnownEntity
   pub given : option_map (λ r. r.now) p.attributes ≡ W.stored entity
   pub alone : MatchOption p.attributes (W.parents entity ≡ []) (λ _. ⊤)
 
--- `HasRequestAttributes W q s` holds if `s` has the stored attributes of each of the three entities of the request `q`.
+-- `HasRequestAttributes W q s` holds if `s` has the attributes that `W` stores for each of the three entities of the
+-- request `q`.
 pub record HasRequestAttributes (W : Entities) (q : Request) (s : RequestEntities) : Type 0 where
   pub principal : HasItsAttributes W q.principal s.principal
   pub action : HasItsAttributes W q.action s.action
@@ -64,7 +67,7 @@ pub record AreLookedUp (W : Entities) (q : Request) (s : RequestEntities) : Type
   pub ancestors : HasRequestAncestors W.parents q s
   pub attributes : HasRequestAttributes W q s
 
--- `AllHaveTheirAttributes W s` holds if each of the three entities of `s` has its stored attributes.
+-- `AllHaveTheirAttributes W s` holds if each of the three entities of `s` has the attributes that `W` stores for it.
 pub record AllHaveTheirAttributes (W : Entities) (s : RequestEntities) : Type 0 where
   pub principal : HasItsAttributes W s.principal.uid.now s.principal
   pub action : HasItsAttributes W s.action.uid.now s.action
@@ -76,12 +79,13 @@ pub record AreAscending (s : RequestEntities) : Type 0 where
   pub action : IsAscending (names s.action.ancestors.items)
   pub resource : IsAscending (names s.resource.ancestors.items)
 
--- `HasAllAbove parents o` holds if the memoized entity `o` has all its ancestors, ascending.
+-- `HasAllAbove parents o` holds if the memoized entity `o` has all its ancestors in the hierarchy `parents`, ascending.
 pub record HasAllAbove (parents : Parents) (o : MemoEntry) : Type 0 where
   pub all : AreAllAncestorsOf parents o.uid (names o.ancestors.items)
   pub ascending : IsAscending (names o.ancestors.items)
 
--- `HaveAllAbove parents others` holds if each entity of the memo `others` has all its ancestors, ascending.
+-- `HaveAllAbove parents others` holds if each entity of the memo `others` has all its ancestors in the hierarchy
+-- `parents`, ascending.
 abbrev pub HaveAllAbove : Parents → AncestorMemo → Type 0
 HaveAllAbove parents others = All (HasAllAbove parents) others.kept.items
 
@@ -97,7 +101,8 @@ IsTrueOf scope s =
     × IsActionScopeTrue (IsWithin s.action) scope.action s.action.uid.now
     × IsEntityScopeTrue (IsWithin s.resource) scope.resource s.resource.uid.now
 
--- `ConditionEvaluatesTo W q x outcome` holds if `outcome` is the result of the expression `x` as a condition.
+-- `ConditionEvaluatesTo W q x outcome` holds if `outcome` is the result of the expression `x` as a condition, under the
+-- request `q` and over the entities of `W`.
 abbrev pub ConditionEvaluatesTo : Entities → Request → Expr → Outcome → Type 0
 ConditionEvaluatesTo W q x Satisfied = EvaluatesTo W q x (Ok (boolean true))
 ConditionEvaluatesTo W q x NotSatisfied = EvaluatesTo W q x (Ok (boolean false))

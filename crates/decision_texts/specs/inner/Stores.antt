@@ -33,16 +33,18 @@ entity_data_stored r store = entity_data_in (with_actions r.actions (kept_in sto
 abbrev pub is_among : EntityUid → List Entity → Bool
 is_among uid es = list_any (λ e. is_same e.uid uid) es
 
--- `entity_after r es place d` is the entity that `d` describes at the index `place` of an array, after the entities
--- `es`, or its error: first that of the entity itself, then 30 (bad shape) if one of `es` has its uid.
+-- `entity_after r es place d` is the entity that `d`, the item at the index `place` of an array, describes in the
+-- setting `r` after the entities `es`; or its error: that of the entity itself, else 30 (bad shape) if one of `es` has
+-- its uid.
 unfoldable pub entity_after : Reading → List Entity → ℕ → Data → Result Entity Refusal
 entity_after r es place d = do
   entity ← placed place (r.entity d)
   first ← demand (bad_shape (Some place)) (not (is_among entity.uid es))
   Ok entity
 
--- `KeepsNext r es place d result store` holds if adding the entity that `d` describes, at the index `place`, to a store
--- of the entities `es` may give `result` and the new store `store`; an error is that of `entity_after`, or `NoMemory`.
+-- `KeepsNext r es place d result store` holds if adding an entity to a store of the entities `es` may give `result` and
+-- the new store `store`. The entity is that of `entity_after r es place d`; an error in `result` is its error, or
+-- `NoMemory`.
 abbrev pub KeepsNext : {A : Type 0} → Reading → List Entity → ℕ → Data → Result A Refusal → Entries → Type 0
 KeepsNext r es place d (Ok x) store = (e : Entity) × (entity_after r es place d ≡ Ok e) × Holds store (es ++ e ∷ [])
 KeepsNext r es place d (Err refusal) store = Fails no_memory refusal (entity_after r es place d)

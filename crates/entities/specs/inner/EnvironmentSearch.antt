@@ -1,4 +1,4 @@
--- Defines the binary search for environments.
+-- Defines the orders by which a binary search finds the environments of an action or of a request.
 use Rattle.std.specs.Prelude.{◌≡◌, ◌≤◌, Bool, Option, Some, None, if◌then◌else◌}
 use Rattle.std.specs.Ordering.{ordering_index, is_eq}
 use Rattle.std.specs.declared.cmp.Ordering.{Ordering}
@@ -21,8 +21,8 @@ context_if passes (Some e) = if passes e.place then Some e.context else None
 abbrev pub IsMonotone : (EnvironmentKey → Ordering) → Type 0
 IsMonotone order = (p q : EnvironmentKey) → place_cmp p q ≡ Less → ordering_index (order p) ≤ ordering_index (order q)
 
--- `AreFoundBy order passes` holds if `passes` accepts exactly the places for which `order` gives equal, and these are
--- consecutive.
+-- `AreFoundBy order passes` holds if `passes` accepts exactly the places for which `order` gives equal, and `order`
+-- ascends (`IsMonotone`), so that these places are consecutive.
 pub record AreFoundBy (order : EnvironmentKey → Ordering) (passes : EnvironmentKey → Bool) : Type 0 where
   pub same : (p : EnvironmentKey) → passes p ≡ is_eq (order p)
   pub rises : IsMonotone order
@@ -36,6 +36,6 @@ abbrev pub place_asked : Asked → EnvironmentKey
 place_asked asked =
     record { action = asked.action; principal = asked.principal.type_name; resource = asked.resource.type_name }
 
--- `order_of_asked asked place` compares `place` with that of the request `asked`.
+-- `order_of_asked asked place` compares `place` with the place of the request `asked`.
 abbrev pub order_of_asked : Asked → EnvironmentKey → Ordering
 order_of_asked asked place = place_cmp place (place_asked asked)

@@ -15,7 +15,8 @@ abbrev pub parents_unless : Option (List EntityUid) → Option EntityData → Li
 parents_unless (Some parents) other = []
 parents_unless None other = kept_parents other
 
--- `entity_edges actions entities` are the parents of each stored entity that is not an action.
+-- `entity_edges actions entities` are the edges from each of the stored entities `entities` to its parents, except from
+-- the uid of one of the declared actions `actions`.
 abbrev pub entity_edges : Actions → EntityMap → Parents
 entity_edges actions entities u = parents_unless (actions u) (entities u)
 
@@ -26,7 +27,8 @@ kept_unless : (o : Option (List EntityUid)) (e : Option EntityData) (a : EntityU
 kept_unless None e a h = kept_with_parents e a h
 kept_unless (Some parents) e a h = Contains-none a h
 
--- `edges_are_listed`: each entity that has such edges is among the uids `us` of the stored entities.
+-- `edges_are_listed`: each entity from which an edge of `entity_edges` leads is among the uids `us` of the stored
+-- entities.
 pub edges_are_listed : (actions : Actions) (entities : EntityMap) (us : List EntityUid) → AreListed entities us
     → HaveAllParents (entity_edges actions entities) us
 edges_are_listed actions entities us listed b a h = (listed b).1 (kept_unless (actions b) (entities b) a h)

@@ -53,7 +53,8 @@ pub record DecidedEntities : Type 0 where
   pub stored : EntityUid → Option (List Field)
   pub above : EntityUid → EntityUid → Bool
 
--- `decided_entities stored above` is the entity data with these attributes and this test.
+-- `decided_entities stored above` is the entity data with the attributes `stored` and the test `above`. For two
+-- entities `a` and `b`, `above a b` tests whether `a` is an ancestor of `b`.
 abbrev pub decided_entities : (EntityUid → Option (List Field)) → (EntityUid → EntityUid → Bool) → DecidedEntities
 decided_entities stored above = record { stored = stored; above = above }
 
@@ -99,14 +100,15 @@ apply_unary (Is name) v = and_then (demanded (entity_uid_in v)) (λ u. truth (by
 abbrev pub is_in : DecidedEntities → EntityUid → EntityUid → Bool
 is_in E a b = is_eq (uid_cmp a b) || E.above b a
 
--- `in_members E a vs` tests whether `a` is a member of `vs` or a descendant of one; `TypeError` if a member is not an
--- entity.
+-- `in_members E a vs` tests whether `a` is a member of `vs` or, by the test `E.above`, a descendant of one; it gives
+-- `TypeError` if a member is not an entity.
 abbrev pub in_members : DecidedEntities → EntityUid → List PlainValue → Result Bool EvalFault
 in_members E a [] = Ok false
 in_members E a (v ∷ vs) =
     and_then (demanded (entity_uid_in v)) (λ b. and_then (in_members E a vs) (λ rest. Ok (is_in E a b || rest)))
 
--- `in_value E a v` is the outcome of `a in v`, where `v` must be an entity or a set of entities.
+-- `in_value E a v` is the outcome of `a in v` over the entity data `E`, where `v` must be an entity or a set of
+-- entities.
 abbrev pub in_value : DecidedEntities → EntityUid → PlainValue → EvaluationResult
 in_value E a (entity b) = truth (is_in E a b)
 in_value E a (set vs) = and_then (in_members E a (list_of vs)) truth
@@ -120,7 +122,7 @@ numbers f v w = and_then (two_demanded (long_in v) (long_in w)) (λ p. f p.0 p.1
 abbrev pub sets : (List PlainValue → List PlainValue → Bool) → PlainValue → PlainValue → EvaluationResult
 sets f v w = and_then (demanded (members_in v)) (λ x. and_then (demanded (members_in w)) (λ y. truth (f x y)))
 
--- `apply_binary E op v w` is the outcome of the operator `op` on `v` and `w`.
+-- `apply_binary E op v w` is the outcome of the operator `op` on `v` and `w`, over the entity data `E`.
 abbrev pub apply_binary : DecidedEntities → Binary → PlainValue → PlainValue → EvaluationResult
 apply_binary E Equal v w = truth (is_eq (value_cmp v w))
 apply_binary E In v w = and_then (demanded (entity_uid_in v)) (λ a. in_value E a w)
@@ -144,7 +146,7 @@ abbrev pub attribute : Option (List Field) → List ℕ → EvaluationResult
 attribute None name = Err EntityDoesNotExist
 attribute (Some fs) name = found_or AttrDoesNotExist (find_field name fs)
 
--- `field_of E name v` is the outcome of `v.name`.
+-- `field_of E name v` is the outcome of `v.name`, over the entity data `E`.
 abbrev pub field_of : DecidedEntities → List ℕ → PlainValue → EvaluationResult
 field_of E name (record_of fs) = found_or AttrDoesNotExist (find_field name (pairs_of fs))
 field_of E name (entity u) = attribute (E.stored u) name
@@ -156,7 +158,7 @@ abbrev pub has_attribute : Option (List Field) → List ℕ → Bool
 has_attribute None name = false
 has_attribute (Some fs) name = is_some (find_field name fs)
 
--- `has_field E name v` is the outcome of `v has name`.
+-- `has_field E name v` is the outcome of `v has name`, over the entity data `E`.
 abbrev pub has_field : DecidedEntities → List ℕ → PlainValue → EvaluationResult
 has_field E name (record_of fs) = truth (is_some (find_field name (pairs_of fs)))
 has_field E name (entity u) = truth (has_attribute (E.stored u) name)
@@ -172,7 +174,7 @@ abbrev pub network_read : {t : List ℕ} → Decided ((n : Network) × IsNetwork
 network_read (inl h) = Ok (ipaddr h.0)
 network_read (inr n) = Err ExtensionError
 
--- `is_v4 version` tests for IPv4.
+-- `is_v4 version` tests whether `version` is IPv4.
 abbrev pub is_v4 : Version → Bool
 is_v4 V4 = true
 is_v4 V6 = false
@@ -220,19 +222,22 @@ each_field (f ∷ fs) done = and_then f.value (λ v. each_field fs (put f.name v
 abbrev pub as_test : EvaluationResult → Result Bool EvalFault
 as_test r = and_then r (λ v. demanded (boolean_in v))
 
--- `choice a b c` is the outcome of `if`, given the outcomes of its test and its two branches.
+-- `choice a b c` is the outcome of `if`, given the outcomes `a` of its test, `b` of its first branch and `c` of its
+-- second.
 abbrev pub choice : EvaluationResult → EvaluationResult → EvaluationResult → EvaluationResult
 choice a b c = and_then (as_test a) (λ t. if t then b else c)
 
--- `both a b` is the outcome of `&&`, given those of its operands; the second matters only if the first is true.
+-- `both a b` is the outcome of `&&`, given the outcomes `a` and `b` of its operands; `b` matters only if `a` is true.
 abbrev pub both : EvaluationResult → EvaluationResult → EvaluationResult
 both a b = and_then (as_test a) (λ t. if t then and_then (as_test b) truth else truth false)
 
--- `either a b` is the outcome of `||`, given those of its operands; the second matters only if the first is false.
+-- `either a b` is the outcome of `||`, given the outcomes `a` and `b` of its operands; `b` matters only if `a` is
+-- false.
 abbrev pub either : EvaluationResult → EvaluationResult → EvaluationResult
 either a b = and_then (as_test a) (λ t. if t then truth true else and_then (as_test b) truth)
 
--- `meaning_step q E x` is the outcome of the expression `x` in which each operand is replaced by its outcome.
+-- `meaning_step q E x` is the outcome of an expression under the request `q`, over the entity data `E`; `x` is the
+-- expression with each operand replaced by its outcome.
 abbrev pub meaning_step : Request → DecidedEntities → Expr-F EvaluationResult → EvaluationResult
 meaning_step q E (Expr-F.Literal l) = Ok (literal_value l)
 meaning_step q E (Expr-F.Variable x) = Ok (variable_value x q)
@@ -252,7 +257,8 @@ meaning_step q E (Expr-F.BinaryCall called a b) = and_then a (λ v. and_then b (
 abbrev pub meaning : Request → DecidedEntities → Expr → EvaluationResult
 meaning q E = fold-Expr EvaluationResult (meaning_step q E)
 
--- `named_meaning q E f` is the field `f` with the outcome of its expression.
+-- `named_meaning q E f` is the field `f` with the outcome of its expression under the request `q`, over the entity data
+-- `E`.
 abbrev pub named_meaning : Request → DecidedEntities → Named Expr → Named EvaluationResult
 named_meaning q E f = record { name = f.name; value = meaning q E f.value }
 

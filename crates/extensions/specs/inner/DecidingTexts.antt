@@ -371,7 +371,7 @@ versions : (v : Version) → (v ≡ V4) ⊎ (v ≡ V6)
 versions V4 = inl refl
 versions V6 = inr refl
 
--- `network_text_decided text` decides whether `text` is an IP address, and gives its network.
+-- `network_text_decided text` decides whether `text` denotes a network, and gives it.
 pub network_text_decided : (text : List ℕ) → Decided ((n : Network) × IsNetworkText text n)
 network_text_decided text = decided_as
     (λ h. elim h [ inl f ↦ of_version V4 text f | inr s ↦ of_version V6 text s ])

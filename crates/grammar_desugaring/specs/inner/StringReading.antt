@@ -46,7 +46,7 @@ read brace (c ∷ w) = read (digits 0) w
 read (digits n) (c ∷ w) =
     if c == code "}" then piece.Char n ∷ read between w else read (digits (n * 16 + digit_value c)) w
 
--- `pieces_of spelling` are the pieces of a string in its quotes.
+-- `pieces_of spelling` are the pieces of the string `spelling`, which is in its quotes.
 abbrev pieces_of : List ℕ → List Piece
 pieces_of spelling = read between (drop 1 spelling)
 

@@ -1,4 +1,5 @@
--- Defines well-formed trees: each token is spelled in the text, and of a kind that its position allows.
+-- Defines well-formed trees: each token is spelled in the text (`text` in each definition), and of a kind that its
+-- position allows.
 use Rattle.std.specs.Prelude.{◌≡◌, ℕ, true, List}
 use Rattle.std.specs.List.{AllByRecursion}
 use Rattle.grammar_trees.specs.grammar_tokens.declared.token.TokenKind.TheVariants as k
@@ -47,12 +48,12 @@ pub record UidIn (text : List ℕ) (uid : UidTree) : Type 0 where
 abbrev pub AllWellFormed : List ℕ → List ExprTree → Type 0
 AllWellFormed text = AllByRecursion (WellFormed text)
 
--- `WellFormedEntry text entry` holds if the key and the value of a record's entry are well formed.
+-- `WellFormedEntry text entry` holds if the key and the value of `entry`, an entry of a record, are well formed.
 pub record WellFormedEntry (text : List ℕ) (entry : RecordEntry ExprTree) : Type 0 where
   pub key : KeyIn text entry.key
   pub value : WellFormed text entry.value
 
--- `WellFormedTerm text term` holds if the operand of a sum's term is well formed.
+-- `WellFormedTerm text term` holds if the operand of `term`, a term of a sum, is well formed.
 pub record WellFormedTerm (text : List ℕ) (term : Term ExprTree) : Type 0 where
   pub operand : WellFormed text term.operand
 

@@ -83,7 +83,7 @@ entity_part variable = token variable >> entity_constraint
 unfoldable pub comma_uid : Parser UidTree
 comma_uid = token k.Comma >> uid
 
--- `rest_of_uids first` parses the Uids after the first.
+-- `rest_of_uids first` parses the Uids after `first`; its value is all of them, `first` included.
 unfoldable pub rest_of_uids : UidTree → Parser (List UidTree)
 rest_of_uids first = many (only k.Comma) comma_uid >>= (λ more. pure (first ∷ more))
 

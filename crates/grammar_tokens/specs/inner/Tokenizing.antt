@@ -1,4 +1,4 @@
--- Defines the relations that the private functions of the tokenizer are specified by.
+-- Defines the relations in the contracts of the tokenizer's private functions.
 use Prim.Native.Char.{code}
 use Rattle.std.specs.Prelude.{◌≡◌, ℕ, Bool, true, not, ◌&&◌, ◌||◌, ◌==◌, List, [], ◌∷◌, ◌++◌}
 use Rattle.std.specs.Prelude.{length, drop, Option, Some, None, encode_utf8}
@@ -25,8 +25,8 @@ pub record IsFirst (found : ScannedToken) (text : List ℕ) : Type 0 where
   pub longest : IsLongest found.kind w rest
   pub len : length w ≡ found.len
 
--- `ReportsToken text o` holds if `o` is the longest token that `text` begins with, or `None` if `text` begins with no
--- token.
+-- `ReportsToken text o` holds if `o` is the longest token that `text` begins with, or `None` if `text` does not begin
+-- with a token.
 abbrev pub ReportsToken : List ℕ → Option ScannedToken → Type 0
 ReportsToken text None = NoToken text
 ReportsToken text (Some found) = IsFirst found text
@@ -72,7 +72,7 @@ ReportsBlank text (Some len) = (c : ℕ) × (more : List ℕ) × (is_whitespace 
 
 -- ## Strings
 
--- `NoEscape text` holds if `text` begins with no escape.
+-- `NoEscape text` holds if `text` does not begin with an escape.
 abbrev pub NoEscape : List ℕ → Type 0
 NoEscape text = (p : Piece) (w more : List ℕ) → IsEscape p w → text ≡ w ++ more → ⊥
 
@@ -84,7 +84,7 @@ pub record IsFirstEscape (found : Escape) (text : List ℕ) : Type 0 where
   pub is : IsEscape found.piece w
   pub long : length w ≡ found.len
 
--- `ReportsEscape text o` holds if `o` is the escape that `text` begins with, or `None` if it begins with none.
+-- `ReportsEscape text o` holds if `o` is the escape that `text` begins with, or `None` if it does not begin with one.
 abbrev pub ReportsEscape : List ℕ → Option Escape → Type 0
 ReportsEscape text None = NoEscape text
 ReportsEscape text (Some found) = IsFirstEscape found text
@@ -95,7 +95,8 @@ kind_with k (Byte b) = k
 kind_with k (Char c) = k
 kind_with k Star = StarText
 
--- `is_plain in_pattern c` tests whether the byte `c` between quotes denotes itself; in a pattern a star does not.
+-- `is_plain in_pattern c` tests whether the byte `c` between quotes denotes itself; a star does not if `in_pattern` is
+-- true.
 unfoldable pub is_plain : Bool → ℕ → Bool
 is_plain in_pattern c = not ((c == backslash) || (in_pattern && (c == code "*")))
 
@@ -105,17 +106,18 @@ character_of (Byte b) = code "*"
 character_of (Char c) = c
 character_of Star = code "*"
 
--- `is_literal in_pattern ps` tests whether no piece of `ps` is a wildcard; only in a pattern is a `*` a wildcard.
+-- `is_literal in_pattern ps` tests whether no piece of `ps` is a wildcard. A `*` is one only if `in_pattern` is true.
 abbrev pub is_literal : Bool → List Piece → Bool
 is_literal in_pattern ps = not (in_pattern && list_any is_wildcard ps)
 
--- `EndsLiteral in_pattern body` holds if `body` is empty, or if it is in a pattern and begins with a wildcard.
+-- `EndsLiteral in_pattern body` holds if `body` is empty, or if `in_pattern` is true and `body` begins with `*`, a
+-- wildcard.
 abbrev pub EndsLiteral : Bool → List ℕ → Type 0
 EndsLiteral in_pattern [] = Unit {0}
 EndsLiteral in_pattern (c ∷ cs) = (in_pattern ≡ true) × (c ≡ code "*")
 
 -- `IsRead in_pattern value len body` holds if the first `len` bytes of `body` denote `value`, without a wildcard, and
--- the rest is a body too.
+-- the rest is a body too. A `*` is a wildcard only if `in_pattern` is true.
 pub record IsRead (in_pattern : Bool) (value : List ℕ) (len : ℕ) (body : List ℕ) : Type 0 where
   pub front : List ℕ
   pub pieces : List Piece

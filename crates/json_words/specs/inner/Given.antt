@@ -26,7 +26,8 @@ abbrev pub IsGiven : Option (Data × List Token) → Option Value → List Token
 IsGiven given None left = given ≡ None
 IsGiven given (Some v) left = given ≡ Some (view v, left)
 
--- `scalar t` is the value that the token `t` alone denotes: a string, a number, a boolean or `null`.
+-- `scalar t` is the value that the token `t` alone denotes: a string, a number, a boolean or `null`; `None` if `t` is
+-- another token, or a number beyond a double.
 abbrev pub scalar : Token → Option Data
 scalar token.begin_object = None
 scalar token.end_object = None

@@ -28,13 +28,14 @@ module _ {P E : Type 0} (Policies : List ℕ → List ℕ → P → Type 0) (Ent
     pub shown : plain_update r ≡ u
     pub is_read : IsUpdateRead Policies Entities r
 
-  -- `IsTaken place u r` holds if the update `u` is in its ranges, and `r` is `u` together with a value of its text.
+  -- `IsTaken place u r` holds if the update `u`, at the index `place`, is in its ranges, and `r` is `u` together with a
+  -- value of its text.
   pub record IsTaken (place : ℕ) (u : PlainUpdate) (r : Update P E) : Type 0 where
     pub passed : judged place (stamped u) ≡ Ok (stamped u)
     pub taken : IsReadAs u r
 
   -- `AreTaken place us rs` holds if each of the updates `us` is in its ranges, and `rs` are these updates together with
-  -- values of their texts, where `place` is the index of the first of `us`.
+  -- values of their texts. The first of `us` has the index `place`.
   abbrev pub AreTaken : ℕ → List PlainUpdate → List (Update P E) → Type 0
   AreTaken place [] [] = Unit {0}
   AreTaken place [] (r ∷ rs) = ⊥
@@ -44,7 +45,7 @@ module _ {P E : Type 0} (Policies : List ℕ → List ℕ → P → Type 0) (Ent
 module _ {P E : Type 0} (Policies : List ℕ → List ℕ → P → Type 0) (Entities : EntityUid → List ℕ → E → Type 0)
     (NoPolicies : List ℕ → List ℕ → BodyFault → Type 0) (NoEntities : EntityUid → List ℕ → BodyFault → Type 0) where
   -- `Stops place us why` holds if `why` is the error of one of the updates `us`, and those before it pass the checks of
-  -- ranges and are valid, where `place` is the index of the first of `us`.
+  -- ranges and are valid. The first of `us` has the index `place`.
   abbrev pub Stops : ℕ → List PlainUpdate → MessageFault → Type 0
   Stops place [] why = ⊥
   Stops place (u ∷ us) why = IsFaultAt NoPolicies NoEntities place u why

@@ -27,6 +27,6 @@ abbrev pub missing_json : Summary → Update → List Data
 missing_json m u = if is_new m u then entry_json u ∷ [] else []
 
 -- `all_missing_json name m es` is the list of the JSON of those entries of `es` whose names the summary `m` lacks or
--- has with a smaller stamp, where `name` gives the name that a key represents.
+-- has with a smaller stamp. Here `name` gives the name that a key represents.
 abbrev pub all_missing_json : {K P : Type 0} → (K → Name) → Summary → List (K × Entry P) → List Data
 all_missing_json name m es = flat_map (missing_json m) (abstract_entries name es)

@@ -1,4 +1,5 @@
--- Defines the relations that private functions of the parser are specified by.
+-- Defines the relations and tests in the contracts of the parser's private functions. In each definition `text` is the
+-- text that the trees' tokens are in.
 use Rattle.std.specs.Prelude.{◌≡◌, ◌≢◌, ◌↔◌, ◌&&◌, ◌||◌, ◌==◌, Bool, false, IsTrue, ℕ, List, [], ◌∷◌, ◌++◌}
 use Rattle.std.specs.Prelude.{is_some, find, codes, if◌then◌else◌}
 use Rattle.std.specs.List.{AllByRecursion, flat_map, starts_with}
@@ -35,8 +36,9 @@ some_index_name text (name ∷ names) (tree ∷ trees) =
 abbrev pub kept : Bool → NameAt → List NameAt → List NameAt
 kept keep mark marks = if keep then mark ∷ marks else marks
 
--- `names_to_compare text wide names trees` are the names that may repeat another: those of the policies that have an
--- `@id`, or of all policies if `wide` is true. Each has the offset of its policy's first token.
+-- `names_to_compare text wide names trees` are those of `names`, the names of the policies `trees`, that may repeat
+-- another: those of the policies that have an `@id`, or of all policies if `wide` is true. Each has the offset of its
+-- policy's first token.
 abbrev pub names_to_compare : List ℕ → Bool → List (List ℕ) → List PolicyTree → List NameAt
 names_to_compare text wide [] trees = []
 names_to_compare text wide (name ∷ names) [] = []
@@ -44,18 +46,18 @@ names_to_compare text wide (name ∷ names) (tree ∷ trees) =
     kept (wide || has_id text tree) (record { name = name; at = start_of tree })
     (names_to_compare text wide names trees)
 
--- `AreSound text conditions` holds if no condition has an error.
+-- `AreSound text conditions` holds if each of the conditions `conditions` is without errors.
 abbrev pub AreSound : List ℕ → List Condition → Type 0
 AreSound text = AllByRecursion (λ c. faults_of text c.expression ≡ [])
 
--- `ReportsPolicy text tree verdict` holds if `verdict` has the reported error of a policy's tree, and says whether the
--- policy is within the limits.
+-- `ReportsPolicy text tree verdict` holds if `verdict` has the reported error of `tree`, a policy's tree, and says
+-- whether the policy is within the limits.
 pub record ReportsPolicy (text : List ℕ) (tree : PolicyTree) (verdict : Verdict) : Type 0 where
   pub fault : verdict.fault ≡ least (tree_faults text tree)
   pub small : IsTrue verdict.small ↔ IsSmallTree text tree
 
--- `ReportsFile text trees verdict` holds if `verdict` has the reported error of a file's trees, errors of repeated
--- policy names apart, and says whether all policies are within the limits.
+-- `ReportsFile text trees verdict` holds if `verdict` has the reported error of `trees`, the trees of a file, without
+-- errors of repeated policy names, and says whether all policies are within the limits.
 pub record ReportsFile (text : List ℕ) (trees : List PolicyTree) (verdict : Verdict) : Type 0 where
   pub fault : verdict.fault ≡ least (flat_map (tree_faults text) trees)
   pub small : IsTrue verdict.small ↔ AllByRecursion (IsSmallTree text) trees

@@ -1,4 +1,4 @@
--- Defines the relations that private functions of the parser of trees are specified by.
+-- Defines the relations in the contracts of the private functions that parse a text into a tree.
 use Rattle.std.specs.Prelude.{ℕ, ◌≤◌, ◌<◌, List, length, slice_get}
 use Rattle.std.specs.List.{AllByRecursion}
 use Rattle.grammar_desugaring.specs.grammar_tokens.declared.token.Token.{Token}
@@ -15,14 +15,15 @@ pub record LexedIn (most : ℕ) (text : List ℕ) (tokens : List Token) : Type 0
   pub lexed : IsLexed text tokens
   pub spelled : AllByRecursion (IsSpelledIn text) tokens
 
--- `IsUnlexed most text why` holds if `why` is the error of `text`: it has over `most` bytes, or no token starts at some
--- byte.
+-- `IsUnlexed most text why` holds if `why` is the error of `text`: it has over `most` bytes, or it is bad at a byte
+-- (`IsBadAt`).
 abbrev pub IsUnlexed : ℕ → List ℕ → ReadFault → Type 0
 IsUnlexed most text fault.TooLong = most < length text
 IsUnlexed most text (fault.BadToken at) = (length text ≤ most) × IsBadAt text at
 IsUnlexed most text _ = ⊥
 
--- `refusal_of text tokens fault` is the error `fault` with a byte offset in place of the index of a token.
+-- `refusal_of text tokens fault` is the error `fault` with a byte offset in `text` in place of the index of one of
+-- `tokens`.
 abbrev pub refusal_of : List ℕ → List Token → SyntaxFault → ReadFault
 refusal_of text tokens syntax.NoMemory = fault.NoMemory
 refusal_of text tokens (syntax.Unexpected place) = fault.Unexpected (byte_of text (slice_get tokens place))

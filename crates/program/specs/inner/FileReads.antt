@@ -11,7 +11,8 @@ abbrev pub found_as : Option (List ℕ) → Result (List ℕ) FileFault
 found_as None = Err Missing
 found_as (Some bytes) = Ok bytes
 
--- `IsFound does name found old new` holds if the file `name` was read with the content `found`, or no file is named.
+-- `IsFound does name found old new` holds if, by `does`, one event leads from the state `old` of the machine to `new`:
+-- the file `name` is read with the content `found`. Without a name there is no content, and `new` is `old`.
 abbrev pub IsFound : {L H : Type 0} → (H → Event L → H → Type 0) → Option (List ℕ) → Option (List ℕ) → H → H → Type 0
 IsFound does None None old new = new ≡ old
 IsFound does (Some name) (Some bytes) old new = does old (read name (Ok bytes)) new

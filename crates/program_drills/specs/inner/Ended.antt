@@ -1,4 +1,4 @@
--- Defines lines, each with its line feed.
+-- Defines the text of lines, each with its line feed, and when the lines of events are appended to a text.
 use Rattle.std.specs.Prelude.{◌≡◌, ℕ, List, [], ◌∷◌, ◌++◌}
 use Rattle.std.specs.List.{AllZip}
 use Rattle.http_service.specs.site.declared.event.EventReply.{EventReply}

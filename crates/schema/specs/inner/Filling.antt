@@ -23,7 +23,8 @@ SomeMust {X = X} must xs k = (x : X) × Contains xs x × must x k
 abbrev pub HoldsForEach : {X : Type 0} → (X → Type 0) → List X → Type 0
 HoldsForEach {X = X} P xs = (x : X) → Contains xs x → P x
 
--- `AddsEach may must also xs old new` holds if `new` is `old` with the further entries of all items of `xs`.
+-- `AddsEach may must also xs old new` holds if `new` is `old` with further entries (`Adds`) for all items of `xs`,
+-- where `may`, `must` and `also` give the three conditions of each item.
 abbrev pub AddsEach : {X K V : Type 0} → (X → K → V → Type 0) → (X → K → Type 0) → (X → Type 0) → List X
     → (K → Option V) → (K → Option V) → Type 0
 AddsEach may must also xs old new = Adds (SomeMay may xs) (SomeMust must xs) (HoldsForEach also xs) old new

@@ -1,6 +1,6 @@
 -- Defines how the code builds the parts of a schema, one after another. Each relation `Adds..` holds if the map `new`
 -- is the map `old` with the entries that the comment of the relation names; `..May` holds of the entries that may be
--- added, `..Must` of the keys that must be there afterwards (Filling).
+-- added, `..Must` of the keys that must be there afterwards (Filling). `commons` are the declared common types.
 use Rattle.std.specs.Prelude.{◌≡◌, ⊤, ℕ, List, Contains, Option, Some, None, option_map}
 use Rattle.std.specs.BTreeMap.{BTreeMap, get}
 use Rattle.values.specs.declared.entity_uid.EntityUid.{EntityUid}
@@ -23,11 +23,12 @@ use Rattle.schema.specs.inner.Filling.{Adds, AddsEach, SomeMay, SomeMust, HoldsF
 
 -- ---- expanded types
 
--- `IsClosedAt commons o` holds if each common type that is named in `o` is declared.
+-- `IsClosedAt commons o` holds if each common type that the type in `o` names is declared in `commons`.
 abbrev pub IsClosedAt : Declarations → Option Qualified → Type 0
 IsClosedAt commons o = (r : Qualified) → o ≡ Some r → IsClosed commons r
 
--- `IsWrittenAt commons o` holds if the expansion of `o`, if there is one, is within the limits.
+-- `IsWrittenAt commons o` holds if the type in `o` has an expansion within the limits, or `o` is `None`; `commons` are
+-- the declared common types.
 abbrev pub IsWrittenAt : Declarations → Option Qualified → Type 0
 IsWrittenAt commons o = (r : Qualified) → o ≡ Some r → IsWritten commons r
 
@@ -43,7 +44,7 @@ pub record IsMade (commons : Declarations) (o : Option Qualified) (t : Cedar) : 
 
 -- ---- look-ups
 
--- `shape_in shapes n` is the shape of the entity type `n`.
+-- `shape_in shapes n` is the shape of the entity type `n`, if `shapes` has an entry for it.
 abbrev pub shape_in : BTreeMap (List ℕ) EntityDecl → List ℕ → Option Cedar
 shape_in shapes n = option_map (λ d. cedar_view d.shape) (get text_cmp shapes n)
 
@@ -69,7 +70,8 @@ abbrev pub AddsShapes : Declarations → List ResolvedEntityType → BTreeMap (L
 AddsShapes commons es old new =
     AddsEach (ShapeMay commons) ShapeMust (λ e. IsWrittenAt commons e.shape) es (get text_cmp old) (get text_cmp new)
 
--- `AreShapesClosed commons es` holds if each common type that is named in a shape is declared.
+-- `AreShapesClosed commons es` holds if each common type that a shape of the entity types `es` names is declared in
+-- `commons`.
 abbrev pub AreShapesClosed : Declarations → List ResolvedEntityType → Type 0
 AreShapesClosed commons es = (e : ResolvedEntityType) → Contains es e → IsClosedAt commons e.shape
 
@@ -93,7 +95,7 @@ Places = BTreeMap EnvironmentKey CedarType
 abbrev pub PlaceMay : EntityUid → CedarType → List ℕ → List ℕ → EnvironmentKey → CedarType → Type 0
 PlaceMay action context principal resource p c = (place_of action principal resource ≡ p) × (c ≡ context)
 
--- `PlaceMust action principal resource p` holds if `p` is the place of these three.
+-- `PlaceMust action principal resource p` holds if `p` is the place of `action`, `principal` and `resource`.
 abbrev pub PlaceMust : EntityUid → List ℕ → List ℕ → EnvironmentKey → Type 0
 PlaceMust action principal resource p = place_of action principal resource ≡ p
 
@@ -104,15 +106,15 @@ AddsPlace action context principal resource old new =
     Adds (PlaceMay action context principal resource) (PlaceMust action principal resource) ⊤
     (get place_cmp old) (get place_cmp new)
 
--- `AddsResources action context resources principal old new` holds if the places with each of the resources were
--- added.
+-- `AddsResources action context resources principal old new` holds if the places of `action`, `principal` and each of
+-- the types `resources` were added, with the context type `context`.
 abbrev pub AddsResources : EntityUid → CedarType → List (List ℕ) → List ℕ → Places → Places → Type 0
 AddsResources action context resources principal old new =
     AddsEach (PlaceMay action context principal) (PlaceMust action principal) (λ r. ⊤) resources
     (get place_cmp old) (get place_cmp new)
 
--- `AddsPrincipals action context resources principals old new` holds if the places with each principal and resource
--- were added.
+-- `AddsPrincipals action context resources principals old new` holds if the places of `action` with each of the types
+-- `principals` and each of the types `resources` were added, with the context type `context`.
 abbrev pub AddsPrincipals : EntityUid → CedarType → List (List ℕ) → List (List ℕ) → Places → Places → Type 0
 AddsPrincipals action context resources principals old new =
     AddsEach (λ p. SomeMay (PlaceMay action context p) resources) (λ p. SomeMust (PlaceMust action p) resources)
@@ -126,7 +128,8 @@ UseMust action u p = (action ≡ p.action) × Contains u.principals p.principal 
 abbrev pub UseMay : Declarations → EntityUid → ResolvedUse → EnvironmentKey → CedarType → Type 0
 UseMay commons action u p c = UseMust action u p × IsRecordOf commons u.context (cedar_view c)
 
--- `AddsUse commons action u old new` holds if the places of `u` were added, with a context within the limits.
+-- `AddsUse commons action u old new` holds if the places of `action` with the types that `u` lists were added, with the
+-- context of `u`, expanded, within the limits.
 abbrev pub AddsUse : Declarations → EntityUid → ResolvedUse → Places → Places → Type 0
 AddsUse commons action u old new =
     Adds (UseMay commons action u) (UseMust action u) (IsWrittenAt commons u.context)
@@ -136,15 +139,15 @@ AddsUse commons action u old new =
 abbrev pub ActionMust : ResolvedAction → EnvironmentKey → Type 0
 ActionMust a p = (u : ResolvedUse) × (a.applies_to ≡ Some u) × UseMust a.uid u p
 
--- `ActionMay commons a p c` holds if `p` is a place of the action `a`, and `c` is its context, expanded.
+-- `ActionMay commons a p c` holds if `p` is a place of the action `a`, and `c` is the action's context, expanded.
 abbrev pub ActionMay : Declarations → ResolvedAction → EnvironmentKey → CedarType → Type 0
 ActionMay commons a p c = (u : ResolvedUse) × (a.applies_to ≡ Some u) × UseMay commons a.uid u p c
 
--- `IsContextWritten commons a` holds if the context of `a`, if it has one, is within the limits.
+-- `IsContextWritten commons a` holds if the context of `a`, if it has one, has an expansion within the limits.
 abbrev pub IsContextWritten : Declarations → ResolvedAction → Type 0
 IsContextWritten commons a = (u : ResolvedUse) → a.applies_to ≡ Some u → IsWrittenAt commons u.context
 
--- `IsContextClosed commons a` holds if each common type that is named in the context of `a` is declared.
+-- `IsContextClosed commons a` holds if each common type that the context of `a` names is declared in `commons`.
 abbrev pub IsContextClosed : Declarations → ResolvedAction → Type 0
 IsContextClosed commons a = (u : ResolvedUse) → a.applies_to ≡ Some u → IsClosedAt commons u.context
 
@@ -152,17 +155,20 @@ IsContextClosed commons a = (u : ResolvedUse) → a.applies_to ≡ Some u → Is
 abbrev pub IsContextRefused : Declarations → ResolvedAction → SchemaFault → Type 0
 IsContextRefused commons a f = (u : ResolvedUse) × (a.applies_to ≡ Some u) × IsRefusedAt commons u.context f
 
--- `AddsAction commons a old new` holds if the places of `a` were added.
+-- `AddsAction commons a old new` holds if the places of `a` were added, with the context of `a`, expanded, within the
+-- limits.
 abbrev pub AddsAction : Declarations → ResolvedAction → Places → Places → Type 0
 AddsAction commons a old new =
     Adds (ActionMay commons a) (ActionMust a) (IsContextWritten commons a) (get place_cmp old) (get place_cmp new)
 
--- `AddsActions commons us old new` holds if the places of the actions `us` were added.
+-- `AddsActions commons us old new` holds if the places of the actions `us` were added, with their contexts, expanded,
+-- within the limits.
 abbrev pub AddsActions : Declarations → List ResolvedAction → Places → Places → Type 0
 AddsActions commons us old new =
     AddsEach (ActionMay commons) ActionMust (IsContextWritten commons) us (get place_cmp old) (get place_cmp new)
 
--- `AreContextsClosed commons us` holds if each common type that is named in a context of the actions `us` is declared.
+-- `AreContextsClosed commons us` holds if each common type that a context of the actions `us` names is declared in
+-- `commons`.
 abbrev pub AreContextsClosed : Declarations → List ResolvedAction → Type 0
 AreContextsClosed commons us = (a : ResolvedAction) → Contains us a → IsContextClosed commons a
 
@@ -185,19 +191,19 @@ MemberMay parents a u us = (a.uid ≡ u) × (us ≡ parents u)
 abbrev pub MemberMust : ResolvedAction → EntityUid → Type 0
 MemberMust a u = a.uid ≡ u
 
--- `AddsMember parents a old new` holds if the parents of `a` were added.
+-- `AddsMember parents a old new` holds if the parents of `a` under `parents` were added.
 abbrev pub AddsMember : Parents → ResolvedAction → BTreeMap EntityUid (List EntityUid)
     → BTreeMap EntityUid (List EntityUid) → Type 0
 AddsMember parents a old new =
     Adds (MemberMay parents a) (MemberMust a) ⊤ (get uid_cmp old) (get uid_cmp new)
 
--- `AddsMembers parents us old new` holds if the parents of the actions `us` were added.
+-- `AddsMembers parents us old new` holds if the parents of the actions `us` under `parents` were added.
 abbrev pub AddsMembers : Parents → List ResolvedAction → BTreeMap EntityUid (List EntityUid)
     → BTreeMap EntityUid (List EntityUid) → Type 0
 AddsMembers parents us old new =
     AddsEach (MemberMay parents) MemberMust (λ a. ⊤) us (get uid_cmp old) (get uid_cmp new)
 
--- `AreMembers parents us members` holds if `members` has exactly the parents of the actions `us`.
+-- `AreMembers parents us members` holds if `members` has exactly the parents of the actions `us` under `parents`.
 abbrev pub AreMembers : Parents → List ResolvedAction → BTreeMap EntityUid (List EntityUid) → Type 0
 AreMembers parents us members =
     AddsEach (MemberMay parents) MemberMust (λ a. ⊤) us (λ u. None) (get uid_cmp members)

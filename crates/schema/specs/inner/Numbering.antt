@@ -20,7 +20,8 @@ use Rattle.schema.specs.inner.Filling.{Adds, AddsEach}
 abbrev pub Numbers : Type 0
 Numbers = EntityUid → Option ℕ
 
--- `IsApart at` holds if no two entities have the same number.
+-- `IsApart at` holds if no two entities have the same number in `at`. In this file `at` is a numbering, and `parents` a
+-- hierarchy.
 abbrev pub IsApart : Numbers → Type 0
 IsApart at = (u v : EntityUid) (i : ℕ) → at u ≡ Some i → at v ≡ Some i → u ≡ v
 

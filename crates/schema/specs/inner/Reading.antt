@@ -24,7 +24,7 @@ pub record AreEdges (s : ResolvedSchema) (parents : Parents) : Type 0 where
   pub are : parents ≡ action_parents s
   pub no_cycle : SomeActionIsOnCycle s → ⊥
 
--- `EdgesRefused s f` holds if some action is its own ancestor, and `f` is `ActionCycle`.
+-- `EdgesRefused s f` holds if some action of `s` is its own ancestor, and `f` is `ActionCycle`.
 abbrev pub EdgesRefused : ResolvedSchema → SchemaFault → Type 0
 EdgesRefused s f = (f ≡ ActionCycle) × SomeActionIsOnCycle s
 
@@ -36,7 +36,8 @@ pub record AreTypesOf (commons : Declarations) (s : ResolvedSchema) (t : Types) 
   pub environments : t.environments ≡ map environment_of places.entries
   pub ordered : tree.IsOrdered place_cmp places
 
--- `TypesRefused commons s f` holds if `f` is the error of some shape or context of `s`: its expansion is too large.
+-- `TypesRefused commons s f` holds if `f` is the error of some shape or context of `s`: its expansion by the common
+-- types `commons` is too large.
 abbrev pub TypesRefused : Declarations → ResolvedSchema → SchemaFault → Type 0
 TypesRefused commons s f = (r : Qualified) × IsShapeOrContext s r × TypeRefused commons r f
 

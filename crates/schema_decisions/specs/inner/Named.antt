@@ -21,7 +21,7 @@ abbrev pub outcome_of : Result Verdict TypeFault → CheckResult
 outcome_of (Ok verdict) = passes verdict.impossible
 outcome_of (Err fault) = refused fault
 
--- `set_apart is_first line` is `line` as it is appended to the lines before it: after a line feed, unless it is first.
+-- `set_apart is_first line` is `line` as it is appended to the lines before it: after a line feed, unless `is_first`.
 abbrev pub set_apart : Bool → List ℕ → List ℕ
 set_apart true line = line
 set_apart false line = line_end ∷ line

@@ -18,21 +18,23 @@ abbrev pub means_by : Option (List ℕ) → (List ℕ → Bool) → Bool → Boo
 means_by (Some q) known otherwise = known q
 means_by None known otherwise = otherwise
 
--- `is_known_non_record known s own r` tests whether the type `r` is not a record, where `known` tests whether a name is
--- that of a common type that is not a record.
+-- `is_known_non_record known s own r` tests whether the type `r`, written in the namespace `own` and resolved by `s`,
+-- is not a record. `known` tests whether a name is that of a common type that is not a record.
 abbrev pub is_known_non_record : (List ℕ → Bool) → Scope → Option (List ℕ) → Raw → Bool
 is_known_non_record known s own r = means_by (common_meant s own r) known (is_no_record s own r)
 
 -- ---- rounds
 
--- `NamesNoRecord ns q` holds if some common type with the full name `q` means a type that is not a record.
+-- `NamesNoRecord ns q` holds if some common type of the namespaces `ns` has the full name `q` and means a type that is
+-- not a record.
 pub record NamesNoRecord (ns : List NamespaceOf) (q : List ℕ) : Type 0 where
   pub common : CommonOf
   pub declared : Contains (commons_declared ns) common
   pub is : common.name ≡ q
   pub means : MeansNoRecord ns common.own common.type
 
--- `IsSound ns known` holds if each name of the set `known` is that of a common type that is not a record.
+-- `IsSound ns known` holds if each name of the set `known` is that of a common type of the namespaces `ns` that is not
+-- a record (`NamesNoRecord`).
 abbrev pub IsSound : List NamespaceOf → BTreeSet (String Global) → Type 0
 IsSound ns known = (q : List ℕ) → has_name known q ≡ true → NamesNoRecord ns q
 
@@ -40,8 +42,8 @@ IsSound ns known = (q : List ℕ) → has_name known q ≡ true → NamesNoRecor
 abbrev pub AreAmong : List CommonOf → List CommonOf → Type 0
 AreAmong cs all = (c : CommonOf) → Contains cs c → Contains all c
 
--- `IsSettled s known cs` holds if `known` has each of the common types `cs` that, by `known`, is not a record: none can
--- be added.
+-- `IsSettled s known cs` holds if `known` has each of the common types `cs` that, by `known` and `s`, is not a record
+-- (`is_known_non_record`): none can be added.
 abbrev pub IsSettled : Scope → BTreeSet (String Global) → List CommonOf → Type 0
 IsSettled s known cs =
     (c : CommonOf) → Contains cs c → is_known_non_record (λ q. has_name known q) s c.own c.type ≡ true
@@ -53,8 +55,8 @@ abbrev pub KeepsNames : Scope → List CommonOf → BTreeSet (String Global) →
 KeepsNames s cs old new =
     (ns : List NamespaceOf) → s ≡ scope_in ns → AreAmong cs (commons_declared ns) → IsSound ns old → IsSound ns new
 
--- `AddsNonRecords s cs old new` holds if a round over the common types `cs` keeps the set right, and adds a name
--- unless none can be added.
+-- `AddsNonRecords s cs old new` holds if a round over the common types `cs`, from the set `old` to the set `new`, keeps
+-- the set right (`IsSound`), and adds a name unless none can be added. `s` has the declared names of the file.
 pub record AddsNonRecords (s : Scope) (cs : List CommonOf) (old new : BTreeSet (String Global)) : Type 0 where
   pub sound : (ns : List NamespaceOf) → s ≡ scope_in ns → AreAmong cs (commons_declared ns) → IsSound ns old
       → IsSound ns new
@@ -70,8 +72,8 @@ abbrev pub tried_in_order : List CommonOf → List ℕ → List CommonOf
 tried_in_order cs [] = []
 tried_in_order cs (i ∷ is) = tried_one (slice_get cs i) ++ tried_in_order cs is
 
--- `ReportsRecords ns known` holds if `is_known_non_record`, with the test `known` of common types, is true of exactly
--- the types that mean a type that is not a record.
+-- `ReportsRecords ns known` holds if, in a file of the namespaces `ns`, `is_known_non_record` with the test `known` of
+-- common types is true of exactly the types that mean a type that is not a record.
 pub record ReportsRecords (ns : List NamespaceOf) (known : List ℕ → Bool) : Type 0 where
   pub sound : (own : Option (List ℕ)) (r : Raw) → is_known_non_record known (scope_in ns) own r ≡ true
       → MeansNoRecord ns own r
@@ -80,14 +82,14 @@ pub record ReportsRecords (ns : List NamespaceOf) (known : List ℕ → Bool) : 
 
 -- ---- shapes and contexts
 
--- `is_record_at known s own o` is false if the type in `o` is, by `known`, not a record, and true otherwise, also if
--- there is no type.
+-- `is_record_at known s own o` is false if the type in `o`, written in the namespace `own`, is not a record by `known`
+-- and `s` (`is_known_non_record`). It is true otherwise, also if there is no type.
 abbrev pub is_record_at : (List ℕ → Bool) → Scope → Option (List ℕ) → Option Raw → Bool
 is_record_at known s own None = true
 is_record_at known s own (Some r) = not (is_known_non_record known s own r)
 
--- `is_record_in known s own o` tests the same of the context of an action that applies to `o`; it is true if the action
--- applies to nothing.
+-- `is_record_in known s own o` tests the same (`is_record_at`) of the context of an action that applies to what is in
+-- `o`; it is true if the action applies to nothing (`None`).
 abbrev pub is_record_in : (List ℕ → Bool) → Scope → Option (List ℕ) → Option UseOf → Bool
 is_record_in known s own None = true
 is_record_in known s own (Some u) = is_record_at known s own u.context
@@ -108,6 +110,7 @@ are_records_of known s n = are_shapes known s n.name n.entity_types && are_conte
 abbrev pub are_records : (List ℕ → Bool) → Scope → List NamespaceOf → Bool
 are_records known s ns = list_all (λ n. are_records_of known s n) ns
 
--- `MayRefuseRecords ns f` holds if `f` may be the error of checking that shapes and contexts are records.
+-- `MayRefuseRecords ns f` holds if `f` may be the error of checking that the shapes and contexts of the namespaces `ns`
+-- are records: `NoMemory`, or `BadShape` if one of them is not a record.
 abbrev pub MayRefuseRecords : List NamespaceOf → SchemaFault → Type 0
 MayRefuseRecords ns f = (f ≡ NoMemory) ⊎ ((f ≡ BadShape) × SomeIsNoRecord ns)

@@ -34,12 +34,12 @@ abbrev pub in_list : Option ℕ → List ℕ
 in_list None = []
 in_list (Some a) = a ∷ []
 
--- `place_used place s c` is the list of one index, that of the common type whose name is the definition of `c`; `[]` if
--- the definition is not such a name.
+-- `place_used place s c` is the list of one index, that which `place` gives for the common type whose name is the
+-- definition of `c`; `[]` if the definition is not such a name. `s` has the declared names.
 abbrev pub place_used : (List ℕ → Option ℕ) → Scope → CommonOf → List ℕ
 place_used place s c = in_list (place_meant place (common_meant s c.own c.type))
 
--- `uses s commons` is the graph in which an edge leads from the index of each common type whose definition is only the
--- name of another to the index of that other.
+-- `uses s commons` is the graph of the common types `commons`: an edge leads from the index of each whose definition is
+-- only the name of another to the index of that other. `s` has the declared names.
 abbrev pub uses : Scope → List CommonOf → Graph
 uses s commons = map (λ c. place_used (place_of commons) s c) commons

@@ -6,7 +6,7 @@ use Rattle.schema_types.specs.Raw.{Raw}
 use Rattle.schema_types.specs.TypeShape.{formed, type_of, attributes_of}
 use Rattle.schema_types.specs.declared.fault.SchemaFault.{SchemaFault}
 
--- `type_rule is_attribute d` is the type that `d` describes, or the first error.
+-- `type_rule is_attribute d` is the type that `d` describes, or the first error; `is_attribute` is as in `type_of`.
 abbrev pub type_rule : Bool → Data → Result Raw SchemaFault
 type_rule is_attribute d =
     formed is_attribute d (option_map (type_of false) (get (codes "element") d))

@@ -39,6 +39,7 @@ place_from i (d ∷ ds) q found = place_from (i + 1) ds q (if bytes_eq d.0 q the
 abbrev pub place_of : Declarations → List ℕ → Option ℕ
 place_of commons q = place_from 0 commons q None
 
--- `uses commons` is the graph that has, for the index of each common type, the indices of those that it mentions.
+-- `uses commons` is the graph that has, for the index of each of the common types `commons`, the indices of those that
+-- it mentions.
 abbrev pub uses : Declarations → Graph
 uses commons = map (λ d. places_named (place_of commons) d.1) commons

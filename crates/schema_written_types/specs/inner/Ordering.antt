@@ -22,35 +22,37 @@ abbrev pub times_on : ℕ → List Step → ℕ
 times_on a [] = 0
 times_on a (s ∷ path) = one_if_same a s.place + times_on a path
 
--- `entered seen a path` is `path` with a step for the node `a` at its end, if `a` was not seen, else `path`.
+-- `entered seen a path` is `path` with a step for the node `a` at its end, if `a` is a node that is not marked in
+-- `seen`, else `path`.
 abbrev pub entered : List Bool → ℕ → List Step → List Step
 entered seen a path = if is_new seen a then record { place = a; followed = 0 } ∷ path else path
 
--- `IsFollowed g order next a b` holds if the edge from `a` to `b` leads to a listed node, to a node that leads back to
--- `a`, or to `next`, the node after `a` on the path.
+-- `IsFollowed g order next a b` holds if, in the graph `g`, the edge from `a` to `b` leads to a node of `order`, to a
+-- node that leads back to `a`, or to the node in `next`, which is the one after `a` on the path.
 abbrev pub IsFollowed : Graph → List ℕ → Option ℕ → ℕ → ℕ → Type 0
 IsFollowed g order next a b = (Contains order b ⊎ Leads g b a) ⊎ (next ≡ Some b)
 
 -- `AreFollowed g order next s` holds if `IsFollowed` holds for each edge that the step `s` has followed, unless the
--- edge leads out of the graph.
+-- edge leads out of the graph `g`.
 abbrev pub AreFollowed : Graph → List ℕ → Option ℕ → Step → Type 0
 AreFollowed g order next s = (k b : ℕ) → k < s.followed → k < length (ends_of g s.place)
     → slice_index_or (ends_of g s.place) k b ≡ b → b < length g → IsFollowed g order next s.place b
 
--- `IsEdgeTo g a next` holds if an edge leads from `a` to the node in `next`, or `next` is `None`.
+-- `IsEdgeTo g a next` holds if an edge of the graph `g` leads from `a` to the node in `next`, or `next` is `None`.
 abbrev pub IsEdgeTo : Graph → ℕ → Option ℕ → Type 0
 IsEdgeTo g a None = ⊤
 IsEdgeTo g a (Some b) = Contains (ends_of g a) b
 
--- `IsPath g order next path` holds if an edge leads from the node of each step to that of the step after it, and from
--- the last to `next`, and `AreFollowed` holds for each step.
+-- `IsPath g order next path` holds if an edge of the graph `g` leads from the node of each step of `path` to that of
+-- the step after it, and from the last to the node in `next`; and if `AreFollowed` holds for each step.
 abbrev pub IsPath : Graph → List ℕ → Option ℕ → List Step → Type 0
 IsPath g order next [] = ⊤
 IsPath g order next (s ∷ path) =
     AreFollowed g order next s × IsEdgeTo g s.place next × IsPath g order (Some s.place) path
 
--- `IsWalk g path seen order` holds if each seen node occurs exactly once, on the path or in the order, no other node
--- occurs, each step satisfies `IsPath`, and each listed node comes after its successors (`ComeAfterSuccessors`).
+-- `IsWalk g path seen order` holds if each node that is marked in `seen` occurs exactly once, on `path` or in `order`,
+-- and no other node occurs; `path` is a path of the graph `g` (`IsPath`); and each node of `order` comes after its
+-- successors (`ComeAfterSuccessors`).
 pub record IsWalk (g : Graph) (path : List Step) (seen : List Bool) (order : List ℕ) : Type 0 where
   pub len : length seen ≡ length g
   pub counts : (a : ℕ) → times a order + times_on a path ≡ one_if_seen seen a
@@ -63,23 +65,27 @@ KeepsSeen old new = (a : ℕ) → one_if_seen old a ≡ 1 → one_if_seen new a 
 
 -- ---- remaining effort
 
--- `unseen_effort g seen` is the number of nodes that were not seen, plus the number of their edges.
+-- `unseen_effort g seen` is the number of nodes of the graph `g` that are not marked in `seen`, plus the number of
+-- their edges.
 abbrev pub unseen_effort : Graph → List Bool → ℕ
 unseen_effort [] ss = 0
 unseen_effort (v ∷ vs) [] = 0
 unseen_effort (v ∷ vs) (s ∷ ss) = (if s then 0 else suc (length v)) + unseen_effort vs ss
 
--- `path_effort g path` is the number of steps of the path, plus the number of their edges that were not followed.
+-- `path_effort g path` is the number of steps of `path`, plus the number of their edges in the graph `g` that were not
+-- followed.
 abbrev pub path_effort : Graph → List Step → ℕ
 path_effort g [] = 0
 path_effort g (s ∷ path) = suc (length (ends_of g s.place) - s.followed) + path_effort g path
 
--- `effort g path seen` is the sum of these two: the measure of the search, which decreases with each turn.
+-- `effort g path seen` is the sum of `path_effort g path` and `unseen_effort g seen`: the measure of the search, which
+-- decreases with each turn.
 abbrev pub effort : Graph → List Step → List Bool → ℕ
 effort g path seen = path_effort g path + unseen_effort g seen
 
 -- `WalksOn g path path' seen seen' order order'` holds if one turn of the search, from the lists `path`, `seen` and
--- `order` to the primed ones, preserves the invariant `IsWalk` and the seen nodes, and decreases the measure.
+-- `order` to the primed ones, preserves the invariant `IsWalk` and the marks of nodes, and decreases the measure, all
+-- in the graph `g`.
 pub record WalksOn (g : Graph) (path path' : List Step) (seen seen' : List Bool) (order order' : List ℕ)
     : Type 0 where
   pub walks : IsWalk g path seen order → IsWalk g path' seen' order'

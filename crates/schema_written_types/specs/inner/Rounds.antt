@@ -10,8 +10,8 @@ use Rattle.schema_written_types.specs.TypeTables.{TableEntry, IsTable}
 use Rattle.schema_written_types.specs.TableViews.{type_table}
 use Rattle.schema_written_types.specs.inner.Table.{size_in, built_of, AreSettled}
 
--- `Stays d old new` holds if the table is unchanged, since it has an entry for the name of the declaration `d`, or
--- lacks one for a name that `d` mentions.
+-- `Stays d old new` holds if the table `new` is the table `old`, and `old` has an entry for the name of the declaration
+-- `d`, or lacks one for a name that `d` mentions.
 pub record Stays (d : List ℕ × Qualified) (old new : BTreeMap (String Global) Known) : Type 0 where
   pub same : new ≡ old
   pub settled : type_table old d.0 ≡ None → size_in (type_table old) d.1 ≡ None
@@ -24,7 +24,8 @@ pub record Adds (d : List ℕ × Qualified) (old new : BTreeMap (String Global) 
   pub whole : added.whole ≡ built_of (type_table old) added.size d.1
   pub known : (q : List ℕ) → type_table new q ≡ (if bytes_eq d.0 q then Some added else type_table old q)
 
--- `Steps d old new` holds if an entry for the declaration `d` was added to the table, or none could be.
+-- `Steps d old new` holds if the table `new` is the table `old` with an entry for the declaration `d`, or is `old`,
+-- since no such entry can be added.
 abbrev pub Steps : List ℕ × Qualified → BTreeMap (String Global) Known → BTreeMap (String Global) Known → Type 0
 Steps d old new = Stays d old new ⊎ Adds d old new
 
@@ -38,8 +39,8 @@ abbrev pub KeepsTable : Declarations → BTreeMap (String Global) Known → BTre
 KeepsTable ds old new =
     (commons : Declarations) → AreAmong ds commons → IsTable commons (type_table old) → IsTable commons (type_table new)
 
--- `Rounds ds old new` holds if a round over the declarations `ds` keeps the table right, and adds an entry unless none
--- can be added.
+-- `Rounds ds old new` holds if a round over the declarations `ds`, from the table `old` to the table `new`, keeps the
+-- table right (`IsTable`), and adds an entry unless none can be added.
 pub record Rounds (ds : Declarations) (old new : BTreeMap (String Global) Known) : Type 0 where
   pub sound : (commons : Declarations) → AreAmong ds commons → IsTable commons (type_table old)
       → IsTable commons (type_table new)

@@ -57,6 +57,7 @@ unfoldable mutual
   written_in known (qualified.entity n) = Some (cedar.entity n)
   written_in known (qualified.common q) = option_and_then (λ k. k.whole) (known q)
 
+  -- `fields_in known rs` are the fields `rs`, with each type replaced by its expansion, under the same condition.
   pub fields_in : TypeTable → QualifiedFields → Option CedarFields
   fields_in known qualified.no_fields = Some cedar.no_fields
   fields_in known (qualified.field k r required rs) =
@@ -78,7 +79,8 @@ pub record IsCounted (known : TypeTable) (r : Qualified) : Type 0 where
   pub is : size_in known r ≡ Some size
   pub small : fits size ≡ true
 
--- `built_of known s r` is the expansion of `r`, or `None` if the size `s` of the expansion is not within the limits.
+-- `built_of known s r` is the expansion of `r` by the table `known` (`written_in`), or `None` if the size `s` of the
+-- expansion is not within the limits.
 abbrev pub built_of : TypeTable → Extent → Qualified → Option Cedar
 built_of known s r = if fits s then written_in known r else None
 

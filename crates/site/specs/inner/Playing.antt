@@ -1,5 +1,5 @@
--- Defines the effect of one event on a system as the code has it: the sites themselves, and the bytes of messages and
--- summaries.
+-- Defines the effect of one event on the values of the code that represent a system: the sites, and the bytes of
+-- messages and summaries.
 use Rattle.std.specs.Prelude.{◌≡◌, ℕ, List, slice_get, Option, Some, None}
 use Rattle.site_steps.specs.schema.Schemas.{StatedSchema}
 use Rattle.site_steps.specs.stamped_store.Store.{Store}
@@ -15,7 +15,7 @@ use Rattle.site.specs.Worlds.{Happens, input_by}
 use Rattle.site.specs.Played.{IsViewOf}
 
 -- `input_among messages summaries d` is the input that the operation `d` gives its site, where `messages` and
--- `summaries` are the bytes of those made so far.
+-- `summaries` are the bytes of those made so far; `None` if the one that `d` names does not exist.
 abbrev pub input_among : List (List ℕ) → List (List ℕ) → Operation → Option Input
 input_among messages summaries d = input_by (slice_get messages) (slice_get summaries) d
 
@@ -26,9 +26,9 @@ AnswersOperation schema n s None None t = t ≡ s
 AnswersOperation schema n s (Some i) (Some r) t = Step schema n s i r t
 AnswersOperation schema n s _ _ t = ⊥
 
--- `IsEventStep seen messages summaries e a seen2 messages2 summaries2` relates two views of a system, each the sites
--- and the bytes of messages and summaries. It holds if the event `e` with the reply `a` leads from each state with the
--- first view to a state with the second.
+-- `IsEventStep seen messages summaries e a seen2 messages2 summaries2` holds if, from each state that `seen`,
+-- `messages` and `summaries` represent (`IsViewOf`), the event `e` with the reply `a` leads to a state that `seen2`,
+-- `messages2` and `summaries2` represent.
 abbrev pub IsEventStep : List SiteView → List (List ℕ) → List (List ℕ) → Event → EventReply → List SiteView
     → List (List ℕ) → List (List ℕ) → Type 0
 IsEventStep seen messages summaries e a seen2 messages2 summaries2 = (schema : StatedSchema) (sites : List SiteName)

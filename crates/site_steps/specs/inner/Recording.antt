@@ -20,8 +20,8 @@ use Rattle.site_steps.specs.declared.outcome.Put.{Put}
 use Rattle.site_steps.specs.Admitted.{IsEntityUnder, IsAdmitted, entity_stated, IsNoRequest}
 use Rattle.site_steps.specs.Steps.{Records, IsClockFull, most_count}
 
--- `RecordsOr n s name body r t` holds if `body` is stamped and stored under `name`; or the clock is full or an
--- allocation failed, and `t` is `s`.
+-- `RecordsOr n s name body r t` holds if `r` is a stamp with which `body` is stored under `name` (`Records`); or `r` is
+-- `ClockFull` or `NoMemory`, and `t` is `s`.
 abbrev pub RecordsOr : List ℕ → Store → Name → Option (List ℕ) → Result Stamp SiteFault → Store → Type 0
 RecordsOr n s name body (Ok stamp) t = Records n s name body stamp t
 RecordsOr n s name body (Err fault.NoMemory) t = t ≡ s
@@ -33,8 +33,8 @@ abbrev pub IsNext : List ℕ → Store → Option Stamp → Type 0
 IsNext n s (Some stamp) = (greatest_count s < most_count) × (stamp ≡ issue s n)
 IsNext n s None = greatest_count s ≡ most_count
 
--- `PutsUnless n s cycle uid text r t` holds if `cycle` is false, and `text` is put under `uid`; or `cycle` is true, `r`
--- is `WouldCycle`, and `t` is `s`; or `cycle` is an error, `r` is `NoMemory`, and `t` is `s`.
+-- `PutsUnless n s cycle uid text r t` holds if `cycle` is false, and `text` is stored under `uid` as by `RecordsOr`; or
+-- `cycle` is true, `r` is `WouldCycle`, and `t` is `s`; or `cycle` is an error, `r` is `NoMemory`, and `t` is `s`.
 abbrev pub PutsUnless : {E : Type 0} → List ℕ → Store → Result Bool E → EntityUid → List ℕ → Result Stamp SiteFault
     → Store → Type 0
 PutsUnless n s (Ok false) uid text r t = RecordsOr n s (entity_name uid) (Some text) r t

@@ -8,20 +8,21 @@ use Rattle.typing.specs.Rows.{and_type}
 use Rattle.typing.specs.Typing.{Types}
 use Rattle.typing.specs.Faults.{Faults}
 
--- `and_so_far s t` is the type of the conjunction of the parts so far, of the type `s` (`None` without parts), and
--- a part of the type `t`.
+-- `and_so_far s t` is the type of a conjunction with one more part, of the type `t`. Without it, the conjunction has
+-- the type `s`, or no part if `s` is `None`.
 abbrev pub and_so_far : Option StaticType → StaticType → StaticType
 and_so_far None t = t
 and_so_far (Some s) t = and_type s t
 
--- `IsSide s t` holds if a part of the type `t` may follow parts so far of the type `s`: a part alone (`None`) has any
--- type, a side of `&&` a boolean one.
+-- `IsSide s t` holds if a part of the type `t` may follow a conjunction of the type `s`. A side of `&&` has a boolean
+-- type; the only part of a conjunction (`s` is `None`) may have any type.
 pub data IsSide : Option StaticType → StaticType → Type 0 where
   alone : {t : StaticType} → IsSide None t
   behind : {s t : StaticType} → IsBoolean t → IsSide (Some s) t
 
--- `Leads env s K x whole` holds if the judgement on the rest `x`, under the capabilities `K`, gives the judgement on
--- the conjunction `whole`, under no capabilities, where the parts before `x` have the type `s` (`None` without any).
+-- `Leads env s K x whole` holds if, in the environment `env`, the judgement on the rest `x` of the conjunction `whole`
+-- gives the judgement on `whole`. For `x` the capabilities `K` are known, for `whole` none. The conjunction of the
+-- parts before `x` has the type `s`, which is `None` if there are no parts.
 pub record Leads (env : Environment) (s : Option StaticType) (K : Pairs) (x whole : Expr) : Type 0 where
   pub types : (t : StaticType) (L : Pairs) → Types env K x t L → IsSide s t
       → (M : Pairs) × Types env [] whole (and_so_far s t) M

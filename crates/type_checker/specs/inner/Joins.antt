@@ -1,5 +1,5 @@
--- Defines what a `Join` says of two types: whether they have a common type, and whether the common type is the left
--- type.
+-- Defines what a `Join` describes of two types: whether they have a common type, and whether the common type is the
+-- left type.
 use Rattle.std.specs.Prelude.{◌≡◌, Option, Some, None, IsSome}
 use Rattle.type_checker.specs.declared.type_joins.Join.{Join}
 use Rattle.type_checker.specs.declared.type_joins.Join.TheVariants as join

@@ -1,6 +1,6 @@
 -- Defines the contracts of the typing functions: which results are a type with the gained capabilities, or an error of
--- typing. A result `NoMemory` meets each of them, except `IsRow` and `IsBranch`. `after` are the capabilities on the
--- stack afterwards: if the result is a type, the same as before.
+-- typing. A result `NoMemory` meets each of them, except `IsRow` and `IsBranch`. Below, expressions are typed in the
+-- environment `env`, where the capabilities `K` are known. `after` are the capabilities on the stack afterwards.
 use Rattle.std.specs.Prelude.{◌≡◌, ◌≢◌, ◌⊎◌, List, [], ◌∷◌, ◌++◌, map, Vec, Result, Ok, Err, MatchResult}
 use Rattle.grammar_core.specs.declared.operator.UnaryCall.{UnaryCall}
 use Rattle.grammar_core.specs.declared.expr.Expr.{Expr}
@@ -25,23 +25,23 @@ use Rattle.type_checker.specs.declared.typed.Then.TheVariants as then
 use Rattle.type_capabilities.specs.Pairs.{pairs}
 use Rattle.std.specs.declared.alloc.Global.{Global}
 
--- `Judged env K x r after` holds if `r` is the type of `x` with the capabilities that it gains, or the error of `x`,
--- where the capabilities `K` are known.
+-- `Judged env K x r after` holds if `r` is the type of `x` with the capabilities that it gains, and `after` is `K`; or
+-- if `r` is the error of `x`.
 abbrev pub Judged : Environment → Pairs → Expr → Result Typed ExpressionFault → Pairs → Type 0
 Judged env K x r after =
     MatchResult r (λ t. (after ≡ K) × Types env K x (static_view t.kind) (pairs t.learns.items))
     (λ f. f ≢ NoMemory → Faults env K x (fault_view f))
 
--- `JudgedUnder env K L x r after` is the same where the capabilities `K` and then `L` are known, except that `r` has
--- the capabilities `L` and then those that `x` gains, and that `after` is `K`.
+-- `JudgedUnder env K L x r after` holds if `r` is the type of `x` with the capabilities `L` and then those that `x`
+-- gains, and `after` is `K`; or if `r` is the error of `x`. Here the capabilities `K` and then `L` are known.
 abbrev pub JudgedUnder : Environment → Pairs → Pairs → Expr → Result Typed ExpressionFault → Pairs → Type 0
 JudgedUnder env K L x r after =
     MatchResult r (λ t. (after ≡ K) × ((M : Pairs) × Types env (K ++ L) x (static_view t.kind) M
     × (pairs t.learns.items ≡ L ++ M)))
     (λ f. f ≢ NoMemory → Faults env (K ++ L) x (fault_view f))
 
--- `JudgedEach env K xs r after` holds if `r` has the types of the expressions `xs`, in order, or is the error of the
--- first that has one.
+-- `JudgedEach env K xs r after` holds if `r` has the types of the expressions `xs`, in order, and `after` is `K`; or if
+-- `r` is the error of the first expression that has one.
 abbrev pub JudgedEach : Environment → Pairs → List Expr
     → Result (Vec built.StaticType Global) ExpressionFault → Pairs → Type 0
 JudgedEach env K xs r after =
@@ -59,8 +59,8 @@ abbrev pub MembersHave : Environment → Pairs → List Expr → List StaticType
 MembersHave env K xs ts =
     (us : List StaticType) × TypesEach env K xs us × (set_literal_type us ≡ set_literal_type ts)
 
--- `JudgedMembers env K xs r after` holds if `r` has the types of the members `xs`, up to repeats, or is the error of
--- the first that has one.
+-- `JudgedMembers env K xs r after` holds if `r` has types that the members `xs` have by `MembersHave`, and `after` is
+-- `K`; or if `r` is the error of the first member that has one.
 abbrev pub JudgedMembers : Environment → Pairs → List Expr
     → Result (Vec built.StaticType Global) ExpressionFault → Pairs → Type 0
 JudgedMembers env K xs r after =
@@ -80,8 +80,8 @@ ThenIs env K a b then.Skipped = (L : Pairs) × Types env K a false_type L
 ThenIs env K a b (then.Only t) = ThenTyped env K a b true_type t
 ThenIs env K a b (then.Both t) = ThenTyped env K a b boolean_type t
 
--- `ThenJudged env K a b r after` holds if `r` is the judgement on `if a then b`, or the error of each expression
--- `if a then b else c`.
+-- `ThenJudged env K a b r after` holds if `r` is the judgement on `if a then b` (`ThenIs`), and `after` is `K`; or if
+-- `r` is the error of each expression `if a then b else c`.
 abbrev pub ThenJudged : Environment → Pairs → Expr → Expr → Result Then ExpressionFault → Pairs → Type 0
 ThenJudged env K a b r after =
     MatchResult r (λ t. (after ≡ K) × ThenIs env K a b t)

@@ -1,4 +1,4 @@
--- Defines the static type that a declared type represents, given by its outermost layer.
+-- Defines the static type that a declared type represents, where the declared type is given by its outermost layer.
 use Rattle.typing.specs.Types as types
 use Rattle.typing.specs.Types.{boolean_type, long_type, text_type, entity_type, set_type, record_type}
 use Rattle.typing.specs.Types.{decimal_type, ipaddr_type}

@@ -16,7 +16,7 @@ abbrev pub MayBeTrueResult : Result Typed ExpressionFault → Type 0
 MayBeTrueResult r = MatchResult r (λ t. MayBeTrue (static_view t.kind)) (λ f. ⊥)
 
 -- `RepeatsTestedOperand env left test op a b n` holds if `left` is `a is n`, the result `test` of typing `left` is True
--- or Bool, and literals do not decide the result of `a op b`.
+-- or Bool, and literals do not decide the result of `a op b` in the environment `env`.
 abbrev pub RepeatsTestedOperand : Environment → Expr → Result Typed ExpressionFault → Binary → Expr → Expr → List ℕ
     → Type 0
 RepeatsTestedOperand env left test op a b n =

@@ -39,12 +39,12 @@ paired (Some a) (Some b) =
     then Some (record { key = a.key; left = a.part; right = b.part; required = a.required }) else None
 paired a b = None
 
--- `is_decimal t` tests for the type of decimals.
+-- `is_decimal t` tests whether `t` is the type of decimals.
 abbrev pub is_decimal : StaticType → Bool
 is_decimal decimal_type = true
 is_decimal t = false
 
--- `is_ipaddr t` tests for the type of IP addresses.
+-- `is_ipaddr t` tests whether `t` is the type of IP addresses.
 abbrev pub is_ipaddr : StaticType → Bool
 is_ipaddr ipaddr_type = true
 is_ipaddr t = false

@@ -26,7 +26,7 @@ abbrev pub scope_parts : Scope → List Expr
 scope_parts scope =
     entity_part Principal scope.principal ∷ action_part scope.action ∷ entity_part Resource scope.resource ∷ []
 
--- `typed_in s ps` is the list of typing environments of the environments `ps` of `s`.
+-- `typed_in s ps` is the list of typing environments of the environments `ps` of the schema `s`.
 abbrev pub typed_in : StatedSchema → List given.Environment → List Environment
 typed_in s ps = map (λ p. typing_environment_of s (environment_view p)) ps
 
@@ -38,8 +38,8 @@ ReportsFalse (Ok t) (Err f) = ⊥
 ReportsFalse (Err f) (Ok b) = ⊥
 ReportsFalse (Err f) (Err g) = g ≡ of_types f
 
--- `IsJudged env x r` holds if `x` has a boolean type in `env` and `r` is whether this is False; or `r` is `NoMemory`,
--- or the error of typing `x` in `env`.
+-- `IsJudged env x r` holds if `x` has a boolean type in `env` and `r` is whether this type is False; or `r` is
+-- `NoMemory`, or the error of typing `x` in `env`.
 abbrev pub IsJudged : Environment → Expr → Result Bool TypeFault → Type 0
 IsJudged env x (Ok b) = HasBooleanType x env × Decides b (HasType x false_type env)
 IsJudged env x (Err f) = f ≢ NoMemory → (n : ExpressionFault) × (f ≡ of_typing n) × Faults env [] x n

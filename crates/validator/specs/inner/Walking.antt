@@ -38,12 +38,12 @@ in_turn (r ∷ rs) = and_then r (in_turn rs)
 abbrev pub or_fault : TypeFault → Bool → WalkResult
 or_fault f b = if b then Ok tt else Err f
 
--- `type_at n o` tests whether `o` is present, and of the type `n`.
+-- `type_at n o` tests whether `o` is an entity of the type `n`; it is false if `o` is `None`.
 abbrev pub type_at : List ℕ → Option EntityUid → Bool
 type_at n None = false
 type_at n (Some u) = bytes_eq u.type_name n
 
--- `is_type_of_action s n` tests whether `s` declares an action of type `n`.
+-- `is_type_of_action s n` tests whether the schema `s` declares an action of type `n`.
 abbrev pub is_type_of_action : StatedSchema → List ℕ → Bool
 is_type_of_action s n = list_any (λ u. bytes_eq u.type_name n) s.actions
 
@@ -82,8 +82,8 @@ abbrev pub operator_check : StatedSchema → Unary → WalkResult
 operator_check s (Is n) = tested_type_check s n
 operator_check s op = Ok tt
 
--- `walk_step s form` is the result of checking an expression of the form `form`, which has the result of each operand
--- in place of the operand.
+-- `walk_step s form` is the result of checking an expression of the form `form` under `s`. The form has the result of
+-- each operand in place of the operand.
 abbrev pub walk_step : StatedSchema → Expr-F WalkResult → WalkResult
 walk_step s (Expr-F.Literal l) = literal_check s l
 walk_step s (Expr-F.Variable x) = Ok tt
@@ -107,10 +107,11 @@ walk s = fold-Expr WalkResult (walk_step s)
 abbrev pub named_walk : StatedSchema → Named Expr → Named WalkResult
 named_walk s f = record { name = f.name; value = walk s f.value }
 
--- `names_check s ns` is the result of checking the names `ns` in turn.
+-- `names_check s ns` is the result of checking the names `ns` under `s` in turn.
 abbrev pub names_check : StatedSchema → List Name → WalkResult
 names_check s ns = in_turn (map (name_check s) ns)
 
--- `parts_check s parts condition` is the result of checking the expressions `parts` in turn, and then `condition`.
+-- `parts_check s parts condition` is the result of checking the names of the expressions `parts` under `s` in turn, and
+-- then those of `condition`.
 abbrev pub parts_check : StatedSchema → List Expr → Expr → WalkResult
 parts_check s parts condition = and_then (in_turn (map (walk s) parts)) (walk s condition)
