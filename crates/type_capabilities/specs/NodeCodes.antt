@@ -262,6 +262,8 @@ abbrev read : List NodeCode → List Expr
 read [] = []
 read (t ∷ ts) = read_one t (read ts)
 
+-- `literal_read`, `unary_back` and `named_back`: a literal, a unary operator and the fields of a record are read back
+-- from their contents. `take_front` and `drop_front`: the parts of `xs ++ st` up to and after the length of `xs`.
 literal_read : (l : Literal) (st : List Expr) → read_one (0, literal_content l) st ≡ form.Literal l ∷ st
 literal_read (literal.Boolean b) st = ap (λ c. form.Literal (literal.Boolean c) ∷ st) (is_one-as_number b)
 literal_read (literal.Long z) st = refl
@@ -354,6 +356,7 @@ all_read_back = record {
       (λ st. ap (λ d. form.BinaryCall d a b ∷ st) (binary_call_back c));
 }
 
+-- `from_codes-codes`: an expression is the first that is read from its node codes.
 from_codes-codes : (x : Expr) → first (read (node_codes x)) ≡ x
 from_codes-codes x =
     ap (λ ts. first (read ts)) (sym (append-nil (node_codes x))) ∙ ap first (by_forms IsReadBack all_read_back x [])

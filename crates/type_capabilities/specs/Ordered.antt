@@ -45,6 +45,8 @@ code_cmp = then_cmp (on (λ t. t.0) nat_cmp) (on (λ t. t.1) content_cmp)
 abbrev codes_cmp : List NodeCode → List NodeCode → Ordering
 codes_cmp = slice_cmp code_cmp
 
+-- `then_equal`, `then_assoc` and `both_equal`: for `ordering_then`, `Equal` is neutral on the right; it is associative;
+-- and it gives `Equal` only for two `Equal`.
 then_equal : (o : Ordering) → ordering_then o Equal ≡ o
 then_equal Less = refl
 then_equal Equal = refl
@@ -62,6 +64,7 @@ both_equal Greater p e = absurd (cc)
 
 -- ---- content
 
+-- Booleans compare as their numbers, literals and unary operators as their contents.
 bool_by_number : (a b : Bool) → int_cmp (as_number a) (as_number b) ≡ bool_cmp a b
 bool_by_number false false = refl
 bool_by_number false true = refl
@@ -135,14 +138,16 @@ as_many (x ∷ xs) [] h e = absurd (omega (arith, e))
 as_many (x ∷ xs) (y ∷ ys) h e =
     one_more x y xs ys (each_cmp (map expr_cmp xs) ys) h.0 (as_many xs ys h.1 (omega (arith, e)))
 
--- `headed`: an expression whose content compares as `o`, and whose operands compare as `p` if `o` is `Equal`.
+-- `headed`: let contents compare as `o`, and operands as `p`. If for equal contents `p` and then `t` compare as `r`,
+-- then `o`, `p` and `t`, one after another, compare as `o` and then `r`.
 headed : (o p : Ordering) (t r : Ordering) → (o ≡ Equal → ordering_then p t ≡ r)
     → ordering_then (ordering_then o p) t ≡ ordering_then o r
 headed Less p t r h = refl
 headed Equal p t r h = h refl
 headed Greater p t r h = refl
 
--- `headed_as`: the same as `headed`, if the node codes of the contents compare as `k`, which equals `o`.
+-- `headed_as`: the same with `k` and then `r` on the right, where the node codes of the contents compare as `k`, which
+-- equals `o`.
 headed_as : (o k p t r : Ordering) → k ≡ o → (o ≡ Equal → ordering_then p t ≡ r)
     → ordering_then (ordering_then o p) t ≡ ordering_then k r
 headed_as o k p t r e h = headed o p t r h ∙ ap (λ z. ordering_then z r) (sym e)
@@ -300,6 +305,7 @@ A = Expr → Ordering
 abbrev B : Type 0
 B = List NodeCode
 
+-- `all_by_codes`: an expression of each kind compares with any other as their node codes do, if its operands do.
 all_by_codes : Cases IsByCodes
 all_by_codes = record {
   literal = λ l. from_layer (form.Literal l) (Expr-F.Literal l) (Expr-F.Literal l) (fold_literal A Step l)
@@ -338,6 +344,7 @@ by_codes x y =
     ∙ (ap (λ us. codes_cmp us (node_codes y ++ [])) (append-nil (node_codes x))
     ∙ ap (λ us. codes_cmp (node_codes x) us) (append-nil (node_codes y))))
 
+-- The orders of contents, and of expressions by their node codes, are total.
 content_cmp_total : IsTotalOrder content_cmp
 content_cmp_total = then_total (on_total (λ t. t.0) nat_cmp_total) (then_total (on_total (λ t. t.1.0) nat_cmp_total)
     (then_total (on_total (λ t. t.1.1.0) int_cmp_total) (on_total (λ t. t.1.1.1) (lists_total nat_list_cmp_total))))
@@ -354,6 +361,7 @@ expr_cmp-IsTotalOrder = record {
   congr = λ x y z h. by_codes x z ∙ (by_codes_total.congr x y z (sym (by_codes x y) ∙ h) ∙ sym (by_codes y z));
 }
 
+-- Contents with equal parts are equal. Only equal contents, and only equal node codes, compare as equal.
 same_content : (x y : Content) → x.0 ≡ y.0 → x.1.0 ≡ y.1.0 → x.1.1.0 ≡ y.1.1.0 → x.1.1.1 ≡ y.1.1.1 → x ≡ y
 same_content x y p q r s =
     ap (λ n. (n, x.1)) p ∙ (ap (λ n. (y.0, (n, x.1.1))) q

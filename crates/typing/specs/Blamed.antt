@@ -40,7 +40,7 @@ abbrev pub under : ℕ → Blame → Blame
 under i b = record { path = i ∷ b.path; form = b.form; types = b.types }
 
 abbrev mutual
-  -- `blamed g` is what the derivation `g` of an error blames, by one clause for each rule
+  -- `blamed g` is what the derivation `g` of an error blames, by one clause for each rule.
   pub blamed : {env : Environment} {K : Pairs} {x : Expr} {n : ExpressionFault} → Faults env K x n → Blame
   blamed (fault_in_operand w g) = blamed_each 0 g
   blamed (fault_of_unary op a {s} h e) = at_operand 0 (form.Unary op a) (s ∷ [])
