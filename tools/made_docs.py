@@ -33,7 +33,7 @@ TESTS = re.compile(r"_tests$|^rows$|^site_rows$")
 ITEM = re.compile(r"^pub (?:const )?(?P<kind>fn|struct|enum|trait|const|type) (?P<name>\w+)")
 METHOD = re.compile(r"^    (?P<pub>pub )?(?:const )?fn (?P<name>\w+)")
 IMPL = re.compile(r"^impl(?:<.*?>)? (?:(?P<trait>[\w:]+)(?:<.*>)? for )?(?P<type>\w+)")
-# the most characters of a first clause that is told whole
+# the most characters of a first clause that is printed whole
 LONG = 20
 
 STANDARD = re.compile(r"(?:RFC|FIPS) [\d-]+(?:, sections? [\d., andto]*\d)?")
@@ -240,18 +240,18 @@ def reached(headline=False):
     return files, types
 
 
-def told_of(head):
-    """Returns the first clause of the head comment of a file of specs/, in short."""
-    told = clause(head)
-    if len(told) > LONG:
-        told = re.split(r", (?!of |or )(?![^(]*\))", told)[0]
-    return re.sub(r"^Defines (?:the )?(\w?)", lambda it: it[1].upper(), told)
+def subject_of(head):
+    """Returns the first clause of the head comment of a file of specs/, in short: without parentheses at its end."""
+    text = clause(head)
+    if len(text) > LONG:
+        text = re.sub(r" \([^()]*\)$", "", re.split(r", (?!of |or )(?![^(]*\))", text)[0])
+    return re.sub(r"^Defines (?:the )?(\w?)", lambda it: it[1].upper(), text)
 
 
-def told_with_source(head):
+def subject_with_source(head):
     """Returns the same, with the source of the file."""
     named = source(head, clause(head))
-    return re.sub(r", sections? (?=\d)", " §", f"{told_of(head)} ({named})" if named not in ("", "ours") else told_of(head))
+    return re.sub(r", sections? (?=\d)", " §", f"{subject_of(head)} ({named})" if named not in ("", "ours") else subject_of(head))
 
 
 def where(name):
@@ -260,7 +260,7 @@ def where(name):
     for crate in products():
         for path, module in modules_of(crate, "formers"):
             if name in walk.module(crate, module).items:
-                yield f"{os.path.relpath(path, TOP)}: {told_with_source(head_of(path))}"
+                yield f"{os.path.relpath(path, TOP)}: {subject_with_source(head_of(path))}"
 
 
 def definitions():
@@ -270,7 +270,7 @@ def definitions():
         counted = {it: lines for it, lines in files.get(crate, {}).items() if it in modules}
         lines += [f"## `{crate}`", ""] if counted else []
         for path, number in counted.items():
-            lines += wrapped(f"- {modules[path]} {number}: {told_of(head_of(path))}.")
+            lines += wrapped(f"- {modules[path]} {number}: {subject_of(head_of(path))}.")
         lines += [""] if counted else []
     return "\n".join(lines).rstrip("\n") + "\n"
 

@@ -22,7 +22,7 @@ ActionTypeTestIsExact = (name : List ℕ) → IsTrue (is_action_type name) ↔ I
 
 -- ---- entities
 
--- `CanonicalEntityIsRead`: the canonical JSON of an entity that was parsed is parsed as that entity.
+-- `CanonicalEntityIsRead`: the round trip of a parsed entity: its canonical JSON is parsed as the same entity.
 abbrev pub CanonicalEntityIsRead : Type 0
 CanonicalEntityIsRead = (s : StatedSchema) (d : Data) (e : Entity) → entity_stated_in s d ≡ Ok e
     → entity_stated_in s (canonical_json e) ≡ Ok e

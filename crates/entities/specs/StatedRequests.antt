@@ -50,9 +50,9 @@ pub record ReadsContext (IsPlace : EnvironmentKey → Type 0) (s : StatedSchema)
   pub applies : HasContext IsPlace s.environments shape
   pub reads : Reads shape (object ms) (record_of (fields_of fields))
 
--- `FailsContext IsPlace s ms fault` holds if the object with the members `ms` describes no context as `ReadsContext`
--- does, and `fault` is the first error: `IsPlace` holds for the place of no environment of the schema `s`, or the
--- object is not a record of the context's type.
+-- `FailsContext IsPlace s ms fault` holds if the object with the members `ms` does not describe a context, and `fault`
+-- is the first error: no environment of the schema `s` has a place for which `IsPlace` holds, or the object is not a
+-- record of the context's type.
 pub data FailsContext (IsPlace : EnvironmentKey → Type 0) (s : StatedSchema) (ms : Members) : EntityFault → Type 0 where
   not_applicable : ((t : Cedar) → HasContext IsPlace s.environments t → ⊥) → FailsContext IsPlace s ms NotApplicable
   bad_fields : (t : Cedar) (f : ValueFault) (fault : EntityFault) → HasContext IsPlace s.environments t
@@ -75,7 +75,7 @@ pub data RefusesContext (s : StatedSchema) (action : EntityUid) (d : Data) : Ent
 -- ---- requests
 
 -- `Asks d asked ms` holds if `d` has the form of a request: it names the principal, the action and the resource of
--- `asked`, and its context is an object with the members `ms`, or absent if `ms` is empty.
+-- `asked`, and its context is an object with the members `ms`, or is absent and `ms` is empty.
 pub record Asks (d : Data) (asked : Asked) (ms : Members) : Type 0 where
   pub principal : NamesAt (codes "principal") d asked.principal
   pub action : NamesAt (codes "action") d asked.action

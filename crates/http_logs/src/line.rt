@@ -1,4 +1,5 @@
-//! The line of a request, in two steps: method and target before anything is done, and the rest after the reply.
+//! The line of a request, in two steps: method and target before anything is done, and the rest once the reply is
+//! known, before it is sent.
 //!
 //! The first step reserves memory for the rest of the line of a change, so ending that line after the change needs no
 //! allocation.
@@ -77,7 +78,8 @@ pub fn put_plain_tail(line: &mut Vec<u8>, status: StatusCode)
     append(line, b"}\n");
 }
 
-/// Ends the line of a change, whose reply is its stamp. Does not allocate.
+/// Ends the line of a change with its reply, the stamp. A reply of over 128 bytes, which no change has, is left out.
+/// Does not allocate.
 fn put_stamp_tail(line: &mut Vec<u8>, status: StatusCode, reply: &[u8])
     requires { vec_len line.old + TAIL_ROOM ≤ vec_capacity line.old }
     ensures items { line.new.items ≡ line.old.items ++ stamp_tail status reply.now }

@@ -15,7 +15,7 @@ use json_words::Scratch;
 use site_calls::{Site, runs_leave_what_they_took};
 use std::alloc::Global;
 
-/// Answers a stream over a borrowed site.
+/// Answers the requests of a stream at a borrowed site.
 fn serve_borrowed<R: Source, W: Sink>(
     alloc: Global,
     service: &mut SiteService<'_>,
@@ -65,7 +65,7 @@ pub fn serve<R: Source, W: Sink>(
     serve_borrowed(alloc, &mut service, reader, writer)
 }
 
-/// Answers a stream with a log over a borrowed site.
+/// Answers the requests of a stream at a borrowed site, with a log.
 fn serve_borrowed_logged<R: Source, W: Sink, L: Sink>(
     alloc: Global,
     logged: &mut LoggedService<'_>,

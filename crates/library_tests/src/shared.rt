@@ -14,7 +14,7 @@ pub(crate) fn finished<T: Drop>(value: T, done: Result<(), NoMemory>) -> Result<
     }
 }
 
-/// Returns the first value, and drops the second.
+/// Returns the second value, and drops the first.
 pub(crate) fn ended<T: Drop, R>(_kept: T, came: R) -> R {
     came
 }
@@ -63,7 +63,7 @@ fn is_same<T: PartialEq + Drop>(
     Ok(())
 }
 
-/// Fails the test unless a copy is equal to its original, which a failed allocation leaves unchanged.
+/// Fails the test unless a copy is equal to its original. After a failed allocation the copy is tried once more.
 pub(crate) fn is_copied<T: Copied + PartialEq + Drop>(
     rt: &impl Abort,
     alloc: Global,
@@ -74,7 +74,7 @@ pub(crate) fn is_copied<T: Copied + PartialEq + Drop>(
     is_same(rt, both(Ok(value), copy))
 }
 
-// Returns the value, or `NoMemory` otherwise.
+// Returns the value in `found`. If there is none, the error is `NoMemory`.
 fn some<T: Drop>(found: Result<Option<T>, NoMemory>) -> Result<T, NoMemory> {
     match found? {
         Some(value) => Ok(value),

@@ -128,8 +128,8 @@ fn report_call<H: Host>(
     }
 }
 
-/// Returns the body of the reply to a call; without a reply reports the error, and returns the status of the run as the
-/// error.
+/// Returns the body of the reply to a call. Without a reply of status 200 reports the error, and returns the status of
+/// the run as the error.
 fn reply_or_end<H: Host>(
     alloc: Global,
     host: &mut H,
@@ -150,8 +150,8 @@ fn reply_or_end<H: Host>(
     }
 }
 
-/// Makes a call over an open connection, closes the connection, and returns the body of the reply. Without a reply
-/// reports the error, and returns the status of the run as the error.
+/// Makes a call over an open connection, closes the connection, and returns the body of the reply. Without a reply of
+/// status 200 reports the error, and returns the status of the run as the error.
 fn call_over<H: Host>(
     alloc: Global,
     host: &mut H,
@@ -178,8 +178,8 @@ fn call_over<H: Host>(
     reply_or_end(alloc, host, at, came)
 }
 
-/// Makes a call over a new connection, and returns the body of the reply. Without a reply reports the error, and
-/// returns the status of the run as the error.
+/// Makes a call over a new connection, and returns the body of the reply. Without a reply of status 200 reports the
+/// error, and returns the status of the run as the error.
 fn call_at<H: Host>(
     alloc: Global,
     host: &mut H,

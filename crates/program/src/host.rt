@@ -1,4 +1,4 @@
-//! The machine that a run needs: files, two streams, connections, and pauses.
+//! The machine that a run needs: files, two streams, connections, logs and pauses.
 ghost use Rattle.std.specs.Prelude.{◌++◌, Ok, Err, Some, None, MatchResult, is_ok};
 ghost use Rattle.program.specs.declared.device.Link.{Link};
 ghost use Rattle.program.specs.Events.{Event, accepted, closed, connected, listened, opened, paused, printed};
@@ -9,7 +9,7 @@ use crate::device::{FileFault, Link, NetworkFailed, Stream, StreamFailed};
 use program_lines::LineFault;
 use state_exchanges::{Sink, Source, StreamFault};
 
-/// A machine with files, two streams, connections and a clock.
+/// A machine with files, two streams, connections, logs and pauses.
 pub trait Host {
     /// The reader of a connection.
     type Reader: Source + Drop;

@@ -8,8 +8,8 @@ use Rattle.schema_types.specs.Names.{Scope, found, or_entity, built_in}
 use Rattle.schema_file.specs.FileForm.{EntityTypeOf, UseOf, ActionOf, NamespaceOf}
 use Rattle.schema_names.specs.Qualifying.{CommonOf, commons_declared, scope_in}
 
--- `common_meant s own r` is the declared common type that `r`, a type written in the namespace `own`, names; `None` if
--- `r` does not name one. `s` has the tests of the declared names.
+-- `common_meant s own r` is the full name of the declared common type to which `r` refers; `None` if it refers to none.
+-- `r` is a type written in the namespace `own`, and `s` has the tests of the declared names.
 abbrev pub common_meant : Scope → Option (List ℕ) → Raw → Option (List ℕ)
 common_meant s own raw.text = None
 common_meant s own raw.long = None
@@ -22,8 +22,9 @@ common_meant s own (raw.entity w) = None
 common_meant s own (raw.common w) = found s.commons own w
 common_meant s own (raw.entity_or_common w) = found s.commons own w
 
--- `is_no_record s own r` tests whether `r`, a type written in the namespace `own`, is of a form other than a record;
--- `r` does not name a declared common type of `s`. It is false for an undeclared name, which is another error.
+-- `is_no_record s own r` tests whether `r`, a type written in the namespace `own`, is of a form other than a record,
+-- where `r` does not refer to a declared common type of `s`. For an undeclared name, which is another error, it is
+-- false, unless `r` says that the name is an entity type's.
 abbrev pub is_no_record : Scope → Option (List ℕ) → Raw → Bool
 is_no_record s own raw.text = true
 is_no_record s own raw.long = true
@@ -36,8 +37,8 @@ is_no_record s own (raw.entity w) = true
 is_no_record s own (raw.common w) = false
 is_no_record s own (raw.entity_or_common w) = is_some (or_entity (found s.entities own w) (built_in w))
 
--- `MeansNoRecord ns own r` holds if following the names of common types, which the namespaces `ns` declare, from `r`,
--- written in the namespace `own`, leads to a form that is not a record.
+-- `MeansNoRecord ns own r` holds if following the names of common types that the namespaces `ns` declare leads from `r`
+-- to a form other than a record; `r` is a type written in the namespace `own`.
 pub data MeansNoRecord (ns : List NamespaceOf) : Option (List ℕ) → Raw → Type 0 where
   form : (own : Option (List ℕ)) (r : Raw) → common_meant (scope_in ns) own r ≡ None
       → is_no_record (scope_in ns) own r ≡ true → MeansNoRecord ns own r

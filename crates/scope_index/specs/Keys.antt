@@ -1,7 +1,8 @@
 -- Defines the key of a policy in the index: an entity that its scope names for the principal, or else for the
 -- resource.
 -- Source: Cedar reference guide 4.0, "Policy scope", for the meaning of a scope.
--- Rules of this product: the principal comes first; a part names an entity by `==` or `in`, and not by `is` alone.
+-- Rules of this product: the principal comes first; a part names an entity by `==` or `in`, and not by `is` alone; a
+-- scope that names no entity has a key that matches every request.
 use Rattle.std.specs.Prelude.{◌≡◌, ℕ, List, Option, Some, None, string_bytes, map}
 use Rattle.std.specs.BTreeMap.{is_at}
 use Rattle.std.specs.Map.{lookup}
@@ -58,7 +59,7 @@ Kept = List (String Global × Policy)
 abbrev pub kept_at : Kept → List ℕ → Option Policy
 kept_at kept id = lookup (is_at (λ k. slice_cmp nat_cmp id (string_bytes k))) kept
 
--- A `Candidate` is an id with its policy; `IsCandidate` states for which requests it is one.
+-- A `Candidate` is an id with its policy. `IsCandidate` relates it to the requests that its key matches.
 abbrev pub Candidate : Type 0
 Candidate = List ℕ × Policy
 

@@ -51,7 +51,8 @@ fn input_by<'a>(
     }
 }
 
-/// Returns a site's reply to an operation, or `None` if the operation names a message or summary that was not made yet.
+/// Executes an operation at a site, and returns the reply. Returns `None`, and changes nothing, if the operation names
+/// a message or summary that was not made yet.
 pub(crate) fn step(
     alloc: Global,
     scratch: &mut Scratch,

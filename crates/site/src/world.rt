@@ -28,7 +28,7 @@ pub struct World {
     pub replies: Vec<EventReply>,
 }
 
-/// Runs events at these sites, which must be empty and of one schema.
+/// Runs events at these sites. The contract covers only empty sites of one schema.
 fn simulate_at(alloc: Global, mut sites: Vec<Site>, events: &[Event]) -> Result<World, NoMemory>
     ensures { IfOk result (λ w. (schema : StatedSchema) (names : List Named)
         → AreSitesOf schema names (start names).stores sites.items

@@ -159,7 +159,8 @@ impl Given {
         }
     }
 
-    /// Gives a site the inputs that a string describes, and appends its replies, with the messages of errors.
+    /// Gives the site that the first word of a string names the inputs that the rest describes, and appends its
+    /// replies, with the messages of errors.
     pub(crate) fn push_messages(&mut self, alloc: Global, text: &str, line: &mut Line) {
         let (name, inputs) = first_word(text);
         line.print_messages();

@@ -29,8 +29,8 @@ use Rattle.site_meaning.specs.StoreMeaning.{ArePolicies, AreEntities, IsAnswerOv
 abbrev pub HasPermittedErrors : Answer → Type 0
 HasPermittedErrors a = (e : ErringPolicy) → Contains a.errors e → IsPermittedError (fault_of e.error)
 
--- `StoredPoliciesAreSound`: over a store whose texts were each parsed under a schema that bytes describe, and for a
--- request that was parsed under the same schema, each policy gives a boolean, `EntityDoesNotExist` or
+-- `StoredPoliciesAreSound`: let `schema` be a schema that `bytes` describe, and let each text of a store and a request
+-- be parsed under `schema`. For this request each policy of the store gives a boolean, `EntityDoesNotExist` or
 -- `ArithBoundsError`; an impossible policy never gives true.
 abbrev pub StoredPoliciesAreSound : Type 0
 StoredPoliciesAreSound = (bytes : List ℕ) (schema : StatedSchema) → IsSchemaOf bytes schema → (s : Store)
@@ -41,8 +41,9 @@ StoredPoliciesAreSound = (bytes : List ℕ) (schema : StatedSchema) → IsSchema
     → EvaluatesTo (entity_data_under schema entities) q (expression_of p.policy) r
     → Fits boolean_type r × (IsImpossible schema p.policy → r ≢ Ok (boolean true))
 
--- `StoredAnswersAreSound`: over a store whose texts were each parsed under a schema that bytes describe, an answer to a
--- request that was parsed under the same schema has no errors other than `EntityDoesNotExist` and `ArithBoundsError`.
+-- `StoredAnswersAreSound`: let `schema` be a schema that `bytes` describe, and let each text of a store and a request
+-- be parsed under `schema`. An answer to this request over the store has no errors other than `EntityDoesNotExist` and
+-- `ArithBoundsError`.
 abbrev pub StoredAnswersAreSound : Type 0
 StoredAnswersAreSound = (bytes : List ℕ) (schema : StatedSchema) → IsSchemaOf bytes schema → (s : Store)
     → (d : Data) (q : Request) → StatesRequest schema d q → (a : Answer)

@@ -13,9 +13,9 @@ use std::alloc::Global;
 
 /// Returns the common type of two types, or `None` if they have none.
 ///
-/// Equal types have that type as their common type. Different boolean types have Bool. Sets have the sets of their
-/// members' common type. Records with equal keys and requirements have the record of their fields' common types. Takes
-/// time linear in the nodes of the smaller type. Allocates only if the result differs from the left type.
+/// The common type of equal types is that type; of different boolean types, Bool; of two set types, the type of sets of
+/// their members' common type; of two record types with equal keys and requirements, the record of their fields' common
+/// types. Takes time linear in the nodes of the smaller type. Allocates only if the result differs from the left type.
 ///
 /// # Errors
 ///

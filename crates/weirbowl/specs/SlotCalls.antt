@@ -16,9 +16,9 @@ use Rattle.weirbowl.specs.declared.opening.OpenError.{OpenError}
 abbrev pub not_open : CallResult
 not_open = record { status = 0; length = 0 }
 
--- `Calls old call r before after new` holds if the site in the slot, `old` and then `new`, answers `call`: `r` is the
--- status and the length of the body. The caller's memory for the body held `before`, and `after` is that with the body
--- copied into it. If no site is open, nothing happens.
+-- `Calls old call r before after new` holds if the site `old` in the slot answers `call`, which leaves the site `new`
+-- there: `r` is the status and the length of the body. The caller's memory for the body held `before`, and `after` is
+-- that with the body copied into it. If no site is open, nothing happens.
 abbrev pub Calls : Option EmbeddedSite → Call → CallResult → List ℕ → List ℕ → Option EmbeddedSite → Type 0
 Calls (Some old) call r before after new =
     (e : EmbeddedSite) × (status : StatusCode) × (new ≡ Some e) × IsCalled old call status e
@@ -34,8 +34,9 @@ RepeatsBody (Some old) r before after new =
     × (new ≡ Some old)
 RepeatsBody None r before after new = (r ≡ not_open) × (after ≡ before) × (new ≡ None)
 
--- `Opens old schema name code new` holds if an empty site is opened (`code` 0), or a site is open already (`code` 3),
--- or no site is opened and `code` is the number of the error.
+-- `Opens old schema name code new` holds if a call to open a site under `schema` and `name` changes the content of the
+-- slot from `old` to `new`: an empty site is opened (`code` 0), or a site is open already (`code` 3), or no site is
+-- opened and `code` is the number of the error.
 abbrev pub Opens : Option EmbeddedSite → List ℕ → List ℕ → ℕ → Option EmbeddedSite → Type 0
 Opens (Some old) schema name code new = (code ≡ 3) × (new ≡ Some old)
 Opens None schema name code new =

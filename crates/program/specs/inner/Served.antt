@@ -38,15 +38,15 @@ module _ {L : Type 0} where
   IsWarned true line events = (done : Bool) × (events ≡ wrote Faults (ended line) done ∷ [])
 
 module _ {R W G : Type 0} (reader : Source R) (writer : Sink W) (log : Sink G) where
-  -- `IsNextOrNone address old came events new` holds if the next connection was served (`came` is `Ok`), or none was
-  -- accepted (`Err`).
+  -- `IsNextOrNone address old came events new` holds if, with `events`, `old` served the next connection (`came` is
+  -- `Ok`), or accepted none (`Err`); `new` is the site and its log afterwards.
   abbrev pub IsNextOrNone : List ℕ → Serving G → Result (Unit {0}) NetworkFailed → List (Event (Link R W))
       → Serving G → Type 0
   IsNextOrNone address old (Ok done) events new = IsNextServed reader writer log address old events new
   IsNextOrNone address old (Err failed) events new = IsGivenUp address events × (new ≡ old)
 
-  -- `AreServedOrFewer address most old came events new` holds if `most` connections were served (`came` is `Ok`), or
-  -- fewer were accepted (`Err`).
+  -- `AreServedOrFewer address most old came events new` holds if, with `events`, `old` served `most` connections
+  -- (`came` is `Ok`), or accepted fewer (`Err`); `new` is the site and its log afterwards.
   abbrev pub AreServedOrFewer : List ℕ → ℕ → Serving G → Result (Unit {0}) NetworkFailed → List (Event (Link R W))
       → Serving G → Type 0
   AreServedOrFewer address most old (Ok done) events new = AreServed reader writer log address most old events new
