@@ -60,8 +60,8 @@ fn place_once(
     place(all, one, next)
 }
 
-// Appends `one` to `all` if it is not placed yet and comes before `next`, and then appends `next`. Returns whether
-// `one` is then placed: appended, now or before, or equal to an appended entity.
+// Appends `next` to `all`, after `one` if `one` is not placed yet and comes before `next`. Returns whether `one` is
+// then placed: appended, now or before, or equal to an appended entity.
 fn add_next(
     all: &mut Vec<Shared<EntityUid>>,
     one: &Shared<EntityUid>,

@@ -120,7 +120,7 @@ pub(crate) fn release(relatives: &mut BTreeMap<EntityUid, Relatives>, uid: &Enti
     relatives.remove(uid);
 }
 
-/// Removes the entry of each of these entities that has neither ancestors nor children.
+/// Removes the entries of those of these entities that have neither ancestors nor children.
 pub(crate) fn release_all(relatives: &mut BTreeMap<EntityUid, Relatives>, uids: &[&EntityUid])
     ensures lists { SameLists relatives.old relatives.new }
     ensures children { SameChildren relatives.old relatives.new }

@@ -1,5 +1,5 @@
--- Defines the report on the first typing error: the error, the environment, and what is blamed in it.
--- Source: docs/codes.md; Blamed.antt.
+-- Defines the report on the first typing error: the error, its environment, and what the error blames there.
+-- Source: docs/codes.md; the rules of `typing` (Blamed.antt).
 -- Rules of this product: the error is that of `check`; the environment, given by its index, is the first with an error.
 use Rattle.std.specs.Prelude.{◌≡◌, List}
 use Rattle.grammar_core.specs.declared.expr.Expr.{Expr}
@@ -11,8 +11,8 @@ use Rattle.fault_paths.specs.FirstBlamed.{environment_blamed, blamed_there}
 use Rattle.fault_paths.specs.Views.{place_view}
 use Rattle.fault_paths.specs.declared.blaming.TypeBlame.{TypeBlame}
 
--- `IsFirstBlame envs x b` holds if `x` has an error in one of the environments `envs`, and `b` has the code, the
--- environment and the place that each derivation of the first error gives.
+-- `IsFirstBlame envs x b` holds if `x` has an error in one of the environments `envs`, and `b` has the first error,
+-- with the environment and the place that each derivation of it gives.
 pub record IsFirstBlame (envs : List Environment) (x : Expr) (b : TypeBlame) : Type 0 where
   pub fault : ExpressionFault
   pub first : FirstFaulty x envs fault

@@ -17,7 +17,8 @@ abbrev pub OneFirstBlame : Type 0
 OneFirstBlame = (x : Expr) (envs : List Environment) (m n : ExpressionFault) (g : FirstFaulty x envs m)
     (h : FirstFaulty x envs n) → (environment_blamed g ≡ environment_blamed h) × (blamed_there g ≡ blamed_there h)
 
--- `OneUnknownName`: the first name of an expression that a schema does not declare is one name at one place.
+-- `OneUnknownName`: the first name of an expression that a schema does not declare is one name, and one path leads to
+-- it.
 abbrev pub OneUnknownName : Type 0
 OneUnknownName = (s : StatedSchema) (x : Expr) (p q : List ℕ) (m n : Name) (f g : TypeFault) → FirstUnknownAt s x p m f
     → FirstUnknownAt s x q n g → (p ≡ q) × (m ≡ n)

@@ -15,7 +15,8 @@ use Rattle.fault_paths.specs.declared.names.UnknownName.{UnknownName}
 use Rattle.fault_paths.specs.declared.names.UnknownName.TheVariants.{TestedType, Entity}
 use Rattle.fault_paths.specs.declared.names.NameBlame.{NameBlame}
 
--- `names_at y` is the name that the form `y` itself has, if any, without the names of its operands.
+-- `names_at y` is the list of the one name that the form `y` itself has, without the names of its operands, or empty if
+-- `y` itself has none.
 abbrev pub names_at : Expr-F Expr → List Name
 names_at (Expr-F.Literal l) = literal_names l
 names_at (Expr-F.Unary op a) = operator_names op

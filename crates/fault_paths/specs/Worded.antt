@@ -12,7 +12,7 @@ use Rattle.fault_paths.specs.declared.refusing.PolicyBlame.TheVariants.{Name, Ty
 use Rattle.fault_paths.specs.declared.explaining.PolicyFault.{PolicyFault}
 use Rattle.fault_paths.specs.Words.{name_words, typing_cause, typing_detail}
 
--- `path_of b` is the path to the expression that `b` blames.
+-- `path_of b` is the path to the expression that `b` blames, or to the form that has the undeclared name.
 abbrev pub path_of : PolicyBlame → List ℕ
 path_of (Name b) = b.path.items
 path_of (Typing b) = b.place.path.items
@@ -35,6 +35,7 @@ pub record IsWordedAs (s : StatedSchema) (b : PolicyBlame) (f : PolicyFault) : T
   pub cause : string_bytes f.cause ≡ cause_of b
   pub detail : string_bytes f.detail ≡ detail_of s b
 
--- `IsPolicyFault s policy f` holds if `f` reports why `policy` does not pass validation under `s`.
+-- `IsPolicyFault s policy f` holds if `f` reports, in words, why `policy` does not pass validation under the schema
+-- `s`.
 abbrev pub IsPolicyFault : StatedSchema → Policy → PolicyFault → Type 0
 IsPolicyFault s policy f = (b : PolicyBlame) × IsBlame s policy b × IsWordedAs s b f

@@ -71,7 +71,7 @@ abbrev pub attribute_in : Expr-F Expr → List ℕ
 attribute_in (Expr-F.Field a k) = k
 attribute_in y = []
 
--- `attribute_of x` is the name of the attribute that the expression `x` itself accesses.
+-- `attribute_of x` is the name of the attribute that the expression `x` itself accesses; empty if it accesses none.
 abbrev pub attribute_of : Expr → List ℕ
 attribute_of x = attribute_in (out-Expr x)
 
@@ -81,7 +81,8 @@ abbrev pub declaration_words : Bool → StaticType → List ℕ
 declaration_words true t = codes ": optional in " ++ type_word t
 declaration_words false t = codes ": not declared in " ++ type_word t
 
--- `declared_words env k ts` says whether the first of the types `ts` declares the attribute `k` in `env`.
+-- `declared_words env k ts` says whether the first of the types `ts` declares the attribute `k` in `env`; empty if `ts`
+-- is.
 abbrev pub declared_words : Environment → List ℕ → List StaticType → List ℕ
 declared_words env k [] = []
 declared_words env k (t ∷ ts) = declaration_words (is_ok (field_type_of env true k t)) t
@@ -103,7 +104,8 @@ abbrev pub detail_in : StatedSchema → Option EnvironmentOf → TypeFault → E
 detail_in s None f x ts = []
 detail_in s (Some e) f x ts = environment_words e ++ what_words (typing_environment_of s e) f x ts
 
--- `typing_detail s b` are the details of the typing error that `b` reports under `s`: its environment and the types.
+-- `typing_detail s b` are the details of the typing error that `b` reports under the schema `s`: the words for its
+-- environment, and the details of the error there.
 abbrev pub typing_detail : StatedSchema → TypeBlame → List ℕ
 typing_detail s b =
     detail_in s (slice_get s.environments b.environment) b.fault b.place.form.now (map static_view b.place.types.items)

@@ -23,7 +23,7 @@ use validator::TypeFault;
 pub struct TypeBlame<'a> {
     /// The error, as [`check`](validator::check) returns it.
     pub fault: TypeFault,
-    /// The index of the first environment of the schema with an error.
+    /// The index, from 0, of the first environment of the schema in which the policy has an error.
     pub environment: usize,
     /// What the error blames in this environment.
     pub place: BlamedForm<'a>,

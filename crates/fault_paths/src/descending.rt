@@ -24,7 +24,8 @@ pub struct BlamedForm<'a> {
     pub types: Vec<StaticType<'a>>,
 }
 
-/// Appends the index `operand` of the blamed operand to the path to its form; `None` if the form itself is blamed.
+/// Appends the index `operand` of the blamed operand to the path to its form. If `operand` is `None`, the form itself
+/// is blamed, and nothing is appended.
 fn close(path: &mut Vec<usize>, operand: Option<usize>) -> Result<(), NoMemory>
     ensures { IfOk result (λ _. path.new.items ≡ path.old.items ++ last_of operand) }
 {

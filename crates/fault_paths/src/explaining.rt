@@ -24,12 +24,13 @@ use validator::{TypeFault, expression_of};
 pub struct PolicyFault {
     /// The error, as [`check`](validator::check) returns it.
     pub fault: TypeFault,
-    /// The indexes of operands that lead from the policy's whole expression to the form at fault.
+    /// The indexes of operands that lead from the policy's whole expression to the blamed expression, or to the form
+    /// with the undeclared name.
     pub path: Vec<usize>,
     /// The undeclared name, or the attribute that is undeclared or may be missing (`AttributeMayBeMissing`, 44); empty
     /// for other errors.
     pub cause: String,
-    /// The first environment that has an error, and there the types that the error is about or, for
+    /// The first environment that has an error, and then the types that the demand is about or, for
     /// `AttributeMayBeMissing`, whether the attribute is declared; empty for an undeclared name.
     pub detail: String,
 }
@@ -140,7 +141,7 @@ fn explain_whole<'a>(
 ///
 /// The error is the one that [`check`](validator::check) returns, and the environment is the first that has an error.
 /// Types the policy once in each environment up to this one. In this one, types parts of the policy once more for each
-/// level of the path to the expression at fault.
+/// level of the path to the blamed expression.
 ///
 /// # Errors
 ///

@@ -75,7 +75,7 @@ at_second (left path) name = None
 at_second (right path) name = at_end (turn path) name
 at_second off name = None
 
--- `in_both t name uid` is the name or the uid to which a path with the first step `t` leads in `x is T in uid`, which
+-- `in_both t name uid` is the name or the uid to which a path with the first turn `t` leads in `x is T in uid`, which
 -- means `x is T && x in uid`.
 abbrev pub in_both : Turn → Option (List Token) → Option (List Token) → Option (List Token)
 in_both stop name uid = None
@@ -106,7 +106,7 @@ abbrev pub item_name : List UidTree → List Token → List ℕ → Option (List
 item_name uids ts [] = None
 item_name uids ts (i ∷ path) = at_end (turn path) (uid_at uids ts i)
 
--- `listed_name t uids ts` are the tokens of the uid to which a path with the first step `t` leads in `action in [..]`,
+-- `listed_name t uids ts` are the tokens of the uid to which a path with the first turn `t` leads in `action in [..]`,
 -- whose list is `uids`; its opening bracket precedes the tokens `ts`.
 abbrev pub listed_name : Turn → List UidTree → List Token → Option (List Token)
 listed_name stop uids ts = None

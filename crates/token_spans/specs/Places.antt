@@ -126,7 +126,8 @@ by_word word.Unless c ts path = unless_at (turn path) c ts
 abbrev pub at_condition : Condition → List Token → List ℕ → NodePlace
 at_condition c ts path = by_word c.word c ts path
 
--- `if_stop t policy` is the policy if the path with the first turn `t` ends, and `nowhere` if it goes on.
+-- `if_stop t policy` is the place of a policy with the tokens `policy` if the path with the first turn `t` ends, and
+-- `nowhere` if it goes on.
 abbrev pub if_stop : Turn → List Token → NodePlace
 if_stop stop policy = whole_policy policy
 if_stop (left path) policy = nowhere

@@ -77,7 +77,7 @@ form_demands d =
 -- ---- attributes and parents
 
 -- `uid_at o` is the uid that the value `o` describes, if it describes one; `shape_at s o` is the shape of the type of
--- that uid, if the schema `s` declares the type.
+-- that uid, if there is one and the schema `s` declares the type.
 abbrev pub uid_at : Option Data → Option EntityUid
 uid_at o = option_and_then uid_in o
 
@@ -92,21 +92,23 @@ pub data IsInAttributes (s : StatedSchema) (d : Data) : List Step → Type 0 whe
       → IsInAttributes s d (Key (codes "attrs") ∷ path)
 
 -- `FirstUnfit s uid i parents j` holds if the parent at index `j` is the first of `parents`, counted from `i`, that
--- `uid` may not have.
+-- `uid` may not have under the schema `s`.
 pub data FirstUnfit (s : StatedSchema) (uid : EntityUid) : ℕ → List EntityUid → ℕ → Type 0 where
   this_parent : (i : ℕ) (parent : EntityUid) (more : List EntityUid) (f : EntityFault)
       → parent_fits s uid parent ≡ Err f → FirstUnfit s uid i (parent ∷ more) i
   later_parent : (i : ℕ) (parent : EntityUid) (more : List EntityUid) (j : ℕ) → parent_fits s uid parent ≡ Ok tt
       → FirstUnfit s uid (i + 1) more j → FirstUnfit s uid i (parent ∷ more) j
 
--- `IsAtParent s d path` holds if `path` leads to the first parent that the entity `d` may not have.
+-- `IsAtParent s d path` holds if `path` leads to the first parent that the entity `d` may not have under the schema
+-- `s`.
 pub data IsAtParent (s : StatedSchema) (d : Data) : List Step → Type 0 where
   at_parent : (e : StatedEntity) (i : ℕ) → stated_in d ≡ Ok e → FirstUnfit s e.uid 0 e.parents i
       → IsAtParent s d (to_parent i)
 
 -- ---- the path
 
--- `IsPathOf s d f path` holds if `path` leads to the part of `d` that the error `f` is about.
+-- `IsPathOf s d f path` holds if `path` leads to the part of `d` that `f` is about, an error of `d` as an entity under
+-- the schema `s`.
 abbrev pub IsPathOf : StatedSchema → Data → EntityFault → List Step → Type 0
 IsPathOf s d BadShape path = first_unmet (form_demands d) ≡ Some path
 IsPathOf s d UnknownType path = path ≡ to_key (codes "uid")

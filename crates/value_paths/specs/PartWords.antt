@@ -35,7 +35,8 @@ type_word (type.set t) = codes "Set"
 type_word (type.record_of fs) = codes "Record"
 type_word (type.entity name) = name
 
--- `declared_words t` are the words that the type `t` is declared, such as `: Long is declared`; empty if `t` is `None`.
+-- `declared_words o` are the words that say that the type in `o` is declared, such as `: Long is declared`; empty if
+-- `o` is `None`.
 abbrev pub declared_words : Option Cedar → List ℕ
 declared_words None = []
 declared_words (Some t) = codes ": " ++ type_word t ++ codes " is declared"
@@ -60,12 +61,14 @@ type_of_part x whole = if is_of_value x.fault then option_and_then (λ t. type_a
 
 -- ---- the words
 
--- `pointer_words pointer` are the words that the part is at `pointer`; empty for the empty pointer, that of the whole.
+-- `pointer_words pointer` are the words that say that the part is at `pointer`; empty for the empty pointer, that of
+-- the whole.
 abbrev pub pointer_words : List ℕ → List ℕ
 pointer_words [] = []
 pointer_words (c ∷ cs) = codes "at " ++ c ∷ cs
 
--- `part_words found whole` names the part that the error `found` is about, if there is one, with its declared type.
+-- `part_words found whole` are the words that name the part that the error in `found` is about, with the type that is
+-- declared for it; empty if there is no error. `whole` is the type of the attributes or of the context.
 abbrev pub part_words : Option PlacedFault → Option Cedar → List ℕ
 part_words None whole = []
 part_words (Some x) whole = pointer_words (pointer_of x.path) ++ declared_words (type_of_part x whole)
@@ -84,12 +87,12 @@ abbrev pub NamesPartOfRequest : StatedSchema → Option Data → List ℕ → Ty
 NamesPartOfRequest s o words = MatchOption o (words ≡ []) (λ d. (found : Option PlacedFault) × (whole : Option Cedar)
     × IsRequestFault s d found × IsContextType s d whole × (words ≡ part_words found whole))
 
--- `NamesPartOfItem s text index words` holds if `words` name the part at fault of the entity at the index `index` of
--- the JSON array `text`; they are empty if there is no such item.
+-- `NamesPartOfItem s text index words` holds if `words` name the part at fault under `s` of the entity at the index
+-- `index` of the JSON array `text`; they are empty if there is no such item.
 abbrev pub NamesPartOfItem : StatedSchema → List ℕ → Option ℕ → List ℕ → Type 0
 NamesPartOfItem s text index words = NamesPartOfEntity s (option_and_then (item_at text) index) words
 
--- `NamesPartOfRequestText s text words` holds if `words` name the part at fault of the JSON `text` as a request; they
--- are empty for a text that is not JSON.
+-- `NamesPartOfRequestText s text words` holds if `words` name the part at fault under `s` of the JSON `text` as a
+-- request; they are empty for a text that is not JSON.
 abbrev pub NamesPartOfRequestText : StatedSchema → List ℕ → List ℕ → Type 0
 NamesPartOfRequestText s text words = NamesPartOfRequest s (json_of text) words

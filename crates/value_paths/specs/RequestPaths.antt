@@ -36,24 +36,25 @@ pub data FormFaultAt (d : Data) : List Step → Type 0 where
   no_context : IsNamedAt (codes "principal") d → IsNamedAt (codes "action") d → IsNamedAt (codes "resource") d
       → is_absent_or_object (get (codes "context") d) ≡ false → FormFaultAt d (to_key (codes "context"))
 
--- `context_type s asked` is the type of the context of a request with the principal, action and resource `asked`;
--- `None` if the action does not apply to the two types.
+-- `context_type s asked` is the type that the schema `s` declares for the context of a request with the principal,
+-- action and resource `asked`; `None` if the action does not apply to the types of the other two.
 abbrev pub context_type : StatedSchema → Asked → Option Cedar
 context_type s asked =
     context_where (is_place asked.action asked.principal.type_name asked.resource.type_name) s.environments
 
--- `IsContextType s d t` holds if `t` is `context_type` for the principal, action and resource that `d` names, or `d`
--- does not have the form of a request.
+-- `IsContextType s d t` holds if `t` is `context_type` under `s` for the principal, action and resource that `d` names,
+-- or if `d` does not have the form of a request.
 abbrev pub IsContextType : StatedSchema → Data → Option Cedar → Type 0
 IsContextType s d t = (asked : Asked) → Asks d asked → t ≡ context_type s asked
 
 -- `IsInContext s d path` holds if `path` leads to the part of the context of the request `d` that is at fault under the
--- type of the context.
+-- type that the schema `s` declares for the context.
 pub data IsInContext (s : StatedSchema) (d : Data) : List Step → Type 0 where
   in_context : (asked : Asked) (t : Cedar) (path : List Step) → Asks d asked → context_type s asked ≡ Some t
       → RecordFaultAt t (or_empty (get (codes "context") d)) path → IsInContext s d (Key (codes "context") ∷ path)
 
--- `IsRequestPathOf s d f path` holds if `path` leads to the part of `d` that the error `f` is about.
+-- `IsRequestPathOf s d f path` holds if `path` leads to the part of `d` that `f` is about, an error of `d` as a request
+-- under the schema `s`.
 abbrev pub IsRequestPathOf : StatedSchema → Data → EntityFault → List Step → Type 0
 IsRequestPathOf s d BadShape path = FormFaultAt d path
 IsRequestPathOf s d NotApplicable path = path ≡ to_key (codes "action")

@@ -50,7 +50,7 @@ pub(crate) fn declared<'t>(fields: &'t Fields, name: &str) -> Option<&'t CedarTy
     None
 }
 
-/// Returns the path to the first required key that is absent, if one is.
+/// Returns the path to the first required key of `fields` that `value` lacks, if there is one.
 fn find_absent(alloc: Global, fields: &Fields, value: &Value) -> Result<Option<Trail>, NoMemory>
     ensures { IfOk result (λ o. o ≡ absent_path (cedar_fields_view fields.now) (view value.now)) }
 {
@@ -62,7 +62,7 @@ fn find_absent(alloc: Global, fields: &Fields, value: &Value) -> Result<Option<T
     Ok(None)
 }
 
-/// Returns the path to the part of a value that is at fault, if one is.
+/// Returns the path to the part of `value` that is at fault under the type `ty`, if there is one.
 #[cycle(find)]
 #[tactic(auto, unfolding(crate::specs::inner::FoundPaths::value_path))]
 fn find(alloc: Global, value: &Value, ty: &CedarType) -> Result<Option<Trail>, NoMemory>

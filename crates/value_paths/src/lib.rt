@@ -1,7 +1,7 @@
-//! The part at fault in the JSON of an entity or a request: the path to it, its JSON pointer, and the words in which an
-//! explanation names it.
+//! Finds the part at fault in the JSON of an entity or a request: the path to it, its JSON pointer, and the words in
+//! which an explanation names it.
 //!
-//! This is a second pass, for explanations. It runs only after the JSON was rejected, and finds the same first error.
+//! This is a second pass, for explanations. It parses the JSON again, and finds the same first error.
 #![tactic(auto)]
 
 mod entity_paths;

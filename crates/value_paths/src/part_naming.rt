@@ -50,7 +50,8 @@ fn is_of_value(fault: EntityFault) -> bool
     }
 }
 
-/// Returns the declared type of the part to which the steps of a path after the first one lead.
+/// Returns the declared type of the part at a path. The first step, `attrs` or `context`, leads to a value of the type
+/// `whole`, and the others from there to the part.
 fn type_after_first<'s>(whole: &'s CedarType, path: &[Step]) -> Option<&'s CedarType>
     ensures { option_map (λ t. cedar_view t.now) result ≡ type_after_first (cedar_view whole.now) path.now }
 {
@@ -75,7 +76,7 @@ fn type_of_part<'s>(found: &PlacedFault, whole: Option<&'s CedarType>) -> Option
     }
 }
 
-/// Appends the words that the part is at this pointer; nothing for the empty pointer, that of the whole value.
+/// Appends `at ` and the pointer of the part; nothing for the empty pointer, which is that of the whole value.
 fn push_pointer(out: &mut String, pointer: &str) -> Result<(), NoMemory>
     ensures { OnOk result (string_bytes out.new ≡ string_bytes out.old ++ pointer_words pointer.now) }
 {
@@ -86,7 +87,7 @@ fn push_pointer(out: &mut String, pointer: &str) -> Result<(), NoMemory>
     out.push_str(pointer)
 }
 
-/// Appends the words that this type is declared; nothing for `None`.
+/// Appends `: TYPE is declared` with the word for this type; nothing for `None`.
 fn push_declared(out: &mut String, ty: Option<&CedarType>) -> Result<(), NoMemory>
     ensures { OnOk result (string_bytes out.new
         ≡ string_bytes out.old ++ declared_words (option_map (λ t. cedar_view t.now) ty.entry)) }
@@ -135,7 +136,7 @@ fn part_words(
     Ok(Text::from_string(out))
 }
 
-/// Returns the words that name the part at fault of a value as an entity.
+/// Returns the words that name the part at fault when a value is parsed as an entity; none if there is no value.
 fn entity_part_words(
     alloc: Global,
     schema: &Schema,
@@ -154,7 +155,7 @@ fn entity_part_words(
     }
 }
 
-/// Returns the words that name the part at fault of a value as a request.
+/// Returns the words that name the part at fault when a value is parsed as a request; none if there is no value.
 fn request_part_words(
     alloc: Global,
     schema: &Schema,

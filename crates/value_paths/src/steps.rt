@@ -49,7 +49,7 @@ impl Trail {
         Ok(Trail { steps })
     }
 
-    /// Returns the path in order.
+    /// Returns the steps of the path, from the whole value on.
     pub(crate) fn into_path(self) -> Items<Step>
         ensures { result ≡ self }
     {

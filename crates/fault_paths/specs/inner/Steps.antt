@@ -19,8 +19,8 @@ use Rattle.fault_paths.specs.declared.steps.Step.TheVariants as step
 use Rattle.typing.specs.Blamed.{Blame, under, blamed}
 use Rattle.typing.specs.Places.{operands_of}
 
--- `IsFound env K x o` holds if `o` is the type of `x` under the capabilities `K`, with those that `x` gains, or `None`
--- and `x` has an error.
+-- `IsFound env K x o` holds if `o` is the type of `x` under the capabilities `K`, with the capabilities that `x` gains;
+-- or if `o` is `None`, and `x` has an error.
 abbrev pub IsFound : Environment → Pairs → Expr → Option Typed → Type 0
 IsFound env K x o = MatchOption o ((n : ExpressionFault) × Faults env K x n)
     (λ t. Types env K x (static_view t.kind) (pairs t.learns.items))
@@ -80,7 +80,7 @@ Reaches env whole p K x = (n : ExpressionFault) (h : Faults env [] whole n)
     → (g : Faults env K x n) × (blamed h ≡ below p (blamed g))
 
 -- `KeepsType o ts us b` holds if `us` are the types `ts` followed by the type in `o`, if there is one, and `b` is
--- whether there is.
+-- true if and only if there is one.
 abbrev pub KeepsType : Option Typed → List StaticType → List StaticType → Bool → Type 0
 KeepsType None ts us b = (b ≡ false) × (us ≡ ts)
 KeepsType (Some t) ts us b = (b ≡ true) × (us ≡ ts ++ t.kind ∷ [])

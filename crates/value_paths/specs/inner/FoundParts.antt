@@ -16,12 +16,12 @@ use Rattle.value_paths.specs.declared.steps.Step.TheVariants.{Key}
 use Rattle.value_paths.specs.EntityPaths.{to_key, to_parent, first_unmet, form_demands, items_at, uid_at, shape_at}
 use Rattle.value_paths.specs.inner.FoundPaths.{under, record_path}
 
--- `fits s uid parent` tests whether the entity `uid` may have the parent `parent`.
+-- `fits s uid parent` tests whether the entity `uid` may have the parent `parent` under the schema `s`.
 abbrev pub fits : StatedSchema → EntityUid → EntityUid → Bool
 fits s uid parent = not (is_same parent uid) && s.may_have_parent uid.type_name parent.type_name
 
--- `unfit_path s uid i ds` is the path to the first of the parents `ds`, counted from `i`, that `uid` may not have;
--- `None` if it may have all parents before the first item that is not a uid.
+-- `unfit_path s uid i ds` is the path to the first of the parents `ds`, counted from `i`, that `uid` may not have under
+-- `s`; `None` if it may have all parents before the first item that is not a uid.
 unfoldable pub unfit_path : StatedSchema → EntityUid → ℕ → Items → Option (List Step)
 unfit_path s uid i no_items = None
 unfit_path s uid i (item d ds) =
