@@ -54,7 +54,7 @@ fn cause_at(text: &str, code: u8, at: usize, end: usize) -> &str {
     "end of the text"
 }
 
-/// Returns the finding with this code at this byte, and the token there as its cause.
+/// Returns the finding with this code at this byte, and with the cause that [`cause_at`] gives.
 fn finding_at<'t>(lexed: Lexed<'t>, code: u8, at: usize) -> PlainFinding<'t>
     ensures code { result.code ≡ code }
     ensures start { result.start ≡ at }
@@ -170,7 +170,7 @@ fn explain_piece(
     }
 }
 
-/// Returns whether one of two conditions holds.
+/// Returns whether at least one of two conditions holds.
 fn either(first: bool, second: bool) -> bool
     ensures { result ≡ (first || second) }
 {

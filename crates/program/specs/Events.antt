@@ -45,11 +45,11 @@ module _ {L H : Type 0} (does : H → Event L → H → Type 0) where
   Runs old new described = (events : List (Event L)) × Does events old new × described events
 
 -- `Changes held told out err event new_out new_err` holds if `event` may lead the two standard streams from `out` and
--- `err` to `new_out` and `new_err`: bytes are written to one of them, and the other is unchanged. `held` and `told`
--- give the bytes that the streams accepted, if they are known. `Changes` does not constrain the content of a file, the
--- text of an error, how much a stream accepted before it failed, or what is read from a connection; nor the lines of a
--- log on standard output: the log has its own writer, and its lines occur among the bytes that the first stream
--- accepted.
+-- `err` to `new_out` and `new_err`: `wrote` and `printed` leave the other stream unchanged, and every other event
+-- leaves both unchanged. `held` and `told` give the bytes that the streams accepted, if they are known. `Changes` does
+-- not constrain the content of a file, the text of an error, how much a stream accepted before it failed, or what is
+-- read from a connection; nor the lines of a log on standard output: the log has a second writer of it, so its lines
+-- leave `out` unchanged, and may occur on standard output between the bytes of `out`.
 abbrev pub Changes : {L O E : Type 0} → (O → Option (List ℕ)) → (E → Option (List ℕ)) → O → E → Event L → O → E
     → Type 0
 Changes held told out err (read name bytes) new_out new_err = (new_out ≡ out) × (new_err ≡ err)

@@ -27,7 +27,7 @@ pub(crate) const IN_SEVENS: StreamSplit<'static> = StreamSplit {
     writes: &[],
 };
 
-/// Returns the way in which the stream is read in these pieces.
+/// Returns the split with reads of these sizes, and writes of any size.
 pub(crate) fn by_reads(reads: &[usize]) -> StreamSplit<'_> {
     StreamSplit { reads, writes: &[] }
 }

@@ -1,4 +1,4 @@
-//! Pulls the entries that a state lacks from another site.
+//! Pulls from another site the entries that a state lacks.
 ghost use Rattle.std.specs.Prelude.{◌≡◌, ◌≢◌, ◌⊎◌, ℕ, List, Ok, Err, IfOk, IfErr, OnErr, IsTrue, MatchResult};
 ghost use Rattle.std.specs.Prelude.{option_map};
 ghost use Rattle.http_streams.specs.Parts.{is_host};
@@ -28,7 +28,7 @@ use sync_messages::{Entity, Schema, StampedStore, write_summary};
 pub struct Pulled {
     /// The new state, as a message.
     pub state: Vec<u8>,
-    /// The number of updates received, including those that lost.
+    /// The number of updates applied, including those that lose to a greater entry.
     pub taken: usize,
 }
 
@@ -117,7 +117,7 @@ fn fetch_missing_entries<R: Source, W: Sink>(
     }
 }
 
-/// Pulls under a parsed schema, into a store whose updates are valid.
+/// Pulls under a parsed schema, into a store whose updates are in their ranges and valid.
 fn pull_under<R: Source, W: Sink>(
     alloc: Global,
     schema: &Schema,
@@ -210,8 +210,8 @@ pub fn pull_over<R: Source, W: Sink>(
         ⊎ ((s : StatedSchema) × (m : Store) × IsReady schema.now (option_map (λ b. b.now) state.entry) s m
         × IsRequestBegun R.left W.holds (request_for host.now s m) reader.old reader.new writer.old writer.new)) }
 
-    // The error is `NoHost` if and only if `host` is not a host, and `TooLarge` if and only if `host` is a host and the
-    // summary is longer than a site accepts.
+    // A `Network` error is `NoHost` if and only if `host` is not a host, and `TooLarge` if and only if `host` is a host
+    // and the summary is longer than a site accepts.
     ensures host { IfOk result (λ _. IsTrue (is_host host.now)) }
     ensures no_host { (f : NetworkFault) → result ≡ Err (PullFault.Network f) → ReportsNoHost host.now f }
     ensures too_large { (f : NetworkFault) → result ≡ Err (PullFault.Network f) → (s : StatedSchema) × (m : Store)

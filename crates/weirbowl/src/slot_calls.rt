@@ -14,7 +14,7 @@ use http::StatusCode;
 use site_calls::Call;
 use std::alloc::Global;
 
-/// Returns the result if no site is open.
+/// Returns the result of a call on a slot where no site is open: status 0 and length 0.
 fn not_open() -> CallResult
     ensures { result ≡ not_open }
 {
@@ -24,7 +24,7 @@ fn not_open() -> CallResult
     }
 }
 
-/// Copies the body of a reply into `out`, and returns its status and length.
+/// Copies the body of a reply into `out`, if it fits. Returns the status of the reply and the length of the body.
 fn report(status: StatusCode, body: &[u8], out: &mut [u8]) -> CallResult
     ensures told { result ≡ record { status = status; length = length body.now } }
     ensures copied { out.new ≡ copied body.now out.old }
@@ -36,7 +36,8 @@ fn report(status: StatusCode, body: &[u8], out: &mut [u8]) -> CallResult
     }
 }
 
-/// Opens an empty site in a slot. Returns 0, 3 if a site is open there already, else the number of the error.
+/// Opens an empty site in a slot. Returns 0 on success, 3 if a site is open there already, else the number of the
+/// error.
 pub(crate) fn open_in(alloc: Global, slot: &mut SiteSlot, schema: &[u8], name: &[u8]) -> u32
     ensures { Opens slot.old.pointer.site schema.now name.now result slot.new.pointer.site }
 {
@@ -69,7 +70,7 @@ pub(crate) fn close_in(alloc: Global, slot: &mut SiteSlot) -> bool
     true
 }
 
-/// Calls the site in a slot, and copies the body of its reply into `out`.
+/// Calls the site in a slot, and copies the body of its reply into `out`, if it fits.
 pub(crate) fn call_in(
     alloc: Global,
     slot: &mut SiteSlot,
@@ -88,7 +89,7 @@ pub(crate) fn call_in(
     outcome
 }
 
-/// Copies the body of the last reply into `out` again.
+/// Copies the body of the last reply into `out` again, if it fits.
 pub(crate) fn repeat_body(alloc: Global, slot: &mut SiteSlot, out: &mut [u8]) -> CallResult
     ensures { RepeatsBody slot.old.pointer.site result out.old out.new slot.new.pointer.site }
 {
