@@ -51,7 +51,7 @@ WANTED = {
 SERVED = re.compile(r"serve [^&]*?--listen 127\.0\.0\.1:(\d+)")
 END = "==== end of a block"
 # the time limit of the run
-MOST_SECONDS = 240
+MOST_SECONDS = 900
 
 
 def free_port():

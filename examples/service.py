@@ -74,7 +74,7 @@ LABEL = hashlib.sha256(text_of(f"{CLINIC}/schema.json").encode()).hexdigest()
 
 def asked(port, method, path, body=None, fields=()):
     """Returns the status and the text of the reply to one request, on a new connection."""
-    link = http.client.HTTPConnection("127.0.0.1", port, timeout=20)
+    link = http.client.HTTPConnection("127.0.0.1", port, timeout=120)
     try:
         link.putrequest(method, path)
         if body is not None and not fields:
@@ -179,7 +179,7 @@ def routes(port):
 
 def a_kept_connection(port):
     """One connection carries three requests."""
-    link = http.client.HTTPConnection("127.0.0.1", port, timeout=20)
+    link = http.client.HTTPConnection("127.0.0.1", port, timeout=120)
     link.connect()
     kept = link.sock
     for name in "abc":
@@ -191,7 +191,7 @@ def a_kept_connection(port):
 
 
 def opened(port):
-    stream = socket.create_connection(("127.0.0.1", port), timeout=20)
+    stream = socket.create_connection(("127.0.0.1", port), timeout=120)
     stream.setsockopt(socket.IPPROTO_TCP, socket.TCP_NODELAY, 1)
     return stream
 
@@ -264,7 +264,7 @@ def a_client_that_stalls(port):
         except TimeoutError:
             pass
         stalled.close()
-        waiting.settimeout(20)
+        waiting.settimeout(120)
         waiting.shutdown(socket.SHUT_WR)
         same("who waited", REPLY, to_end(waiting))
 
@@ -287,7 +287,7 @@ def idle_clients():
     took = time.monotonic() - began
     same("how long it waited for them", True, 3 < took < 12)
     for link in silent:
-        link.settimeout(20)
+        link.settimeout(120)
         same("a client that was idle", b"", link.recv(1))
         link.close()
     greedy.close()
@@ -412,7 +412,7 @@ def two_sites(one, two):
 
 def ran(*words):
     """Returns the status of a command, and both of its streams."""
-    done = subprocess.run([PROGRAM, *words], cwd=CLINIC, capture_output=True, timeout=20, check=False)
+    done = subprocess.run([PROGRAM, *words], cwd=CLINIC, capture_output=True, timeout=120, check=False)
     return done.returncode, done.stdout.decode(), done.stderr.decode()
 
 

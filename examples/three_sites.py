@@ -25,7 +25,7 @@ HERE = os.path.dirname(os.path.abspath(__file__))
 PROGRAM = os.path.realpath(os.environ.get("PROGRAM") or f"{HERE}/../crates/cedar_site/out/cedar_site")
 SCHEMA = f"{HERE}/clinic/schema.json"
 # the time limit of the run
-MOST_SECONDS = 30
+MOST_SECONDS = 240
 STEPS = 30
 POLICIES = ("keeper", "no writing/1", "teams", "all")
 TEXTS = (
@@ -100,7 +100,7 @@ class Site:
 
     def asked(self, method, path, body=None):
         """The status and the body of a reply."""
-        link = http.client.HTTPConnection("127.0.0.1", self.port, timeout=10)
+        link = http.client.HTTPConnection("127.0.0.1", self.port, timeout=60)
         try:
             link.request(method, path, None if body is None else body.encode())
             reply = link.getresponse()
@@ -135,7 +135,7 @@ class Run:
             print(f"three_sites: {what}: expected {expected!r}, got {got!r}")
 
     def ran(self, *words):
-        done = subprocess.run([PROGRAM, *words], capture_output=True, text=True, timeout=10, check=False)
+        done = subprocess.run([PROGRAM, *words], capture_output=True, text=True, timeout=60, check=False)
         return done.returncode, done.stdout, done.stderr
 
     # ---- steps

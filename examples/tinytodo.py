@@ -25,7 +25,7 @@ POLICIES = ("anyone-creates", "owner", "shared", "editors", "admins", "interns")
 
 def told(*words):
     """Returns the status of a command, and both of its streams."""
-    done = subprocess.run([PROGRAM, *words], cwd=FOLDER, capture_output=True, text=True, timeout=20, check=False)
+    done = subprocess.run([PROGRAM, *words], cwd=FOLDER, capture_output=True, text=True, timeout=120, check=False)
     return done.returncode, done.stdout, done.stderr
 
 
@@ -56,7 +56,7 @@ def authorized(address, request):
     """Returns the status and the answer of a site to a request."""
     with open(f"{FOLDER}/{request}", "rb") as file:
         body = file.read()
-    connection = http.client.HTTPConnection(address, timeout=20)
+    connection = http.client.HTTPConnection(address, timeout=120)
     connection.request("POST", "/v1/authorize", body, {"Connection": "close"})
     reply = connection.getresponse()
     status, answer = reply.status, reply.read().decode()

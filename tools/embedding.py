@@ -353,7 +353,7 @@ class Served:
             self.port = free.getsockname()[1]
         words = [program, "serve", "--schema", schema, "--site", name, "--listen", f"127.0.0.1:{self.port}"]
         self.process = subprocess.Popen(words, stdout=subprocess.DEVNULL, stderr=subprocess.DEVNULL)
-        self.link = http.client.HTTPConnection("127.0.0.1", self.port, timeout=20)
+        self.link = http.client.HTTPConnection("127.0.0.1", self.port, timeout=120)
         for _ in range(200):
             try:
                 self.link.connect()

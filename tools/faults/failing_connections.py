@@ -334,7 +334,7 @@ def pulled(twins, call):
         peer = Peer(reply)
         state = f"{twins.folder}/state"
         words = ("--schema", twins.schema, "--site", "1", "--from", peer.address, "--state", state)
-        how = {"env": twins.failing.environment, "stdin": subprocess.DEVNULL, "capture_output": True, "timeout": 60}
+        how = {"env": twins.failing.environment, "stdin": subprocess.DEVNULL, "capture_output": True, "timeout": 240}
         ran = subprocess.run([twins.program, "pull", *words], check=False, **how)
         heard, told = peer.close(), twins.shared.told()
         twins.shared.ask(PLAIN)

@@ -12,7 +12,7 @@ TOLD = b"refused\n"
 # a run that allocates more often is reported as a fault
 MOST = 100_000
 # the time limit of a run, in seconds
-PATIENCE = 60
+PATIENCE = 240
 
 
 def library(folder):

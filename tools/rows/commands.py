@@ -16,7 +16,7 @@ import threading
 from rows.sites import Processes, Site, policy_path
 from rows.texts import Kind, Row, expanded, printed
 
-SECONDS = 60
+SECONDS = 240
 SMALLEST_REQUEST = b'{"principal":"User::\\"alice\\"","action":"Action::\\"view\\"","resource":"Doc::\\"d\\""}'
 EMPTY_SCHEMA = b"{}"
 # Ends in the program: each stream takes ten bytes, and a write beyond them fails and sends no signal.

@@ -18,7 +18,7 @@ from rows.texts import Kind, expanded, rows_of
 
 HOST = "127.0.0.1"
 # in seconds: how long a site may take to listen, to answer or to end
-PATIENCE = 30.0
+PATIENCE = 180.0
 # how often another port is tried where one is taken
 PORTS = 20
 BAD_ROW = "bad row"
