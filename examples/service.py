@@ -4,7 +4,7 @@
     [PROGRAM=FILE] examples/service.py
 
 It tries every route, a kept connection, requests sent together, the log, clients that send garbage, cut off, stall or are
-idle, two sites that exchange until they are equal, `pull` and `merge`, and what ends a command. PROGRAM names another
+idle, two sites that exchange until they are equal, `pull` and `merge`, and errors that end a command. PROGRAM names another
 binary than the built one. Standard library alone.
 """
 import argparse
@@ -299,7 +299,7 @@ def line_of(method, target, status, **more):
 
 
 def raw_status(port, head):
-    """The status of the reply to one head, whose connection then ends."""
+    """Returns the status of the reply to one head, after which the connection ends."""
     return int(sent_and_ended(port, [head + b"\r\n\r\n"]).split(b" ")[1])
 
 
@@ -435,7 +435,7 @@ def pulls_and_merges(one, two):
 
 
 def ends(name, status, line, *words):
-    """A command ends with this status, and says this line on standard error, where one is given."""
+    """Checks that a command ends with this status and, if a line is given, prints that line on standard error."""
     came, _, told = ran(*words)
     same(f"{name}: status", status, came)
     if line:
@@ -447,7 +447,7 @@ def refusal(code):
 
 
 def refusals(one, file):
-    """What is refused, and what fails."""
+    """Tries commands whose input is rejected, and commands that fail."""
     other, none = f"{WORK}/other.json", f"{WORK}/none"
     kept = '{"entries":[],"kind":"state","schema":"another","version":2}'
     with open(other, "w", encoding="utf-8") as it:

@@ -382,8 +382,8 @@ def with_day(text, plain, is_alone):
     now = datetime.date.today()
     day = f"{now.day} {now:%B %Y}"
     if plain:
-        said = (f"Measured: both programs on {day}; times are medians of nine runs in turn, of the processor, served ones of the "
-                "clock with a client in Python.")
+        said = (f"Measured: both programs on {day}; times are medians of nine runs in turn: `decide` and `merge` in processor "
+                "time, others by the clock, served ones from a Python client.")
     elif is_alone:
         said = (f"Measured: instructions and memory of the program on {day}; the plain engine and times earlier, over files of "
                 "the same kind, so that ratios are approximate.")
