@@ -1,4 +1,4 @@
-"""Shared by the Python parts of the scripts in this folder: counted runs of a program, and served sites.
+"""Shared by the measures: counted runs of a program, and served sites.
 
 Standard library alone. Counting needs valgrind, TIMING GNU time.
 """
@@ -46,7 +46,7 @@ def whole():
 
 
 def part(name):
-    """A program of bench/programs, proved and built where it was not made from these sources."""
+    """A program of bench/programs, proved and built unless it was built from these sources."""
     if named() is None:
         build("--if-needed", f"bench/programs/{name}")
     return named() or Program(f"{TOP}/bench/out/{name}")
@@ -107,7 +107,7 @@ class Link:
         self.stream.setsockopt(socket.IPPROTO_TCP, socket.TCP_NODELAY, 1)
 
     def reply(self):
-        """Returns the status and the body of the next reply. Fails where the connection ends before it."""
+        """Returns the status and the body of the next reply. Fails if the connection ends before it."""
         while True:
             at = self.buffer.find(b"\r\n\r\n")
             if at >= 0:
@@ -139,7 +139,7 @@ def free_port():
 class Served:
     """Site 1, served on loopback under the file `schema` of a folder; `words` are further words of the command.
 
-    `took` is how many seconds went by till it listened. `listens` is false where it ended before that.
+    `took` is how many seconds went by till it listened. `listens` is false if it ended before that.
     """
 
     def __init__(self, command, room, *words, **how):
@@ -160,7 +160,7 @@ class Served:
         return waited(self.child)
 
     def kill(self):
-        """Ends it, where it has not ended."""
+        """Ends it, if it has not ended."""
         if self.child.poll() is None:
             self.child.kill()
             self.child.wait()

@@ -42,8 +42,8 @@ def read(path):
 
 
 def differing_sets(expected, got):
-    """Returns which members of the expected set are missing, and which others there are."""
-    return f"expected also {sorted(expected - got)}, and not {sorted(got - expected)}"
+    """Returns a message: the missing members of the expected set, and the members that are not expected."""
+    return f"expected also {sorted(expected - got)}, got also {sorted(got - expected)}"
 
 
 class Count:
