@@ -23,12 +23,12 @@ class Program(str):
     """The path of a program."""
 
     def printed(self, *words):
-        """What a run of it prints."""
+        """Returns what a run of it prints."""
         return subprocess.run([self, *words], capture_output=True, text=True, check=False).stdout
 
 
 def named():
-    """The program that PROGRAM names, or none."""
+    """Returns the program that PROGRAM names, or none."""
     return Program(os.path.realpath(os.environ["PROGRAM"])) if os.environ.get("PROGRAM") else None
 
 
@@ -38,7 +38,7 @@ def build(*words):
 
 
 def whole():
-    """The program `cedar_site`: as the gate left it, else proved and built."""
+    """Returns the program `cedar_site`: as the gate left it, else proved and built."""
     built = Program(f"{TOP}/crates/cedar_site/out/cedar_site")
     if named() is None and not os.access(built, os.X_OK):
         build("cedar_site")
@@ -46,19 +46,19 @@ def whole():
 
 
 def part(name):
-    """A program of bench/programs, proved and built unless it was built from these sources."""
+    """Returns a program of bench/programs, proved and built unless it was built from these sources."""
     if named() is None:
         build("--if-needed", f"bench/programs/{name}")
     return named() or Program(f"{TOP}/bench/out/{name}")
 
 
 def counted(program, *words):
-    """The instructions of a run."""
+    """Returns the instructions of a run."""
     return collected(Ended([*COUNTING, program, *words]).err)
 
 
 def memory(program, *words):
-    """The KiB of memory at most of a run."""
+    """Returns the KiB of memory at most of a run."""
     return resident(Ended([*TIMING, program, *words]).err)
 
 

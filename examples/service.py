@@ -167,7 +167,7 @@ def asks_that_are_none(port):
 
 
 def routes(port):
-    """Every route, in the order of the file of answers."""
+    """Tries every route, in the order of the file of answers."""
     told = []
     for asks in (asks_of_policies, asks_of_entities, asks_of_answers, asks_of_messages, asks_that_are_none):
         told += [f"{status} {text.replace(LABEL, 'LABEL')}\n" for status, text in asks(port)]
@@ -355,7 +355,7 @@ def logs():
 
 
 def cut_lines():
-    """Behind a line that was cut, by an end of the disk or in an earlier run, the next one begins on a line of its own."""
+    """After a line that was cut, by a full disk or in an earlier run, the next one begins on a line of its own."""
     file, line = f"{WORK}/cut.log", line_of("GET", "/v1/policies/absent", 404) + "\n"
     with open(file, "w", encoding="utf-8") as log:
         log.write('{"method":"GE')
@@ -417,7 +417,7 @@ def ran(*words):
 
 
 def pulls_and_merges(one, two):
-    """`pull` into a missing file, and again; `merge` of the file with itself; a site that starts with it."""
+    """Tries `pull` into a missing file, and again; `merge` of the file with itself; a site that starts with it."""
     file = f"{WORK}/state.json"
 
     def pulled(port):

@@ -190,7 +190,7 @@ def about_codes():
 
 
 def told_codes():
-    """Name, meaning and example of each code, as the table of the code has them."""
+    """Yields name, meaning and example of each code, as the table of the code has them."""
     text = r'"((?:[^"\\]|\\.)*)"'
     row = r"CodeWords \{\s*code: (\d+),\s*name: TEXT,\s*meaning: TEXT,\s*example: TEXT,".replace("TEXT", text)
     for code, *texts in re.findall(row, text_of("crates/explanation_texts/src/table.rt")):

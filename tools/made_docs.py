@@ -223,8 +223,9 @@ def head_of(path):
 
 @functools.lru_cache(maxsize=None)
 def reached(headline=False):
-    """Of each crate the files of specs/ that the whole program's contract, or the promises of systems, rest on, in the order in
-    which a reader meets them, each with how many of its lines; and the files of src/ whose types these name."""
+    """Returns for each crate the files of specs/ on which the contract of the whole program, or the promises of systems, rest,
+    in the order in which a reader meets them, each with the number of its lines that count; and the files of src/ whose types
+    these name."""
     walk = specs.Walk()
     if headline:
         walk.visit(*HEADLINE)

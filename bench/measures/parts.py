@@ -8,12 +8,12 @@ PROGRAM_NAME = "measures"
 
 
 def instructions(program, less, more, count):
-    """The instructions of one item more, as text."""
+    """Returns the instructions of one item more, as text."""
     return f"{(counted(program, more) - counted(program, less)) / count:.1f}"
 
 
 def kept(program, less, more, count):
-    """The bytes of memory of one item more, as text."""
+    """Returns the bytes of memory of one item more, as text."""
     return f"{(memory(program, more) - memory(program, less)) * 1024 / count:.1f}"
 
 

@@ -44,7 +44,7 @@ def write(room, name, text):
 
 
 def asked(port, times, together, make):
-    """Microseconds a request, over one connection, so many sent together."""
+    """Returns the microseconds of a request, over one connection, so many sent together."""
     link, began = Link(port), time.perf_counter()
     for turn in range(times):
         link.ask(*(make(turn * together + n) for n in range(together)))
