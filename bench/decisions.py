@@ -7,7 +7,7 @@ ASKED = {"principal": 'User::"u5"', "action": 'Action::"view"', "resource": 'Doc
 
 
 def policy(number, condition):
-    """The policy of this number: with this condition, or if it is empty with a scope."""
+    """Returns the policy of this number: with this condition, or if it is empty with a scope."""
     effect = "forbid" if number % 7 == 3 else "permit"
     if condition:
         return f"{effect}(principal, action, resource) when {{ {condition} }};\n"
@@ -16,7 +16,7 @@ def policy(number, condition):
 
 
 def stored(count):
-    """Users in groups, and the groups, a tenth of all, in a tree."""
+    """Returns entities: users in groups; a tenth of all are groups, in a tree."""
     groups = max(1, count // 10)
 
     def uid(kind, number):

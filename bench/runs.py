@@ -1,4 +1,4 @@
-"""Shared by the Python parts of the scripts in this folder: counted runs of a program, and served sites.
+"""Shared by the measures: counted runs of a program, and served sites.
 
 Standard library alone. Counting needs valgrind, TIMING GNU time.
 """
@@ -23,12 +23,12 @@ class Program(str):
     """The path of a program."""
 
     def printed(self, *words):
-        """What a run of it prints."""
+        """Returns what a run of it prints."""
         return subprocess.run([self, *words], capture_output=True, text=True, check=False).stdout
 
 
 def named():
-    """The program that PROGRAM names, or none."""
+    """Returns the program that PROGRAM names, or none."""
     return Program(os.path.realpath(os.environ["PROGRAM"])) if os.environ.get("PROGRAM") else None
 
 
@@ -38,7 +38,7 @@ def build(*words):
 
 
 def whole():
-    """The program `cedar_site`: as the gate left it, else proved and built."""
+    """Returns the program `cedar_site`: as the gate left it, else proved and built."""
     built = Program(f"{TOP}/crates/cedar_site/out/cedar_site")
     if named() is None and not os.access(built, os.X_OK):
         build("cedar_site")
@@ -46,19 +46,19 @@ def whole():
 
 
 def part(name):
-    """A program of bench/programs, proved and built where it was not made from these sources."""
+    """Returns a program of bench/programs, proved and built unless it was built from these sources."""
     if named() is None:
         build("--if-needed", f"bench/programs/{name}")
     return named() or Program(f"{TOP}/bench/out/{name}")
 
 
 def counted(program, *words):
-    """The instructions of a run."""
+    """Returns the instructions of a run."""
     return collected(Ended([*COUNTING, program, *words]).err)
 
 
 def memory(program, *words):
-    """The KiB of memory at most of a run."""
+    """Returns the KiB of memory at most of a run."""
     return resident(Ended([*TIMING, program, *words]).err)
 
 
@@ -107,7 +107,7 @@ class Link:
         self.stream.setsockopt(socket.IPPROTO_TCP, socket.TCP_NODELAY, 1)
 
     def reply(self):
-        """Returns the status and the body of the next reply. Fails where the connection ends before it."""
+        """Returns the status and the body of the next reply. Fails if the connection ends before it."""
         while True:
             at = self.buffer.find(b"\r\n\r\n")
             if at >= 0:
@@ -139,7 +139,7 @@ def free_port():
 class Served:
     """Site 1, served on loopback under the file `schema` of a folder; `words` are further words of the command.
 
-    `took` is how many seconds went by till it listened. `listens` is false where it ended before that.
+    `took` is how many seconds went by till it listened. `listens` is false if it ended before that.
     """
 
     def __init__(self, command, room, *words, **how):
@@ -160,7 +160,7 @@ class Served:
         return waited(self.child)
 
     def kill(self):
-        """Ends it, where it has not ended."""
+        """Ends it, if it has not ended."""
         if self.child.poll() is None:
             self.child.kill()
             self.child.wait()

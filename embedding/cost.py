@@ -27,7 +27,7 @@ ASKED = request(("User", "u1"), ("Action", "view"), ("Photo", "p1"))
 
 
 def best(call, calls):
-    """The microseconds of a call, the best of five rounds."""
+    """Returns the microseconds of a call, the best of five rounds."""
     rounds = []
     for _ in range(5):
         began = time.perf_counter()

@@ -5,7 +5,7 @@ cd "$(dirname "${BASH_SOURCE[0]}")/photos"
 site=${PROGRAM:-../../cedar_site}
 failed=0
 
-# name, expected status, expected lines ("nothing": none; empty: not compared), stream (1 or 2), arguments
+# name, expected status, expected lines ("nothing": none; empty: not compared), the stream of the lines (1 or 2), arguments
 wants() {
     local name=$1 status=$2 line=$3 stream=$4
     shift 4

@@ -1,13 +1,13 @@
 #!/usr/bin/env python3
 """Types the commands of README.md, docs/operating.md and examples/tinytodo/README.md, block by block, and compares their output with what the page says.
 
-    PROGRAM=FILE examples/first_hour.py
+    [PROGRAM=FILE] examples/first_hour.py
 
 A block is a part of a page that is indented by four spaces. Those that begin with a command are typed into one shell a page,
-in a copy of examples/. `cedar_site` is the program that PROGRAM names; ports are replaced by free ones; served sites go to
-the background, and all end before one starts where another listens; a loop runs once. Each command must end with status 0,
-and each block must print its texts of WANTED, in order. The last line is `N passed, M failed`. Without bash, curl,
-sha256sum or timeout the script is skipped, and says so. Standard library alone.
+in a copy of examples/. `cedar_site` is the built program, or the one that PROGRAM names. Ports are replaced by free ones.
+Served sites go to the background; all end before one starts at an address where another listens. A loop runs once. Each
+command must end with status 0, and each block must print its texts of WANTED, in order. The last line is `N passed, M
+failed`. Without bash, curl, sha256sum or timeout the script is skipped, and says so. Standard library alone.
 """
 import argparse
 import os

@@ -4,7 +4,7 @@
     [PROGRAM=FILE] examples/service.py
 
 It tries every route, a kept connection, requests sent together, the log, clients that send garbage, cut off, stall or are
-idle, two sites that exchange until they are equal, `pull` and `merge`, and what ends a command. PROGRAM names another
+idle, two sites that exchange until they are equal, `pull` and `merge`, and errors that end a command. PROGRAM names another
 binary than the built one. Standard library alone.
 """
 import argparse
@@ -167,7 +167,7 @@ def asks_that_are_none(port):
 
 
 def routes(port):
-    """Every route, in the order of the file of answers."""
+    """Tries every route, in the order of the file of answers."""
     told = []
     for asks in (asks_of_policies, asks_of_entities, asks_of_answers, asks_of_messages, asks_that_are_none):
         told += [f"{status} {text.replace(LABEL, 'LABEL')}\n" for status, text in asks(port)]
@@ -299,7 +299,7 @@ def line_of(method, target, status, **more):
 
 
 def raw_status(port, head):
-    """The status of the reply to one head, whose connection then ends."""
+    """Returns the status of the reply to one head, after which the connection ends."""
     return int(sent_and_ended(port, [head + b"\r\n\r\n"]).split(b" ")[1])
 
 
@@ -355,7 +355,7 @@ def logs():
 
 
 def cut_lines():
-    """Behind a line that was cut, by an end of the disk or in an earlier run, the next one begins on a line of its own."""
+    """After a line that was cut, by a full disk or in an earlier run, the next one begins on a line of its own."""
     file, line = f"{WORK}/cut.log", line_of("GET", "/v1/policies/absent", 404) + "\n"
     with open(file, "w", encoding="utf-8") as log:
         log.write('{"method":"GE')
@@ -417,7 +417,7 @@ def ran(*words):
 
 
 def pulls_and_merges(one, two):
-    """`pull` into a missing file, and again; `merge` of the file with itself; a site that starts with it."""
+    """Tries `pull` into a missing file, and again; `merge` of the file with itself; a site that starts with it."""
     file = f"{WORK}/state.json"
 
     def pulled(port):
@@ -435,7 +435,7 @@ def pulls_and_merges(one, two):
 
 
 def ends(name, status, line, *words):
-    """A command ends with this status, and says this line on standard error, where one is given."""
+    """Checks that a command ends with this status and, if a line is given, prints that line on standard error."""
     came, _, told = ran(*words)
     same(f"{name}: status", status, came)
     if line:
@@ -447,7 +447,7 @@ def refusal(code):
 
 
 def refusals(one, file):
-    """What is refused, and what fails."""
+    """Tries commands whose input is rejected, and commands that fail."""
     other, none = f"{WORK}/other.json", f"{WORK}/none"
     kept = '{"entries":[],"kind":"state","schema":"another","version":2}'
     with open(other, "w", encoding="utf-8") as it:

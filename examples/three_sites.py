@@ -4,9 +4,9 @@
     [PROGRAM=FILE] examples/three_sites.py [SEED]
 
 The model is a map from names to entries, where the greater entry wins: by count, then site, then body. Each change, each
-`exchange` and each `pull` prints what the model predicts. A killed site restarts under a new name, empty or with the last
-pulled state. In the end a few rounds of `exchange` make all three equal, to the byte and to the
-model. PROGRAM names another binary than the built one. Standard library alone.
+`exchange` and each `pull` must return what the model predicts. A killed site restarts under a new name, empty or with the
+last pulled state. In the end three rounds of `exchange` must make the states of all three equal to the model's, byte by
+byte. PROGRAM names another binary than the built one. Standard library alone.
 """
 import argparse
 import hashlib
@@ -37,7 +37,7 @@ TEAMS = ("a", "b", "c", "d")
 
 
 def free_port():
-    """A port that nobody listens at."""
+    """Returns a free port of 127.0.0.1."""
     with socket.socket() as probe:
         probe.bind(("127.0.0.1", 0))
         return probe.getsockname()[1]
@@ -48,7 +48,7 @@ def compact(value):
 
 
 def rank(entry):
-    """What entries are ordered by: no body is the least."""
+    """Returns the key by which entries are ordered: count, site, body; a tombstone has the least body."""
     count, site, body = entry
     return (count, site, b"" if body is None else b"\1" + body.encode())
 
@@ -60,7 +60,7 @@ class Store(dict):
         return 1 + max((count for count, _, _ in self.values()), default=0)
 
     def missing_in(self, other):
-        """The entries whose names the other lacks, or has with a smaller stamp."""
+        """Returns the entries whose names the other lacks or has with a smaller stamp."""
         return Store({name: it for name, it in self.items() if name not in other or other[name][:2] < it[:2]})
 
     def take(self, entries):
@@ -70,7 +70,7 @@ class Store(dict):
 
 
 def state_text(store, label):
-    """The state of a store."""
+    """Returns the text of the state of a store."""
     def shown(name):
         return {"policy": name[1]} if name[0] == "policy" else {"entity": {"id": name[2], "type": name[1]}}
 
@@ -83,7 +83,7 @@ def state_text(store, label):
 
 
 class Site:
-    """A site that is served, and its model."""
+    """A served site, and its model."""
 
     def __init__(self, name, store, *words):
         self.name, self.store, self.port = name, store, free_port()
@@ -99,7 +99,7 @@ class Site:
         self.process.communicate()
 
     def asked(self, method, path, body=None):
-        """The status and the body of a reply."""
+        """Returns the status and the body of a reply."""
         link = http.client.HTTPConnection("127.0.0.1", self.port, timeout=60)
         try:
             link.request(method, path, None if body is None else body.encode())
@@ -110,7 +110,7 @@ class Site:
 
 
 class Run:
-    """Three sites, a file that states are pulled into, and what went wrong."""
+    """Three sites, a file into which states are pulled, and the checks that failed."""
 
     def __init__(self, seed, room):
         self.dice, self.wrong, self.names = random.Random(seed), [], 0
@@ -125,7 +125,7 @@ class Run:
             self.sites.append(Site(self.new_name(), Store()))
 
     def new_name(self):
-        """A name that was never used; in the order of names the later ones are not the greater ones."""
+        """Returns a name that was never used. Its first letter is drawn, so a later name may be less than an earlier one."""
         self.names += 1
         return f"{self.dice.choice('abcxyz')}-{self.names}"
 
@@ -141,7 +141,7 @@ class Run:
     # ---- steps
 
     def change(self, site, name, method, path, text, body):
-        """One change, which is answered with the next stamp."""
+        """Makes a change, whose reply must be the next stamp."""
         count = site.store.next_count()
         status, told = site.asked(method, path, text)
         stamp = {key: json.loads(told).get(key) for key in ("count", "site")}
@@ -153,7 +153,7 @@ class Run:
         self.change(site, ("policy", policy), "PUT", policy_path(policy), text, text)
 
     def put_team(self, site):
-        """A team whose parents come behind it, so that no cycle closes."""
+        """Puts a team whose parents come after it in TEAMS, so that no cycle closes."""
         team = self.dice.choice(TEAMS)
         parents = [{"id": it, "type": "Team"} for it in TEAMS if it > team and self.dice.random() < 0.4]
         entity = {"attrs": {}, "parents": parents, "uid": {"id": team, "type": "Team"}}
@@ -171,7 +171,7 @@ class Run:
             self.change(site, name, "POST", "/v1/entities/delete", uid, None)
 
     def exchange(self, one, two):
-        """A round of exchange: each direction says how many entries came."""
+        """Runs `exchange`, which must print for each direction how many entries were sent."""
         told = ""
         for to, source in ((one, two), (two, one)):
             taken = to.store.take(source.store.missing_in(to.store))
@@ -180,7 +180,7 @@ class Run:
         self.same(f"exchange of {one.name} and {two.name}", (0, told, ""), self.ran(*words))
 
     def pull(self, site):
-        """The kept file is brought up to date."""
+        """Pulls from a site into the file of states."""
         kept = Store() if self.kept is None else self.kept
         taken = kept.take(site.store.missing_in(kept))
         words = ("pull", "--schema", SCHEMA, "--site", "kept", "--from", site.address, "--state", self.file)
@@ -188,7 +188,7 @@ class Run:
         self.kept = kept
 
     def lose(self, site):
-        """A site is killed; an exchange with it fails at the call that meets it; it begins anew."""
+        """Kills a site. An `exchange` with it must fail at its first call to it, call 2. Then restarts it under a new name."""
         site.kill()
         at = self.sites.index(site)
         other = self.sites[(at + 1) % 3]
@@ -216,7 +216,7 @@ class Run:
             self.lose(site)
 
     def compare(self):
-        """A last loop of exchanges makes all equal."""
+        """Runs the last exchanges, and compares the three states with the model's."""
         one, two, three = self.sites
         for pair in ((one, two), (two, three), (one, two)):
             self.exchange(*pair)

@@ -9,9 +9,9 @@ code of such a program has the additional suffix `.txt`, and its libraries.txt i
 
 The script copies the crates below the program, without their must-fail edits, into a separate folder. There `rt ci`
 proves each from nothing, in parallel on all processors, one job each, which costs the least processor time. Both
-compilers build the program, and its stored run is compared. The result goes to crates/PROGRAM/out, or to bench/out for
-a program that measures. --if-needed does nothing if the program was built from these sources; --is-built reports only
-that, by its status. Standard library alone.
+compilers build the program, and its output for its stored arguments is compared with the stored output. The built
+program goes to crates/PROGRAM/out, or to bench/out if it measures. --if-needed does nothing if the program was built from
+these sources; --is-built reports only that, by its status. Standard library alone.
 """
 import argparse
 import hashlib

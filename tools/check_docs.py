@@ -143,7 +143,7 @@ def about_numbers():
     )
     for name, words in wanted:
         if words not in " ".join(text_of(name).split()):
-            yield f"{name}: expected the words: {words}"
+            yield f"{name}: expected the words {words!r}, got others"
     rows = dict(re.findall(r"(?m)^\| `(\w+)` \| [^|]*\| (\d*)", text_of("tools/last_run.md")))
     for name in libraries:
         folder = f"{TOP}/crates/{name}/must-fail"
@@ -190,7 +190,7 @@ def about_codes():
 
 
 def told_codes():
-    """Name, meaning and example of each code, as the table of the code has them."""
+    """Yields name, meaning and example of each code, as the table of the code has them."""
     text = r'"((?:[^"\\]|\\.)*)"'
     row = r"CodeWords \{\s*code: (\d+),\s*name: TEXT,\s*meaning: TEXT,\s*example: TEXT,".replace("TEXT", text)
     for code, *texts in re.findall(row, text_of("crates/explanation_texts/src/table.rt")):
@@ -218,13 +218,13 @@ def about_cases():
         if os.path.exists(f"{TOP}/{wanted}") and ARROW in text_of(wanted):
             lines = [it if it.startswith("#") or ARROW not in it else it.rpartition(ARROW)[0] for it in text_of(wanted).split("\n")]
             if lines != text_of(given).split("\n"):
-                yield f"{given}: expected the output of sed '/^#/!s/^\\(.*\\)  ->  .*$/\\1/' {wanted}"
+                yield f"{given}: expected the output of sed '/^#/!s/^\\(.*\\)  ->  .*$/\\1/' {wanted}, got other lines"
 
 
 def about_reading():
     text, (files, _), (headline, _) = text_of("docs/reading.md"), made_docs.reached(), made_docs.reached(headline=True)
     if len(made_docs.TOTALS.findall(text)) != 2:
-        yield "docs/reading.md: expected twice the words: N files of specs/, N lines of definitions; N files that declare types"
+        yield "docs/reading.md: expected twice the words `N files of specs/, N lines of definitions; N files that declare types`, got another number"
     rows = re.findall(r"(?m)^\| (crates/(\w+)/specs/\S+\.antt) \| \d+ \|", text)
     if len(rows) != 12:
         yield f"docs/reading.md: expected twelve files, got {len(rows)}"

@@ -493,9 +493,9 @@ def run_public(words):
         reached = sorted((walk if is_inner else whole_walk).reached.get(path, {}))
         others = [] if is_inner or not reached else sorted(set(whole_walk.modules[path].items) - set(reached))
         if is_inner and reached:
-            print(f"{short}: expected outside specs/inner, since public contracts rest on {', '.join(reached)}")
+            print(f"{short}: expected outside specs/inner, since public contracts rest on {', '.join(reached)}, got inside")
         elif not is_inner and not reached:
-            print(f"{short}: expected in specs/inner, since no public contract rests on it")
+            print(f"{short}: expected in specs/inner, since no public contract rests on it, got outside")
         if is_inner == bool(reached):
             status = 1
         if others:
@@ -522,8 +522,8 @@ def run_paths(words):
     named = read_crates()
     start, end = counts(named)
     total, dearest = sum(start.values()), sorted(start, key=start.get, reverse=True)
-    print(f"{total} paths through the graph of crates, expected at most {words.total}")
-    print(f"most from a crate, expected at most {words.most}: {', '.join(f'{it} {start[it]}' for it in dearest[:6])}")
+    print(f"paths through the graph of crates: expected at most {words.total}, got {total}")
+    print(f"paths from one crate: expected at most {words.most}, got {', '.join(f'{it} {start[it]}' for it in dearest[:6])}")
     print(f"edges that could go, and the paths that each costs: {', '.join(f'{name} -> {it} {paths}' for paths, name, it in spared(named, start, end)[:6])}")
     return 1 if total > words.total or start[dearest[0]] > words.most else 0
 

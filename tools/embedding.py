@@ -42,8 +42,8 @@ def read(path):
 
 
 def differing_sets(expected, got):
-    """Returns which members of the expected set are missing, and which others there are."""
-    return f"expected also {sorted(expected - got)}, and not {sorted(got - expected)}"
+    """Returns a message: the missing members of the expected set, and the members that are not expected."""
+    return f"expected also {sorted(expected - got)}, got also {sorted(got - expected)}"
 
 
 class Count:
@@ -72,7 +72,7 @@ class Count:
 
 
 def kind_of(written):
-    """The kind of a parameter or a result, by how Rattle, C, Rust or Python writes its type."""
+    """Returns the kind of a parameter or a result, by how Rattle, C, Rust or Python writes its type."""
     kinds = {
         "slot": {"&mut SiteSlot", "weirbowl_site *", "*mut Slot"},
         "bytes": {"const uint8_t *", "*const u8"},
@@ -86,7 +86,7 @@ def kind_of(written):
 
 
 def exports():
-    """Each export of the crate with its result and the kinds of its parameters; a slice is a pointer and a length."""
+    """Returns each export of the crate with its result and the kinds of its parameters; a slice is a pointer and a length."""
     found = []
     for file in ("site_exports", "text_calls"):
         for name, given, result in re.findall(r'extern "C" fn (\w+)\(([^)]*)\) -> (\w+)', read(f"crates/weirbowl/src/{file}.rt")):
@@ -126,7 +126,7 @@ def of_python():
 
 
 def fields(text, pattern):
-    """The kinds of the fields of the structs that a pattern finds, in their order."""
+    """Returns the kinds of the fields of the structs that a pattern finds, in their order."""
     kinds = {"is_open": "bool", "address": "pointer", "status": "u32", "length": "length", "pointer": "pointer"}
     return [[kinds.get(name, name) for name in re.findall(pattern[1], body)] for body in re.findall(pattern[0], text, re.S)]
 
@@ -158,13 +158,13 @@ def about_declarations(count):
 
 
 def named():
-    """The crates that crates.txt lists, each with what it names."""
+    """Returns the crates that crates.txt lists, each with what it names."""
     lines = (it.partition("#")[0].partition(":") for it in read("crates.txt").split("\n"))
     return {name.split()[0]: libraries.split() for name, _, libraries in lines if name.strip()}
 
 
 def below(crates, name):
-    """The crates of the repository that one stands on, and the kit's libraries that it names itself."""
+    """Returns the crates of the repository that one stands on, and the kit's libraries that it names itself."""
     own, todo = [], [name]
     while todo:
         for it in crates[todo.pop()]:
@@ -335,7 +335,7 @@ class Draw:
         return self.garbled(json.dumps(made))
 
     def garbled(self, text):
-        """The bytes of a text, and now and then with one changed or the end cut off."""
+        """Returns the bytes of a text, now and then with one changed or the end cut off."""
         given = bytearray(text.encode())
         if given and self.random.random() < 0.06:
             given[self.random.randrange(len(given))] = self.random.randrange(256)
@@ -378,7 +378,7 @@ def escaped(id):
 
 
 def one_call(draw, other):
-    """A random call: its name at the library, its values, and its method, path and body over HTTP. `other` is another site."""
+    """Returns a random call: its name at the library, its values, and its method, path and body over HTTP. `other` is another site."""
     id, kind = draw.id(), draw.random.random()
     if kind < 0.40:
         asked = draw.request()
@@ -406,7 +406,7 @@ def one_call(draw, other):
 
 
 def reply_of(library, site, name, values):
-    """The status and the body of a call at the library."""
+    """Returns the status and the body of a call at the library."""
     given = library._arguments(values)
     result = library._FUNCTIONS[name](library.ctypes.byref(site._slot), *given, site._room, len(site._room))
     if len(site._room) < result.length:
@@ -422,7 +422,7 @@ def changed(library, draw, other):
 
 
 def same_calls(library, program, folder, draw):
-    """The first call whose replies differ, or none; and how often each status came."""
+    """Returns the first call whose replies differ, or none; and how often each status came."""
     schema = f"{folder}/schema.json"
     with open(schema, "w", encoding="utf-8") as file:
         json.dump(SCHEMA, file)
@@ -445,7 +445,7 @@ def same_calls(library, program, folder, draw):
 
 
 def same_texts(library, program, folder, draw):
-    """The first texts whose outcomes differ, or none. The program ends with 0, or tells an error or a refused policy with 1."""
+    """Returns the first texts whose outcomes differ, or none. The program ends with 0, or with 1 for an error or a rejected policy."""
     files = {it: f"{folder}/{it}" for it in ("schema", "policies", "entities", "request")}
     for number in range(TEXTS):
         texts = {

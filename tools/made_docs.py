@@ -11,9 +11,9 @@ of the named files are made.
 --check writes nothing: it prints the differences, and its status is 1 if there are any. --missing prints exports without
 a doc comment and files of specs/ without a head comment. --laws prints the laws, which are functions that do nothing.
 --calls prints what crates export: types and traits with their public methods, functions and constants, each with the
-first clause of its doc comment. --where NAME prints the files of specs/ that define a name, with their sources: a heading of the
-Cedar reference guide 4.0 in quotes, a file below cedar-lean/Cedar of the formal model cedar-spec with a slash, or a standard; none, if a file has only
-rules of this product. Standard library alone.
+first clause of its doc comment. --where NAME prints the files of specs/ that define a name, with their sources. A source is
+a heading of the Cedar reference guide 4.0 (in quotes), a file of the formal model cedar-spec (a path below cedar-lean/Cedar)
+or a standard; a file that has only rules of this product has none. Standard library alone.
 """
 import argparse
 import functools
@@ -223,8 +223,9 @@ def head_of(path):
 
 @functools.lru_cache(maxsize=None)
 def reached(headline=False):
-    """Of each crate the files of specs/ that the whole program's contract, or the promises of systems, rest on, in the order in
-    which a reader meets them, each with how many of its lines; and the files of src/ whose types these name."""
+    """Returns for each crate the files of specs/ on which the contract of the whole program, or the promises of systems, rest,
+    in the order in which a reader meets them, each with the number of its lines that count; and the files of src/ whose types
+    these name."""
     walk = specs.Walk()
     if headline:
         walk.visit(*HEADLINE)

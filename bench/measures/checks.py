@@ -22,7 +22,7 @@ def write(name, text):
 
 
 def write_schema(environments, attributes):
-    """One action for each environment."""
+    """Writes a schema with one action for each environment."""
     shape = {f"a{n}": {"type": "Long", "required": False} for n in range(attributes)}
     shape |= {"name": {"type": "String"}, "age": {"type": "Long", "required": False}}
     uses = {"appliesTo": {"principalTypes": ["User"], "resourceTypes": ["Doc"]}}
@@ -32,14 +32,14 @@ def write_schema(environments, attributes):
 
 
 def write_ordinary(count):
-    """Policies with a scope, and a condition that knows an attribute."""
+    """Writes policies with a scope, and a condition that knows an attribute."""
     condition = 'principal has age && principal.age > {} && principal.name like "a*"'
     scope = 'principal in Group::"g{}", action, resource is Doc'
     write("policies", "".join(f"permit({scope.format(n)}) when {{ {condition.format(n)} }};\n" for n in range(count)))
 
 
 def write_hostile(count, names):
-    """A condition of so many `has`, each group of 30 in parentheses, with so many names in turn."""
+    """Writes a policy with a condition of so many `has`, each group of 30 in parentheses, with so many names in turn."""
     asked = [f"principal has a{n % names}" for n in range(count)]
     groups = [" && ".join(asked[n:n + 30]) for n in range(0, count, 30)]
     write("policies", "permit(principal, action, resource) when { " + " && ".join(f"({it})" for it in groups) + " };\n")

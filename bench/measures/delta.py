@@ -24,7 +24,7 @@ def stamp(number, count):
 
 
 def counted(folder, summary):
-    """The instructions of a site that is asked once, and its reply."""
+    """Returns the instructions of a site that is asked once, and its reply."""
     port = free_port()
     words = ["valgrind", "--tool=callgrind", "--callgrind-out-file=/dev/null", PROGRAM, "serve", "--schema",
              f"{folder}/schema", "--site", "1", "--listen", f"127.0.0.1:{port}", "--state", f"{folder}/state",

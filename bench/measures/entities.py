@@ -36,7 +36,7 @@ def entity(attributes, parents):
 
 
 def message(label, text):
-    """A state with so many entries of the entity, and one whose count is refused."""
+    """Returns a state with so many entries of the entity, and one whose count is rejected."""
     entries = [{"body": text, "count": n + 1, "name": {"entity": UID}, "site": "00001"} for n in range(COUNT)]
     entries.append({"body": None, "count": 0, "name": {"policy": "last"}, "site": "00001"})
     return compact({"entries": entries, "kind": "state", "schema": label, "version": 2})

@@ -32,7 +32,7 @@ def write(name, value):
 
 
 def write_context(count):
-    """A schema, and a request of Alice, with so many strings in the context."""
+    """Writes a schema, and a request of Alice, with so many strings in the context."""
     names = [f"text {number}" for number in range(count)]
     types = {"a": {"type": "Long"}, "friends": {"type": "Set", "element": {"type": "Entity", "name": "User"}}}
     types |= {it: {"type": "String"} for it in names}
@@ -44,7 +44,7 @@ def write_context(count):
 
 
 def evaluated(resource, condition):
-    """The instructions of a decision over many policies of this resource."""
+    """Returns the instructions of a decision over many policies of this resource."""
     write("policies", f'permit(principal, action, resource == Doc::"{resource}") when {{ {condition} }};\n' * TIMES)
     if PROGRAM.printed(*WORDS) != WANTED:
         sys.exit(f"expected {WANTED}, got {PROGRAM.printed(*WORDS)}")

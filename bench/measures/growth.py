@@ -64,7 +64,7 @@ def ordinary(count):
 
 
 def grouped(parts):
-    """A condition of these parts, each group of 30 in parentheses, so that none nests deep."""
+    """Returns a condition of these parts, each group of 30 in parentheses, so that none nests deep."""
     groups = [" && ".join(parts[at:at + 30]) for at in range(0, len(parts), 30)]
     while len(groups) > 30:
         groups = ["(" + ") && (".join(groups[at:at + 30]) + ")" for at in range(0, len(groups), 30)]
@@ -72,12 +72,12 @@ def grouped(parts):
 
 
 def known(count):
-    """So many records, each told apart from the others by a number, and each of which has an age."""
+    """Returns so many records, each with a number that no other has, and an age."""
     return grouped([f"{{a: principal, b: {n}}}.a has age" for n in range(count)])
 
 
 def wide_context(count, required):
-    """A schema whose context has so many fields."""
+    """Returns a schema whose context has so many fields."""
     fields = {f"f{n:04}": {"type": "Long", "required": required} for n in range(count)}
     context = {"type": "Record", "attributes": fields}
     return compact(TYPES, {"view": {"appliesTo": USES | {"context": context}}})
@@ -88,7 +88,7 @@ def members(expressions):
 
 
 def shared(count):
-    """A condition that holds the one before twice in `is .. in`, until its forms are so many."""
+    """Returns a condition that has the one before it twice in `is .. in`, until it has so many nodes."""
     condition, forms = "principal", 1
     while forms < count:
         condition, forms = f'(if {condition} is User in Group::"g" then principal else principal)', 2 * forms
@@ -96,7 +96,7 @@ def shared(count):
 
 
 def ran(words, files, status=0):
-    """The instructions of a run over files of these names, which ends with this status."""
+    """Returns the instructions of a run over files of these names, which ends with this status."""
     with tempfile.TemporaryDirectory() as room:
         for name, text in files.items():
             with open(f"{room}/{name}", "w", encoding="utf-8") as file:
@@ -108,7 +108,7 @@ def ran(words, files, status=0):
 
 
 def checked(schema, policies, status=0):
-    """The instructions of a check, which ends with this status."""
+    """Returns the instructions of a check, which ends with this status."""
     return ran(["check", "--schema", "schema", "policies"], {"schema": schema, "policies": policies}, status)
 
 
@@ -117,7 +117,7 @@ def read(schema):
 
 
 def searched(count, operator):
-    """The instructions of deciding by so many policies with a condition on one group, below a chain of others."""
+    """Returns the instructions of deciding by so many policies with a condition on one group, below a chain of others."""
     above = [[{"type": "Group", "id": f"g{n + 1}"}] if n + 1 < count else [] for n in range(count)]
     entities = [{"uid": {"type": "Group", "id": f"g{n}"}, "parents": above[n]} for n in range(count)]
     asked = {"principal": 'User::"u"', "action": 'Action::"a"', "resource": 'Doc::"d"'}
@@ -128,7 +128,7 @@ def searched(count, operator):
 
 
 def served(schema, requests):
-    """The instructions of a site that serves one connection with these requests."""
+    """Returns the instructions of a site that serves one connection with these requests."""
     with tempfile.TemporaryDirectory() as room:
         with open(f"{room}/schema", "w", encoding="utf-8") as file:
             file.write(schema)
@@ -143,7 +143,7 @@ def served(schema, requests):
 
 
 def asked(count):
-    """One request more, under so many environments, at a site that has taken an update."""
+    """Returns the instructions of one request more, under so many environments, at a site that has applied an update."""
     body = json.dumps({"principal": 'User::"u"', "action": f'Action::"a{count - 1}"', "resource": 'Doc::"d"'}).encode()
     one, idle = ("POST", "/v1/authorize", body), ("POST", "/no/authorize", body)
     schema, put = environments(count), ("PUT", "/v1/entities", b'{"uid":{"type":"Group","id":"g"}}')

@@ -30,13 +30,13 @@ ROWS = (
 
 
 def counted(row):
-    """The instructions of a run over one row."""
+    """Returns the instructions of a run over one row."""
     ran = subprocess.run([*COUNTING, PROGRAM], input=row + "\n", text=True, capture_output=True, check=False)
     return collected(ran.stderr)
 
 
 def seconds(count):
-    """The seconds of serving so many requests over memory."""
+    """Returns the seconds of serving so many requests over memory."""
     began = time.monotonic()
     told = subprocess.run([PROGRAM], input=f"many {count}\n", text=True, capture_output=True, check=True).stdout
     if f"{count} asked" not in told or "ended: true" not in told:
@@ -53,7 +53,7 @@ def over_memory(requests):
 
 
 def asked(port, requests, together):
-    """How many requests a second one connection has answered, so many sent together."""
+    """Returns how many requests a second one connection answered, so many sent together."""
     stream = Link(port).stream
     began = time.monotonic()
     for _ in range(requests // together):

@@ -37,13 +37,13 @@ LABEL = hashlib.sha256(SCHEMA.encode()).hexdigest()
 
 
 def policy_of_ten(n):
-    """Ten policies are of the group that all users are in; the others name another user."""
+    """Returns a policy: ten are of the group that all users are in, the others name another user."""
     part = 'principal in Group::"g0"' if n < 10 else f'principal == User::"v{n}"'
     return f'permit({part}, action == Action::"view", resource) when {{ principal has age && principal.age >= 1000 }};'
 
 
 def unbound(n):
-    """A policy whose scope names no entity, and whose condition is false."""
+    """Returns a policy whose scope names no entity, and whose condition is false."""
     return f'permit(principal, action == Action::"view", resource) when {{ principal has age && principal.age == {n + 1000} }};'
 
 
@@ -53,7 +53,7 @@ def stated(kind, number, attrs, above):
 
 
 def tree(count):
-    """Users in groups, a tenth of all, and the groups in a tree."""
+    """Yields entities: users in groups; a tenth of all are groups, in a tree."""
     groups = max(1, count // 10)
     for n in range(groups):
         yield stated("Group", f"g{n}", {}, f"g{n // 2}" if n else None)
@@ -69,7 +69,7 @@ def chain(count, downwards):
 
 
 def line(policies=(), entities=(), count=1):
-    """A state with these policies and entities, each with the same count."""
+    """Returns a state with these policies and entities, each with the same count."""
     found = [{"body": text, "count": count, "name": {"policy": f"p{n}"}, "site": "2"} for n, text in enumerate(policies)]
     for made in entities:
         found.append({"body": compact(made), "count": count, "name": {"entity": made["uid"]}, "site": "2"})

@@ -31,7 +31,7 @@ def compact(value):
 
 
 def entry(number):
-    """The entry of this number: of a policy, or of an entity."""
+    """Returns the entry of this number: of a policy, or of an entity."""
     if number % 2 == 0:
         name, body = {"policy": f"policy{number}"}, POLICY
     else:
@@ -42,7 +42,7 @@ def entry(number):
 
 
 def state(size, last):
-    """So many entries, and one more with this count: 0 is refused."""
+    """Returns so many entries, and one more with this count: 0 is rejected."""
     entries = [entry(number) for number in range(size)]
     entries.append({"body": None, "count": last, "name": {"policy": "last"}, "site": "00001"})
     return compact({"entries": entries, "kind": "state", "schema": LABEL, "version": 2})
@@ -55,7 +55,7 @@ def write(room, **texts):
 
 
 def merged(room, first, second, wanted):
-    """The instructions of a merge, and its KiB of memory; it writes a state, or is refused so."""
+    """Returns the instructions of a merge, and its KiB of memory; it writes a state, or is rejected so."""
     words = [PROGRAM, "merge", "--schema", "schema", first, second]
     ran = Ended([*TIMING, *words], room)
     if wanted not in (ran.out.decode() if ran.status == 0 else ran.err):

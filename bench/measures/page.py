@@ -51,35 +51,35 @@ def printed(program, measure, *words, **more):
 
 
 def authorized(program, policies, entities, **more):
-    """The instructions of one request more at a site."""
+    """Returns the instructions of one request more at a site."""
     return float(printed(program, "site", "authorize", f"{policies} {entities}", **more)[-1][2]) * 1e6
 
 
 def put(program, kind, count):
-    """The instructions of one put more."""
+    """Returns the instructions of one put more."""
     return next(float(it[2]) for it in printed(program, "site", "put", str(count)) if it[1] == kind)
 
 
 def taken(program, count):
-    """The instructions of an update with which a site starts."""
+    """Returns the instructions of an update with which a site starts."""
     return float(printed(program, "site", "take", str(count))[-1][2])
 
 
 def stored(kind):
-    """The bytes of a stored name, with the message that brought it."""
+    """Returns the bytes of a stored name, with the message that brought it."""
     rows = (" ".join(it) for it in printed(None, "kept_site", "memory"))
     return int(next(re.search(rf"^10000 {kind}.*: (\d+) bytes", it) for it in rows if it.startswith(f"10000 {kind}"))[1])
 
 
 def merged(program):
-    """The instructions of an entry that is read, applied and written."""
+    """Returns the instructions of an entry that is read, applied and written."""
     return sum(float(it[2]) for it in printed(program, "messages", "1000")[1:])
 
 
 # ---- `decide`
 
 def deciding(command, policies, entities, condition):
-    """A decision over so many policies and entities, which has to be answered."""
+    """Returns a decision over so many policies and entities, which has to be answered."""
     with tempfile.TemporaryDirectory() as folder:
         os.environ["CONDITION"] = condition
         write_inputs(folder, policies, entities)
@@ -90,23 +90,23 @@ def deciding(command, policies, entities, condition):
 
 
 def decided(program, policies, entities, condition=""):
-    """The instructions of a decision."""
+    """Returns the instructions of a decision."""
     return collected(deciding((*COUNTING, program), policies, entities, condition).err)
 
 
 def memory(program, policies, entities, condition=""):
-    """The MiB of memory of a decision."""
+    """Returns the MiB of memory of a decision."""
     return resident(deciding((*TIMING, program), policies, entities, condition).err) / 1024
 
 
 def one_more(program, less, more, condition=""):
-    """The instructions of one policy or entity more."""
+    """Returns the instructions of one policy or entity more."""
     first, second = (decided(program, *it, condition) for it in (less, more))
     return (second - first) / (sum(more) - sum(less))
 
 
 def graph(program, edges):
-    """The milliseconds of processor time of a decision over 10,000 groups, each below so many of those before it."""
+    """Returns the milliseconds of processor time of a decision over 10,000 groups, each below so many of those before it."""
     def uid(kind, number):
         return {"type": kind, "id": f"{kind[0].lower()}{number}"}
 
@@ -124,7 +124,7 @@ def graph(program, edges):
 
 
 def started(program):
-    """The milliseconds of a run of `--help`, by the clock."""
+    """Returns the milliseconds of a run of `--help`, by the clock."""
     found = []
     for _ in range(50):
         began = time.perf_counter()
@@ -136,7 +136,7 @@ def started(program):
 # ---- served, over loopback
 
 def policy(number):
-    """Policies of all shapes: three of five name a principal, a group or an action, two have a condition alone."""
+    """Returns a policy, of each shape in turn: three of five name a principal, a group or an action, two have a condition alone."""
     scope = (f'principal == User::"u{number}", action, resource', f'principal in Group::"g{number % 100}", action, resource',
              f'principal, action == Action::"view", resource == Doc::"d{number}"', "principal, action, resource",
              "principal is User, action, resource")[number % 5]
@@ -151,7 +151,7 @@ def entity(number):
 
 
 def asked_empty(program, folder, what):
-    """The state or the summary of an empty site; writes the schema into the folder."""
+    """Returns the state or the summary of an empty site; writes the schema into the folder."""
     with open(f"{folder}/schema", "w", encoding="utf-8") as file:
         json.dump(SCHEMA, file)
     with Served([program], folder) as site:
@@ -162,7 +162,7 @@ def asked_empty(program, folder, what):
 
 
 def state(program, folder, policies, entities):
-    """A state of so many policies and entities, under the schema of the folder."""
+    """Returns a state of so many policies and entities, under the schema of the folder."""
     found = [({"policy": f"p{n}"}, policy(n)) for n in range(policies)]
     found += [({"entity": it["uid"]}, compact(it)) for it in map(entity, range(entities))]
     entries = [{"body": body, "count": n + 1, "name": name, "site": "00002"} for n, (name, body) in enumerate(found)]
@@ -180,7 +180,7 @@ def putting(number):
 
 
 def served(program, policies, entities, make, times=2000, together=1):
-    """The microseconds of a request at a site with so many policies and entities, by the clock, and the site's KiB."""
+    """Returns the microseconds of a request at a site with so many policies and entities, by the clock, and the site's KiB."""
     with tempfile.TemporaryDirectory() as folder:
         sent = state(program, folder, policies, entities)
         with open(f"{folder}/state", "wb") as file:
@@ -197,7 +197,7 @@ def served(program, policies, entities, make, times=2000, together=1):
 
 
 def site_memory(program):
-    """The greatest MiB of memory of a site to which 10,000 policies were put, 50 requests at a time."""
+    """Returns the greatest MiB of memory of a site to which 10,000 policies were put, 50 requests at a time."""
     with tempfile.TemporaryDirectory() as folder:
         with open(f"{folder}/schema", "w", encoding="utf-8") as file:
             file.write(compact(SCHEMA))
@@ -214,31 +214,31 @@ def site_memory(program):
 
 
 def merge_milliseconds(program, count):
-    """The milliseconds of processor time of `merge` of two states that share a half."""
+    """Returns the milliseconds of processor time of `merge` of two states that share a half."""
     return float(printed(program, "service", "merge", str(count))[-1][3]) * 2 * count / 1000
 
 
 def message_merged(program):
-    """The milliseconds of a message of 1,000 entries at an empty site."""
+    """Returns the milliseconds of a message of 1,000 entries at an empty site."""
     with tempfile.TemporaryDirectory() as folder:
         sent = request("POST", "/v1/merge", state(program, folder, 500, 500))
     return served(program, 0, 0, lambda n: sent, 1)[0] / 1000
 
 
 def written(program, what):
-    """The milliseconds of a summary, or of a state, of 1,000 names."""
+    """Returns the milliseconds of a summary, or of a state, of 1,000 names."""
     return served(program, 500, 500, lambda n: request("GET", f"/v1/{what}"), 20)[0] / 1000
 
 
 def delta_written(program):
-    """The milliseconds of a delta of 1,000 names, against the summary of an empty site."""
+    """Returns the milliseconds of a delta of 1,000 names, against the summary of an empty site."""
     with tempfile.TemporaryDirectory() as folder:
         summary = asked_empty(program, folder, "summary")
     return served(program, 500, 500, lambda n: request("POST", "/v1/delta", summary), 20)[0] / 1000
 
 
 def in_turn(program):
-    """The microseconds of a request, where each second one is a put of an entity."""
+    """Returns the microseconds of a request, if each second one is a put of an entity."""
     return served(program, 10_000, 1000, lambda n: asking(n % 1000) if n % 2 else putting(2000 + n))[0]
 
 
@@ -249,7 +249,7 @@ class Compared:
         self.name, self.labels, self.unit, self.measure, self.page = name, (what, unit), unit, measure, COMPARED
 
     def cells(self, standing, number, plain_number):
-        """The row's cells, given those that stand, and the new numbers if there are any."""
+        """Returns the row's cells, given those that stand, and the new numbers if there are any."""
         program, plain, ratio = standing or ("", "", "")
         program = program if number is None else rounded(number)
         plain = plain if plain_number is None else rounded(plain_number)
@@ -266,7 +266,7 @@ class Whole:
             name, (what, policies, entities), unit, how, measure, WHOLE)
 
     def cells(self, standing, number, _):
-        """The row's cells, as above."""
+        """Returns the row's cells, as above."""
         told = rounded(number) if number is not None else ""
         return *self.labels, f"{told} {self.unit}".removesuffix(" Ir") if told else standing[0] if standing else "", self.how
 
@@ -334,14 +334,14 @@ TIMES = ("ms", "us")
 
 
 def rounded(number):
-    """A number with three digits that count, as text."""
+    """Returns a number as text, with three significant digits."""
     if number >= 1e6:
         return f"{float(f'{number / 1e6:.3g}'):,g} M"
     return f"{float(f'{number:.3g}'):,g}" if number < 1000 else f"{int(float(f'{number:.3g}')):,}"
 
 
 def standing_cells(text, row, above):
-    """The cells after the labels of a row that a page has, if it has the row. `above` is the last line not `the same`."""
+    """Returns the cells after the labels of a row that a page has, if it has the row. `above` is the last line not `the same`."""
     at = text.find(row_start((above,))) if above else 0
     found = text.find(row_start(row.labels), max(at, 0))
     if found < 0:
@@ -355,7 +355,7 @@ def row_start(labels):
 
 
 def table(path, text, measured, measured_plain):
-    """The table of a page, with these new numbers by the names of rows."""
+    """Returns the table of a page, with these new numbers by the names of rows."""
     lines, above = [], ""
     for row in (it for it in ROWS if it.page == path):
         above = above if row.labels[0].startswith("the same") else row.labels[0]
@@ -365,25 +365,25 @@ def table(path, text, measured, measured_plain):
 
 
 def number_of(cell):
-    """The number of a cell."""
+    """Returns the number of a cell."""
     number = re.match(r"([\d,.]+)( M\b)?", cell)
     return float(number[1].replace(",", "")) * (1e6 if number[2] else 1)
 
 
 def with_table(path, text, measured, measured_plain):
-    """The text of a page with these new numbers."""
+    """Returns the text of a page with these new numbers."""
     head = re.escape(HEADS[path].partition("\n")[0])
     made = table(path, text, measured, measured_plain)
     return re.sub(rf"^{head}\n(?:\|.*\n)*", lambda _: made, text, count=1, flags=re.M)
 
 
 def with_day(text, plain, is_alone):
-    """The text of a page with today as the day of what was measured."""
+    """Returns the text of a page with today as the day of what was measured."""
     now = datetime.date.today()
     day = f"{now.day} {now:%B %Y}"
     if plain:
-        said = (f"Measured: both programs on {day}; times are medians of nine runs in turn, of the processor, served ones of the "
-                "clock with a client in Python.")
+        said = (f"Measured: both programs on {day}; times are medians of nine runs in turn: `decide` and `merge` in processor "
+                "time, others by the clock, served ones from a Python client.")
     elif is_alone:
         said = (f"Measured: instructions and memory of the program on {day}; the plain engine and times earlier, over files of "
                 "the same kind, so that ratios are approximate.")
@@ -394,13 +394,13 @@ def with_day(text, plain, is_alone):
 
 
 def medians(row, programs):
-    """The number of a row for each program: one run, but of times the median of nine runs in turn, since they vary."""
+    """Returns the number of a row for each program: one run, but of times the median of nine runs in turn, since they vary."""
     runs = [[row.measure(it) for it in programs] for _ in range(9 if row.unit in TIMES else 1)]
     return [statistics.median(it) for it in zip(*runs)]
 
 
 def measured_rows(words, program, plain, is_alone):
-    """The numbers of both programs, by the names of rows."""
+    """Returns the numbers of both programs, by the names of rows."""
     found, found_plain = {}, {}
     for row in ROWS:
         is_compared = row.page == COMPARED

@@ -8,12 +8,12 @@ PROGRAM_NAME = "measures"
 
 
 def instructions(program, less, more, count):
-    """The instructions of one item more, as text."""
+    """Returns the instructions of one item more, as text."""
     return f"{(counted(program, more) - counted(program, less)) / count:.1f}"
 
 
 def kept(program, less, more, count):
-    """The bytes of memory of one item more, as text."""
+    """Returns the bytes of memory of one item more, as text."""
     return f"{(memory(program, more) - memory(program, less)) * 1024 / count:.1f}"
 
 
@@ -81,7 +81,7 @@ def stamped_store(program, sizes):
     """Measures the store: instructions for each name.
 
     `take` fills one store. The others are the difference to a run without them: a merge of two stores of the same names,
-    the same where counts are equal and sites are compared, and a look-up, a comparison and a step over a name.
+    the same if counts are equal and sites are compared, and a look-up, a comparison and a step over a name.
 
     Arguments: numbers of names (1,000, 10,000 and 100,000).
     """

@@ -27,7 +27,7 @@ def schema(count):
 
 
 def instructions(room, text, status):
-    """Of a check of no policies under a schema of this text, which ends with this status."""
+    """Returns the instructions of a check of no policies under a schema of this text, which ends with this status."""
     with open(f"{room}/schema", "w", encoding="utf-8") as file:
         file.write(text)
     ran = Ended([*COUNTING, PROGRAM, "check", "--schema", "schema", "policies"], room)

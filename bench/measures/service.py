@@ -1,6 +1,6 @@
-"""Measures the served program over loopback, and `merge`: microseconds a request (by the clock, so on a quiet machine),
-and the greatest resident memory; of a decision's line in a log the instructions. Needs python3, GNU time, and for `log`
-valgrind. PROGRAM names another binary.
+"""Measures the served program over loopback: microseconds a request (by the clock, so on a quiet machine), and the
+greatest resident memory; of `merge` microseconds of processor time an entry; of a decision's line in a log the
+instructions. Needs python3, GNU time, and for `log` valgrind. PROGRAM names another binary.
 
   bench/measure.py service authorize [POLICIES ..]   one kept connection: one by one, and 32 together (default: 10, 1,000,
                                                      10,000)
@@ -44,7 +44,7 @@ def write(room, name, text):
 
 
 def asked(port, times, together, make):
-    """Microseconds a request, over one connection, so many sent together."""
+    """Returns the microseconds of a request, over one connection, so many sent together."""
     link, began = Link(port), time.perf_counter()
     for turn in range(times):
         link.ask(*(make(turn * together + n) for n in range(together)))

@@ -40,34 +40,34 @@ def compact(value):
 
 
 def policy(n):
-    """Of ten policies one is of a group that users are in; the others name another user."""
+    """Returns a policy: one of ten is of a group that users are in, the others name another user."""
     part = f'principal in Group::"g{n % 7}"' if n % 10 == 0 else f'principal == User::"u{n}"'
     condition = f"principal has age && principal.age >= {n % 10}"
     return f'permit({part}, action == Action::"view", resource) when {{ {condition} }};'
 
 
 def policy_of_ten(n):
-    """Ten policies are of the group that all users are in; the others name another user."""
+    """Returns a policy: ten are of the group that all users are in, the others name another user."""
     part = 'principal in Group::"g0"' if n < 10 else f'principal == User::"v{n}"'
     condition = f"principal has age && principal.age >= {n % 10}"
     return f'permit({part}, action == Action::"view", resource) when {{ {condition} }};'
 
 
 def stated(kind, number, attrs, above):
-    """An entity with at most one group above it."""
+    """Returns an entity with at most one group above it."""
     parents = [] if above is None else [{"id": f"g{above}", "type": "Group"}]
     return {"attrs": attrs, "parents": parents, "uid": {"id": number, "type": kind}}
 
 
 def entity(n, groups):
-    """Users in groups, and the groups in a tree."""
+    """Returns an entity: users are in groups, and groups in a tree."""
     if n < groups:
         return stated("Group", f"g{n}", {}, n // 2 if n else None)
     return stated("User", f"u{n}", {"age": n % 9, "name": f"u{n}"}, n % groups)
 
 
 def link(n, _groups):
-    """Each group in the one before."""
+    """Returns a group, which is in the one before it."""
     return stated("Group", f"g{n}", {}, n - 1 if n else None)
 
 
@@ -76,7 +76,7 @@ def entry(name, body, count):
 
 
 def message(policies, entities, made_of=entity, worded=policy):
-    """A state of so many policies and entities."""
+    """Returns a state of so many policies and entities."""
     groups = int(os.environ.get("REACH") or max(1, entities // 10))
     found = [entry({"policy": f"p{n}"}, worded(n), n + 1) for n in range(policies)]
     for n in range(entities):
@@ -86,20 +86,20 @@ def message(policies, entities, made_of=entity, worded=policy):
 
 
 def authorizing(entities):
-    """A request of the last user."""
+    """Returns a request of the last user."""
     asked = {"principal": f'User::"u{entities - 1}"', "action": 'Action::"view"', "resource": 'Doc::"d"'}
     return "POST", "/v1/authorize", compact(asked).encode()
 
 
 def putting(n, groups, made_of):
-    """A put of a policy, or of what `made_of` makes."""
+    """Returns a put of a policy, or of what `made_of` makes."""
     if made_of is None:
         return "PUT", f"/v1/policies/p{n}", policy(n).encode()
     return "PUT", "/v1/entities", compact(made_of(n, groups)).encode()
 
 
 def idle(asked):
-    """Requests as long of a path that is none."""
+    """Returns requests of the same length to an unknown path."""
     return [(method, path.replace("/v1/", "/no/"), body) for method, path, body in asked]
 
 
@@ -138,7 +138,7 @@ class Room:
         return self.run(asked)[1]
 
     def try_out(self, asked):
-        """The KiB of a run with these requests, each of which has to be answered."""
+        """Returns the KiB of a run with these requests, each of which has to be answered."""
         _, _, kib, replies = self.run(asked)
         wrong = [it for it in replies if it[0] != 200]
         if wrong:
@@ -146,7 +146,7 @@ class Room:
         return kib
 
     def begun(self, *before):
-        """A site that begins and ends, without a connection."""
+        """Returns the run of a site that begins and ends, without a connection."""
         words = ["serve", "--schema", "schema", "--site", "1", "--state", "state", "--connections", "0"]
         ran = Ended([*before, PROGRAM, *words, "--listen", "127.0.0.1:0"], self.folder)
         if ran.status != 0:
@@ -154,7 +154,7 @@ class Room:
         return ran
 
     def beginning(self):
-        """The instructions of that."""
+        """Returns the instructions of a site that begins and ends, without a connection."""
         return 0 if os.environ.get("TIMES") else collected(self.begun(*COUNTING).err)
 
 

@@ -1,4 +1,4 @@
-/* Tries the calls of the header, those among them that C can get wrong without breaking its rules. */
+/* Tries the calls of the header, also with mistakes that its rules allow: a closed site, invalid bytes, a short `out`. */
 #include "weirbowl.h"
 #include <stdio.h>
 #include <stdlib.h>

@@ -7,14 +7,14 @@
  *    to it. It is not copied: closing one of two copies would leave the other with freed memory. It may be moved.
  *  - One call at a time uses a site, on the thread that opened it.
  *  - A pointer is not null, even to zero bytes, and a length is that of the memory at its pointer. The memory that a call
- *    reads is not written during the call. It shares no byte with `out`, and neither does with the weirbowl_site. `out`
+ *    reads is not written during the call. That memory, `out` and the weirbowl_site share no byte with each other. `out`
  *    need not be initialized.
  *  - The thread has a stack of at least 4 MiB: an expression may be 1,000 nodes high.
  *  - malloc, realloc and free are of one allocator. No call is made from a signal handler, nor in a forked child of a
  *    process with threads.
  *
- * Safe are: a call of a site that is not open, opening a site twice, closing it twice; bytes that are not a schema, JSON, a
- * message or UTF-8; an `out` that is too short, or of zero bytes; out of memory.
+ * These are safe: a call of a site that is not open, opening a site twice, closing it twice; bytes that are not a schema,
+ * JSON, a message or UTF-8; an `out` that is too short, or of zero bytes; out of memory.
  *
  * Requests, entities, messages and the bodies of replies are those of the HTTP routes: docs/formats.md, docs/codes.md.
  */
@@ -46,7 +46,7 @@ typedef struct weirbowl_result {
 } weirbowl_result;
 
 /* Opens a site with nothing stored, under a schema. `name` goes into its stamps: 1 to 32 ASCII letters, digits, `-`, `_`
- * or `.`, another for each site that exchanges with it.
+ * or `.`; no site that exchanges with it, directly or not, has or had this name.
  * Returns 0; 1 if out of memory; 2 if the name is not a site name; 3 if the site is open already; 20 to 25 if the bytes are
  * not a schema. */
 uint32_t weirbowl_open(weirbowl_site *site, const uint8_t *schema, size_t schema_length, const uint8_t *name,

@@ -263,7 +263,7 @@ def _stamp(line: dict) -> Stamp:
 
 
 def _here() -> tuple[int, int]:
-    """This process and this thread."""
+    """Returns this process and this thread."""
     return os.getpid(), threading.get_ident()
 
 
@@ -404,7 +404,7 @@ def decide(policies: Union[bytes, str], entities: Json, request: Json) -> Answer
 
 
 def decide_under(schema: Json, policies: Union[bytes, str], entities: Json, request: Json) -> Answer:
-    """The same under a schema. Raises Error: 20 to 25, 10 to 19, 40 to 46, 30 to 39, in this order."""
+    """Decides like `decide`, under a schema. Raises Error: 20 to 25, 10 to 19, 40 to 46, 30 to 39, in this order."""
     return _answer_or_error(*_text_call("decide_under", schema, policies, entities, request))
 
 

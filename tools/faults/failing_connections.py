@@ -245,7 +245,7 @@ class Twins:
         wanted = self.wanted(requests, told)
         if out != wanted:
             raise Fault(f"expected output {wanted!r}, got {out!r}")
-        # where bytes are left unread, the connection is reset, and what is on its way may be lost
+        # if bytes are left unread, the connection is reset, and bytes on their way may be lost
         if not out.startswith(came) or not (told.failed or rest or came == out):
             raise Fault(f"expected the client to get {out!r}, got {came!r}")
         if told.later:

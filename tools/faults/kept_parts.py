@@ -7,15 +7,15 @@ them, answers use them, and each change keeps them, or rebuilds them if they wer
 A site drops its caches if they cannot allocate. tools/faults/refuse.c, loaded before the C library, counts allocations, and
 makes those fail that this script chooses: the counts show whether an answer used the caches.
 
-- Twins: two sites of one name begin empty, and each gets the same 30 requests, drawn from rows/drawn.json, of which a
-  message has counts that no earlier command reaches. At the second site one allocation of each change fails, by chance.
+- Twins: two sites of one name begin empty, and each gets the same 30 requests, drawn from rows/drawn.json. Counts of a
+  message are greater than those of earlier commands. At the second site one allocation of each change fails, by chance.
   If the reply reports it, or none comes, the change is sent once more. All replies are equal, and so are the final
   states. All kinds of answers occur: allowed, denied, denied for a cycle, with an erroring policy, and a put that is
   rejected for a cycle. Some answers must be found without caches.
 - Hierarchies: the same with eight entities. Each is put below some others, or deleted, a thousand times, by commands
   and by messages, which may bring cycles. After each change a request for each of the eight is sent, with a policy for
   each that it may be in.
-- Index: policies that name others make no answer allocate more, nor do deleted policies.
+- Index: policies that name other entities make no answer allocate more, nor do deleted policies.
 - Ancestors: nor does a longer path from an entity to the group that a policy names, except for the list of the groups.
 - Leaves: a put of a new user into a group takes no more allocations with 500 other users than with 50, except those of
   larger maps and lists, and an answer takes equally many.

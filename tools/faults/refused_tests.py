@@ -41,7 +41,7 @@ def fault(runs, test):
     if ample[0] or not ample[1].endswith(PASSED):
         return 0, f"expected a pass with ample memory, got {ample}"
     count, wrong = runs.fault([test], ample, lambda came: came == ample)
-    return count, wrong or (None if count else "expected at least one")
+    return count, wrong or (None if count else "expected at least one failed allocation, got none")
 
 
 def rows(program, folder):

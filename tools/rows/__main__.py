@@ -31,7 +31,7 @@ KINDS = {
     **sites.KINDS,
     **sound.KINDS,
 }
-# tables of other folders: a program of the gate prints these rows too
+# tables outside rows/, whose rows a program of the gate also prints
 ELSEWHERE = {"sites": "crates/site_rows/stdout"}
 # how many characters of a text are shown
 SHOWN = 200
@@ -44,7 +44,7 @@ class Stopped(Exception):
 
 
 class Tables:
-    """The tables that are tried, what is known of them, and whether to go on."""
+    """The tables that are tried, their results so far, and whether to go on."""
 
     def __init__(self, program, room):
         self.program, self.room = program, room
@@ -65,7 +65,7 @@ class Tables:
             return f"{type(fault).__name__}: {fault}"
 
     def try_rows(self, name, kind, rows):
-        """Tries the rows of a table, in order. Returns how many were wrong, or not tried behind one that hangs."""
+        """Tries the rows of a table, in order. Returns how many were wrong, or not tried after one that hangs."""
         wrong = 0
         for tried, row in enumerate(rows, 1):
             if self.stop.is_set():
@@ -77,7 +77,7 @@ class Tables:
                 at = first_difference(row.expected, came)
                 wanted, came = cut(row.expected, at), cut(came, at)
                 self.tell(f"{name}:{row.line}: {cut(row.shown())}", f"  expected: {wanted}", f"  got:      {came}")
-                # only where the outcome is wrong: on a machine that stalls, a right one comes late
+                # only if the outcome is wrong: on a machine that stalls, a right one comes late
                 if time.monotonic() - began > HANGS:
                     self.tell(f"{name}: skipping the {len(rows) - tried} rows after it, since it took over {HANGS} seconds")
                     return wrong + len(rows) - tried
@@ -101,7 +101,7 @@ class Tables:
         self.tell(f"{name}: {len(rows)} rows, {wrong} wrong, {time.monotonic() - began:.1f} s")
 
     def end(self):
-        """Lets no further row be tried, and ends what was begun."""
+        """Stops before the next row, and ends what was started."""
         self.stop.set()
         for kind in list(self.kinds):
             kind.close()
@@ -122,7 +122,7 @@ def cut(text, at=0):
 
 
 def try_all(tables, names):
-    """Tries tables side by side. Where one cannot be tried, or at Ctrl-C, the others end too."""
+    """Tries tables side by side. If one cannot be tried, or at Ctrl-C, the others end too."""
     count = len(os.sched_getaffinity(0))
     with concurrent.futures.ThreadPoolExecutor(count) as pool:
         going = [pool.submit(tables.try_table, name) for name in names]
@@ -152,7 +152,7 @@ def table_names(words):
 
 
 def main(words):
-    """Tries the tables, and gives the status."""
+    """Tries the tables. Returns the status."""
     if words in (["-h"], ["--help"]):
         print(__doc__)
         return 0

@@ -29,7 +29,7 @@ os.execv(sys.argv[1], ["cedar_site", *sys.argv[2:]])
 
 
 class Run:
-    """How a run ended, and what it wrote."""
+    """The status of a run, and what it wrote."""
 
     def __init__(self, status, answers, faults):
         self.status, self.answers, self.faults = status, answers, faults
@@ -55,7 +55,7 @@ class Run:
 
 
 class Program:
-    """The program, which runs in a folder, once after the other. Where the runner ends, a run that goes on ends too."""
+    """The program, run in a folder, one run after another. If the runner ends, a run in progress ends too."""
 
     def __init__(self, path, room):
         self.path, self.room = path, room
@@ -90,7 +90,7 @@ class Program:
             return self.wait(self.start(whole, stdout=answers, stderr=faults)).status
 
     def end(self, process):
-        """Ends a run, if it goes on."""
+        """Ends a run that is in progress."""
         if process.poll() is None:
             process.kill()
             process.wait()
@@ -98,7 +98,7 @@ class Program:
             self.going.discard(process)
 
     def close(self):
-        """Ends what goes on, and starts no more."""
+        """Ends the run in progress, and starts no other."""
         with self.lock:
             self.over, going = True, list(self.going)
         for process in going:
@@ -162,11 +162,11 @@ def object_of(text):
 
 
 class Policies(Commands):
-    """Texts that are read: `ok`, or the code and the place.
+    """Texts that are parsed: `ok`, or the code and the place of the error.
 
-    - `condition`: that of a policy which `decide` reads, whatever it answers.
-    - `policy`: put at a site, where it may stand or be refused for what it says (40 to 46), which is no matter here.
-    - `file`: `N policies`, by the lines of `check`, which has one for each, whatever its verdict.
+    - `condition`: the condition of a policy, for `decide`; `ok` whatever the answer is.
+    - `policy`: a policy that is put at a site; `ok` also if it does not pass validation (40 to 46).
+    - `file`: a file of policies, for `check`: `N policies` by the number of its lines, whatever the verdicts are.
     """
 
     def __init__(self, program, room):
@@ -210,12 +210,12 @@ class Policies(Commands):
 
 
 class Decisions(Commands):
-    """Texts that are decided: the line of the answer, or of the refusal.
+    """Texts for `decide`: the line of the answer, or of the error.
 
-    - `given`: gives the rows below their texts, from JSON with some of KEYS: each a text, or JSON that stands for its
-      compact text.
-    - `decide`: by `policies`, and perhaps other texts of the row's own.
-    - `when`: by a policy with this condition.
+    - `given`: sets the texts of later rows, from JSON with some of KEYS: each a text, or JSON in place of its compact
+      text.
+    - `decide`: the row's own `policies`, perhaps with other texts of its own.
+    - `when`: a policy with this condition.
     """
 
     KEYS = ("policies", "entities", "request")
@@ -252,14 +252,14 @@ class Decisions(Commands):
 
 
 class DecisionsUnderSchema(Decisions):
-    """The same under a schema, by `given_texts` and `decide_under`."""
+    """Texts for `decide` under a schema: the words `given_texts` and `decide_under`, like `given` and `decide`."""
 
     KEYS = ("schema", "policies", "entities", "request")
     of_given_texts, of_decide_under = Decisions.of_given, Decisions.of_decide
 
 
 class UnderSchema(Commands):
-    """What is below a row `under`, which gives the rows their schema: `given` where `check` takes it."""
+    """Rows under a schema, which `under` sets for later rows: `given` if `check` accepts it, else the code."""
 
     def __init__(self, program, room):
         super().__init__(program, room)
@@ -281,10 +281,11 @@ class UnderSchema(Commands):
 
 
 class Requests(UnderSchema):
-    """Requests that are refused: the code, by `decide` without policies and entities.
+    """Requests that `decide` rejects, without policies and entities: the code.
 
-    - `request`: of this one.
-    - `context`: of one with this `action` and `context`, of types that the first action of the schema applies to.
+    - `request`: the request.
+    - `context`: a request with this `action` and `context`; principal and resource are of types that the first action of
+      the schema applies to.
     """
 
     def __init__(self, program, room):
@@ -321,11 +322,11 @@ class Requests(UnderSchema):
 
 
 class Checks(UnderSchema):
-    """Whether policies pass, by `check`.
+    """Policies for `check`.
 
-    - `check`: a policy, `check_when`: one with this condition: `accepted`, `impossible` or the code.
-    - `check_texts`: the `policies` of a row under the `schema` of its own: whether some are refused, by the status, and
-      all lines; or the line of the refusal.
+    - `check`: a policy; `check_when`: a policy with this condition. The outcome is `accepted`, `impossible` or the code.
+    - `check_texts`: the row's own `policies` under its own `schema`: whether some are rejected, by the status, and all
+      lines; or the line of the error.
     """
 
     KEYS = ("schema", "policies")
@@ -361,9 +362,9 @@ class Checks(UnderSchema):
 
 
 class Stored(UnderSchema):
-    """What a text is as the body of an entry of a state, by `merge` with an empty one.
+    """Texts as the body of an entry, in a state that `merge` joins with an empty one.
 
-    It is `valid` where the state that is printed has that entry, else the number for which it is refused, or `another
+    The outcome is `valid` if the printed state has that entry, else the code with which it is rejected, or `another
     name`. `stored` has the text of a policy, `stored_when` that of one with this condition, `stored_entity` that of an
     entity, behind its uid as JSON.
     """
@@ -403,10 +404,10 @@ class Stored(UnderSchema):
 class Runs(Commands):
     """Runs of command lines.
 
-    - `file NAME TEXT`: lays a file beside the runs below: `laid`.
-    - `run`: the status, and what was written on standard output and standard error, as JSON. A word with blanks, or
-      of no bytes, stands in quotes.
-    - `run_short`: the status where each stream takes ten bytes and then fails.
+    - `file NAME TEXT`: writes a file into the folder of the runs below: `laid`.
+    - `run`: the status, and what was written on standard output and standard error, as JSON. An argument with blanks, or
+      without bytes, is in quotes.
+    - `run_short`: the status of a run in which each stream takes ten bytes and then fails.
     """
 
     def of_file(self, text):
@@ -425,7 +426,7 @@ class ExplainedRuns(Runs):
     """Runs of commands with the option `--explain`, besides those of `Runs`.
 
     - `explained COMMAND | FILES`: the run of the command without the option, and how many errors `explain FILES` prints.
-      With the option the status and standard output are the same, and standard error has that text behind the same line;
+      With the option the status and standard output are the same, and standard error has that text after the same line;
       else both runs.
     """
 
@@ -448,7 +449,7 @@ class Block(Row):
 
 
 class Blocks(Commands):
-    """Rows of several lines: `- TITLE`, below it lines `  KEY: VALUE`. What is expected stands at the key `gives`."""
+    """Rows of several lines: `- TITLE`, below it lines `  KEY: VALUE`. The key `gives` has the expected outcome."""
 
     @staticmethod
     def rows_of(table):
@@ -484,9 +485,9 @@ class Merges(Blocks):
 
 
 class Pulls(Blocks):
-    """A pull from a peer that gives stated bytes: how many were taken and the state file, the error line, or `network`.
+    """A pull from a peer that gives stated bytes: the number of entries sent and the state file, the error line, or `network`.
 
-    What is asked has to be what is stated, and the state file has to stay as it was where the pull fails.
+    The request must be the stated one. If the pull fails, the state file must stay as it was.
     """
 
     ADDRESS = "127.0.0.1:7000"
@@ -538,8 +539,8 @@ class Pulls(Blocks):
 class Exchanges(Blocks):
     """A round of exchange with two peers, whose addresses are written 127.0.0.1:7000 and 127.0.0.1:7001.
 
-    A peer gives one reply a connection: a status and a body, or `raw` and bytes; at `-` nobody listens. What is asked has to be
-    the stated requests in their order, each the exact bytes; then come the status and what was printed on both streams.
+    A peer gives one reply a connection: a status and a body, or `raw` and bytes; at `-` nobody listens. The requests must be
+    the stated ones, in their order and byte by byte. The outcome is the status, and what was printed on both streams.
     """
 
     ADDRESSES = {"first": "127.0.0.1:7000", "second": "127.0.0.1:7001"}
@@ -564,7 +565,7 @@ class Exchanges(Blocks):
 
 
 def replies_of(text):
-    """The replies of a peer, or None where nobody listens."""
+    """Returns the replies of a peer, or None if nobody listens."""
     if text == "-":
         return None
     replies = []
@@ -579,7 +580,7 @@ def replies_of(text):
 
 
 class Peers:
-    """A peer that is called more than once: it notes what each call asks, and gives the next of its replies."""
+    """A peer for several calls: it keeps the request of each, and answers with the next of its replies."""
 
     def __init__(self, number, replies, heard):
         self.number, self.replies, self.heard = number, replies, heard
@@ -593,7 +594,7 @@ class Peers:
         self.thread.start()
 
     def give(self):
-        """Hears and gives, until it is closed."""
+        """Receives requests and replies to them, until it is closed."""
         replies = list(self.replies)
         try:
             while True:
@@ -603,7 +604,7 @@ class Peers:
                     asked = b""
                     while not is_whole(asked) and (more := link.recv(1 << 16)):
                         asked += more
-                    # what is too large is judged once there is a connection, and not sent
+                    # a body that is too large is rejected once there is a connection, and not sent
                     if asked:
                         self.heard.append(self.shown(asked))
                         link.sendall(replies.pop(0) if replies else b"")
@@ -611,7 +612,7 @@ class Peers:
             pass  # it is closed
 
     def shown(self, asked):
-        """Who was asked, and method, path and body where the request is as it should be; else all of it."""
+        """Returns the peer's number with method, path and body if the request has the expected form, else with all its bytes."""
         head, _, body = asked.partition(b"\r\n\r\n")
         method, path = head.split(b" ")[:2]
         length = b"" if method == b"GET" else b"Content-Length: %d\r\n" % len(body)
@@ -627,7 +628,7 @@ class Peers:
 
 
 class Peer:
-    """Who is pulled from: on a free port, it hears one request out, gives the reply that it has, and ends."""
+    """The peer of a pull: on a free port it receives one whole request, sends its reply, and ends."""
 
     def __init__(self, reply):
         self.reply, self.heard = reply, b""
@@ -638,7 +639,7 @@ class Peer:
         self.thread.start()
 
     def give(self):
-        """Hears and gives, to one who calls."""
+        """Receives one request and replies to it."""
         try:
             link, _ = self.listener.accept()
             with link:

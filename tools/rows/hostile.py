@@ -76,7 +76,7 @@ PARTS = (
 TOGETHER = 64
 # the number of deletions in a message
 DELETED = 1000
-# what a route may refuse for
+# the codes with which a route may reject a body
 POLICY_CODES = {*range(10, 20), *range(40, 47), 62}
 ENTITY_CODES = {*range(30, 39), 61, 62}
 MESSAGE_CODES = set(range(50, 58))
@@ -211,7 +211,7 @@ class Hostile(Served):
             fault = self.answered(word, codes, bodies, [asking(chance, body) for body in bodies])
             if fault:
                 return f"behind {begin}: {fault}"
-        # where nearly all are refused, or none is, the row tries less than it says
+        # if nearly all are rejected, or none is, the row tries less than it says
         if not count // 10 < self.accepted < count // 2:
             return f"{self.accepted} of {count} accepted"
         return f"{count} answered"

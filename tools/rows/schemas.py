@@ -6,8 +6,8 @@ import json
 from rows.commands import UnderSchema, compact
 from rows.texts import expanded, printed
 
-# so many policies are asked about all types of entities; where there would be more, about those that an action names,
-# each with each for the first actions
+# the most policies for all pairs of entity types; beyond it, policies only for types that an action names, for the first
+# actions in all pairs
 MOST, FIRST = 2000, 10
 # an action that no schema of the rows has
 NO_ACTION = 'Action::"no action of this name"'

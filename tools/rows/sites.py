@@ -19,10 +19,10 @@ from rows.texts import Kind, expanded, rows_of
 HOST = "127.0.0.1"
 # in seconds: how long a site may take to listen, to answer or to end
 PATIENCE = 180.0
-# how often another port is tried where one is taken
+# how often another port is tried if one is taken
 PORTS = 20
 BAD_ROW = "bad row"
-# the status of a reply by the code of its refusal; of all others it is 422
+# the status of a reply by the code of its error; for all other codes it is 422
 STATUSES = {1: 503, 60: 404, 61: 409, 62: 409}
 
 
@@ -159,7 +159,7 @@ def request(method, path, body=None):
     return f"{method} {path} HTTP/1.1\r\n".encode() + length + b"\r\n" + (body or b"")
 
 
-# a request that is answered by 404 wherever it goes, and what its reply ends in
+# a request that each site answers by 404, and the end of the reply
 NOWHERE = request("GET", "/nowhere")
 NOT_FOUND = b'{"error":{"code":404,"place":null,"within":null}}'
 
@@ -537,7 +537,7 @@ class Messages(Served):
             name, body = quoted(policy), self.effect(policy, entry["body"])
         return f"{name} {stamp} {'nothing' if body is None else body}"
 
-    # a user whom each of the rows' policies applies to that any request satisfies, and what she asks
+    # a user, and her request, to whom each policy of the rows applies that some request satisfies
     USER = b'{"uid":{"type":"User","id":"zoe"},"attrs":{"name":"Zoe","age":9}}'
     ASKS = (b'{"principal":"User::\\"zoe\\"","action":"Action::\\"view\\"","resource":"Doc::\\"d\\"",'
             b'"context":{"src":"10.0.0.1"}}')

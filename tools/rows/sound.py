@@ -10,7 +10,7 @@ from rows.commands import compact, policy_when
 from rows.sites import BAD_ROW, Served, policy_path
 from rows.texts import TABLES, expanded, rows_of
 
-# the errors that are left to a policy that passed
+# the errors that a policy that passes may give
 LEFT = {"entityDoesNotExist", "arithBoundsError"}
 PASSED = {"accepted", "impossible"}
 ALICE = {"type": "User", "id": "alice"}

@@ -24,7 +24,7 @@ class Kind:
     """
 
     def __init__(self, program, room):
-        """PROGRAM is an absolute path, ROOM a fresh folder for this table."""
+        """Creates it. PROGRAM is an absolute path, ROOM a fresh folder for this table."""
         self.program, self.room = program, room
 
     def row_outcome(self, word, text):

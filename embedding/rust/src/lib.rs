@@ -16,7 +16,7 @@
 //! # Ok::<(), weirbowl::Error>(())
 //! ```
 //!
-//! What the C header asks of a caller is kept by types: a slot is zeroed, never copied, and borrowed mutably for each
+//! Types ensure what the C header asks of a caller: a slot is zeroed, never copied, and borrowed mutably for each
 //! call; pointers and lengths are those of slices; a site stays on the thread that opened it: it is neither `Send` nor
 //! `Sync`, and a `Mutex` does not help. examples/queue.rs has a thread that owns a site and answers others.
 //!
@@ -55,7 +55,7 @@ pub struct Site {
 impl Site {
     /// Opens a site with nothing stored, under the schema that JSON describes.
     ///
-    /// `name` goes into the site's stamps: sites that exchange messages need different names.
+    /// `name` goes into the site's stamps: no site that exchanges with it, directly or not, has or had this name.
     ///
     /// # Errors
     ///
