@@ -38,7 +38,7 @@ LONG = 20
 
 STANDARD = re.compile(r"(?:RFC|FIPS) [\d-]+(?:, sections? [\d., andto]*\d)?")
 # the definition of the headline over what bytes state: a crate, a module and a name
-HEADLINE = ("site_theorems", "Headline", "SitesAreAsStated")
+HEADLINE = ("site_theorems", "MainTheorem", "SitesAreAsStated")
 # the totals of docs/reading.md, of the headline and of the whole program
 TOTALS = re.compile(r"\d+(\s+files\s+of\s+specs/,\s+)\d+(\s+lines\s+of\s+definitions;\s+)\d+(\s+files\s+that\s+declare\s+types)")
 # sources in this repository

@@ -11,7 +11,7 @@ use Rattle.ancestor_search.specs.Decided.{is_same}
 use Rattle.ancestor_search.specs.Deciding.{same_uid, same_self, Contains-here, Contains-cases, Contains-none}
 use Rattle.ancestor_closure.specs.Lists.{ancestors_or_none, children_or_none, ancestors_in, children_in}
 use Rattle.ancestor_closure.specs.declared.relatives.Relatives.{Relatives}
-use Rattle.ancestor_closure.specs.Lists.{SameLists, SameChildren, IsThere, StayThere, AddsChild}
+use Rattle.ancestor_closure.specs.Lists.{SameLists, SameChildren, HasEntry, KeepEntries, AddsChild}
 use Rattle.ancestor_closure.specs.inner.OneChange.{TakesChild}
 use Rattle.ancestor_closure.proofs.Paths.{differ}
 
@@ -51,10 +51,10 @@ module _ (m n : BTreeMap EntityUid Relatives) (k : EntityUid) (r : Relatives)
   children_at : (q : EntityUid) → children_in n q ≡ cond (is_same k q) r.children.keys (children_in m q)
   children_at q = ap children_or_none (at q) ∙ children-cond (is_same k q) r (get uid_cmp m q)
 
-  pub stay : StayThere m n
+  pub stay : KeepEntries m n
   stay q h = subst (λ o. IsSome o) (sym (at q)) (some-cond (is_same k q) r (get uid_cmp m q) h)
 
-  pub there : IsThere n k
+  pub there : HasEntry n k
   there = subst (λ o. IsSome o) (sym (at k ∙ ap (λ b. cond b (Some r) (get uid_cmp m k)) (same_self k))) refl
 
   pub same_lists : r.ancestors.items ≡ ancestors_in m k → SameLists m n
@@ -148,7 +148,7 @@ module _ (ys zs : List EntityUid) (c : EntityUid) (at : (q : EntityUid) → list
       cc (has, not)
 
 -- something is kept of an entity that has an ancestor
-pub is_there : (m : BTreeMap EntityUid Relatives) (q a : EntityUid) → Contains (ancestors_in m q) a → IsThere m q
+pub is_there : (m : BTreeMap EntityUid Relatives) (q a : EntityUid) → Contains (ancestors_in m q) a → HasEntry m q
 is_there m q a h = at (get uid_cmp m q) h
   where
     at : (o : Option Relatives) → Contains (ancestors_or_none o) a → IsSome o
@@ -156,7 +156,7 @@ is_there m q a h = at (get uid_cmp m q) h
     at (Some r) t = refl
 
 -- something is kept of it, and nothing
-pub none_there : {A : Type 0} (m : BTreeMap EntityUid Relatives) (k : EntityUid) → get uid_cmp m k ≡ None → IsThere m k → A
+pub none_there : {A : Type 0} (m : BTreeMap EntityUid Relatives) (k : EntityUid) → get uid_cmp m k ≡ None → HasEntry m k → A
 none_there m k none there = absurd (at (get uid_cmp m k) none there)
   where
     at : (o : Option Relatives) → o ≡ None → IsSome o → ⊥

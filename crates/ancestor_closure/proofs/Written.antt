@@ -10,7 +10,7 @@ use Rattle.values.specs.Names.{uid_cmp}
 use Rattle.ancestor_search.specs.Hierarchy.{Parents}
 use Rattle.ancestor_search.specs.Decided.{is_same}
 use Rattle.ancestor_search.specs.Deciding.{same_uid, Contains-here, Contains-there, Contains-cases, Contains-none}
-use Rattle.ancestor_closure.specs.Lists.{IsListOf, ancestors_in, IsThere, StayThere}
+use Rattle.ancestor_closure.specs.Lists.{IsListOf, ancestors_in, HasEntry, KeepEntries}
 use Rattle.ancestor_closure.specs.declared.relatives.Relatives.{Relatives}
 use Rattle.ancestor_closure.specs.inner.OneChange.{firsts, written}
 use Rattle.ancestor_closure.proofs.Paths.{differ}
@@ -63,16 +63,16 @@ written-right p q old (x ∷ xs) right others = at (written-right p q old xs (λ
 
 -- what the loop of `write_all` keeps
 pub record Writing (m : BTreeMap EntityUid Relatives) (lists : List (EntityUid × Vec EntityUid Global)) (wanted : EntityUid → List EntityUid) : Type 0 where
-  pub known : (q : EntityUid) → Contains (firsts lists) q → IsThere m q
+  pub known : (q : EntityUid) → Contains (firsts lists) q → HasEntry m q
   pub same : (q : EntityUid) → written lists q (ancestors_in m q) ≡ wanted q
 
 pub Writing-step : (m n : BTreeMap EntityUid Relatives) (lists rest : List (EntityUid × Vec EntityUid Global)) (wanted : EntityUid → List EntityUid) (e : EntityUid) (list : Vec EntityUid Global)
-    → Writing m lists wanted → lists ≡ rest ++ (e, list) ∷ [] → ((q : EntityUid) → ancestors_in n q ≡ cond (is_same e q) list.items (ancestors_in m q)) → StayThere m n → Writing n rest wanted
+    → Writing m lists wanted → lists ≡ rest ++ (e, list) ∷ [] → ((q : EntityUid) → ancestors_in n q ≡ cond (is_same e q) list.items (ancestors_in m q)) → KeepEntries m n → Writing n rest wanted
 Writing-step m n lists rest wanted e list s is wrote stay = record {
   known = λ q h. stay q (s.known q (rw (is, firsts-push) (Contains-append_left (firsts rest) _ q h)));
   same = λ q. ap (written rest q) (wrote q) ∙ sym (written-push rest (e, list) q (ancestors_in m q)) ∙ ap (λ f. written f q (ancestors_in m q)) (sym is) ∙ s.same q;
 }
 
 pub Writing-last : (m : BTreeMap EntityUid Relatives) (lists rest : List (EntityUid × Vec EntityUid Global)) (wanted : EntityUid → List EntityUid) (e : EntityUid) (list : Vec EntityUid Global)
-    → Writing m lists wanted → lists ≡ rest ++ (e, list) ∷ [] → IsThere m e
+    → Writing m lists wanted → lists ≡ rest ++ (e, list) ∷ [] → HasEntry m e
 Writing-last m lists rest wanted e list s is = s.known e (rw (is, firsts-push) (Contains-push (firsts rest) e))

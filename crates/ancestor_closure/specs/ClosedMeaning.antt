@@ -22,9 +22,9 @@ closed_parents xs uid = unwrap_or (lookup (is_at (uid_cmp uid)) xs) []
 abbrev pub closed_stored : List (EntityUid × List EntityUid) → List EntityUid
 closed_stored xs = map (λ x. x.0) xs
 
--- `closed_above xs a b` tests whether a path of the view `xs` leads from `b` to `a`.
-abbrev pub closed_above : List (EntityUid × List EntityUid) → EntityUid → EntityUid → Bool
-closed_above xs = reaches (closed_parents xs) (closed_stored xs)
+-- `closed_ancestor_test xs a b` tests whether a path of the view `xs` leads from `b` to `a`.
+abbrev pub closed_ancestor_test : List (EntityUid × List EntityUid) → EntityUid → EntityUid → Bool
+closed_ancestor_test xs = reaches (closed_parents xs) (closed_stored xs)
 
 -- An entity with a parent is stored.
 all_stored : (xs : List (EntityUid × List EntityUid)) (b a : EntityUid) →
@@ -40,6 +40,6 @@ all_stored (x ∷ xs) b a h =
       | false ↦ λ apart m. Contains-there x.0 (closed_stored xs) b (all_stored xs b a m)
     ] refl h
 
--- `closed_above xs` decides the ancestor relation of the view `xs`.
-pub closed_is_decided : (xs : List (EntityUid × List EntityUid)) → Decides (closed_parents xs) (closed_above xs)
+-- `closed_ancestor_test xs` decides the ancestor relation of the view `xs`.
+pub closed_is_decided : (xs : List (EntityUid × List EntityUid)) → Decides (closed_parents xs) (closed_ancestor_test xs)
 closed_is_decided xs = decided (closed_parents xs) (closed_stored xs) (λ b a h. all_stored xs b a h)

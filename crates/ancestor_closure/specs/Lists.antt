@@ -59,13 +59,13 @@ SameLists before after = (q : EntityUid) → ancestors_in after q ≡ ancestors_
 abbrev pub SameChildren : BTreeMap EntityUid Relatives → BTreeMap EntityUid Relatives → Type 0
 SameChildren before after = (q : EntityUid) → children_in after q ≡ children_in before q
 
--- `IsThere relatives q` holds if the map `relatives` has an entry for `q`.
-abbrev pub IsThere : BTreeMap EntityUid Relatives → EntityUid → Type 0
-IsThere relatives q = IsSome (get uid_cmp relatives q)
+-- `HasEntry relatives q` holds if the map `relatives` has an entry for `q`.
+abbrev pub HasEntry : BTreeMap EntityUid Relatives → EntityUid → Type 0
+HasEntry relatives q = IsSome (get uid_cmp relatives q)
 
--- `StayThere before after` holds if the map `after` has an entry for each entity for which `before` has one.
-abbrev pub StayThere : BTreeMap EntityUid Relatives → BTreeMap EntityUid Relatives → Type 0
-StayThere before after = (q : EntityUid) → IsThere before q → IsThere after q
+-- `KeepEntries before after` holds if the map `after` has an entry for each entity for which `before` has one.
+abbrev pub KeepEntries : BTreeMap EntityUid Relatives → BTreeMap EntityUid Relatives → Type 0
+KeepEntries before after = (q : EntityUid) → HasEntry before q → HasEntry after q
 
 -- `AddsChild ps child before after` holds if `after` has all children of `before`, and no others, except that `child`
 -- may be a further child of some of `ps`. `before` and `after` map each entity to its children.

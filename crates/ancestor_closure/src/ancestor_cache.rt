@@ -8,11 +8,11 @@ ghost use Rattle.values.specs.declared.entity_uid.EntityUid.{EntityUid as PlainU
 ghost use Rattle.ancestor_closure.specs.Lists.{IsListOf, ancestors_in};
 ghost use Rattle.ancestor_closure.specs.CacheOf.{IsCacheOf, IsStaleAt};
 
+use crate::budget::CacheBudget;
 use crate::changing::follow;
 use crate::cycles::{are_none, members};
 use crate::lists::{is_in, lent};
 use crate::relatives::{Relatives, ancestors_at};
-use crate::room::CacheBudget;
 use crate::whole_graph::{relatives_among, set_of};
 use ancestor_search::{Graph, ParentsOf, least_cycle_among, on_cycles};
 use plain::{NoMemory, Shared};
@@ -83,16 +83,16 @@ impl AncestorCache {
     ///
     /// # Errors
     ///
-    /// - `NoMemory`: an allocation failed, or the budget `room` is exceeded.
+    /// - `NoMemory`: an allocation failed, or the budget `budget` is exceeded.
     pub fn of_graph<G: Graph>(
         alloc: Global,
         graph: &G,
-        room: &mut CacheBudget,
+        budget: &mut CacheBudget,
     ) -> Result<Self, NoMemory>
         ensures { IfOk result (λ kept. IsCacheOf (G.parents graph.now) kept) }
     {
         let uids = graph.stored_uids(alloc)?;
-        let relatives = relatives_among(alloc, graph, &uids, room)?;
+        let relatives = relatives_among(alloc, graph, &uids, budget)?;
         let found = on_cycles(alloc, graph)?;
         let cyclic = set_of(alloc, &relatives, &found)?;
         Ok(AncestorCache {
@@ -109,13 +109,13 @@ impl AncestorCache {
     ///
     /// # Errors
     ///
-    /// - `NoMemory`: an allocation failed, or the budget `room` is exceeded. The cache is then still right for the
+    /// - `NoMemory`: an allocation failed, or the budget `budget` is exceeded. The cache is then still right for the
     ///   graph before the change.
     pub fn follow<G: ParentsOf>(
         &mut self,
         graph: &G,
         uid: &EntityUid,
-        room: &mut CacheBudget,
+        budget: &mut CacheBudget,
     ) -> Result<(), NoMemory>
         requires { IsStaleAt uid.now (G.parents graph.now) self.old }
         ensures ok { OnOk result (IsCacheOf (G.parents graph.now) self.new) }
@@ -127,7 +127,7 @@ impl AncestorCache {
             &mut self.relatives,
             &mut self.cyclic,
             uid,
-            room,
+            budget,
         )?;
         Ok(())
     }

@@ -10,9 +10,9 @@ ghost use Rattle.ancestor_closure.specs.Lists.{IsListOf, ancestors_in, children_
 ghost use Rattle.ancestor_closure.specs.inner.OneChange.{AreListsBut, firsts};
 ghost use Rattle.ancestor_closure.specs.inner.Placing.{left_of};
 
+use crate::budget::CacheBudget;
 use crate::lists::lists_of;
 use crate::relatives::{Relatives, ancestors_at};
-use crate::room::CacheBudget;
 use ancestor_search::ParentsOf;
 use plain::{NoMemory, Shared};
 use std::alloc::Global;
@@ -60,8 +60,8 @@ fn place_once(
     place(all, one, next)
 }
 
-// Appends `next` to `all`, after `one` if `one` is not placed yet and comes before `next`. Returns whether `one` is
-// then placed: appended, now or before, or equal to an appended entity.
+// Appends `one` to `all` if it is not placed yet and comes before `next`, and then appends `next`. Returns whether
+// `one` is then placed: appended, now or before, or equal to an appended entity.
 fn add_next(
     all: &mut Vec<Shared<EntityUid>>,
     one: &Shared<EntityUid>,
@@ -137,12 +137,12 @@ fn list_by_parent(
     relatives: &BTreeMap<EntityUid, Relatives>,
     uid: &EntityUid,
     parent: &Shared<EntityUid>,
-    room: &mut CacheBudget,
+    budget: &mut CacheBudget,
 ) -> Result<Vec<Shared<EntityUid>>, NoMemory>
     ensures { IfOk result (λ all. all.items ≡ insert_key uid_cmp (ancestors_in relatives.now parent.now) parent.now) }
 {
     let list = with_one(alloc, ancestors_at(relatives, parent), parent)?;
-    room.write(ancestors_at(relatives, uid).len(), list.len())?;
+    budget.write(ancestors_at(relatives, uid).len(), list.len())?;
     Ok(list)
 }
 
@@ -167,7 +167,7 @@ fn alone(
 ///
 /// # Errors
 ///
-/// - `NoMemory`: an allocation failed, or the budget `room` is exceeded.
+/// - `NoMemory`: an allocation failed, or the budget `budget` is exceeded.
 pub(crate) fn new_lists<G: ParentsOf>(
     alloc: Global,
     graph: &G,
@@ -175,7 +175,7 @@ pub(crate) fn new_lists<G: ParentsOf>(
     uid: &Shared<EntityUid>,
     after: &[Shared<EntityUid>],
     entities: &[Shared<EntityUid>],
-    room: &mut CacheBudget,
+    budget: &mut CacheBudget,
 ) -> Result<Vec<Listed>, NoMemory>
     requires known { AreListsBut uid.now (G.parents graph.now)
         (ancestors_in relatives.now) (children_in relatives.now) }
@@ -188,9 +188,9 @@ pub(crate) fn new_lists<G: ParentsOf>(
 {
     match only_parent(uid, after, entities) {
         Some(parent) => {
-            let list = list_by_parent(alloc, relatives, uid, parent, room)?;
+            let list = list_by_parent(alloc, relatives, uid, parent, budget)?;
             Ok(alone(alloc, uid, list)?)
         }
-        None => lists_of(alloc, graph, relatives, entities, room),
+        None => lists_of(alloc, graph, relatives, entities, budget),
     }
 }

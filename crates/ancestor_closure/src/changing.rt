@@ -9,16 +9,16 @@ ghost use Rattle.std.specs.Prelude.{◌≡◌, ◌↔◌, ◌⊎◌, [], ◌∷�
 ghost use Rattle.values.specs.declared.entity_uid.EntityUid.{EntityUid as PlainUid};
 ghost use Rattle.ancestor_search.specs.Hierarchy.{Parents, IsAscending, names};
 ghost use Rattle.ancestor_closure.specs.Lists.{IsCacheContent, ancestors_in, children_in, IsStaleContent};
-ghost use Rattle.ancestor_closure.specs.Lists.{SameLists, SameChildren, IsThere, StayThere, AddsChild};
+ghost use Rattle.ancestor_closure.specs.Lists.{SameLists, SameChildren, HasEntry, KeepEntries, AddsChild};
 ghost use Rattle.ancestor_closure.specs.inner.OneChange.{TakesChild, firsts, written, IsInOwn, ListsAscend, Enters};
 ghost use Rattle.ancestor_closure.specs.inner.OneChange.{AreListsBut, Leaves, IsPlanned};
 
+use crate::budget::CacheBudget;
 use crate::by_parent::new_lists;
 use crate::children::{add_to_all, entity_and_descendants, take_from_all};
 use crate::cycles::{enter_all, leave_all};
 use crate::lists::{are_among, are_in, shared_all, write_all};
 use crate::relatives::{Relatives, ancestors_at, is_child, release, release_all, reserve, shared};
-use crate::room::CacheBudget;
 use ancestor_search::{ParentsOf, listed};
 use plain::{NoMemory, Shared};
 use std::alloc::Global;
@@ -73,8 +73,8 @@ fn reserve_all(
 ) -> Result<(), NoMemory>
     ensures lists { SameLists relatives.old relatives.new }
     ensures children { SameChildren relatives.old relatives.new }
-    ensures stay { StayThere relatives.old relatives.new }
-    ensures there { OnOk result ((x : PlainUid) → Contains (names uids.now) x → IsThere relatives.new x) }
+    ensures stay { KeepEntries relatives.old relatives.new }
+    ensures there { OnOk result ((x : PlainUid) → Contains (names uids.now) x → HasEntry relatives.new x) }
 {
     for uid in uids {
         reserve(alloc, relatives, uid)?;
@@ -83,7 +83,7 @@ fn reserve_all(
 }
 
 /// Adds an empty entry for `uid` and for each of `parents`, if it has none. The only error is `NoMemory`.
-pub fn make_room(
+pub fn add_entries(
     alloc: Global,
     relatives: &mut BTreeMap<EntityUid, Relatives>,
     uid: &EntityUid,
@@ -91,9 +91,9 @@ pub fn make_room(
 ) -> Result<(), NoMemory>
     ensures lists { SameLists relatives.old relatives.new }
     ensures children { SameChildren relatives.old relatives.new }
-    ensures stay { StayThere relatives.old relatives.new }
-    ensures there { OnOk result (IsThere relatives.new uid.now) }
-    ensures parents_there { OnOk result ((x : PlainUid) → Contains (names parents.now) x → IsThere relatives.new x) }
+    ensures stay { KeepEntries relatives.old relatives.new }
+    ensures there { OnOk result (HasEntry relatives.new uid.now) }
+    ensures parents_there { OnOk result ((x : PlainUid) → Contains (names parents.now) x → HasEntry relatives.new x) }
 {
     reserve(alloc, relatives, uid)?;
     reserve_all(alloc, relatives, parents)
@@ -149,14 +149,14 @@ fn parents_before(
     those_with_child(alloc, relatives, ancestors_at(relatives, uid), uid)
 }
 
-// Returns the change that gives an entity the parents that it has in the graph, within the budget `room`.
+// Returns the change that gives an entity the parents that it has in the graph, within the budget `budget`.
 fn planned<G: ParentsOf>(
     alloc: Global,
     graph: &G,
     relatives: &BTreeMap<EntityUid, Relatives>,
     uid: &EntityUid,
     parents: &[&EntityUid],
-    room: &mut CacheBudget,
+    budget: &mut CacheBudget,
 ) -> Result<Change, NoMemory>
     requires all { (x : PlainUid) → Contains (names parents.now) x ↔ Contains (G.parents graph.now uid.now) x }
     requires ascending { IsAscending (names parents.now) }
@@ -169,7 +169,7 @@ fn planned<G: ParentsOf>(
     let before = parents_before(alloc, relatives, &name)?;
     let after = shared_all(alloc, relatives, parents)?;
     let entities = entity_and_descendants(alloc, relatives, uid)?;
-    let lists = new_lists(alloc, graph, relatives, &name, &after, &entities, room)?;
+    let lists = new_lists(alloc, graph, relatives, &name, &after, &entities, budget)?;
     Ok(Change {
         uid: name,
         before,
@@ -187,9 +187,9 @@ fn begin(
     change: &Change,
 ) -> Result<(), NoMemory>
     requires ascend { ListsAscend change.now.lists.items }
-    requires there { (x : PlainUid) → Contains change.now.after.items x → IsThere relatives.old x }
+    requires there { (x : PlainUid) → Contains change.now.after.items x → HasEntry relatives.old x }
     ensures lists { SameLists relatives.old relatives.new }
-    ensures stay { StayThere relatives.old relatives.new }
+    ensures stay { KeepEntries relatives.old relatives.new }
     ensures adds { AddsChild change.now.after.items change.now.uid
         (children_in relatives.old) (children_in relatives.new) }
     ensures added { OnOk result ((x : PlainUid) →
@@ -226,7 +226,7 @@ fn finish(
     change: Change,
 )
     requires after_ascends { IsAscending change.after.items }
-    requires there { (q : PlainUid) → Contains (firsts change.lists.items) q → IsThere relatives.old q }
+    requires there { (q : PlainUid) → Contains (firsts change.lists.items) q → HasEntry relatives.old q }
     requires ascend { (q : PlainUid) → IsAscending (written change.lists.items q (ancestors_in relatives.old q)) }
     ensures lists { (q : PlainUid) →
         ancestors_in relatives.new q ≡ written change.lists.items q (ancestors_in relatives.old q) }
@@ -246,8 +246,8 @@ fn finish(
     leave_all(cyclic, relatives, &entities);
 }
 
-// Makes the change that gives an entity `parents`, within the budget `room`; returns how many lists were written. After
-// an error the cache is right for each graph that it was right for.
+// Makes the change that gives an entity `parents`, within the budget `budget`; returns how many lists were written.
+// After an error the cache is right for each graph that it was right for.
 fn make<G: ParentsOf>(
     alloc: Global,
     graph: &G,
@@ -255,21 +255,21 @@ fn make<G: ParentsOf>(
     cyclic: &mut BTreeSet<Shared<EntityUid>>,
     uid: &EntityUid,
     parents: &[&EntityUid],
-    room: &mut CacheBudget,
+    budget: &mut CacheBudget,
 ) -> Result<usize, NoMemory>
     requires all { (x : PlainUid) → Contains (names parents.now) x ↔ Contains (G.parents graph.now uid.now) x }
     requires ascending { IsAscending (names parents.now) }
     requires kept { IsStaleContent uid.now (G.parents graph.now)
         (ancestors_in relatives.old) (children_in relatives.old) cyclic.old.keys }
-    requires there { IsThere relatives.old uid.now }
-    requires parents_there { (x : PlainUid) → Contains (names parents.now) x → IsThere relatives.old x }
+    requires there { HasEntry relatives.old uid.now }
+    requires parents_there { (x : PlainUid) → Contains (names parents.now) x → HasEntry relatives.old x }
     ensures ok { OnOk result (IsCacheContent (G.parents graph.now)
         (ancestors_in relatives.new) (children_in relatives.new) cyclic.new.keys) }
     ensures err { OnErr result ((before : Parents) →
         IsCacheContent before (ancestors_in relatives.old) (children_in relatives.old) cyclic.old.keys →
         IsCacheContent before (ancestors_in relatives.new) (children_in relatives.new) cyclic.new.keys) }
 {
-    let change = planned(alloc, graph, relatives, uid, parents, room)?;
+    let change = planned(alloc, graph, relatives, uid, parents, budget)?;
     let touched = change.entities.len();
     match begin(relatives, cyclic, &change) {
         Ok(()) => {
@@ -291,7 +291,7 @@ fn make_with_room<G: ParentsOf>(
     cyclic: &mut BTreeSet<Shared<EntityUid>>,
     uid: &EntityUid,
     parents: &[&EntityUid],
-    room: &mut CacheBudget,
+    budget: &mut CacheBudget,
 ) -> Result<usize, NoMemory>
     requires all { (x : PlainUid) → Contains (names parents.now) x ↔ Contains (G.parents graph.now uid.now) x }
     requires ascending { IsAscending (names parents.now) }
@@ -303,8 +303,8 @@ fn make_with_room<G: ParentsOf>(
         IsCacheContent before (ancestors_in relatives.old) (children_in relatives.old) cyclic.old.keys →
         IsCacheContent before (ancestors_in relatives.new) (children_in relatives.new) cyclic.new.keys) }
 {
-    make_room(alloc, relatives, uid, parents)?;
-    make(alloc, graph, relatives, cyclic, uid, parents, room)
+    add_entries(alloc, relatives, uid, parents)?;
+    make(alloc, graph, relatives, cyclic, uid, parents, budget)
 }
 
 // Returns whether an entity has no cached ancestors and no new parents.
@@ -346,7 +346,7 @@ fn has_already(
 ///
 /// # Errors
 ///
-/// - `NoMemory`: an allocation failed, or the budget `room` is exceeded. The cache is then still right for each graph
+/// - `NoMemory`: an allocation failed, or the budget `budget` is exceeded. The cache is then still right for each graph
 ///   that it was right for.
 pub fn follow<G: ParentsOf>(
     alloc: Global,
@@ -354,7 +354,7 @@ pub fn follow<G: ParentsOf>(
     relatives: &mut BTreeMap<EntityUid, Relatives>,
     cyclic: &mut BTreeSet<Shared<EntityUid>>,
     uid: &EntityUid,
-    room: &mut CacheBudget,
+    budget: &mut CacheBudget,
 ) -> Result<usize, NoMemory>
     requires { IsStaleContent uid.now (G.parents graph.now)
         (ancestors_in relatives.old) (children_in relatives.old) cyclic.old.keys }
@@ -368,11 +368,11 @@ pub fn follow<G: ParentsOf>(
     if has_none(relatives, uid, &parents) {
         return Ok(0);
     }
-    room.look(ancestors_at(relatives, uid).len());
+    budget.count_visited(ancestors_at(relatives, uid).len());
     if has_already(alloc, relatives, uid, &parents)? {
         return Ok(0);
     }
-    let touched = make_with_room(alloc, graph, relatives, cyclic, uid, &parents, room);
+    let touched = make_with_room(alloc, graph, relatives, cyclic, uid, &parents, budget);
     release(relatives, uid);
     release_all(relatives, &parents);
     touched

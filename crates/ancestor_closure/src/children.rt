@@ -3,8 +3,8 @@ ghost use Rattle.std.specs.Prelude.{◌≡◌, ◌↔◌, ◌⊎◌, ◌^◌, �
 ghost use Rattle.std.specs.BTreeSet.{btree_set_len};
 ghost use Rattle.values.specs.declared.entity_uid.EntityUid.{EntityUid as PlainUid};
 ghost use Rattle.ancestor_search.specs.Hierarchy.{IsAncestor, AreAllAncestorsOf, IsAscending, names};
-ghost use Rattle.ancestor_search.specs.Search.{Adds};
-ghost use Rattle.ancestor_closure.specs.Lists.{children_in, SameLists, IsThere, StayThere, AddsChild};
+ghost use Rattle.ancestor_search.specs.Search.{AddsUnseen};
+ghost use Rattle.ancestor_closure.specs.Lists.{children_in, SameLists, HasEntry, KeepEntries, AddsChild};
 ghost use Rattle.ancestor_closure.specs.inner.OneChange.{TakesChild};
 
 use crate::lists::{is_in, shared_all};
@@ -22,7 +22,7 @@ fn add_members<'a>(
     work: &mut Vec<&'a EntityUid>,
 ) -> Result<(), NoMemory>
     ensures adds { OnOk result
-        (Adds found.now.keys (names seen.old.keys) (names work.old.items)
+        (AddsUnseen found.now.keys (names seen.old.keys) (names work.old.items)
         (names seen.new.keys) (names work.new.items)) }
     ensures small { OnOk result (btree_set_len seen.new < 2 ^ 63) }
 {
@@ -44,7 +44,7 @@ fn add_children<'a>(
     seen: &mut BTreeSet<&'a EntityUid>,
     work: &mut Vec<&'a EntityUid>,
 ) -> Result<(), NoMemory>
-    ensures adds { OnOk result (Adds (children_in relatives.now uid.now)
+    ensures adds { OnOk result (AddsUnseen (children_in relatives.now uid.now)
         (names seen.old.keys) (names work.old.items) (names seen.new.keys) (names work.new.items)) }
     ensures small { OnOk result (btree_set_len seen.new < 2 ^ 63) }
 {
@@ -96,9 +96,9 @@ fn add_child(
     parent: &EntityUid,
     child: Shared<EntityUid>,
 ) -> Result<(), NoMemory>
-    requires { IsThere relatives.old parent.now }
+    requires { HasEntry relatives.old parent.now }
     ensures lists { SameLists relatives.old relatives.new }
-    ensures stay { StayThere relatives.old relatives.new }
+    ensures stay { KeepEntries relatives.old relatives.new }
     ensures adds { AddsChild (parent.now ∷ []) child (children_in relatives.old) (children_in relatives.new) }
     ensures added { OnOk result (Contains (children_in relatives.new parent.now) child) }
 {
@@ -118,9 +118,9 @@ pub fn add_to_all(
     parents: &[Shared<EntityUid>],
     child: &Shared<EntityUid>,
 ) -> Result<(), NoMemory>
-    requires { (x : PlainUid) → Contains parents.now x → IsThere relatives.old x }
+    requires { (x : PlainUid) → Contains parents.now x → HasEntry relatives.old x }
     ensures lists { SameLists relatives.old relatives.new }
-    ensures stay { StayThere relatives.old relatives.new }
+    ensures stay { KeepEntries relatives.old relatives.new }
     ensures adds { AddsChild parents.now child.now (children_in relatives.old) (children_in relatives.new) }
     ensures added { OnOk result
         ((x : PlainUid) → Contains parents.now x → Contains (children_in relatives.new x) child.now) }

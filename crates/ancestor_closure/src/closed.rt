@@ -7,10 +7,10 @@ ghost use Rattle.ancestor_search.specs.Hierarchy.{no_parents, with_parents};
 ghost use Rattle.ancestor_search.specs.LeastCycle.{HasNoCycle, IsLeastCycle};
 ghost use Rattle.ancestor_search.specs.Search.{parents_of};
 ghost use Rattle.ancestor_closure.specs.CacheOf.{IsCacheOf};
-ghost use Rattle.ancestor_closure.specs.ClosedMeaning.{closed_parents, closed_above, closed_is_decided};
+ghost use Rattle.ancestor_closure.specs.ClosedMeaning.{closed_parents, closed_ancestor_test, closed_is_decided};
 
 use crate::ancestor_cache::AncestorCache;
-use crate::room::CacheBudget;
+use crate::budget::CacheBudget;
 use ancestor_search::{Ancestry, Changed, Hierarchy, ParentsOf};
 use plain::NoMemory;
 use std::alloc::Global;
@@ -110,8 +110,8 @@ fn follow_change(
         uid,
         parents,
     };
-    let mut room = CacheBudget::new(usize::MAX);
-    kept.follow(&changed, uid, &mut room)
+    let mut budget = CacheBudget::new(usize::MAX);
+    kept.follow(&changed, uid, &mut budget)
 }
 
 // Replaces the parents of an entity, in the edges and in the cache. After an error the parents are unchanged.
@@ -179,9 +179,9 @@ impl Closed {
 impl Ancestry for Closed {
     ghost parents = { closed_parents };
 
-    ghost above = { closed_above };
+    ghost ancestor_test = { closed_ancestor_test };
 
-    ghost above_is = { closed_is_decided };
+    ghost ancestor_test_decides = { closed_is_decided };
 
     fn is_ancestor(&self, a: &EntityUid, b: &EntityUid) -> Result<bool, NoMemory>
         ensures always { IsOk result }

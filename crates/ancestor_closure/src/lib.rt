@@ -3,6 +3,7 @@
 #![tactic(auto)]
 
 pub mod ancestor_cache;
+mod budget;
 mod by_parent;
 mod changing;
 mod children;
@@ -10,16 +11,15 @@ pub mod closed;
 mod cycles;
 mod lists;
 mod relatives;
-mod room;
 mod whole_graph;
 
 pub use ancestor_cache::AncestorCache;
 pub use ancestor_search::laws::paths_are_decided;
 pub use ancestor_search::{Ancestry, Graph, Hierarchy, ParentsOf, Searched, would_cycle};
-pub use changing::{follow, make_room, parents_by};
+pub use budget::CacheBudget;
+pub use changing::{add_entries, follow, parents_by};
 pub use children::add_to_all;
 pub use closed::Closed;
 pub use cycles::{are_none, members};
 pub use lists::{is_in, lent, list_within, shared_all};
 pub use relatives::{Relatives, ancestors_at, shared, write_list};
-pub use room::CacheBudget;

@@ -4,11 +4,11 @@ ghost use Rattle.std.specs.declared.alloc.Global.{Global as PlainGlobal};
 ghost use Rattle.values.specs.declared.entity_uid.EntityUid.{EntityUid as PlainUid};
 ghost use Rattle.values.specs.Names.{uid_cmp};
 ghost use Rattle.ancestor_search.specs.Hierarchy.{IsAscending, names};
-ghost use Rattle.ancestor_closure.specs.Lists.{IsListOf, ancestors_in, SameChildren, IsThere};
+ghost use Rattle.ancestor_closure.specs.Lists.{IsListOf, ancestors_in, SameChildren, HasEntry};
 ghost use Rattle.ancestor_closure.specs.inner.OneChange.{firsts, written};
 
+use crate::budget::CacheBudget;
 use crate::relatives::{Relatives, ancestors_at, shared, write_list};
-use crate::room::CacheBudget;
 use ancestor_search::{ParentsOf, ancestors_of, is_among};
 use plain::{NoMemory, Shared};
 use std::alloc::Global;
@@ -103,19 +103,19 @@ fn list_of<G: ParentsOf>(
 ///
 /// # Errors
 ///
-/// - `NoMemory`: an allocation failed, or the budget `room` does not allow this list in place of the entity's cached
+/// - `NoMemory`: an allocation failed, or the budget `budget` does not allow this list in place of the entity's cached
 ///   list.
 pub fn list_within<G: ParentsOf>(
     alloc: Global,
     graph: &G,
     relatives: &BTreeMap<EntityUid, Relatives>,
     uid: &EntityUid,
-    room: &mut CacheBudget,
+    budget: &mut CacheBudget,
 ) -> Result<Vec<Shared<EntityUid>>, NoMemory>
     ensures { IfOk result (λ all. IsListOf (G.parents graph.now) uid.now all.items) }
 {
     let list = list_of(alloc, graph, relatives, uid)?;
-    room.write(ancestors_at(relatives, uid).len(), list.len())?;
+    budget.write(ancestors_at(relatives, uid).len(), list.len())?;
     Ok(list)
 }
 
@@ -125,12 +125,12 @@ fn with_list<G: ParentsOf>(
     graph: &G,
     relatives: &BTreeMap<EntityUid, Relatives>,
     uid: &Shared<EntityUid>,
-    room: &mut CacheBudget,
+    budget: &mut CacheBudget,
 ) -> Result<(Shared<EntityUid>, Vec<Shared<EntityUid>>), NoMemory>
     ensures { IfOk result (λ e. (e.0 ≡ uid.now) × IsListOf (G.parents graph.now) uid.now e.1.items) }
 {
     let name = uid.share()?;
-    let list = list_within(alloc, graph, relatives, uid, room)?;
+    let list = list_within(alloc, graph, relatives, uid, budget)?;
     Ok((name, list))
 }
 
@@ -140,7 +140,7 @@ pub(crate) fn lists_of<G: ParentsOf>(
     graph: &G,
     relatives: &BTreeMap<EntityUid, Relatives>,
     entities: &[Shared<EntityUid>],
-    room: &mut CacheBudget,
+    budget: &mut CacheBudget,
 ) -> Result<Vec<(Shared<EntityUid>, Vec<Shared<EntityUid>>)>, NoMemory>
     ensures of { IfOk result (λ lists. firsts lists.items ≡ entities.now) }
     ensures right { IfOk result (λ lists. (q : PlainUid) (list : PlainVec PlainUid PlainGlobal) →
@@ -148,7 +148,7 @@ pub(crate) fn lists_of<G: ParentsOf>(
 {
     let mut lists = Vec::new(alloc);
     for entity in entities {
-        lists.push(with_list(alloc, graph, relatives, entity, room)?)?;
+        lists.push(with_list(alloc, graph, relatives, entity, budget)?)?;
     }
     Ok(lists)
 }
@@ -158,7 +158,7 @@ pub(crate) fn write_all(
     relatives: &mut BTreeMap<EntityUid, Relatives>,
     mut lists: Vec<(Shared<EntityUid>, Vec<Shared<EntityUid>>)>,
 )
-    requires { (q : PlainUid) → Contains (firsts lists.items) q → IsThere relatives.old q }
+    requires { (q : PlainUid) → Contains (firsts lists.items) q → HasEntry relatives.old q }
     ensures lists { (q : PlainUid) →
         ancestors_in relatives.new q ≡ written lists.items q (ancestors_in relatives.old q) }
     ensures children { SameChildren relatives.old relatives.new }

@@ -5,7 +5,8 @@
 ghost use Rattle.std.specs.Prelude.{◌≡◌, ◌↔◌, [], false, Contains, IsTrue, IfOk, OnOk, cond};
 ghost use Rattle.values.specs.declared.entity_uid.EntityUid.{EntityUid as PlainUid};
 ghost use Rattle.ancestor_search.specs.Decided.{is_same};
-ghost use Rattle.ancestor_closure.specs.Lists.{ancestors_in, children_in, SameLists, SameChildren, IsThere, StayThere};
+ghost use Rattle.ancestor_closure.specs.Lists.{ancestors_in, children_in, SameLists, SameChildren, HasEntry};
+ghost use Rattle.ancestor_closure.specs.Lists.{KeepEntries};
 
 use plain::{NoMemory, Shared};
 use std::alloc::Global;
@@ -88,8 +89,8 @@ pub(crate) fn reserve(
 ) -> Result<(), NoMemory>
     ensures lists { SameLists relatives.old relatives.new }
     ensures children { SameChildren relatives.old relatives.new }
-    ensures stay { StayThere relatives.old relatives.new }
-    ensures there { OnOk result (IsThere relatives.new uid.now) }
+    ensures stay { KeepEntries relatives.old relatives.new }
+    ensures there { OnOk result (HasEntry relatives.new uid.now) }
 {
     if !relatives.contains_key(uid) {
         let name = uid.copy()?;
@@ -120,7 +121,7 @@ pub(crate) fn release(relatives: &mut BTreeMap<EntityUid, Relatives>, uid: &Enti
     relatives.remove(uid);
 }
 
-/// Removes the entries of those of these entities that have neither ancestors nor children.
+/// Removes the entry of each of these entities that has neither ancestors nor children.
 pub(crate) fn release_all(relatives: &mut BTreeMap<EntityUid, Relatives>, uids: &[&EntityUid])
     ensures lists { SameLists relatives.old relatives.new }
     ensures children { SameChildren relatives.old relatives.new }
@@ -136,11 +137,11 @@ pub fn write_list(
     uid: &EntityUid,
     list: Vec<Shared<EntityUid>>,
 )
-    requires { IsThere relatives.old uid.now }
+    requires { HasEntry relatives.old uid.now }
     ensures lists { (q : PlainUid) →
         ancestors_in relatives.new q ≡ cond (is_same uid.now q) list.items (ancestors_in relatives.old q) }
     ensures children { SameChildren relatives.old relatives.new }
-    ensures stay { StayThere relatives.old relatives.new }
+    ensures stay { KeepEntries relatives.old relatives.new }
 {
     match relatives.get_mut(uid) {
         Some(known) => {

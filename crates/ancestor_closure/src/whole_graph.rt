@@ -4,14 +4,14 @@ ghost use Rattle.values.specs.declared.entity_uid.EntityUid.{EntityUid as PlainU
 ghost use Rattle.ancestor_search.specs.Hierarchy.{names};
 ghost use Rattle.ancestor_search.specs.inner.Backwards.{AreChildrenAmong};
 ghost use Rattle.ancestor_closure.specs.Lists.{ancestors_in, children_in, SameLists, SameChildren};
-ghost use Rattle.ancestor_closure.specs.Lists.{IsThere, StayThere, AddsChild};
+ghost use Rattle.ancestor_closure.specs.Lists.{HasEntry, KeepEntries, AddsChild};
 ghost use Rattle.ancestor_closure.specs.inner.WholeGraph.{AreListsOf};
 
-use crate::changing::{make_room, parents_by};
+use crate::budget::CacheBudget;
+use crate::changing::{add_entries, parents_by};
 use crate::children::add_to_all;
 use crate::lists::{list_within, shared_all};
 use crate::relatives::{Relatives, shared, write_list};
-use crate::room::CacheBudget;
 use ancestor_search::ParentsOf;
 use plain::{NoMemory, Shared};
 use std::alloc::Global;
@@ -25,9 +25,9 @@ fn add_to_parents(
     uid: &EntityUid,
     parents: &[&EntityUid],
 ) -> Result<(), NoMemory>
-    requires { (x : PlainUid) → Contains (names parents.now) x → IsThere relatives.old x }
+    requires { (x : PlainUid) → Contains (names parents.now) x → HasEntry relatives.old x }
     ensures lists { SameLists relatives.old relatives.new }
-    ensures stay { StayThere relatives.old relatives.new }
+    ensures stay { KeepEntries relatives.old relatives.new }
     ensures adds { AddsChild (names parents.now) uid.now (children_in relatives.old) (children_in relatives.new) }
     ensures added { OnOk result ((x : PlainUid) →
         Contains (names parents.now) x → Contains (children_in relatives.new x) uid.now) }
@@ -45,13 +45,13 @@ fn add_edges<G: ParentsOf>(
     uid: &EntityUid,
 ) -> Result<(), NoMemory>
     ensures lists { SameLists relatives.old relatives.new }
-    ensures stay { StayThere relatives.old relatives.new }
-    ensures there { OnOk result (IsThere relatives.new uid.now) }
+    ensures stay { KeepEntries relatives.old relatives.new }
+    ensures there { OnOk result (HasEntry relatives.new uid.now) }
     ensures adds { OnOk result ((x y : PlainUid) → Contains (children_in relatives.new x) y ↔
         (Contains (children_in relatives.old x) y ⊎ (Contains (G.parents graph.now uid.now) x × (uid.now ≡ y)))) }
 {
     let parents = parents_by(alloc, graph, uid)?;
-    make_room(alloc, relatives, uid, &parents)?;
+    add_entries(alloc, relatives, uid, &parents)?;
     add_to_parents(alloc, relatives, uid, &parents)
 }
 
@@ -63,7 +63,7 @@ fn children_among<G: ParentsOf>(
     uids: &[&EntityUid],
 ) -> Result<BTreeMap<EntityUid, Relatives>, NoMemory>
     ensures lists { IfOk result (λ m. (q : PlainUid) → ancestors_in m q ≡ []) }
-    ensures there { IfOk result (λ m. (q : PlainUid) → Contains (names uids.now) q → IsThere m q) }
+    ensures there { IfOk result (λ m. (q : PlainUid) → Contains (names uids.now) q → HasEntry m q) }
     ensures children { IfOk result (λ m. AreChildrenAmong (names uids.now) (G.parents graph.now) (children_in m)) }
 {
     let mut relatives = BTreeMap::new(alloc);
@@ -79,15 +79,15 @@ fn write_lists<G: ParentsOf>(
     graph: &G,
     relatives: &mut BTreeMap<EntityUid, Relatives>,
     uids: &[&EntityUid],
-    room: &mut CacheBudget,
+    budget: &mut CacheBudget,
 ) -> Result<(), NoMemory>
     requires lists { (q : PlainUid) → ancestors_in relatives.old q ≡ [] }
-    requires there { (q : PlainUid) → Contains (names uids.now) q → IsThere relatives.old q }
+    requires there { (q : PlainUid) → Contains (names uids.now) q → HasEntry relatives.old q }
     ensures lists { OnOk result (AreListsOf (G.parents graph.now) (names uids.now) (ancestors_in relatives.new)) }
     ensures children { SameChildren relatives.old relatives.new }
 {
     for uid in uids {
-        let list = list_within(alloc, graph, relatives, uid, room)?;
+        let list = list_within(alloc, graph, relatives, uid, budget)?;
         write_list(relatives, uid, list);
     }
     Ok(())
@@ -99,13 +99,13 @@ pub(crate) fn relatives_among<G: ParentsOf>(
     alloc: Global,
     graph: &G,
     uids: &[&EntityUid],
-    room: &mut CacheBudget,
+    budget: &mut CacheBudget,
 ) -> Result<BTreeMap<EntityUid, Relatives>, NoMemory>
     ensures lists { IfOk result (λ m. AreListsOf (G.parents graph.now) (names uids.now) (ancestors_in m)) }
     ensures children { IfOk result (λ m. AreChildrenAmong (names uids.now) (G.parents graph.now) (children_in m)) }
 {
     let mut relatives = children_among(alloc, graph, uids)?;
-    write_lists(alloc, graph, &mut relatives, uids, room)?;
+    write_lists(alloc, graph, &mut relatives, uids, budget)?;
     Ok(relatives)
 }
 

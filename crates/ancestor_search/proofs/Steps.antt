@@ -6,14 +6,14 @@ use Rattle.std.proofs.lemmas.List.Elements.{Contains-append_left, Contains-push,
 use Rattle.values.specs.declared.entity_uid.EntityUid.{EntityUid}
 use Rattle.values.specs.Names.{uid_cmp, uid_cmp-IsAntisymmetric}
 use Rattle.ancestor_search.specs.Hierarchy.{Parents, Path, IsAncestor, AreAllAncestorsOf}
-use Rattle.ancestor_search.specs.Search.{Adds}
+use Rattle.ancestor_search.specs.Search.{AddsUnseen}
 use Rattle.ancestor_search.proofs.Members.{insert_key-kept, insert_key-from, insert_key-here}
 use Rattle.ancestor_search.specs.Deciding.{Contains-none}
 
-module _ (ps s w s1 w1 : List EntityUid) (a : Adds ps s w s1 w1) (p : EntityUid) where
+module _ (ps s w s1 w1 : List EntityUid) (a : AddsUnseen ps s w s1 w1) (p : EntityUid) where
   -- the parent was seen before
-  pub Adds-seen : Contains s1 p → Adds (ps ++ p ∷ []) s w s1 w1
-  Adds-seen there = record {
+  pub AddsUnseen-seen : Contains s1 p → AddsUnseen (ps ++ p ∷ []) s w s1 w1
+  AddsUnseen-seen there = record {
     kept = a.kept;
     all = λ x h. elim (Contains-push_cases ps p x h) [ inl t ↦ a.all x t | inr e ↦ subst (λ y. Contains s1 y) e there ];
     from = λ x h. elim (a.from x h) [ inl t ↦ inl t | inr t ↦ inr (Contains-append_left ps _ x t) ];
@@ -24,8 +24,8 @@ module _ (ps s w s1 w1 : List EntityUid) (a : Adds ps s w s1 w1) (p : EntityUid)
   }
 
   -- the parent is new
-  pub Adds-new : (s2 w2 : List EntityUid) → s2 ≡ insert_key uid_cmp s1 p → w2 ≡ w1 ++ p ∷ [] → length s2 ≡ length s1 + 1 → Adds (ps ++ p ∷ []) s w s2 w2
-  Adds-new s2 w2 es ew longer = record {
+  pub AddsUnseen-new : (s2 w2 : List EntityUid) → s2 ≡ insert_key uid_cmp s1 p → w2 ≡ w1 ++ p ∷ [] → length s2 ≡ length s1 + 1 → AddsUnseen (ps ++ p ∷ []) s w s2 w2
+  AddsUnseen-new s2 w2 es ew longer = record {
     kept = λ x h. rw es (insert_key-kept uid_cmp s1 p x (a.kept x h));
     all = λ x h. rw es (elim (Contains-push_cases ps p x h) [ inl t ↦ insert_key-kept uid_cmp s1 p x (a.all x t) | inr e ↦ subst (λ y. Contains (insert_key uid_cmp s1 p) y) e (insert_key-here uid_cmp uid_cmp-IsAntisymmetric s1 p) ]);
     from = λ x h. elim (insert_key-from uid_cmp s1 p x (rw es at h)) [
@@ -61,7 +61,7 @@ pub record Searching (parents : Parents) (b : EntityUid) (seen work : List Entit
   pub small : length seen < 2 ^ 63
 
 module _ (parents : Parents) (b : EntityUid) where
-  pub Searching-begin : (seen work : List EntityUid) → Adds (parents b) [] [] seen work → length seen < 2 ^ 63 → Searching parents b seen work
+  pub Searching-begin : (seen work : List EntityUid) → AddsUnseen (parents b) [] [] seen work → length seen < 2 ^ 63 → Searching parents b seen work
   Searching-begin seen work a small = record {
     sound = λ x h. elim (a.from x h) [ inl t ↦ Contains-none x t | inr t ↦ ([], t) ];
     begun = a.all;
@@ -70,7 +70,7 @@ module _ (parents : Parents) (b : EntityUid) where
     small = small;
   }
 
-  pub Searching-step : (seen work rest seen' work' : List EntityUid) (u : EntityUid) → Searching parents b seen work → work ≡ rest ++ u ∷ [] → Adds (parents u) seen rest seen' work' → length seen' < 2 ^ 63 → Searching parents b seen' work'
+  pub Searching-step : (seen work rest seen' work' : List EntityUid) (u : EntityUid) → Searching parents b seen work → work ≡ rest ++ u ∷ [] → AddsUnseen (parents u) seen rest seen' work' → length seen' < 2 ^ 63 → Searching parents b seen' work'
   Searching-step seen work rest seen' work' u s e a small =
       let here : Contains work u = rw e (Contains-push rest u) in
       record {

@@ -11,7 +11,7 @@ use Rattle.values.specs.Names.{uid_cmp}
 use Rattle.ancestor_search.specs.Hierarchy.{Parents, names}
 use Rattle.ancestor_search.specs.Decided.{is_same, HaveAllParents}
 use Rattle.ancestor_search.specs.Deciding.{same_uid, same_self, Contains-none}
-use Rattle.ancestor_search.specs.inner.Backwards.{names_or_none, children_of, AddsChild, AreChildrenAmong, AreChildren}
+use Rattle.ancestor_search.specs.inner.Backwards.{names_or_none, children_of, AddsToChildren, AreChildrenAmong, AreChildren}
 
 abbrev Kept : Type 0
 Kept = BTreeMap (Bor EntityUid) (Vec (Bor EntityUid) Global)
@@ -50,12 +50,12 @@ one_child_more k0 k1 k2 parent child xs out put is x = at (is_same parent x) ref
     at true same e f = f ∙ is ∙ ap (λ z. k0 z ++ child ∷ []) (same_uid parent x same)
     at false apart e f = f ∙ e
 
-pub AddsChild-none : (y : EntityUid) (kids : EntityUid → List EntityUid) → AddsChild [] y kids kids
-AddsChild-none y kids x z = (λ h. inl h, λ h. elim h [ inl t ↦ t | inr s ↦ Contains-none x s.0 ])
+pub AddsToChildren-none : (y : EntityUid) (kids : EntityUid → List EntityUid) → AddsToChildren [] y kids kids
+AddsToChildren-none y kids x z = (λ h. inl h, λ h. elim h [ inl t ↦ t | inr s ↦ Contains-none x s.0 ])
 
-pub AddsChild-more : (ps : List EntityUid) (y p : EntityUid) (k0 k1 k2 : EntityUid → List EntityUid) → AddsChild ps y k0 k1 →
-    ((x : EntityUid) → k2 x ≡ cond (is_same p x) (k1 x ++ y ∷ []) (k1 x)) → AddsChild (ps ++ p ∷ []) y k0 k2
-AddsChild-more ps y p k0 k1 k2 a one x z = at (is_same p x) refl (one x)
+pub AddsToChildren-more : (ps : List EntityUid) (y p : EntityUid) (k0 k1 k2 : EntityUid → List EntityUid) → AddsToChildren ps y k0 k1 →
+    ((x : EntityUid) → k2 x ≡ cond (is_same p x) (k1 x ++ y ∷ []) (k1 x)) → AddsToChildren (ps ++ p ∷ []) y k0 k2
+AddsToChildren-more ps y p k0 k1 k2 a one x z = at (is_same p x) refl (one x)
   where
     old : Contains (k1 x) z → Contains (k0 x) z ⊎ (Contains (ps ++ p ∷ []) x × (y ≡ z))
     old h = elim ((a x z).0 h) [ inl t ↦ inl t | inr s ↦ inr (Contains-append_left ps _ x s.0, s.1) ]
@@ -87,7 +87,7 @@ pub Among-none : (p : Parents) (kids : EntityUid → List EntityUid) → ((x : E
 Among-none p kids none x y = (λ h. Contains-none y (subst (λ l. Contains l y) (none x) h), λ h. Contains-none y h.0)
 
 pub Among-more : (us : List EntityUid) (u : EntityUid) (p : Parents) (k k' : EntityUid → List EntityUid) → AreChildrenAmong us p k →
-    AddsChild (p u) u k k' → AreChildrenAmong (us ++ u ∷ []) p k'
+    AddsToChildren (p u) u k k' → AreChildrenAmong (us ++ u ∷ []) p k'
 Among-more us u p k k' a adds x y = (
   λ h. elim ((adds x y).0 h) [
     | inl t ↦ let s = (a x y).0 t in (Contains-append_left us _ y s.0, s.1)

@@ -7,10 +7,10 @@ use Rattle.values.specs.declared.entity_uid.EntityUid.{EntityUid}
 use Rattle.values.specs.Names.{uid_cmp}
 use Rattle.ancestor_search.specs.Hierarchy.{Parents, IsAncestor}
 
--- `Decides parents above` holds if the test `above a b` is true if and only if `a` is an ancestor of `b` under
--- `parents`.
+-- `Decides parents ancestor_test` holds if the test `ancestor_test a b` is true if and only if `a` is an ancestor of
+-- `b` under `parents`.
 abbrev pub Decides : Parents → (EntityUid → EntityUid → Bool) → Type 0
-Decides parents above = (a b : EntityUid) → IsTrue (above a b) ↔ IsAncestor parents a b
+Decides parents ancestor_test = (a b : EntityUid) → IsTrue (ancestor_test a b) ↔ IsAncestor parents a b
 
 -- `HaveAllParents parents stored` holds if `stored` contains every entity that has a parent under `parents`.
 abbrev pub HaveAllParents : Parents → List EntityUid → Type 0

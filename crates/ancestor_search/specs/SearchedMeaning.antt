@@ -13,10 +13,10 @@ use Rattle.ancestor_search.specs.declared.searched.Searched.{Searched}
 abbrev pub searched_parents : Searched → Parents
 searched_parents s = parents_of s.edges
 
--- `searched_above s a b` tests whether `a` is an ancestor of `b` in `s`.
-abbrev pub searched_above : Searched → EntityUid → EntityUid → Bool
-searched_above s = reaches (parents_of s.edges) (keys s.edges)
+-- `searched_ancestor_test s a b` tests whether `a` is an ancestor of `b` in `s`.
+abbrev pub searched_ancestor_test : Searched → EntityUid → EntityUid → Bool
+searched_ancestor_test s = reaches (parents_of s.edges) (keys s.edges)
 
--- `searched_above s` decides the ancestor relation.
-pub searched_is_decided : (s : Searched) → Decides (searched_parents s) (searched_above s)
+-- `searched_ancestor_test s` decides the ancestor relation.
+pub searched_is_decided : (s : Searched) → Decides (searched_parents s) (searched_ancestor_test s)
 searched_is_decided s = edges_are_decided s.edges

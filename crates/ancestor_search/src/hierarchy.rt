@@ -18,7 +18,7 @@ pub trait Ancestry {
     ghost parents: { Self → Parents };
 
     /// A test that computes whether the first entity is an ancestor of the second.
-    ghost above: { Self → EntityUid → EntityUid → Bool };
+    ghost ancestor_test: { Self → EntityUid → EntityUid → Bool };
 
     /// Returns whether `a` is an ancestor of `b`. An entity that is its own ancestor is *cyclic*.
     fn is_ancestor(&self, a: &EntityUid, b: &EntityUid) -> Result<bool, NoMemory>
@@ -43,7 +43,7 @@ pub trait Ancestry {
             (λ found. IsLeastCycle (parents self.now) (names found.items))) };
 
     /// The test `above` decides the ancestor relation.
-    ghost above_is: { (s : Self) → Decides (parents s) (above s) };
+    ghost ancestor_test_decides: { (s : Self) → Decides (parents s) (ancestor_test s) };
 }
 
 /// A hierarchy that can be changed. The only error of a change is `NoMemory`.

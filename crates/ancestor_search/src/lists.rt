@@ -1,7 +1,7 @@
 //! Ascending lists of entities.
 ghost use Rattle.std.specs.Prelude.{◌≡◌, ◌↔◌, IsTrue, IfOk, MatchOption, Contains};
 ghost use Rattle.ancestor_search.specs.Hierarchy.{IsAscending, names};
-ghost use Rattle.ancestor_search.specs.inner.Numbering.{IsNumber, IsNoNumber};
+ghost use Rattle.ancestor_search.specs.inner.Numbering.{IsNumber, HasNoNumber};
 
 use plain::NoMemory;
 use std::alloc::Global;
@@ -24,7 +24,7 @@ pub fn listed<'a>(
 /// contain it.
 pub(crate) fn number_of(uids: &[&EntityUid], uid: &EntityUid) -> Option<usize>
     requires { IsAscending (names uids.now) }
-    ensures { MatchOption result (IsNoNumber (names uids.now) uid.now) (λ i. IsNumber (names uids.now) i uid.now) }
+    ensures { MatchOption result (HasNoNumber (names uids.now) uid.now) (λ i. IsNumber (names uids.now) i uid.now) }
 {
     match uids.binary_search(&uid) {
         Ok(number) => Some(number),

@@ -13,7 +13,7 @@ ghost use Rattle.values.specs.declared.entity_uid.EntityUid.{EntityUid as PlainU
 ghost use Rattle.values.specs.Names.{uid_cmp};
 ghost use Rattle.ancestor_search.specs.Hierarchy.{names, IsAncestor, AreOnCycles, IsAscending};
 ghost use Rattle.ancestor_search.specs.LeastCycle.{HasNoCycle, IsLeastCycle};
-ghost use Rattle.ancestor_search.specs.inner.Backwards.{children_of, AreChildrenAmong, AreChildren, AddsChild};
+ghost use Rattle.ancestor_search.specs.inner.Backwards.{children_of, AreChildrenAmong, AreChildren, AddsToChildren};
 ghost use Rattle.ancestor_search.specs.inner.Backwards.{dist_of, AreDistances, AreKnownUpTo, ReachesBack, Reaches};
 ghost use Rattle.ancestor_search.specs.inner.Backwards.{is_one_of, is_child_of, IsLeastOf, IsWalkBack};
 
@@ -66,7 +66,7 @@ fn add_child<'a>(
     parents: &'a [EntityUid],
     child: &'a EntityUid,
 ) -> Result<(), NoMemory>
-    ensures { OnOk result (AddsChild parents.now child.now (children_of children.old) (children_of children.new)) }
+    ensures { OnOk result (AddsToChildren parents.now child.now (children_of children.old) (children_of children.new)) }
 {
     for parent in parents {
         add_to(alloc, children, parent, child)?;

@@ -2,7 +2,7 @@
 ghost use Rattle.std.specs.Prelude.{◌^◌, ◌<◌, Contains, IsTrue, ◌↔◌, IfOk, OnOk};
 ghost use Rattle.std.specs.BTreeSet.{btree_set_len};
 ghost use Rattle.ancestor_search.specs.Hierarchy.{IsAncestor, AreAllAncestorsOf, IsAscending, names, with_parents};
-ghost use Rattle.ancestor_search.specs.Search.{Adds};
+ghost use Rattle.ancestor_search.specs.Search.{AddsUnseen};
 
 use crate::graph::{Changed, ParentsOf};
 use crate::lists::listed;
@@ -25,7 +25,8 @@ fn add_parents<'a>(
     work: &mut Vec<&'a EntityUid>,
 ) -> Result<(), NoMemory>
     ensures adds { OnOk result
-        (Adds parents.now (names seen.old.keys) (names work.old.items) (names seen.new.keys) (names work.new.items)) }
+        (AddsUnseen parents.now (names seen.old.keys) (names work.old.items) (names seen.new.keys)
+        (names work.new.items)) }
     ensures small { OnOk result (btree_set_len seen.new < 2 ^ 63) }
 {
     for parent in parents {
@@ -38,7 +39,7 @@ fn add_parents<'a>(
 }
 
 // Returns all ancestors of an entity, by a search.
-fn above<'a, G: ParentsOf>(
+fn ancestor_set<'a, G: ParentsOf>(
     alloc: Global,
     graph: &'a G,
     uid: &EntityUid,
@@ -89,7 +90,7 @@ pub fn ancestors_of<'a, G: ParentsOf>(
     ensures all { IfOk result (λ found. AreAllAncestorsOf (G.parents graph.now) uid.now (names found.items)) }
     ensures ascending { IfOk result (λ found. IsAscending (names found.items)) }
 {
-    listed(alloc, above(alloc, graph, uid)?)
+    listed(alloc, ancestor_set(alloc, graph, uid)?)
 }
 
 /// Returns whether `uid` would be its own ancestor if it had these parents. The only error is `NoMemory`.

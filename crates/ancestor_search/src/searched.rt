@@ -4,7 +4,7 @@ ghost use Rattle.std.specs.BTreeMap.{keys};
 ghost use Rattle.ancestor_search.specs.Hierarchy.{no_parents};
 ghost use Rattle.ancestor_search.specs.Search.{parents_of};
 ghost use Rattle.ancestor_search.specs.Deciding.{map_has_all};
-ghost use Rattle.ancestor_search.specs.SearchedMeaning.{searched_parents, searched_above, searched_is_decided};
+ghost use Rattle.ancestor_search.specs.SearchedMeaning.{searched_parents, searched_ancestor_test, searched_is_decided};
 
 use crate::graph::{Edges, Graph, ParentsOf};
 use crate::hierarchy::{Ancestry, Hierarchy};
@@ -56,9 +56,9 @@ impl Graph for Searched {
 impl Ancestry for Searched {
     ghost parents = { searched_parents };
 
-    ghost above = { searched_above };
+    ghost ancestor_test = { searched_ancestor_test };
 
-    ghost above_is = { searched_is_decided };
+    ghost ancestor_test_decides = { searched_is_decided };
 
     fn is_ancestor(&self, a: &EntityUid, b: &EntityUid) -> Result<bool, NoMemory> {
         is_ancestor(self.alloc, self, a, b)

@@ -1,7 +1,7 @@
 //! The line of an answer, written token by token.
 ghost use Rattle.std.specs.Prelude.{◌≡◌, IfOk, OnOk};
 ghost use Rattle.serde_json.specs.Data.{string};
-ghost use Rattle.entity_uids.specs.Tokens.{Adds, tokens_of};
+ghost use Rattle.entity_uids.specs.Tokens.{AppendsTokens, tokens_of};
 ghost use Rattle.entity_uids.specs.Uids.{uid_json};
 ghost use Rattle.answer_lines.specs.Lines.{decision_word, error_word, erring_json, each_json};
 ghost use Rattle.answer_lines.specs.Lines.{answer_json, answer_line};
@@ -41,7 +41,7 @@ fn error_word(error: PolicyError) -> &'static str
 
 /// Writes an erroring policy with its error, `{"error":"typeError","policy":"policy0"}`.
 fn write_erring(out: &mut Writer, erring: &ErringPolicy) -> Result<(), NoMemory>
-    ensures { OnOk result (Adds out.old out.new (tokens_of (erring_json erring.now))) }
+    ensures { OnOk result (AppendsTokens out.old out.new (tokens_of (erring_json erring.now))) }
 {
     out.begin_object()?;
     out.key("error")?;
@@ -54,7 +54,7 @@ fn write_erring(out: &mut Writer, erring: &ErringPolicy) -> Result<(), NoMemory>
 
 /// Writes the entities of a cycle, as an array.
 fn write_cycle(out: &mut Writer, uids: &[EntityUid]) -> Result<(), NoMemory>
-    ensures { OnOk result (Adds out.old out.new (tokens_of (each_json uid_json uids.now))) }
+    ensures { OnOk result (AppendsTokens out.old out.new (tokens_of (each_json uid_json uids.now))) }
 {
     out.begin_array()?;
     for uid in uids {
@@ -66,7 +66,7 @@ fn write_cycle(out: &mut Writer, uids: &[EntityUid]) -> Result<(), NoMemory>
 
 /// Writes the erroring policies, as an array.
 fn write_errors(out: &mut Writer, errors: &[ErringPolicy]) -> Result<(), NoMemory>
-    ensures { OnOk result (Adds out.old out.new (tokens_of (each_json erring_json errors.now))) }
+    ensures { OnOk result (AppendsTokens out.old out.new (tokens_of (each_json erring_json errors.now))) }
 {
     out.begin_array()?;
     for erring in errors {
@@ -78,7 +78,7 @@ fn write_errors(out: &mut Writer, errors: &[ErringPolicy]) -> Result<(), NoMemor
 
 /// Writes the ids of the determining policies, as an array.
 fn write_reason(out: &mut Writer, ids: &[Text]) -> Result<(), NoMemory>
-    ensures { OnOk result (Adds out.old out.new (tokens_of (each_json (λ id. string id) ids.now))) }
+    ensures { OnOk result (AppendsTokens out.old out.new (tokens_of (each_json (λ id. string id) ids.now))) }
 {
     out.begin_array()?;
     for id in ids {
@@ -90,7 +90,7 @@ fn write_reason(out: &mut Writer, ids: &[Text]) -> Result<(), NoMemory>
 
 /// Writes an answer, as an object.
 fn write_answer(out: &mut Writer, answer: &Answer) -> Result<(), NoMemory>
-    ensures { OnOk result (Adds out.old out.new (tokens_of (answer_json answer.now))) }
+    ensures { OnOk result (AppendsTokens out.old out.new (tokens_of (answer_json answer.now))) }
 {
     out.begin_object()?;
     out.key("cycle")?;

@@ -12,7 +12,7 @@ use Rattle.grammar_core.specs.declared.expr.Expr.{Expr}
 use Rattle.grammar_core.specs.declared.expr.Expr.TheVariants as core
 use Rattle.grammar_core.specs.declared.leaf.Variable.TheVariants.{Principal, Resource}
 use Rattle.scope_index.specs.policy_grammar.declared.policy.Policy.{Policy}
-use Rattle.scope_index.specs.policy_grammar.Whole.{entity_part, action_part, expression_of}
+use Rattle.scope_index.specs.policy_grammar.PolicyExpression.{entity_part, action_part, expression_of}
 use Rattle.evaluator.specs.declared.fault.EvalFault.{EvalFault}
 use Rattle.evaluator.specs.declared.fault.EvalFault.TheVariants as fault
 use Rattle.evaluator.specs.Outcomes.{EvaluationResult, boolean_in}

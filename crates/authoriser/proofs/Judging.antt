@@ -39,7 +39,7 @@ use Rattle.scope_index.specs.Scopes.{IsEntityScopeTrue, IsActionScopeTrue, IsSco
 use Rattle.authoriser.specs.Answers.{NamedPolicy, PolicyOutcome, IsPolicyOutcome, ArePolicyOutcomes, fault_of}
 use Rattle.authoriser.specs.Answers.{PolicyEvaluatesTo, decided, answer_by, IsCycleDenial, IsAnswer}
 use Rattle.authoriser.specs.Views.{named}
-use Rattle.authoriser.specs.inner.Views.{HasItsAttributes, AreLookedUp, AllHaveTheirAttributes, HasAllAbove}
+use Rattle.authoriser.specs.inner.Views.{HasItsAttributes, AreLookedUp, AllHaveTheirAttributes, HasAllAncestors}
 use Rattle.authoriser.specs.inner.Views.{IsWithin, HasItsAncestors, HasRequestAncestors, AllHaveTheirAncestors}
 use Rattle.authoriser.specs.inner.Views.{AreAscending, IsTrueOf, ConditionEvaluatesTo, ids, faults, Counts}
 use Rattle.authoriser.specs.Parts.{TrueScopesLeaveToConditions, OtherScopesGiveFalse}
@@ -195,10 +195,10 @@ pub record IsAbove (parents : Parents) (uid : EntityUid) (us : List (Bor EntityU
   pub all : AreAllAncestorsOf parents uid (names us)
   pub ascending : IsAscending (names us)
 
-pub above_other : (parents : Parents) (others : List MemoEntry) (o : MemoEntry) (uid : EntityUid) → All (HasAllAbove parents) others
+pub above_other : (parents : Parents) (others : List MemoEntry) (o : MemoEntry) (uid : EntityUid) → All (HasAllAncestors parents) others
     → Contains others o → o.uid ≡ uid → IsAbove parents uid o.ancestors.items
 above_other parents others o uid have there same =
-    let right = All-contains (HasAllAbove parents) others o have there in
+    let right = All-contains (HasAllAncestors parents) others o have there in
     record {
       all = subst (λ (u : EntityUid). AreAllAncestorsOf parents u (names o.ancestors.items)) same right.all;
       ascending = right.ascending;

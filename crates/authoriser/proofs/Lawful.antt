@@ -16,7 +16,7 @@ use Rattle.grammar_core.specs.declared.expr.Expr.{Expr}
 use Rattle.scope_index.specs.policy_grammar.declared.policy.Effect.{Effect}
 use Rattle.scope_index.specs.policy_grammar.declared.policy.Effect.TheVariants.{Permit, Forbid}
 use Rattle.scope_index.specs.policy_grammar.declared.policy.Policy.{Policy}
-use Rattle.scope_index.specs.policy_grammar.Whole.{expression_of}
+use Rattle.scope_index.specs.policy_grammar.PolicyExpression.{expression_of}
 use Rattle.evaluator.specs.Outcomes.{EvaluationResult}
 use Rattle.evaluator.specs.Operators.{Entities}
 use Rattle.evaluator.specs.Evaluation.{EvaluatesTo}

@@ -27,8 +27,8 @@ use Rattle.scope_index.specs.policy_grammar.declared.policy.ActionScope.{ActionS
 use Rattle.scope_index.specs.policy_grammar.declared.policy.ActionScope.TheVariants as action
 use Rattle.scope_index.specs.policy_grammar.declared.policy.Scope.{Scope}
 use Rattle.scope_index.specs.policy_grammar.declared.policy.Policy.{Policy}
-use Rattle.scope_index.specs.policy_grammar.Whole.{entity_literal, is_equal, is_in, entity_part, action_part}
-use Rattle.scope_index.specs.policy_grammar.Whole.{expression_of}
+use Rattle.scope_index.specs.policy_grammar.PolicyExpression.{entity_literal, is_equal, is_in, entity_part, action_part}
+use Rattle.scope_index.specs.policy_grammar.PolicyExpression.{expression_of}
 use Rattle.evaluator.specs.Outcomes.{IsTruthOf, holds, fails, entity_uid_in}
 use Rattle.evaluator.specs.Operators as op
 use Rattle.evaluator.specs.Operators.{Entities}

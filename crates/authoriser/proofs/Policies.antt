@@ -6,7 +6,7 @@ use Rattle.values.specs.declared.request.Request.{Request}
 use Rattle.evaluator.specs.ancestor_search.LeastCycle.{LeastCyclesAreOne}
 use Rattle.scope_index.specs.policy_grammar.declared.policy.Effect.{Effect}
 use Rattle.scope_index.specs.policy_grammar.declared.policy.Effect.TheVariants.{Permit, Forbid}
-use Rattle.scope_index.specs.policy_grammar.Whole.{expression_of}
+use Rattle.scope_index.specs.policy_grammar.PolicyExpression.{expression_of}
 use Rattle.evaluator.specs.Operators.{Entities}
 use Rattle.evaluator.specs.Laws.{HaveOneOutcome, NoOutcomeIsNoMemory}
 use Rattle.authoriser.specs.declared.answer.Answer.{Answer}

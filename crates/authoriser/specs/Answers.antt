@@ -12,7 +12,7 @@ use Rattle.evaluator.specs.ancestor_search.LeastCycle.{IsLeastCycle}
 use Rattle.scope_index.specs.policy_grammar.declared.policy.Policy.{Policy}
 use Rattle.scope_index.specs.policy_grammar.declared.policy.Effect.{Effect}
 use Rattle.scope_index.specs.policy_grammar.declared.policy.Effect.TheVariants.{Permit, Forbid}
-use Rattle.scope_index.specs.policy_grammar.Whole.{expression_of}
+use Rattle.scope_index.specs.policy_grammar.PolicyExpression.{expression_of}
 use Rattle.evaluator.specs.declared.fault.EvalFault.{EvalFault}
 use Rattle.evaluator.specs.declared.fault.EvalFault.TheVariants as fault
 use Rattle.evaluator.specs.Operators.{Entities}

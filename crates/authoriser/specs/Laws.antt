@@ -37,7 +37,8 @@ HasOneAnswer W = (q : Request) (ps : List NamedPolicy)
 -- `OneAnswerAtMost`: a request has at most one answer, if a test decides the ancestor relation.
 abbrev pub OneAnswerAtMost : Type 0
 OneAnswerAtMost =
-    (W : Entities) (above : EntityUid → EntityUid → Bool) → Decides W.parents above → HasOneAnswerAtMost W
+    (W : Entities) (ancestor_test : EntityUid → EntityUid → Bool) → Decides W.parents ancestor_test
+    → HasOneAnswerAtMost W
 
 -- `OneAnswerInFiniteHierarchies`: a request has exactly one answer, if finitely many entities have parents.
 abbrev pub OneAnswerInFiniteHierarchies : Type 0
@@ -83,7 +84,7 @@ IsAcyclic W = (uid : EntityUid) → ¬ IsAncestor W.parents uid uid
 -- `ForbidDecides`: if a forbid is satisfied, the request is denied, and if no entity is cyclic, the determining
 -- policies are exactly the satisfied forbids.
 abbrev pub ForbidDecides : Type 0
-ForbidDecides = (W : Entities) (above : EntityUid → EntityUid → Bool) → Decides W.parents above →
+ForbidDecides = (W : Entities) (ancestor_test : EntityUid → EntityUid → Bool) → Decides W.parents ancestor_test →
     (q : Request) (ps : List NamedPolicy) (a : Answer) (p : NamedPolicy) → IsAnswer W q ps a → Contains ps p
     → IsSatisfied W q Forbid p →
     (a.decision ≡ Deny) × (IsAcyclic W → AreIdsOf (IsSatisfied W q Forbid) ps a.reason)
@@ -91,7 +92,7 @@ ForbidDecides = (W : Entities) (above : EntityUid → EntityUid → Bool) → De
 -- `PermitsDecide`: if no forbid is satisfied and no entity is cyclic, the request is allowed if and only if some permit
 -- is satisfied, and the determining policies are exactly the satisfied permits.
 abbrev pub PermitsDecide : Type 0
-PermitsDecide = (W : Entities) (above : EntityUid → EntityUid → Bool) → Decides W.parents above →
+PermitsDecide = (W : Entities) (ancestor_test : EntityUid → EntityUid → Bool) → Decides W.parents ancestor_test →
     (q : Request) (ps : List NamedPolicy) (a : Answer) → IsAnswer W q ps a → IsAcyclic W
     → ((p : NamedPolicy) → Contains ps p → ¬ IsSatisfied W q Forbid p) →
     ((a.decision ≡ Allow) ↔ ((p : NamedPolicy) × Contains ps p × IsSatisfied W q Permit p))
@@ -99,7 +100,7 @@ PermitsDecide = (W : Entities) (above : EntityUid → EntityUid → Bool) → De
 
 -- `ErrorsAreReported`: if no entity is cyclic, the reported errors are those of exactly the erroring policies.
 abbrev pub ErrorsAreReported : Type 0
-ErrorsAreReported = (W : Entities) (above : EntityUid → EntityUid → Bool) → Decides W.parents above →
+ErrorsAreReported = (W : Entities) (ancestor_test : EntityUid → EntityUid → Bool) → Decides W.parents ancestor_test →
     (q : Request) (ps : List NamedPolicy) (a : Answer) → IsAnswer W q ps a → IsAcyclic W → AreErrorsOf W q ps a.errors
 
 -- ---- policies that may be removed
@@ -112,14 +113,15 @@ pub record IsIdle (W : Entities) (q : Request) (p : NamedPolicy) : Type 0 where
 
 -- `IdleChangesNothing`: removing one idle policy, at any position, changes no answer.
 abbrev pub IdleChangesNothing : Type 0
-IdleChangesNothing = (W : Entities) (above : EntityUid → EntityUid → Bool) → Decides W.parents above →
+IdleChangesNothing = (W : Entities) (ancestor_test : EntityUid → EntityUid → Bool) → Decides W.parents ancestor_test →
     (q : Request) (front back : List NamedPolicy) (p : NamedPolicy) (a : Answer) → IsIdle W q p →
     IsAnswer W q (front ++ p ∷ back) a ↔ IsAnswer W q (front ++ back) a
 
 -- `LeavingOutChangesNothing`: removing all policies for which the test `kept` is false changes no answer, if each of
 -- these policies is idle.
 abbrev pub LeavingOutChangesNothing : Type 0
-LeavingOutChangesNothing = (W : Entities) (above : EntityUid → EntityUid → Bool) → Decides W.parents above →
+LeavingOutChangesNothing = (W : Entities) (ancestor_test : EntityUid → EntityUid → Bool)
+    → Decides W.parents ancestor_test →
     (q : Request) (ps : List NamedPolicy) (kept : NamedPolicy → Bool) (a : Answer)
     → ((p : NamedPolicy) → Contains ps p → kept p ≡ false → IsIdle W q p) →
     IsAnswer W q ps a ↔ IsAnswer W q (filter kept ps) a
@@ -141,7 +143,7 @@ pub record AreAlike (a b : Answer) : Type 0 where
 -- `OrderDoesNotMatter`: the answers over two lists of the same policies, in any order and with any repetitions, are
 -- alike (`AreAlike`).
 abbrev pub OrderDoesNotMatter : Type 0
-OrderDoesNotMatter = (W : Entities) (above : EntityUid → EntityUid → Bool) → Decides W.parents above →
+OrderDoesNotMatter = (W : Entities) (ancestor_test : EntityUid → EntityUid → Bool) → Decides W.parents ancestor_test →
     (q : Request) (ps others : List NamedPolicy) (a b : Answer) → HaveSameMembers ps others → IsAnswer W q ps a
     → IsAnswer W q others b → AreAlike a b
 

@@ -11,7 +11,7 @@ use Rattle.grammar_core.specs.declared.leaf.Variable.TheVariants.{Principal, Res
 use Rattle.grammar_core.specs.declared.expr.Expr.{Expr}
 use Rattle.scope_index.specs.policy_grammar.declared.policy.Policy.{Policy}
 use Rattle.scope_index.specs.policy_grammar.declared.policy.Scope.{Scope}
-use Rattle.scope_index.specs.policy_grammar.Whole.{entity_part, action_part, expression_of}
+use Rattle.scope_index.specs.policy_grammar.PolicyExpression.{entity_part, action_part, expression_of}
 use Rattle.evaluator.specs.declared.fault.EvalFault.{EvalFault}
 use Rattle.evaluator.specs.Operators.{Entities}
 use Rattle.evaluator.specs.Evaluation.{EvaluatesTo, TestFails}
@@ -54,6 +54,6 @@ TrueScopesLeaveToConditions = (W : Entities) (q : Request) (policy : Policy) →
 -- `OtherScopesGiveFalse`: if a test decides the ancestor relation, a policy whose scope is not true evaluates to false,
 -- whatever its condition is.
 abbrev pub OtherScopesGiveFalse : Type 0
-OtherScopesGiveFalse = (W : Entities) (above : EntityUid → EntityUid → Bool) → Decides W.parents above
+OtherScopesGiveFalse = (W : Entities) (ancestor_test : EntityUid → EntityUid → Bool) → Decides W.parents ancestor_test
     → (q : Request) (policy : Policy) →
     ¬ IsScopeTrue W.parents policy.scope q → EvaluatesTo W q (expression_of policy) (Ok (boolean false))

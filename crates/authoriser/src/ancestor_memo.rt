@@ -1,6 +1,6 @@
 //! A memo of the ancestors of entities other than a request's principal, action and resource.
 ghost use Rattle.std.specs.Prelude.{◌≡◌, [], ⊤, Contains, IfOk, MatchOption};
-ghost use Rattle.authoriser.specs.inner.Views.{HasAllAbove, HaveAllAbove};
+ghost use Rattle.authoriser.specs.inner.Views.{HasAllAncestors, HaveAllAncestors};
 
 use evaluator::Lookup;
 use plain::NoMemory;
@@ -28,7 +28,7 @@ pub(crate) struct AncestorMemo<'a> {
 
 /// Looks up the ancestors of an entity.
 fn look_up<'a, S: Lookup>(store: &'a S, uid: EntityUid) -> Result<MemoEntry<'a>, NoMemory>
-    ensures { IfOk result (HasAllAbove (S.parents store.now)) }
+    ensures { IfOk result (HasAllAncestors (S.parents store.now)) }
 {
     let ancestors = store.ancestors(&uid)?;
     Ok(MemoEntry { uid, ancestors })
@@ -65,8 +65,8 @@ impl<'a> AncestorMemo<'a> {
 
     /// Looks up the ancestors of an entity, and memoizes them.
     fn keep<S: Lookup>(&mut self, store: &'a S, uid: EntityUid) -> Result<(), NoMemory>
-        requires { HaveAllAbove (S.parents store.now) self.old }
-        ensures { HaveAllAbove (S.parents store.now) self.new }
+        requires { HaveAllAncestors (S.parents store.now) self.old }
+        ensures { HaveAllAncestors (S.parents store.now) self.new }
     {
         let other = look_up(store, uid)?;
         self.kept.push(other)?;
@@ -76,8 +76,8 @@ impl<'a> AncestorMemo<'a> {
     /// Memoizes the ancestors of the noted entity, if there is one, unless the memo is full. If an allocation fails,
     /// nothing is memoized.
     pub(crate) fn keep_next<S: Lookup>(&mut self, store: &'a S)
-        requires { HaveAllAbove (S.parents store.now) self.old }
-        ensures { HaveAllAbove (S.parents store.now) self.new }
+        requires { HaveAllAncestors (S.parents store.now) self.old }
+        ensures { HaveAllAncestors (S.parents store.now) self.new }
     {
         if self.kept.len() < self.most {
             if let Some(uid) = self.next.replace(None) {

@@ -36,7 +36,7 @@ fn outcome_of_condition<L: EvalEnv>(
     store: &L,
 ) -> Result<Outcome, NoMemory>
     ensures { let W = entities_with (L.stored store.now) (L.parents store.now) in
-        IfOk result (ConditionEvaluatesTo W (L.asked store.now) condition.now) }
+        IfOk result (ConditionEvaluatesTo W (L.request_of store.now) condition.now) }
 {
     match evaluate_condition(alloc, condition, store) {
         Ok(true) => Ok(Outcome::Satisfied),

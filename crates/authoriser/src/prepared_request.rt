@@ -29,7 +29,7 @@ impl<'a, L: Lookup> Model for PreparedRequest<'a, L> {
     ghost use Rattle.std.specs.Coded.{codes};
     ghost use Rattle.values.specs.ValueCode.{value_code};
     ghost use Rattle.evaluator.specs.Operators.{entities_with};
-    ghost use Rattle.authoriser.specs.inner.Views.{IsKnown};
+    ghost use Rattle.authoriser.specs.inner.Views.{HaveDataOf};
 
     ghost Value = { L × Request };
 
@@ -38,7 +38,7 @@ impl<'a, L: Lookup> Model for PreparedRequest<'a, L> {
     ghost view = { λ k. (k.store.now, k.request.now) };
 
     ghost invariant = { λ k.
-        IsKnown (entities_with (L.stored k.store.now) (L.parents k.store.now)) k.request.now k.entities k.others };
+        HaveDataOf (entities_with (L.stored k.store.now) (L.parents k.store.now)) k.request.now k.entities k.others };
 }
 
 impl<'a, L: Lookup> PreparedRequest<'a, L> {
@@ -90,9 +90,9 @@ fn copied<'a>(alloc: Global, uids: &[&'a EntityUid]) -> Result<Vec<&'a EntityUid
 impl<L: Lookup> Ancestry for PreparedRequest<'_, L> {
     ghost parents = { λ s. L.parents s.0 };
 
-    ghost above = { λ s. L.above s.0 };
+    ghost ancestor_test = { λ s. L.ancestor_test s.0 };
 
-    ghost above_is = { λ s. L.above_is s.0 };
+    ghost ancestor_test_decides = { λ s. L.ancestor_test_decides s.0 };
 
     fn is_ancestor(&self, a: &EntityUid, b: &EntityUid) -> Result<bool, NoMemory> {
         match self.entities.find(b) {
@@ -135,7 +135,7 @@ impl<L: Lookup> Lookup for PreparedRequest<'_, L> {
 }
 
 impl<L: Lookup> EvalEnv for PreparedRequest<'_, L> {
-    ghost asked = { λ s. s.1 };
+    ghost request_of = { λ s. s.1 };
 
     fn request(&self) -> &Request {
         self.request

@@ -13,8 +13,8 @@ use Rattle.answer_lines.specs.entity_uids.Laws.{OneName, UidsAreFound}
 use Rattle.answer_lines.specs.declared.refusal.Refusal.{Refusal}
 use Rattle.answer_lines.specs.Refusals.{bad_shape}
 use Rattle.decision_texts.specs.Bare.{is_absent_or_empty}
-use Rattle.decision_texts.specs.BareRequests.{NamesAt, StatesRequest}
-use Rattle.decision_texts.specs.BareReading.{StatesNone, bare_reading}
+use Rattle.decision_texts.specs.BareRequests.{NamesAt, DescribesBareRequest}
+use Rattle.decision_texts.specs.BareReading.{DescribesNoRequest, bare_reading}
 use Rattle.decision_texts.proofs.OutcomeLemmas.{IsDefinite}
 use Rattle.decision_texts.proofs.RequestLemmas.{no_principal, no_action, no_resource, no_context}
 
@@ -32,7 +32,7 @@ found_same : Laws → (found : Option Data) (u v : EntityUid) → MatchOption fo
 found_same laws None u v a b = absurd a
 found_same laws (Some d) u v a b = laws.names d u v a b
 
-one_request : Laws → (d : Data) (q other : Request) → StatesRequest d q → StatesRequest d other → q ≡ other
+one_request : Laws → (d : Data) (q other : Request) → DescribesBareRequest d q → DescribesBareRequest d other → q ≡ other
 one_request laws d q other a b =
     let principal = found_same laws (get (codes "principal") d) q.principal other.principal a.principal b.principal in
     let action = found_same laws (get (codes "action") d) q.action other.action a.action b.action in
@@ -63,10 +63,10 @@ found_or_none laws None = inr (λ uid none. none)
 found_or_none laws (Some d) = name_or_none laws d (as_str d)
 
 abbrev StatedOrNone : Data → Type 0
-StatedOrNone d = ((q : Request) × StatesRequest d q) ⊎ ((refusal : Refusal) × StatesNone d refusal)
+StatedOrNone d = ((q : Request) × DescribesBareRequest d q) ⊎ ((refusal : Refusal) × DescribesNoRequest d refusal)
 
 -- the value states none
-nothing : (d : Data) → ((q : Request) → StatesRequest d q → ⊥) → StatedOrNone d
+nothing : (d : Data) → ((q : Request) → DescribesBareRequest d q → ⊥) → StatedOrNone d
 nothing d none = inr (bad_shape None, record { none = none; is = refl })
 
 stated_or_none : (d : Data) → SomeOrNone (NamesAt (codes "principal") d) → SomeOrNone (NamesAt (codes "action") d) → SomeOrNone (NamesAt (codes "resource") d) →

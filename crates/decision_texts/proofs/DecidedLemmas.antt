@@ -6,9 +6,9 @@ use Rattle.answer_lines.specs.policy_grammar.declared.policy.Policy.{Policy}
 use Rattle.entity_data.specs.evaluator.Operators.{Entities}
 use Rattle.answer_lines.specs.authoriser.declared.answer.Answer.{Answer}
 use Rattle.answer_lines.specs.authoriser.Answers.{NamedPolicy, IsAnswer}
-use Rattle.entity_data.specs.Keeping.{Entries}
+use Rattle.entity_data.specs.EntityStores.{Entries}
 use Rattle.answer_lines.specs.declared.refusal.Refusal.{Refusal}
-use Rattle.plain.specs.Refused.{OrNoMemory}
+use Rattle.plain.specs.AllocationErrors.{OrNoMemory}
 use Rattle.answer_lines.specs.Refusals.{no_memory}
 use Rattle.decision_texts.specs.Settings.{Reading}
 use Rattle.decision_texts.specs.EntityArrays.{entities_of}
@@ -56,7 +56,7 @@ module _ (r : Reading) where
 
   pub unanswered : (entities request : List ℕ) (store : Entries) (refusal : Refusal) → Keeps (entities_of r entities) store
       → OrNoMemory no_memory (IsRequestRefused r request) refusal → OrNoMemory no_memory (AreInputsRejected r entities request) refusal
-  unanswered entities request store refusal kept due other = by_request kept.entities kept.are (due other)
+  unanswered entities request store refusal kept is_fault other = by_request kept.entities kept.are (is_fault other)
 
   -- the file of policies, as it was read and as it was judged
   module _ (bytes : List ℕ) (read judged : List (String Global × Policy)) (same : judged ≡ read)
@@ -65,9 +65,9 @@ module _ (r : Reading) where
     admitted all = record { file = file; admitted = subst (λ (ps : List (String Global × Policy)). r.admits (map (λ p. p.1) ps)) same all }
 
     pub not_admitted : (refusal : Refusal) → OrNoMemory no_memory (r.rejects (map (λ p. p.1) judged)) refusal → OrNoMemory no_memory (AreNotAdmitted r bytes) refusal
-    not_admitted refusal due other =
-        rejected _ _ file (subst (λ (ps : List (String Global × Policy)). r.rejects (map (λ p. p.1) ps) refusal) same (due other))
+    not_admitted refusal is_fault other =
+        rejected _ _ file (subst (λ (ps : List (String Global × Policy)). r.rejects (map (λ p. p.1) ps) refusal) same (is_fault other))
 
   pub no_question : (policies entities request : List ℕ) (names : List (List ℕ)) (cores : List Policy) (refusal : Refusal) → AreAdmitted r policies names cores
       → OrNoMemory no_memory (AreInputsRejected r entities request) refusal → OrNoMemory no_memory (IsDecisionRefused r policies entities request) refusal
-  no_question policies entities request names cores refusal admitted due other = by_inputs names cores admitted (due other)
+  no_question policies entities request names cores refusal admitted is_fault other = by_inputs names cores admitted (is_fault other)

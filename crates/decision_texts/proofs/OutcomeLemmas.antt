@@ -58,7 +58,7 @@ module _ (laws : TextLaws) (r : Reading) (definite : IsDefinite r) where
 
   read_or_refused : (bytes : List ℕ) (names : List (List ℕ)) (cores : List Policy) (refusal : Refusal) → ArePoliciesOf bytes names cores
       → ArePoliciesRefused bytes refusal → ⊥
-  read_or_refused bytes names cores refusal are refused = file_or_fault laws.files bytes names cores refused.fault are refused.due
+  read_or_refused bytes names cores refusal are refused = file_or_fault laws.files bytes names cores refused.fault are refused.is_fault
 
   one_file : (bytes : List ℕ) (names others : List (List ℕ)) (cores also : List Policy) → ArePoliciesOf bytes names cores → ArePoliciesOf bytes others also
       → ◌≡◌ {A = List (List ℕ) × List Policy} (names, cores) (others, also)
@@ -73,7 +73,7 @@ module _ (laws : TextLaws) (r : Reading) (definite : IsDefinite r) where
 
   one_not_admitted : (bytes : List ℕ) (refusal other : Refusal) → AreNotAdmitted r bytes refusal → AreNotAdmitted r bytes other → refusal ≡ other
   one_not_admitted bytes refusal other (unread a) (unread b) =
-      a.is ∙ ap refusal_by (fault_same laws.files bytes a.fault b.fault a.due b.due) ∙ sym b.is
+      a.is ∙ ap refusal_by (fault_same laws.files bytes a.fault b.fault a.is_fault b.is_fault) ∙ sym b.is
   one_not_admitted bytes refusal other (unread a) (rejected names cores file none) = absurd (read_or_refused bytes names cores refusal file a)
   one_not_admitted bytes refusal other (rejected names cores file none) (unread b) = absurd (read_or_refused bytes names cores other file b)
   one_not_admitted bytes refusal other (rejected names cores file none) (rejected others also its its_none) =

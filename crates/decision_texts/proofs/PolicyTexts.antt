@@ -20,18 +20,18 @@ PoliciesOrNone bytes =
 file_or_none : (bytes : List ℕ) → length bytes ≤ most_file_bytes → IsUtf8 bytes →
     ((file : List (List ℕ) × List Policy) × IsFileOf bytes file) ⊎ ((why : ReadFault) × IsFileRefused bytes why) → PoliciesOrNone bytes
 file_or_none bytes short utf8 (inl read) = inl (read.0, record { utf8 = utf8; file = read.1 })
-file_or_none bytes short utf8 (inr none) = inr (refusal_by none.0, record { fault = none.0; due = inr (inr (short, utf8, none.1)); is = refl })
+file_or_none bytes short utf8 (inr none) = inr (refusal_by none.0, record { fault = none.0; is_fault = inr (inr (short, utf8, none.1)); is = refl })
 
 module _ (files : HasOneReading IsFileOf IsFileRefused) where
   text_or_none : (bytes : List ℕ) → length bytes ≤ most_file_bytes → (valid : Bool) → is_utf8 bytes ≡ valid → PoliciesOrNone bytes
   text_or_none bytes short true e = file_or_none bytes short (IsUtf8-from_is_utf8 bytes e) (files.some bytes)
   text_or_none bytes short false e =
-      inr (refusal_by (BadToken 0), record { fault = BadToken 0; due = inr (inl (short, λ utf8. let valid = is_utf8-from_IsUtf8 bytes utf8 in absurd (cc), refl)); is = refl })
+      inr (refusal_by (BadToken 0), record { fault = BadToken 0; is_fault = inr (inl (short, λ utf8. let valid = is_utf8-from_IsUtf8 bytes utf8 in absurd (cc), refl)); is = refl })
 
   short_or_long : (bytes : List ℕ) (short : Bool) → leb (length bytes) most_file_bytes ≡ short → PoliciesOrNone bytes
   short_or_long bytes true e = text_or_none bytes (leb-true (length bytes) most_file_bytes e) (is_utf8 bytes) refl
   short_or_long bytes false e =
-      inr (refusal_by TooLong, record { fault = TooLong; due = inl (leb-false (length bytes) most_file_bytes e, refl); is = refl })
+      inr (refusal_by TooLong, record { fault = TooLong; is_fault = inl (leb-false (length bytes) most_file_bytes e, refl); is = refl })
 
   pub policies_or_none : (bytes : List ℕ) → PoliciesOrNone bytes
   policies_or_none bytes = short_or_long bytes (leb (length bytes) most_file_bytes) refl
@@ -40,7 +40,7 @@ module _ (files : HasOneReading IsFileOf IsFileRefused) where
       → IsFileFault bytes fault → ⊥
   file_or_fault bytes names cores fault are (inl long) = let over = long.0 in let short = are.file.derives.short in absurd (omega arith)
   file_or_fault bytes names cores fault are (inr (inl bad)) = bad.1 are.utf8
-  file_or_fault bytes names cores fault are (inr (inr due)) = files.not_both bytes (names, cores) fault are.file due.2
+  file_or_fault bytes names cores fault are (inr (inr is_fault)) = files.not_both bytes (names, cores) fault are.file is_fault.2
 
   pub fault_same : (bytes : List ℕ) (fault other : ReadFault) → IsFileFault bytes fault → IsFileFault bytes other → fault ≡ other
   fault_same bytes fault other (inl a) (inl b) = a.1 ∙ sym b.1

@@ -16,7 +16,7 @@ use Rattle.entity_data.specs.declared.entity.Entity.{Entity}
 use Rattle.entity_data.specs.declared.data.EntityData.{EntityData}
 use Rattle.entity_data.specs.Entities.{EntityMap, Actions, action_or, with_actions, entity_data_in}
 use Rattle.entity_data.specs.Entities.{attributes_of, kept_parents}
-use Rattle.entity_data.specs.Keeping.{Entries, kept_in, Puts, data_of}
+use Rattle.entity_data.specs.EntityStores.{Entries, kept_in, Puts, data_of}
 use Rattle.decision_texts.specs.Settings.{Reading}
 use Rattle.decision_texts.specs.Decisions.{stated, entity_data_with}
 use Rattle.decision_texts.specs.inner.Stores.{Holds, entity_data_stored}

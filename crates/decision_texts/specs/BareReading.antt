@@ -11,16 +11,17 @@ use Rattle.decision_texts.specs.declared.bare.ShapeFault.{ShapeFault}
 use Rattle.decision_texts.specs.declared.bare.ShapeFault.TheVariants.{NoMemory, BadShape}
 use Rattle.decision_texts.specs.Settings.{Reading, reported_by}
 use Rattle.decision_texts.specs.Bare.{entity_of}
-use Rattle.decision_texts.specs.BareRequests.{StatesRequest}
+use Rattle.decision_texts.specs.BareRequests.{DescribesBareRequest}
 
 -- `refusal_of f` is the reported error for the error `f`.
 abbrev pub refusal_of : ShapeFault → Refusal
 refusal_of NoMemory = no_memory
 refusal_of BadShape = bad_shape None
 
--- `StatesNone d refusal` holds if `d` describes no request, and `refusal` is the error for this: 30, without a place.
-pub record StatesNone (d : Data) (refusal : Refusal) : Type 0 where
-  pub none : (q : Request) → StatesRequest d q → ⊥
+-- `DescribesNoRequest d refusal` holds if `d` describes no request, and `refusal` is the error for this: 30, without a
+-- place.
+pub record DescribesNoRequest (d : Data) (refusal : Refusal) : Type 0 where
+  pub none : (q : Request) → DescribesBareRequest d q → ⊥
   pub is : refusal ≡ bad_shape None
 
 -- `bare_reading` is the setting without a schema.
@@ -29,7 +30,7 @@ bare_reading = record {
   admits = λ policies. Unit {0};
   rejects = λ policies refusal. ⊥;
   entity = λ d. reported_by refusal_of (entity_of d);
-  states = StatesRequest;
-  faults = StatesNone;
+  states = DescribesBareRequest;
+  faults = DescribesNoRequest;
   actions = no_actions;
 }

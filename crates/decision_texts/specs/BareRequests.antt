@@ -15,8 +15,8 @@ use Rattle.decision_texts.specs.Bare.{is_absent_or_empty}
 abbrev pub NamesAt : List ℕ → Data → EntityUid → Type 0
 NamesAt key d uid = MatchOption (get key d) ⊥ (λ found. NamesEntity found uid)
 
--- `StatesRequest d q` holds if `d` describes the request `q`.
-pub record StatesRequest (d : Data) (q : Request) : Type 0 where
+-- `DescribesBareRequest d q` holds if `d` describes the request `q`.
+pub record DescribesBareRequest (d : Data) (q : Request) : Type 0 where
   pub principal : NamesAt (codes "principal") d q.principal
   pub action : NamesAt (codes "action") d q.action
   pub resource : NamesAt (codes "resource") d q.resource

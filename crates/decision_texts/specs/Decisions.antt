@@ -15,7 +15,7 @@ use Rattle.entity_data.specs.ancestor_search.Decided.{is_same}
 use Rattle.entity_data.specs.evaluator.Operators.{Entities}
 use Rattle.entity_data.specs.declared.entity.Entity.{Entity}
 use Rattle.entity_data.specs.Entities.{EntityMap, Actions, with_actions, entity_data_in}
-use Rattle.entity_data.specs.Keeping.{data_of}
+use Rattle.entity_data.specs.EntityStores.{data_of}
 use Rattle.answer_lines.specs.policy_grammar.declared.fault.ReadFault.{ReadFault}
 use Rattle.answer_lines.specs.policy_grammar.declared.fault.ReadFault.TheVariants.{TooLong, BadToken}
 use Rattle.answer_lines.specs.policy_grammar.declared.policy.Policy.{Policy}
@@ -53,7 +53,7 @@ refusal_by fault = record { code = code_of fault; place = place_of fault; within
 -- `ArePoliciesRefused bytes refusal` holds if `refusal` is the reported error of `bytes` as a file of policies.
 pub record ArePoliciesRefused (bytes : List ℕ) (refusal : Refusal) : Type 0 where
   pub fault : ReadFault
-  pub due : IsFileFault bytes fault
+  pub is_fault : IsFileFault bytes fault
   pub is : refusal ≡ refusal_by fault
 
 -- `AreAdmitted r bytes names policies` holds if `bytes` are a file of `policies` with the names `names`, and the

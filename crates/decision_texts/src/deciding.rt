@@ -1,6 +1,6 @@
 //! The line of the answer to three texts: policies, entities and a request.
 ghost use Rattle.std.specs.Prelude.{◌≡◌, map, string_bytes, IfOk, IfErr};
-ghost use Rattle.plain.specs.Refused.{OrNoMemory};
+ghost use Rattle.plain.specs.AllocationErrors.{OrNoMemory};
 ghost use Rattle.answer_lines.specs.authoriser.Answers.{IsAnswer};
 ghost use Rattle.answer_lines.specs.authoriser.Views.{named};
 ghost use Rattle.answer_lines.specs.Refusals.{no_memory};

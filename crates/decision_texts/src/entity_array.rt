@@ -4,7 +4,7 @@ ghost use Rattle.serde_json.specs.View.{view};
 ghost use Rattle.json_words.specs.ReadsAs.{ReadsAs};
 ghost use Rattle.json_words.specs.Arrays.{unread_members, each_of, reported_error};
 ghost use Rattle.entity_data.specs.declared.entity.Entity.{Entity as Stated};
-ghost use Rattle.plain.specs.Refused.{OrNoMemory};
+ghost use Rattle.plain.specs.AllocationErrors.{OrNoMemory};
 ghost use Rattle.answer_lines.specs.Refusals.{no_memory, bad_shape};
 ghost use Rattle.decision_texts.specs.EntityArrays.{placed, entity_at, entities_of};
 ghost use Rattle.decision_texts.specs.inner.Stores.{Holds, KeepsNext, ReadsStore};

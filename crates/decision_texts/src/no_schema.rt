@@ -2,10 +2,10 @@
 ghost use Rattle.std.specs.Prelude.{◌≡◌, IfOk, IfErr};
 ghost use Rattle.serde_json.specs.View.{view};
 ghost use Rattle.json_words.specs.ReadsAs.{ReadsAs};
-ghost use Rattle.plain.specs.Refused.{OrNoMemory};
+ghost use Rattle.plain.specs.AllocationErrors.{OrNoMemory};
 ghost use Rattle.answer_lines.specs.Refusals.{no_memory};
-ghost use Rattle.decision_texts.specs.BareReading.{refusal_of, StatesNone, bare_reading};
-ghost use Rattle.decision_texts.specs.BareRequests.{StatesRequest};
+ghost use Rattle.decision_texts.specs.BareReading.{refusal_of, DescribesNoRequest, bare_reading};
+ghost use Rattle.decision_texts.specs.BareRequests.{DescribesBareRequest};
 ghost use Rattle.decision_texts.specs.Bare.{entity_of};
 ghost use Rattle.decision_texts.specs.Settings.{reported_by};
 
@@ -40,8 +40,8 @@ fn entity_in(alloc: Global, value: &Value) -> Result<Entity, Refusal>
 
 /// Returns the request that a value describes, or the error.
 fn request_in(alloc: Global, value: &Value) -> Result<Request, Refusal>
-    ensures read { IfOk result (StatesRequest (view value.now)) }
-    ensures refused { IfErr result (OrNoMemory no_memory (StatesNone (view value.now))) }
+    ensures read { IfOk result (DescribesBareRequest (view value.now)) }
+    ensures refused { IfErr result (OrNoMemory no_memory (DescribesNoRequest (view value.now))) }
 {
     match read_request(alloc, value) {
         Ok(request) => Ok(request),

@@ -1,7 +1,7 @@
 //! The policies of a file, each with its name.
 ghost use Rattle.std.specs.Prelude.{◌≡◌, IfOk, IfErr, MatchResult, Ok, Err, map, string_bytes};
 ghost use Rattle.answer_lines.specs.policy_grammar.declared.fault.ReadFault.TheVariants as ReadFault;
-ghost use Rattle.plain.specs.Refused.{OrNoMemory};
+ghost use Rattle.plain.specs.AllocationErrors.{OrNoMemory};
 ghost use Rattle.answer_lines.specs.Refusals.{no_memory};
 ghost use Rattle.decision_texts.specs.Decisions.{ArePoliciesOf, ArePoliciesRefused, IsFileFault, refusal_by};
 ghost use Rattle.decision_texts.specs.Decisions.{AreAdmitted, AreNotAdmitted};

@@ -3,7 +3,7 @@ ghost use Rattle.std.specs.Prelude.{◌≡◌, IfOk, IfErr};
 ghost use Rattle.serde_json.specs.View.{view};
 ghost use Rattle.values.specs.declared.entity_uid.EntityUid.{EntityUid as PlainUid};
 ghost use Rattle.values.specs.declared.request.Request.{Request as PlainRequest};
-ghost use Rattle.decision_texts.specs.BareRequests.{NamesAt, StatesRequest};
+ghost use Rattle.decision_texts.specs.BareRequests.{NamesAt, DescribesBareRequest};
 ghost use Rattle.decision_texts.specs.declared.bare.ShapeFault.TheVariants as ShapeFault;
 
 use crate::bare::{ShapeFault, is_absent_or_empty};
@@ -42,9 +42,9 @@ fn read_name_at(alloc: Global, value: &Value, key: &str) -> Result<EntityUid, Sh
 /// - `NoMemory`: an allocation failed; possible at any point.
 #[tactic(auto, using(crate::proofs::RequestLemmas::no_principal, crate::proofs::RequestLemmas::no_action, crate::proofs::RequestLemmas::no_resource, crate::proofs::RequestLemmas::no_context))]
 pub(crate) fn read_request(alloc: Global, value: &Value) -> Result<Request, ShapeFault>
-    ensures read { IfOk result (StatesRequest (view value.now)) }
+    ensures read { IfOk result (DescribesBareRequest (view value.now)) }
     ensures refused { IfErr result
-        (λ e. e ≡ ShapeFault.BadShape → (q : PlainRequest) → StatesRequest (view value.now) q → ⊥) }
+        (λ e. e ≡ ShapeFault.BadShape → (q : PlainRequest) → DescribesBareRequest (view value.now) q → ⊥) }
 {
     let principal = read_name_at(alloc, value, "principal")?;
     let (principal, action) = pair_with(principal, read_name_at(alloc, value, "action"))?;

@@ -1,6 +1,6 @@
 //! Parsing of the request in a text.
 ghost use Rattle.std.specs.Prelude.{IfOk, IfErr};
-ghost use Rattle.plain.specs.Refused.{OrNoMemory};
+ghost use Rattle.plain.specs.AllocationErrors.{OrNoMemory};
 ghost use Rattle.answer_lines.specs.Refusals.{no_memory};
 ghost use Rattle.decision_texts.specs.Requests.{IsRequestText, IsRequestRefused};
 

@@ -7,21 +7,21 @@ use Rattle.serde_json.specs.Data.{Data, object, array, Members, no_members, memb
 use Rattle.serde_json.specs.View.{items_of}
 use Rattle.values.specs.Values.{fields_of}
 use Rattle.values.specs.declared.entity_uid.EntityUid.{EntityUid}
-use Rattle.entities.specs.entity_uids.Tokens.{Adds, tokens_of, AppendsValue}
+use Rattle.entities.specs.entity_uids.Tokens.{AppendsTokens, tokens_of, AppendsValue}
 use Rattle.entities.specs.entity_uids.Uids.{uid_json}
 use Rattle.entities.proofs.of_entity_uids.Nested.{object_begun, member_next, member_written, object_ended}
 use Rattle.entities.specs.CanonicalValues.{fields_json}
 use Rattle.entity_data.specs.declared.entity.Entity.{Entity}
 use Rattle.entities.specs.Canonical.{canonical_json}
 
-pub uid_written : {old new : Written} (uid : EntityUid) → Adds old new (tokens_of (uid_json uid)) → AppendsValue old new (uid_json uid)
+pub uid_written : {old new : Written} (uid : EntityUid) → AppendsTokens old new (tokens_of (uid_json uid)) → AppendsValue old new (uid_json uid)
 uid_written uid h = record { written = h; again = refl }
 
 -- the three members of an entity, between the brackets
-pub entity_written : {a b c d e f g h i : Written} (entity : Entity) (parents : List EntityUid) → parents ≡ entity.parents → Adds a b (begin_object ∷ [])
-    → Adds b c (key (codes "attrs") ∷ []) → AppendsValue c d (object (fields_json (fields_of entity.attrs)))
-    → Adds d e (key (codes "parents") ∷ []) → AppendsValue e f (array (items_of (map uid_json parents)))
-    → Adds f g (key (codes "uid") ∷ []) → AppendsValue g h (uid_json entity.uid) → Adds h i (end_object ∷ []) → AppendsValue a i (canonical_json entity)
+pub entity_written : {a b c d e f g h i : Written} (entity : Entity) (parents : List EntityUid) → parents ≡ entity.parents → AppendsTokens a b (begin_object ∷ [])
+    → AppendsTokens b c (key (codes "attrs") ∷ []) → AppendsValue c d (object (fields_json (fields_of entity.attrs)))
+    → AppendsTokens d e (key (codes "parents") ∷ []) → AppendsValue e f (array (items_of (map uid_json parents)))
+    → AppendsTokens f g (key (codes "uid") ∷ []) → AppendsValue g h (uid_json entity.uid) → AppendsTokens h i (end_object ∷ []) → AppendsValue a i (canonical_json entity)
 entity_written {e = e} {f = f} entity parents same first attrs_key attrs parents_key listed uid_key uid last =
     let of_attrs : Data = object (fields_json (fields_of entity.attrs)) in
     let of_parents : Data = array (items_of (map uid_json entity.parents)) in

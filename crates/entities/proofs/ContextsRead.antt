@@ -18,10 +18,10 @@ use Rattle.entities.specs.declared.fault.EntityFault.{EntityFault}
 use Rattle.entities.specs.declared.fault.EntityFault.TheVariants.{BadShape, NotApplicable}
 use Rattle.entities.specs.declared.requests.Asked.{Asked}
 use Rattle.entities.specs.Faults.{with_entity_fault}
-use Rattle.entities.specs.Stated.{or_empty}
+use Rattle.entities.specs.EntityForms.{or_empty}
 use Rattle.entities.specs.Contexts.{context_where, is_of_action, is_place, context_in}
 use Rattle.entities.specs.Requests.{context_asked}
-use Rattle.entities.specs.StatedRequests.{IsOfAction, AppliesTo, HasContext, ReadsContext, FailsContext, StatesContext, RefusesContext}
+use Rattle.entities.specs.StatedRequests.{IsOfAction, AppliesTo, HasContext, ReadsContext, FailsContext, DescribesContext, RefusesContext}
 use Rattle.entities.specs.StatedRequests as says
 use Rattle.entities.specs.StatedEntities.{ObjectAt}
 use Rattle.schema.specs.Agreement.{Gives, HasOneOutcome}
@@ -145,7 +145,7 @@ module _ (names : Names) (s : StatedSchema) (action : EntityUid) (d : Data) wher
   in_object : (ms : Members) → d ≡ json.object ms → context_in s action d ≡ context_read (is_of_action action) (IsOfAction action) (of_action action) s ms
   in_object ms at = ap (context_in s action) at ∙ object_step s action ms
 
-  context_states : (fields : List Field) → StatesContext s action d fields → context_in s action d ≡ done fields
+  context_states : (fields : List Field) → DescribesContext s action d fields → context_in s action d ≡ done fields
   context_states fields h = in_object h.members h.is_object ∙ states (is_of_action action) (IsOfAction action) (of_action action) names s h.members fields h.reads
 
   context_refuses : (f : EntityFault) → RefusesContext s action d f → context_in s action d ≡ failed f
@@ -153,7 +153,7 @@ module _ (names : Names) (s : StatedSchema) (action : EntityUid) (d : Data) wher
   context_refuses f (says.bad_context ms g at bad) = in_object ms at ∙ refuses (is_of_action action) (IsOfAction action) (of_action action) names s ms g bad
 
   abbrev Outcome : Type 0
-  Outcome = ((fields : List Field) × StatesContext s action d fields) ⊎ ((f : EntityFault) × RefusesContext s action d f)
+  Outcome = ((fields : List Field) × DescribesContext s action d fields) ⊎ ((f : EntityFault) × RefusesContext s action d f)
 
   by_context : (ms : Members) → d ≡ json.object ms → ContextOutcome (is_of_action action) (IsOfAction action) (of_action action) names s ms → Outcome
   by_context ms at (inl h) = inl (h.0, record { members = ms; is_object = at; reads = h.1 })
@@ -163,11 +163,11 @@ module _ (names : Names) (s : StatedSchema) (action : EntityUid) (d : Data) wher
   by_kind (inl h) = by_context h.0 h.1 (some_context (is_of_action action) (IsOfAction action) (of_action action) names s h.0)
   by_kind (inr none) = inr (BadShape, says.other_json none)
 
-  pub context_given : Gives (context_in s action d) (StatesContext s action d) (RefusesContext s action d)
-  context_given = gives (context_in s action d) (StatesContext s action d) (RefusesContext s action d) context_states context_refuses (by_kind (object_or_other d))
+  pub context_given : Gives (context_in s action d) (DescribesContext s action d) (RefusesContext s action d)
+  context_given = gives (context_in s action d) (DescribesContext s action d) (RefusesContext s action d) context_states context_refuses (by_kind (object_or_other d))
 
-  pub context_outcome : HasOneOutcome (StatesContext s action d) (RefusesContext s action d)
-  context_outcome = one_outcome (context_in s action d) (StatesContext s action d) (RefusesContext s action d) context_states context_refuses (by_kind (object_or_other d))
+  pub context_outcome : HasOneOutcome (DescribesContext s action d) (RefusesContext s action d)
+  context_outcome = one_outcome (context_in s action d) (DescribesContext s action d) (RefusesContext s action d) context_states context_refuses (by_kind (object_or_other d))
 
 -- ---- the context of a request
 

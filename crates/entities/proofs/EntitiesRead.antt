@@ -24,12 +24,12 @@ use Rattle.entities.specs.declared.fault.EntityFault.TheVariants.{BadShape, Unkn
 use Rattle.entities.specs.declared.fault.EntityFault.TheVariants.{Missing, WrongType, BadParent, SelfParent, TagsLeftOut}
 use Rattle.entities.specs.declared.stated.StatedEntity.{StatedEntity}
 use Rattle.entities.specs.Faults.{of_value, with_entity_fault}
-use Rattle.entities.specs.Stated.{is_absent_or_empty, or_empty, stated_in}
+use Rattle.entities.specs.EntityForms.{is_absent_or_empty, or_empty, stated_in}
 use Rattle.entities.specs.Entities.{is_action_type, shape_of, attributes_in, parent_fits, parents_fit, parents_in, entity_stated_in}
 use Rattle.entities.specs.Laws.{ActionTypeTestIsExact}
 use Rattle.entities.specs.StatedValues.{Reads, FaultyMember, RefusesRecord}
 use Rattle.entities.specs.StatedValues as record_says
-use Rattle.entities.specs.StatedEntities.{HasForm, HasShape, MayHaveParent, StatesEntity, RefusesParents, IsReportedAs, RefusesEntity}
+use Rattle.entities.specs.StatedEntities.{HasForm, HasShape, MayHaveParent, DescribesEntity, RefusesParents, IsReportedAs, RefusesEntity}
 use Rattle.entities.specs.StatedEntities as says
 use Rattle.schema.specs.Agreement.{Gives, HasOneOutcome}
 use Rattle.entities.proofs.ReadingSteps.{done, failed, true_false, untrue}
@@ -183,10 +183,10 @@ module _ (laws : Laws) (s : StatedSchema) (d : Data) where
       → Reads t (object ms) (record_of (fields_of attrs)) → attributes_in s uid.type_name d ≡ done attrs
   read_attributes uid ps ms t attrs form shape read = attributes_of uid ps ms t (done attrs) form shape ((records_are_read laws.names t ms attrs).1 read)
 
-  set_of_listed : (e : Entity) (h : StatesEntity s d e) → uid_set h.listed ≡ e.parents
+  set_of_listed : (e : Entity) (h : DescribesEntity s d e) → uid_set h.listed ≡ e.parents
   set_of_listed e h = sym (laws.lists e.parents (uid_set h.listed) h.ascend (sorted_set h.listed) (λ a. (λ c. set_has h.listed a ((h.same a).0 c), λ c. (h.same a).1 (set_from h.listed a c))))
 
-  states : (e : Entity) → StatesEntity s d e → entity_stated_in s d ≡ done e
+  states : (e : Entity) → DescribesEntity s d e → entity_stated_in s d ≡ done e
   states e h =
       entity_step s d e.uid h.listed e.attrs (is_form laws.names d e.uid h.listed h.attributes no_members h.form)
       (read_attributes e.uid h.listed h.attributes h.shape e.attrs h.form h.has_shape h.reads) (all_fit s e.uid h.listed h.fit)
@@ -210,7 +210,7 @@ module _ (laws : Laws) (s : StatedSchema) (d : Data) where
   -- ---- something is stated, or refused
 
   abbrev Outcome : Type 0
-  Outcome = ((e : Entity) × StatesEntity s d e) ⊎ ((f : EntityFault) × RefusesEntity s d f)
+  Outcome = ((e : Entity) × DescribesEntity s d e) ⊎ ((f : EntityFault) × RefusesEntity s d f)
 
   by_parents : (uid : EntityUid) (ps : List EntityUid) (ms : Members) (t : Cedar) (attrs : List Field) → HasForm d uid ps ms no_members → HasShape s uid.type_name t
       → Reads t (object ms) (record_of (fields_of attrs)) → ParentsJudged s uid ps → Outcome
@@ -258,8 +258,8 @@ module _ (laws : Laws) (s : StatedSchema) (d : Data) where
   by_form (inl h) = by_action h.0.uid h.0.parents h.1.0 h.1.1 h.1.2 (is_action_type h.0.uid.type_name) refl
   by_form (inr none) = inr (BadShape, says.bad_shape none)
 
-  pub entity_given : Gives (entity_stated_in s d) (StatesEntity s d) (RefusesEntity s d)
-  entity_given = gives (entity_stated_in s d) (StatesEntity s d) (RefusesEntity s d) states refuses (by_form (formed_or_none laws.names d))
+  pub entity_given : Gives (entity_stated_in s d) (DescribesEntity s d) (RefusesEntity s d)
+  entity_given = gives (entity_stated_in s d) (DescribesEntity s d) (RefusesEntity s d) states refuses (by_form (formed_or_none laws.names d))
 
-  pub entity_outcome : HasOneOutcome (StatesEntity s d) (RefusesEntity s d)
-  entity_outcome = one_outcome (entity_stated_in s d) (StatesEntity s d) (RefusesEntity s d) states refuses (by_form (formed_or_none laws.names d))
+  pub entity_outcome : HasOneOutcome (DescribesEntity s d) (RefusesEntity s d)
+  entity_outcome = one_outcome (entity_stated_in s d) (DescribesEntity s d) (RefusesEntity s d) states refuses (by_form (formed_or_none laws.names d))

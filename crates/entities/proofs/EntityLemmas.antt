@@ -29,8 +29,8 @@ use Rattle.entities.specs.declared.fault.EntityFault.TheVariants.{BadShape, Acti
 use Rattle.entities.specs.declared.stated.StatedEntity.{StatedEntity}
 use Rattle.entity_data.specs.declared.entity.Entity.{Entity}
 use Rattle.entities.specs.Faults.{with_entity_fault}
-use Rattle.entities.specs.Stated.{stated_uid, uids_of, stated_parents, has_objects, is_absent_or_empty, or_empty}
-use Rattle.entities.specs.Stated.{stated_in}
+use Rattle.entities.specs.EntityForms.{stated_uid, uids_of, stated_parents, has_objects, is_absent_or_empty, or_empty}
+use Rattle.entities.specs.EntityForms.{stated_in}
 use Rattle.entities.specs.Entities.{is_action_type, shape_of, attributes_in, parent_fits, parents_fit, parents_in}
 use Rattle.entities.specs.Entities.{entity_stated_in}
 use Rattle.entity_data.specs.UidSets.{uid_set}

@@ -14,7 +14,7 @@ use Rattle.entities.specs.entity_uids.Uids.{IsUid, uid_in}
 use Rattle.entities.specs.declared.fault.EntityFault.{EntityFault}
 use Rattle.entities.specs.declared.fault.EntityFault.TheVariants.{BadShape}
 use Rattle.entities.specs.declared.stated.StatedEntity.{StatedEntity}
-use Rattle.entities.specs.Stated.{is_absent_or_object, is_absent_or_empty, or_empty, stated_uid, uids_of, stated_parents, has_objects, stated_in}
+use Rattle.entities.specs.EntityForms.{is_absent_or_object, is_absent_or_empty, or_empty, stated_uid, uids_of, stated_parents, has_objects, stated_in}
 use Rattle.entities.specs.StatedEntities.{ObjectAt, ParentsAt, HasForm}
 use Rattle.entities.specs.StatedEntities as says
 use Rattle.entities.proofs.ReadingSteps.{done, failed, ok_is, never, some_of, passes}

@@ -11,7 +11,7 @@ use Rattle.entities.specs.declared.fault.EntityFault.TheVariants.{NoMemory}
 use Rattle.serde_json.specs.Data.{Data}
 use Rattle.values.specs.Fields.{Field}
 use Rattle.entities.specs.declared.stated.StatedEntity.{StatedEntity}
-use Rattle.entities.specs.Stated.{stated_in}
+use Rattle.entities.specs.EntityForms.{stated_in}
 use Rattle.entities.specs.Entities.{parent_fits, parents_fit, parents_in, attributes_in, entity_stated_in}
 
 pub fit_goes : (s : StatedSchema) (uid : EntityUid) (vs : List EntityUid) (i : ℕ) (p : EntityUid) (total : Result ⊤ EntityFault) → i < length vs → p ≡ get_or vs i p

@@ -13,7 +13,7 @@ use Rattle.entities.specs.declared.value_fault.ValueFault.{ValueFault}
 use Rattle.entities.specs.declared.value_fault.ValueFault.TheVariants.{Undeclared}
 use Rattle.entities.specs.Parts.{declared_at}
 use Rattle.entities.specs.Typing.{typed_value, typed_members}
-use Rattle.entities.specs.inner.FieldSuffixes.{StateAlikeFrom}
+use Rattle.entities.specs.inner.FieldSuffixes.{DeclareAlikeFrom}
 use Rattle.entities.proofs.Walk.{Entry, Ordered, with_front}
 
 -- ---- members whose names ascend are read alike
@@ -24,7 +24,7 @@ AreFrom name es = AllByRecursion (λ (e : Entry). text_cmp (string_bytes e.0) na
 abbrev done : List Field → Result (List Field) ValueFault
 done vs = Ok vs
 
-read_alike : (name : List ℕ) (fs gs : CedarFields) → StateAlikeFrom name fs gs → (es : List Entry) → AreFrom name es → typed_members fs (members_view es) ≡ typed_members gs (members_view es)
+read_alike : (name : List ℕ) (fs gs : CedarFields) → DeclareAlikeFrom name fs gs → (es : List Entry) → AreFrom name es → typed_members fs (members_view es) ≡ typed_members gs (members_view es)
 unfolding typed_value
 read_alike name fs gs alike [] from = refl
 read_alike name fs gs alike (e ∷ es) from =
@@ -48,8 +48,8 @@ from_first front e left h = (itself (string_bytes e.0), all_behind e.0 left h.0.
 
 -- what is read of the members that are left, by the fields from the next name on
 pub ahead : (name : List ℕ) (fs gs : CedarFields) (e : Entry) (left : List Entry) (front : List Field) (total : Result (List Field) ValueFault) → name ≡ string_bytes e.0
-    → StateAlikeFrom name fs gs → Ordered front (e ∷ left)
+    → DeclareAlikeFrom name fs gs → Ordered front (e ∷ left)
     → total ≡ with_front front (typed_members fs (members_view (e ∷ left))) → total ≡ with_front front (typed_members gs (members_view (e ∷ left)))
 ahead name fs gs e left front total is alike order so_far =
     so_far ∙ ap (λ (r : Result (List Field) ValueFault). with_front front r)
-    (read_alike (string_bytes e.0) fs gs (subst (λ (n : List ℕ). StateAlikeFrom n fs gs) is alike) (e ∷ left) (from_first front e left order))
+    (read_alike (string_bytes e.0) fs gs (subst (λ (n : List ℕ). DeclareAlikeFrom n fs gs) is alike) (e ∷ left) (from_first front e left order))

@@ -27,8 +27,8 @@ use Rattle.entity_data.specs.UidSets.{put_uid, uid_set}
 use Rattle.entities.specs.declared.fault.EntityFault.TheVariants.{BadShape, TagsLeftOut}
 use Rattle.entities.specs.declared.stated.StatedEntity.{StatedEntity}
 use Rattle.entities.specs.Faults.{with_entity_fault}
-use Rattle.entities.specs.Stated.{stated_uid, uids_of, stated_parents, has_objects, is_absent_or_empty, or_empty}
-use Rattle.entities.specs.Stated.{stated_in}
+use Rattle.entities.specs.EntityForms.{stated_uid, uids_of, stated_parents, has_objects, is_absent_or_empty, or_empty}
+use Rattle.entities.specs.EntityForms.{stated_in}
 use Rattle.entities.specs.Entities.{shape_of, attributes_in, parents_fit, parents_in, entity_stated_in}
 use Rattle.entities.specs.Canonical.{canonical_json}
 use Rattle.entities.specs.Texts.{HaveUtf8}

@@ -25,7 +25,7 @@ use Rattle.entities.specs.Typing.{under_key, plain_call, call_in, argument_or_ca
 use Rattle.entities.specs.Typing.{text_in, entity_in, decimal_in, ipaddr_in}
 use Rattle.entities.specs.StatedValues.{Declares, Reads, ReadMembers, FaultyMember, RefusesRecord}
 use Rattle.entities.specs.StatedValues as says
-use Rattle.entities.specs.AsStated.{ValuesAreRead, OneValue, OtherJsonIsOfWrongType, RecordsAreRead, RecordsAreRefused}
+use Rattle.entities.specs.ParsingLaws.{ValuesAreRead, OneValue, OtherJsonIsOfWrongType, RecordsAreRead, RecordsAreRefused}
 use Rattle.entities.proofs.ReadingSteps.{done, failed, ok_is, err_is, never, passes}
 use Rattle.entities.proofs.Leaves.{Names}
 use Rattle.entities.proofs.Only.{Only, only_ok, only_wrong, only_bind, only_demand, only_or}

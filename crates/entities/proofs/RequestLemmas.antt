@@ -13,7 +13,7 @@ use Rattle.entities.specs.entity_uids.Laws.{OneName}
 use Rattle.entities.specs.declared.fault.EntityFault.{EntityFault}
 use Rattle.entities.specs.declared.fault.EntityFault.TheVariants.{NoMemory, BadShape}
 use Rattle.entities.specs.declared.requests.Asked.{Asked}
-use Rattle.entities.specs.Stated.{is_absent_or_object}
+use Rattle.entities.specs.EntityForms.{is_absent_or_object}
 use Rattle.entities.specs.Requests.{NamesAt, Asks, context_asked, asked_by, RequestRefused, shape, context}
 use Rattle.entities.specs.Laws.{OneRequest, NotBoth, OneRefusal}
 

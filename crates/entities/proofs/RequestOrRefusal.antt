@@ -15,8 +15,8 @@ use Rattle.schema.specs.Schemas.{StatedSchema}
 use Rattle.entities.specs.declared.fault.EntityFault.{EntityFault}
 use Rattle.entities.specs.declared.fault.EntityFault.TheVariants.{BadShape}
 use Rattle.entities.specs.declared.requests.Asked.{Asked}
-use Rattle.entities.specs.Stated.{is_absent_or_object}
-use Rattle.entities.specs.Requests.{NamesAt, Asks, context_asked, StatesRequest, RequestRefused, shape, context}
+use Rattle.entities.specs.EntityForms.{is_absent_or_object}
+use Rattle.entities.specs.Requests.{NamesAt, Asks, context_asked, ParsesRequest, RequestRefused, shape, context}
 use Rattle.entities.specs.Laws.{RequestOrRefusal}
 use Rattle.entities.proofs.RequestLemmas.{no_principal, no_action, no_resource, no_context}
 
@@ -60,7 +60,7 @@ asked_or_none d (inr none) action resource fits e = inr (no_principal d none)
 -- ---- outcomes
 
 abbrev Outcome : StatedSchema → Data → Type 0
-Outcome s d = ((q : Request) × StatesRequest s d q) ⊎ ((f : EntityFault) × RequestRefused s d f)
+Outcome s d = ((q : Request) × ParsesRequest s d q) ⊎ ((f : EntityFault) × RequestRefused s d f)
 
 by_context : (s : StatedSchema) (d : Data) (asked : Asked) → Asks d asked → (read : Result (List Field) EntityFault) → context_asked s asked d ≡ read → Outcome s d
 by_context s d asked asks (Ok fields) e = inl (

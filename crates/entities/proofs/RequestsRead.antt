@@ -7,12 +7,12 @@ use Rattle.schema.specs.Schemas.{StatedSchema}
 use Rattle.entities.specs.declared.fault.EntityFault.{EntityFault}
 use Rattle.entities.specs.declared.requests.Asked.{Asked}
 use Rattle.entities.specs.Requests as read
-use Rattle.entities.specs.Requests.{asked_by, StatesRequest, RequestRefused}
+use Rattle.entities.specs.Requests.{asked_by, ParsesRequest, RequestRefused}
 use Rattle.entities.specs.Laws.{OneRequest, NotBoth, OneRefusal, RequestOrRefusal}
 use Rattle.entities.specs.StatedRequests.{Asks, DescribesRequest, RefusesRequest}
 use Rattle.entities.specs.StatedRequests as says
 use Rattle.schema.specs.Agreement.{HasOneOutcome}
-use Rattle.entities.specs.AsStated.{RequestIsRead}
+use Rattle.entities.specs.ParsingLaws.{RequestIsRead}
 use Rattle.entities.proofs.Leaves.{Names}
 use Rattle.entities.proofs.Forms.{object_is, is_object}
 use Rattle.entities.proofs.ContextsRead.{asked_given}
@@ -31,7 +31,7 @@ asks_less d asked ms h = record {
 }
 
 module _ (names : Names) (s : StatedSchema) (d : Data) where
-  describes : (q : Request) → StatesRequest s d q → DescribesRequest s d q
+  describes : (q : Request) → ParsesRequest s d q → DescribesRequest s d q
   describes q h =
       let form = asks_more d (asked_by q) h.asks in
       record {
@@ -40,7 +40,7 @@ module _ (names : Names) (s : StatedSchema) (d : Data) where
         reads = ((asked_given names s (asked_by q) d form.0 form.1.has_context).value q.context).0 h.context;
       }
 
-  states : (q : Request) → DescribesRequest s d q → StatesRequest s d q
+  states : (q : Request) → DescribesRequest s d q → ParsesRequest s d q
   states q h = record {
     asks = asks_less d (asked_by q) h.members h.asks;
     context = ((asked_given names s (asked_by q) d h.members h.asks.has_context).value q.context).1 h.reads;
@@ -63,7 +63,7 @@ module _ (names : Names) (s : StatedSchema) (d : Data) where
     refuses = λ f. (refused f, refuses f);
   }
 
-  some_request : ((q : Request) × StatesRequest s d q) ⊎ ((f : EntityFault) × RequestRefused s d f) → ((q : Request) × DescribesRequest s d q) ⊎ ((f : EntityFault) × RefusesRequest s d f)
+  some_request : ((q : Request) × ParsesRequest s d q) ⊎ ((f : EntityFault) × RequestRefused s d f) → ((q : Request) × DescribesRequest s d q) ⊎ ((f : EntityFault) × RefusesRequest s d f)
   some_request (inl h) = inl (h.0, describes h.0 h.1)
   some_request (inr h) = inr (h.0, refused h.0 h.1)
 

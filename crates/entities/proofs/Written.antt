@@ -23,7 +23,7 @@ use Rattle.values.specs.Values.{PlainValue, boolean, long, text, entity, set, re
 use Rattle.values.specs.Fields.{Field}
 use Rattle.values.specs.ValueView.{of_entries}
 use Rattle.values.proofs.Records.{Entry}
-use Rattle.entity_uids.specs.Tokens.{Adds, tokens_of, IsReadAgain, AppendsValue, AppendsMember}
+use Rattle.entity_uids.specs.Tokens.{AppendsTokens, tokens_of, IsReadAgain, AppendsValue, AppendsMember}
 use Rattle.entity_uids.specs.Uids.{entity_json}
 use Rattle.entity_uids.proofs.Adding.{alike}
 use Rattle.entity_uids.proofs.Nested.{IsInObject, object_begun, member_next, object_ended}
@@ -58,23 +58,23 @@ integer_again : (z : ℤ) → FitsSigned w64 z → IsReadAgain (value_json (long
 integer_again (pos n) fits = let small : n < 2 ^ 64 = omega (arith, ints) in ap (option_map number) (number_of-decimal n small)
 integer_again (negsuc n) fits = let small : n < 2 ^ 63 = omega (arith, ints) in ap (option_map number) (number_of-negative n small)
 
-pub integer_written : {old new : Written} (z : ℤ) → FitsSigned w64 z → Adds old new (token.number (signed_decimal (to_z w64 (of_z w64 z))) ∷ [])
+pub integer_written : {old new : Written} (z : ℤ) → FitsSigned w64 z → AppendsTokens old new (token.number (signed_decimal (to_z w64 (of_z w64 z))) ∷ [])
     → AppendsValue old new (value_json (long z))
 integer_written z fits h = record {
   written = alike (ap (λ (s : List ℕ). token.number s ∷ []) (ap signed_decimal (to_z-of_z w64 z fits) ∙ integer_text z)) h;
   again = integer_again z fits;
 }
 
-pub boolean_written : {old new : Written} (b : Bool) → Adds old new (token.boolean b ∷ []) → AppendsValue old new (value_json (boolean b))
+pub boolean_written : {old new : Written} (b : Bool) → AppendsTokens old new (token.boolean b ∷ []) → AppendsValue old new (value_json (boolean b))
 boolean_written b h = record { written = h; again = refl }
 
-pub text_written : {old new : Written} (s : List ℕ) → Adds old new (token.string s ∷ []) → AppendsValue old new (value_json (text s))
+pub text_written : {old new : Written} (s : List ℕ) → AppendsTokens old new (token.string s ∷ []) → AppendsValue old new (value_json (text s))
 text_written s h = record { written = h; again = refl }
 
-pub entity_written : {old new : Written} (u : EntityUid) → Adds old new (tokens_of (entity_json u)) → AppendsValue old new (value_json (entity u))
+pub entity_written : {old new : Written} (u : EntityUid) → AppendsTokens old new (tokens_of (entity_json u)) → AppendsValue old new (value_json (entity u))
 entity_written u h = record { written = h; again = refl }
 
-pub call_written : {old new : Written} (function argument : List ℕ) → Adds old new (tokens_of (call_json function argument)) → AppendsValue old new (call_json function argument)
+pub call_written : {old new : Written} (function argument : List ℕ) → AppendsTokens old new (tokens_of (call_json function argument)) → AppendsValue old new (call_json function argument)
 call_written function argument h = record { written = h; again = refl }
 
 pub set_written : {old new : Written} (vs : List PlainValue) → AppendsValue old new (array (items_of (map value_json vs))) → AppendsValue old new (array (values_json (values_of vs)))
@@ -85,7 +85,7 @@ set_written {old} {new} vs h = subst (λ (ds : Items). AppendsValue old new (arr
 abbrev pub entries_json : List Entry → Members
 entries_json es = fields_json (fields_of (of_entries es))
 
-pub fields_begun : (fs : List Field) (es : List Entry) {old new : Written} → fs ≡ of_entries es → Adds old new (token.begin_object ∷ [])
+pub fields_begun : (fs : List Field) (es : List Entry) {old new : Written} → fs ≡ of_entries es → AppendsTokens old new (token.begin_object ∷ [])
     → IsInObject (fields_json (fields_of fs)) (entries_json es) no_members old new
 fields_begun fs es {old} {new} is h =
     subst (λ (gs : List Field). IsInObject (fields_json (fields_of fs)) (fields_json (fields_of gs)) no_members old new) is (object_begun (fields_json (fields_of fs)) h)
@@ -96,7 +96,7 @@ pub fields_next : {all : Members} (done : List Entry) (e : Entry) (left : List E
 fields_next done e left sorted h w = member_next (string_bytes e.0) (value_json e.1) (entries_json left) (json_put_last done e left sorted) h w
 
 pub fields_ended : (fs : List Field) (done left : List Entry) {old mid new : Written} → fs ≡ of_entries (done ++ left) → left ≡ []
-    → IsInObject (fields_json (fields_of fs)) (entries_json left) (entries_json done) old mid → Adds mid new (token.end_object ∷ [])
+    → IsInObject (fields_json (fields_of fs)) (entries_json left) (entries_json done) old mid → AppendsTokens mid new (token.end_object ∷ [])
     → AppendsValue old new (object (fields_json (fields_of fs)))
 fields_ended fs done left {old} {mid} is none h last =
     let whole : of_entries done ≡ fs = sym (is ∙ ap (λ (es : List Entry). of_entries (done ++ es)) none ∙ ap of_entries (append-nil done)) in

@@ -20,7 +20,7 @@ use Rattle.entities.specs.declared.fault.EntityFault.TheVariants.{UnknownType, A
 use Rattle.entities.specs.declared.fault.EntityFault.TheVariants.{TagsLeftOut}
 use Rattle.entity_data.specs.declared.entity.Entity.{Entity}
 use Rattle.entities.specs.Faults.{with_entity_fault}
-use Rattle.entities.specs.Stated.{is_absent_or_empty, or_empty, stated_in}
+use Rattle.entities.specs.EntityForms.{is_absent_or_empty, or_empty, stated_in}
 use Rattle.entity_data.specs.UidSets.{uid_set}
 
 -- `is_action_type name` tests whether the last word of the type's name `name` is `Action`.

@@ -10,7 +10,7 @@ use Rattle.schema.specs.WellFormed.{IsActionType, IsWellFormed}
 use Rattle.entities.specs.declared.fault.EntityFault.{EntityFault}
 use Rattle.entity_data.specs.declared.entity.Entity.{Entity}
 use Rattle.entities.specs.Entities.{is_action_type, entity_stated_in}
-use Rattle.entities.specs.Requests.{StatesRequest, RequestRefused}
+use Rattle.entities.specs.Requests.{ParsesRequest, RequestRefused}
 use Rattle.entities.specs.Canonical.{canonical_json}
 use Rattle.entity_data.specs.UidSets.{uid_set}
 
@@ -52,12 +52,12 @@ SetsHoldTheirMembers = (us : List EntityUid) → IsAscending (uid_set us)
 
 -- `OneRequest`: a JSON value describes at most one request.
 abbrev pub OneRequest : Type 0
-OneRequest = (s : StatedSchema) (d : Data) (q other : Request) → StatesRequest s d q → StatesRequest s d other
+OneRequest = (s : StatedSchema) (d : Data) (q other : Request) → ParsesRequest s d q → ParsesRequest s d other
     → q ≡ other
 
 -- `NotBoth`: a JSON value that describes a request is not rejected.
 abbrev pub NotBoth : Type 0
-NotBoth = (s : StatedSchema) (d : Data) (q : Request) (f : EntityFault) → StatesRequest s d q → RequestRefused s d f
+NotBoth = (s : StatedSchema) (d : Data) (q : Request) (f : EntityFault) → ParsesRequest s d q → RequestRefused s d f
     → ⊥
 
 -- `OneRefusal`: a JSON value is rejected with at most one error.
@@ -66,5 +66,5 @@ OneRefusal = (s : StatedSchema) (d : Data) (f g : EntityFault) → RequestRefuse
 
 -- `RequestOrRefusal`: each JSON value describes a request, or is rejected.
 abbrev pub RequestOrRefusal : Type 0
-RequestOrRefusal = (s : StatedSchema) (d : Data) → ((q : Request) × StatesRequest s d q)
+RequestOrRefusal = (s : StatedSchema) (d : Data) → ((q : Request) × ParsesRequest s d q)
     ⊎ ((f : EntityFault) × RequestRefused s d f)

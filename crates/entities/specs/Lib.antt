@@ -1,5 +1,5 @@
 pub mod Faults
-pub mod Stated
+pub mod EntityForms
 pub mod Entities
 pub mod Contexts
 pub mod Requests
@@ -7,7 +7,7 @@ pub mod Canonical
 pub mod StatedValues
 pub mod StatedEntities
 pub mod StatedRequests
-pub mod AsStated
+pub mod ParsingLaws
 pub mod Laws
 pub mod inner
 pub mod Texts

@@ -18,7 +18,7 @@ use Rattle.entities.specs.declared.fault.EntityFault.{EntityFault}
 use Rattle.entities.specs.declared.fault.EntityFault.TheVariants.{BadShape, NotApplicable}
 use Rattle.entities.specs.declared.requests.Asked.{Asked}
 use Rattle.entities.specs.Faults.{with_entity_fault}
-use Rattle.entities.specs.Stated.{is_absent_or_object, or_empty}
+use Rattle.entities.specs.EntityForms.{is_absent_or_object, or_empty}
 use Rattle.entities.specs.Contexts.{context_where, is_place}
 
 -- `NamesAt key d uid` holds if the value of `d` at `key` names `uid`.
@@ -45,8 +45,8 @@ context_asked s asked d = do
 abbrev pub asked_by : Request → Asked
 asked_by q = record { principal = q.principal; action = q.action; resource = q.resource }
 
--- `StatesRequest s d q` holds if `d` describes the request `q` under the schema `s`.
-pub record StatesRequest (s : StatedSchema) (d : Data) (q : Request) : Type 0 where
+-- `ParsesRequest s d q` holds if `d` describes the request `q` under the schema `s`.
+pub record ParsesRequest (s : StatedSchema) (d : Data) (q : Request) : Type 0 where
   pub asks : Asks d (asked_by q)
   pub context : context_asked s (asked_by q) d ≡ Ok q.context
 

@@ -65,11 +65,11 @@ pub record MayHaveParent (s : StatedSchema) (uid parent : EntityUid) : Type 0 wh
   pub other : parent ≡ uid → ⊥
   pub type_fits : IsTrue (s.may_have_parent uid.type_name parent.type_name)
 
--- `StatesEntity s d e` holds if `d` describes the entity `e` under the schema `s`: `d` has the form of an entity,
+-- `DescribesEntity s d e` holds if `d` describes the entity `e` under the schema `s`: `d` has the form of an entity,
 -- without tags; the type of `e` is declared; the attributes of `e` are the record that `d` describes by the shape of
 -- that type; and the parents of `e` are those that `d` lists, each of which `e` may have, in ascending order, without
 -- duplicates.
-pub record StatesEntity (s : StatedSchema) (d : Data) (e : Entity) : Type 0 where
+pub record DescribesEntity (s : StatedSchema) (d : Data) (e : Entity) : Type 0 where
   pub listed : List EntityUid
   pub attributes : Members
   pub shape : Cedar

@@ -58,9 +58,9 @@ pub data FailsContext (IsPlace : EnvironmentKey → Type 0) (s : StatedSchema) (
   bad_fields : (t : Cedar) (f : ValueFault) (fault : EntityFault) → HasContext IsPlace s.environments t
       → RefusesRecord t ms f → IsReportedAs f fault → FailsContext IsPlace s ms fault
 
--- `StatesContext s action d fields` holds if `d` is an object that describes the context `fields` of `action` under the
--- schema `s`.
-pub record StatesContext (s : StatedSchema) (action : EntityUid) (d : Data) (fields : List Field) : Type 0 where
+-- `DescribesContext s action d fields` holds if `d` is an object that describes the context `fields` of `action` under
+-- the schema `s`.
+pub record DescribesContext (s : StatedSchema) (action : EntityUid) (d : Data) (fields : List Field) : Type 0 where
   pub members : Members
   pub is_object : d ≡ object members
   pub reads : ReadsContext (IsOfAction action) s members fields

@@ -1,9 +1,9 @@
 //! Theorems: parsing gives what the relations on JSON say. The functions are no-ops.
-ghost use Rattle.entities.specs.AsStated.{ValuesAreRead, OneValue, OtherJsonIsOfWrongType};
-ghost use Rattle.entities.specs.AsStated.{RecordsAreRead, RecordsAreRefused};
-ghost use Rattle.entities.specs.AsStated.{EntitiesAreRead, EntitiesHaveOneOutcome};
-ghost use Rattle.entities.specs.AsStated.{ContextsAreRead, ContextsHaveOneOutcome};
-ghost use Rattle.entities.specs.AsStated.{RequestsAreRead, RequestsHaveOneOutcome};
+ghost use Rattle.entities.specs.ParsingLaws.{ValuesAreRead, OneValue, OtherJsonIsOfWrongType};
+ghost use Rattle.entities.specs.ParsingLaws.{RecordsAreRead, RecordsAreRefused};
+ghost use Rattle.entities.specs.ParsingLaws.{EntitiesAreRead, EntitiesHaveOneOutcome};
+ghost use Rattle.entities.specs.ParsingLaws.{ContextsAreRead, ContextsHaveOneOutcome};
+ghost use Rattle.entities.specs.ParsingLaws.{RequestsAreRead, RequestsHaveOneOutcome};
 
 use crate::laws::{action_type_test_is_exact, requests_have_one_outcome};
 use entity_data::ascending_lists_are_one;

@@ -5,7 +5,7 @@ ghost use Rattle.json_words.specs.ReadsAs.{ReadsAs};
 ghost use Rattle.schema.specs.Views.{schema_view};
 ghost use Rattle.entities.specs.declared.fault.EntityFault.TheVariants as EntityFault;
 ghost use Rattle.entities.specs.Contexts.{context_in};
-ghost use Rattle.entities.specs.StatedRequests.{StatesContext, RefusesContext};
+ghost use Rattle.entities.specs.StatedRequests.{DescribesContext, RefusesContext};
 ghost use Rattle.entities.specs.inner.EnvironmentSearch.{order_of_action};
 
 use crate::as_stated::contexts_are_read_as_stated;
@@ -67,7 +67,7 @@ pub fn read_context(
 ) -> Result<Record, EntityFault>
     ensures read { ReadsAs EntityFault.NoMemory (λ r. r) result
         (context_in (schema_view schema.now) action.now (view value.now)) }
-    ensures stated { MatchResult result (StatesContext (schema_view schema.now) action.now (view value.now))
+    ensures stated { MatchResult result (DescribesContext (schema_view schema.now) action.now (view value.now))
         (λ f. f ≢ EntityFault.NoMemory → RefusesContext (schema_view schema.now) action.now (view value.now) f) }
 {
     contexts_are_read_as_stated();

@@ -7,8 +7,8 @@ ghost use Rattle.schema.specs.Views.{schema_view};
 ghost use Rattle.entities.specs.Typing.{record_in};
 ghost use Rattle.entities.specs.declared.fault.EntityFault.TheVariants as EntityFault;
 ghost use Rattle.entities.specs.Faults.{with_entity_fault};
-ghost use Rattle.entities.specs.Stated.{or_empty};
-ghost use Rattle.entities.specs.StatedEntities.{StatesEntity, RefusesEntity};
+ghost use Rattle.entities.specs.EntityForms.{or_empty};
+ghost use Rattle.entities.specs.StatedEntities.{DescribesEntity, RefusesEntity};
 ghost use Rattle.entities.specs.Entities.{is_action_type, shape_of, attributes_in, entity_stated_in};
 
 use crate::as_stated::entities_are_read_as_stated;
@@ -120,7 +120,7 @@ fn entity_in(alloc: Global, schema: &Schema, value: &Value) -> Result<Entity, En
 pub fn read_entity(alloc: Global, schema: &Schema, value: &Value) -> Result<Entity, EntityFault>
     ensures read { ReadsAs EntityFault.NoMemory (λ e. e) result
         (entity_stated_in (schema_view schema.now) (view value.now)) }
-    ensures stated { MatchResult result (StatesEntity (schema_view schema.now) (view value.now))
+    ensures stated { MatchResult result (DescribesEntity (schema_view schema.now) (view value.now))
         (λ f. f ≢ EntityFault.NoMemory → RefusesEntity (schema_view schema.now) (view value.now) f) }
 {
     entities_are_read_as_stated();

@@ -9,7 +9,7 @@ ghost use Rattle.entities.specs.declared.requests.Asked.{Asked as PlainAsked};
 ghost use Rattle.entities.specs.declared.fault.EntityFault.TheVariants as EntityFault;
 ghost use Rattle.entities.specs.inner.EnvironmentSearch.{order_of_asked};
 ghost use Rattle.entities.specs.StatedRequests.{DescribesRequest, RefusesRequest};
-ghost use Rattle.entities.specs.Requests.{NamesAt, Asks, context_asked, StatesRequest, RequestRefused};
+ghost use Rattle.entities.specs.Requests.{NamesAt, Asks, context_asked, ParsesRequest, RequestRefused};
 
 use crate::as_stated::requests_are_read_as_stated;
 use crate::environments::{Sought, context_of};
@@ -101,7 +101,7 @@ fn read_context_of(
 
 /// Returns the request that a value describes, or the first error.
 fn request_in(alloc: Global, schema: &Schema, value: &Value) -> Result<Request, EntityFault>
-    ensures read { IfOk result (StatesRequest (schema_view schema.now) (view value.now)) }
+    ensures read { IfOk result (ParsesRequest (schema_view schema.now) (view value.now)) }
     ensures refused { IfErr result
         (λ f. f ≢ EntityFault.NoMemory → RequestRefused (schema_view schema.now) (view value.now) f) }
 {
@@ -133,7 +133,7 @@ fn request_in(alloc: Global, schema: &Schema, value: &Value) -> Result<Request, 
 /// - `Missing` (34): a required member of the context is missing.
 /// - `NoMemory` (1): an allocation failed; possible at any point.
 pub fn read_request(alloc: Global, schema: &Schema, value: &Value) -> Result<Request, EntityFault>
-    ensures read { IfOk result (StatesRequest (schema_view schema.now) (view value.now)) }
+    ensures read { IfOk result (ParsesRequest (schema_view schema.now) (view value.now)) }
     ensures refused { IfErr result
         (λ f. f ≢ EntityFault.NoMemory → RequestRefused (schema_view schema.now) (view value.now) f) }
     ensures stated { MatchResult result (DescribesRequest (schema_view schema.now) (view value.now))

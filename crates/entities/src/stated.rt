@@ -3,8 +3,9 @@ ghost use Rattle.std.specs.Prelude.{◌≡◌, option_map};
 ghost use Rattle.serde_json.specs.View.{view, items_view};
 ghost use Rattle.json_words.specs.ReadsAs.{ReadsAs};
 ghost use Rattle.entities.specs.declared.fault.EntityFault.TheVariants as EntityFault;
-ghost use Rattle.entities.specs.Stated.{stated_uid, uids_of, stated_parents, is_absent_or_object, is_absent_or_empty};
-ghost use Rattle.entities.specs.Stated.{has_objects, stated_in};
+ghost use Rattle.entities.specs.EntityForms.{stated_uid, uids_of, stated_parents, is_absent_or_object};
+ghost use Rattle.entities.specs.EntityForms.{is_absent_or_empty};
+ghost use Rattle.entities.specs.EntityForms.{has_objects, stated_in};
 
 use crate::fault::EntityFault;
 use json_words::only_keys;
@@ -85,7 +86,7 @@ fn has_objects(value: &Value) -> bool
 
 /// Returns the uid and the parents that an entity's JSON describes; `BadShape` if it does not have the form of an
 /// entity.
-#[tactic(auto, unfolding(crate::specs::Stated::stated_in))]
+#[tactic(auto, unfolding(crate::specs::EntityForms::stated_in))]
 pub(crate) fn read_stated(alloc: Global, value: &Value) -> Result<StatedEntity, EntityFault>
     ensures { ReadsAs EntityFault.NoMemory (λ e. e) result (stated_in (view value.now)) }
 {

@@ -13,7 +13,7 @@ ghost use Rattle.entities.specs.Typing.{typed_value as typed_of};
 ghost use Rattle.entities.specs.Typing.{record_in};
 ghost use Rattle.entities.specs.inner.InnerErrors.{inside_fault};
 ghost use Rattle.entities.specs.inner.InPlace.{IsInPlace};
-ghost use Rattle.entities.specs.inner.FieldSuffixes.{StateAlikeFrom};
+ghost use Rattle.entities.specs.inner.FieldSuffixes.{DeclareAlikeFrom};
 ghost use Rattle.entities.specs.Typing.{typed_items as items_of_type, typed_members as members_of_type};
 
 use crate::value_fault::ValueFault;
@@ -56,7 +56,7 @@ fn fields(ty: &CedarType) -> Option<&Fields>
 /// Returns the rest of `fields` from the first field whose name is not less than `name`. A caller that looks up names
 /// in ascending order need not visit the skipped fields again.
 fn from_name<'t>(fields: &'t [Field], name: &str) -> &'t [Field]
-    ensures { StateAlikeFrom name.now (cedar_fields_view fields.now) (cedar_fields_view result.now) }
+    ensures { DeclareAlikeFrom name.now (cedar_fields_view fields.now) (cedar_fields_view result.now) }
 {
     for place in 0..fields.len() {
         if !fields[place].0.as_str().cmp(name).is_lt() {

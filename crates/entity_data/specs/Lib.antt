@@ -1,6 +1,6 @@
 pub mod ActionHierarchy
 pub mod Entities
-pub mod Keeping
+pub mod EntityStores
 pub mod Listing
 pub mod UidSets
 pub mod inner

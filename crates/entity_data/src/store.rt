@@ -1,6 +1,6 @@
 //! A map of entities by their uids.
 ghost use Rattle.std.specs.Prelude.{◌≡◌, [], IfOk, OnErr, IsTrue, not, false, is_some};
-ghost use Rattle.entity_data.specs.Keeping.{kept_in, uids_in, Puts, entries_are_listed};
+ghost use Rattle.entity_data.specs.EntityStores.{kept_in, uids_in, Puts, entries_are_listed};
 
 use crate::data::EntityData;
 use crate::entity::Entity;
@@ -22,7 +22,7 @@ pub struct EntityStore {
 impl Model for EntityStore {
     ghost use Rattle.std.specs.Coded.{codes};
     ghost use Rattle.values.specs.ValueCode.{value_code};
-    ghost use Rattle.entity_data.specs.Keeping.{Entries};
+    ghost use Rattle.entity_data.specs.EntityStores.{Entries};
 
     ghost Value = { Entries };
 

@@ -63,7 +63,7 @@ impl<S: EntitySource, A: ActionSource + Drop> ParentsOf for Entities<'_, S, A> {
 
     fn parents_of(&self, uid: &EntityUid) -> &[EntityUid] {
         match self.action(uid) {
-            Some(above) => above,
+            Some(ancestor_test) => ancestor_test,
             None => self.stored_edges.source.parents_at(uid),
         }
     }
@@ -86,10 +86,10 @@ impl<S: EntitySource, A: ActionSource + Drop> Graph for Entities<'_, S, A> {
 impl<S: EntitySource, A: ActionSource + Drop> Ancestry for Entities<'_, S, A> {
     ghost parents = { λ w u. kept_parents (with_actions (A.declared w.1) (S.kept w.0) u) };
 
-    ghost above = { λ w. reaches (λ u. kept_parents (with_actions (A.declared w.1) (S.kept w.0) u))
+    ghost ancestor_test = { λ w. reaches (λ u. kept_parents (with_actions (A.declared w.1) (S.kept w.0) u))
         (uids_with (A.uids w.1) (S.uids w.0)) };
 
-    ghost above_is = { λ w.
+    ghost ancestor_test_decides = { λ w.
         all_decided (A.declared w.1) (A.uids w.1) (A.listed w.1) (S.kept w.0) (S.uids w.0) (S.listed w.0) };
 
     fn is_ancestor(&self, a: &EntityUid, b: &EntityUid) -> Result<bool, NoMemory> {

@@ -15,7 +15,7 @@ use Rattle.authoriser.specs.evaluator.Operators as op
 use Rattle.authoriser.specs.evaluator.Operators.{Entities, entities_with, BinaryGives, FieldGives, HasGives}
 use Rattle.authoriser.specs.evaluator.Evaluation as rule
 use Rattle.authoriser.specs.evaluator.Evaluation.{EvaluatesTo, TestFails, EachEvaluatesTo}
-use Rattle.authoriser.specs.policy_grammar.Whole.{expression_of}
+use Rattle.authoriser.specs.policy_grammar.PolicyExpression.{expression_of}
 use Rattle.authoriser.specs.policy_grammar.declared.policy.Policy.{Policy}
 use Rattle.authoriser.specs.declared.outcome.Outcome.{Outcome as Verdict}
 use Rattle.authoriser.specs.declared.outcome.Outcome.TheVariants.{Satisfied, NotSatisfied, Errs}

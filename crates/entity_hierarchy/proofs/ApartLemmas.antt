@@ -16,7 +16,7 @@ use Rattle.entities.specs.declared.fault.EntityFault.TheVariants.{UnknownType, A
 use Rattle.entities.specs.entity_data.declared.entity.Entity.{Entity}
 use Rattle.entities.specs.declared.stated.StatedEntity.{StatedEntity}
 use Rattle.entities.specs.Faults.{with_entity_fault}
-use Rattle.entities.specs.Stated.{stated_in, is_absent_or_empty, or_empty}
+use Rattle.entities.specs.EntityForms.{stated_in, is_absent_or_empty, or_empty}
 use Rattle.entities.specs.Entities.{is_action_type, shape_of, attributes_in, parents_in, entity_stated_in}
 use Rattle.entities.specs.Laws.{ActionTypeTestIsExact}
 use Rattle.entity_hierarchy.specs.Laws.{NoEntityIsAnAction}

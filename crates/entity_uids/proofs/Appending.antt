@@ -17,25 +17,25 @@ use Rattle.serde_json.proofs.Numbers.{number_of-decimal}
 use Rattle.serde_json.proofs.Texts.{print-outline}
 use Rattle.json_words.specs.Json.{json_of}
 use Rattle.json_words.proofs.JsonLemmas.{json_of-text}
-use Rattle.entity_uids.specs.Tokens.{tokens_of, Adds, IsReadAgain, AppendsValue, AppendsMember, AppendsAll}
+use Rattle.entity_uids.specs.Tokens.{tokens_of, AppendsTokens, IsReadAgain, AppendsValue, AppendsMember, AppendsAll}
 use Rattle.entity_uids.proofs.Adding.{start, joined, all_more, items_closed}
 
 -- ---- tokens
 
-pub wrote : {E : Type 0} {x : Unit {0}} {old new : Written} {t : Token} → Writes {E = E} (Ok x) old new t → Adds old new (t ∷ [])
+pub wrote : {E : Type 0} {x : Unit {0}} {old new : Written} {t : Token} → Writes {E = E} (Ok x) old new t → AppendsTokens old new (t ∷ [])
 wrote w = record { tokens = w.ok; before = w.room.0 }
 
 -- with the last token
-pub ends : {E : Type 0} (r : Result (Unit {0}) E) {old new : Written} {t : Token} (P : Type 0) → Writes r old new t → (Adds old new (t ∷ []) → P) → OnOk r P
+pub ends : {E : Type 0} (r : Result (Unit {0}) E) {old new : Written} {t : Token} (P : Type 0) → Writes r old new t → (AppendsTokens old new (t ∷ []) → P) → OnOk r P
 ends (Ok x) P w f = f (wrote w)
 ends (Err e) P w f = tt
 
-pub and_then : {a b c : Written} {s t : List Token} → Adds a b s → Adds b c t → Adds a c (s ++ t)
+pub and_then : {a b c : Written} {s t : List Token} → AppendsTokens a b s → AppendsTokens b c t → AppendsTokens a c (s ++ t)
 and_then h k = joined h k
 
 -- ---- members
 
-pub number_member : {a b c : Written} {k : List ℕ} (n : ℕ) → n < 2 ^ 64 → Adds a b (key k ∷ []) → Adds b c (tokens_of (number (unsigned n))) → AppendsMember a c k (number (unsigned n))
+pub number_member : {a b c : Written} {k : List ℕ} (n : ℕ) → n < 2 ^ 64 → AppendsTokens a b (key k ∷ []) → AppendsTokens b c (tokens_of (number (unsigned n))) → AppendsMember a c k (number (unsigned n))
 number_member n fits h e = record { written = and_then h e; again = ap (option_map number) (number_of-decimal n fits) }
 
 -- a member is read, and then those behind it
@@ -52,7 +52,7 @@ none_written w = record { written = start w; again = tt }
 
 pub one_written : {a b : Written} {d : Data} → AppendsValue a b d → AppendsAll a b (d ∷ [])
 one_written {a} {b} {d} h = record {
-  written = subst (Adds a b) (sym (append-nil (tokens_of d))) h.written;
+  written = subst (AppendsTokens a b) (sym (append-nil (tokens_of d))) h.written;
   again = (h.again, tt);
 }
 
@@ -62,7 +62,7 @@ again-append (d ∷ ds) es h k = (h.0, again-append ds es h.1 k)
 
 pub both_written : {a b c : Written} {ds es : List Data} → AppendsAll a b ds → AppendsAll b c es → AppendsAll a c (ds ++ es)
 both_written {a} {b} {c} {ds} {es} h k = record {
-  written = subst (Adds a c) (sym (all_more ds es)) (and_then h.written k.written);
+  written = subst (AppendsTokens a c) (sym (all_more ds es)) (and_then h.written k.written);
   again = again-append ds es h.again k.again;
 }
 
@@ -70,9 +70,9 @@ items_again : (ds : List Data) → AllByRecursion IsReadAgain ds → of_items (i
 items_again [] h = refl
 items_again (d ∷ ds) h = rw (h.0, items_again ds h.1) refl
 
-pub array_written : {a b c e : Written} {ds : List Data} → Adds a b (begin_array ∷ []) → AppendsAll b c ds → Adds c e (end_array ∷ []) → AppendsValue a e (array (items_of ds))
+pub array_written : {a b c e : Written} {ds : List Data} → AppendsTokens a b (begin_array ∷ []) → AppendsAll b c ds → AppendsTokens c e (end_array ∷ []) → AppendsValue a e (array (items_of ds))
 array_written {a} {b} {c} {e} {ds} first h last = record {
-  written = subst (λ (ts : List Token). Adds a e (begin_array ∷ ts)) (items_closed ds) (and_then first (and_then h.written last));
+  written = subst (λ (ts : List Token). AppendsTokens a e (begin_array ∷ ts)) (items_closed ds) (and_then first (and_then h.written last));
   again = ap (option_map array) (items_again ds h.again);
 }
 

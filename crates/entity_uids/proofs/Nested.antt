@@ -9,11 +9,11 @@ use Rattle.serde_json.specs.Data.{Data, array, object, Items, no_items, item, Me
 use Rattle.serde_json.specs.Read.{of_items, of_members}
 use Rattle.serde_json.specs.View.{items_of}
 use Rattle.serde_json.specs.Written.{items_outline, members_outline}
-use Rattle.entity_uids.specs.Tokens.{Adds, tokens_of, IsReadAgain, AppendsValue, AppendsMember}
+use Rattle.entity_uids.specs.Tokens.{AppendsTokens, tokens_of, IsReadAgain, AppendsValue, AppendsMember}
 use Rattle.entity_uids.proofs.Adding.{joined}
 
 -- a member, by its key and its value
-pub member_written : {a b c : Written} {k : List ℕ} {d : Data} → Adds a b (key k ∷ []) → AppendsValue b c d → AppendsMember a c k d
+pub member_written : {a b c : Written} {k : List ℕ} {d : Data} → AppendsTokens a b (key k ∷ []) → AppendsValue b c d → AppendsMember a c k d
 member_written named h = record { written = joined named h.written; again = h.again }
 
 -- ---- objects
@@ -24,7 +24,7 @@ pub record IsInObject (all left found : Members) (old new : Written) : Type 0 wh
   pub tokens : new.tokens ++ members_tokens (members_outline left) ≡ old.tokens ++ tokens_of (object all)
   pub again : of_members (members_outline left) found ≡ Some all → IsReadAgain (object all)
 
-pub object_begun : (all : Members) {old new : Written} → Adds old new (begin_object ∷ []) → IsInObject all all no_members old new
+pub object_begun : (all : Members) {old new : Written} → AppendsTokens old new (begin_object ∷ []) → IsInObject all all no_members old new
 object_begun all {old} h =
     let rest : List Token = members_tokens (members_outline all) in
     record {
@@ -43,7 +43,7 @@ member_next {all} k d ms {found} {more} {old} {mid} {new} is h w =
       again = λ read. h.again (ap (option_and_then (λ e. of_members (members_outline ms) (put k e found))) w.again ∙ ap (of_members (members_outline ms)) is ∙ read);
     }
 
-pub object_ended : {all found : Members} {old mid new : Written} → found ≡ all → IsInObject all no_members found old mid → Adds mid new (end_object ∷ []) → AppendsValue old new (object all)
+pub object_ended : {all found : Members} {old mid new : Written} → found ≡ all → IsInObject all no_members found old mid → AppendsTokens mid new (end_object ∷ []) → AppendsValue old new (object all)
 object_ended same h last = record {
   written = record { before = last.before ∙ h.before; tokens = last.tokens ∙ h.tokens };
   again = h.again (ap (λ (ms : Members). Some ms) same);
@@ -57,7 +57,7 @@ pub record IsInArray (all left : Items) (old new : Written) : Type 0 where
   pub tokens : new.tokens ++ items_tokens (items_outline left) ≡ old.tokens ++ tokens_of (array all)
   pub again : of_items (items_outline left) ≡ Some left → IsReadAgain (array all)
 
-pub array_begun : (all : Items) {old new : Written} → Adds old new (begin_array ∷ []) → IsInArray all all old new
+pub array_begun : (all : Items) {old new : Written} → AppendsTokens old new (begin_array ∷ []) → IsInArray all all old new
 array_begun all {old} h =
     let rest : List Token = items_tokens (items_outline all) in
     record {
@@ -75,7 +75,7 @@ item_next {all} d ds {old} {mid} {new} h w =
       again = λ read. h.again (ap (option_and_then (λ e. option_map (item e) (of_items (items_outline ds)))) w.again ∙ ap (option_map (item d)) read);
     }
 
-pub array_ended : {all : Items} {old mid new : Written} → IsInArray all no_items old mid → Adds mid new (end_array ∷ []) → AppendsValue old new (array all)
+pub array_ended : {all : Items} {old mid new : Written} → IsInArray all no_items old mid → AppendsTokens mid new (end_array ∷ []) → AppendsValue old new (array all)
 array_ended h last = record {
   written = record { before = last.before ∙ h.before; tokens = last.tokens ∙ h.tokens };
   again = h.again refl;
@@ -87,7 +87,7 @@ array_ended h last = record {
 abbrev pub IsInList : {X : Type 0} → (X → Data) → List X → ℕ → Written → Written → Type 0
 IsInList f xs i old new = IsInArray (items_of (map f xs)) (items_of (map f (drop i xs))) old new
 
-pub list_begun : {X : Type 0} (f : X → Data) (xs : List X) {old new : Written} → Adds old new (begin_array ∷ []) → IsInList f xs 0 old new
+pub list_begun : {X : Type 0} (f : X → Data) (xs : List X) {old new : Written} → AppendsTokens old new (begin_array ∷ []) → IsInList f xs 0 old new
 list_begun f xs h = array_begun (items_of (map f xs)) h
 
 pub list_next : {X : Type 0} (f : X → Data) (xs : List X) (i : ℕ) (x : X) {old mid new : Written} → i < length xs → x ≡ get_or xs i x
@@ -98,6 +98,6 @@ list_next {X = X} f xs i x {old} {mid} lt at h w =
     item_next (f x) (items_of (map f rest)) (subst (λ (ys : List X). IsInArray (items_of (map f xs)) (items_of (map f ys)) old mid) here h) w
 
 pub list_ended : {X : Type 0} (f : X → Data) (xs : List X) (i : ℕ) {old mid new : Written} → length xs ≤ i
-    → IsInList f xs i old mid → Adds mid new (end_array ∷ []) → AppendsValue old new (array (items_of (map f xs)))
+    → IsInList f xs i old mid → AppendsTokens mid new (end_array ∷ []) → AppendsValue old new (array (items_of (map f xs)))
 list_ended {X = X} f xs i {old} {mid} le h last =
     array_ended (subst (λ (ys : List X). IsInArray (items_of (map f xs)) (items_of (map f ys)) old mid) (drop_all i xs le) h) last

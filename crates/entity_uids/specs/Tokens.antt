@@ -18,9 +18,9 @@ abbrev pub tokens_of_all : List Data → List Token
 tokens_of_all [] = []
 tokens_of_all (d ∷ ds) = tokens_of d ++ tokens_of_all ds
 
--- `Adds old new ts` holds if the output `new` is `old` with the tokens `ts` appended, and the text before all tokens is
--- unchanged.
-pub record Adds (old new : Written) (ts : List Token) : Type 0 where
+-- `AppendsTokens old new ts` holds if the output `new` is `old` with the tokens `ts` appended, and the text before all
+-- tokens is unchanged.
+pub record AppendsTokens (old new : Written) (ts : List Token) : Type 0 where
   pub before : new.before ≡ old.before
   pub tokens : new.tokens ≡ old.tokens ++ ts
 
@@ -31,17 +31,17 @@ IsReadAgain d = of_json (outline d) ≡ Some d
 -- `AppendsValue old new d` holds if the output `new` is `old` with the value `d` appended, and `d` is parsed again as
 -- `d`.
 pub record AppendsValue (old new : Written) (d : Data) : Type 0 where
-  pub written : Adds old new (tokens_of d)
+  pub written : AppendsTokens old new (tokens_of d)
   pub again : IsReadAgain d
 
 -- `AppendsMember old new k d` holds if the output `new` is `old` with the member of an object appended that has the key
 -- `k` and the value `d`, and `d` is parsed again as `d`.
 pub record AppendsMember (old new : Written) (k : List ℕ) (d : Data) : Type 0 where
-  pub written : Adds old new (key k ∷ tokens_of d)
+  pub written : AppendsTokens old new (key k ∷ tokens_of d)
   pub again : IsReadAgain d
 
 -- `AppendsAll old new ds` holds if the output `new` is `old` with the values `ds` appended, one after another, and each
 -- is parsed again as itself.
 pub record AppendsAll (old new : Written) (ds : List Data) : Type 0 where
-  pub written : Adds old new (tokens_of_all ds)
+  pub written : AppendsTokens old new (tokens_of_all ds)
   pub again : AllByRecursion IsReadAgain ds

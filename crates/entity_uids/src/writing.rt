@@ -1,6 +1,6 @@
 //! Writing uids as JSON, token by token.
 ghost use Rattle.std.specs.Prelude.{OnOk};
-ghost use Rattle.entity_uids.specs.Tokens.{Adds, tokens_of};
+ghost use Rattle.entity_uids.specs.Tokens.{AppendsTokens, tokens_of};
 ghost use Rattle.entity_uids.specs.Uids.{uid_json, entity_json};
 
 use json::Writer;
@@ -13,7 +13,7 @@ use values::EntityUid;
 ///
 /// - `NoMemory`: an allocation failed. The output must then not be used.
 pub fn write_uid(out: &mut Writer, uid: &EntityUid) -> Result<(), NoMemory>
-    ensures { OnOk result (Adds out.old out.new (tokens_of (uid_json uid.now))) }
+    ensures { OnOk result (AppendsTokens out.old out.new (tokens_of (uid_json uid.now))) }
 {
     out.begin_object()?;
     out.key("id")?;
@@ -30,7 +30,7 @@ pub fn write_uid(out: &mut Writer, uid: &EntityUid) -> Result<(), NoMemory>
 ///
 /// - `NoMemory`: an allocation failed. The output must then not be used.
 pub fn write_entity(out: &mut Writer, uid: &EntityUid) -> Result<(), NoMemory>
-    ensures { OnOk result (Adds out.old out.new (tokens_of (entity_json uid.now))) }
+    ensures { OnOk result (AppendsTokens out.old out.new (tokens_of (entity_json uid.now))) }
 {
     out.begin_object()?;
     out.key("__entity")?;

@@ -58,9 +58,9 @@ one_field x xs done (Ok v) (Ok vs) = refl
 one_field x xs done (Ok v) (Err e) = refl
 one_field x xs done (Err e) n = refl
 
-module _ (L : LawsBelow) (W : Entities) (above : EntityUid → EntityUid → Bool) (D : Decides W.parents above) (q : Request) where
+module _ (L : LawsBelow) (W : Entities) (ancestor_test : EntityUid → EntityUid → Bool) (D : Decides W.parents ancestor_test) (q : Request) where
   abbrev E : DecidedEntities
-  E = decided_entities W.stored above
+  E = decided_entities W.stored ancestor_test
 
   abbrev gives : Expr → EvaluationResult
   gives = meaning q E
@@ -157,9 +157,9 @@ module _ (L : LawsBelow) (W : Entities) (above : EntityUid → EntityUid → Boo
     computes _ _ (rule.or_right_fails a b {e} g h) = at_or a b ∙ (ap (λ m. and_then (as_test m) (λ t. if t then truth true else and_then (as_test (gives b)) truth)) (computes a _ g) ∙ ap (λ m. and_then m truth) (test_computes b e h))
     computes _ _ (rule.operand_fails {x} {xs} {e} has g) = operands_err x xs e has (each_computes xs (Err e) g)
     computes _ _ (rule.gives_unary op a {v} {r} g u) = at_unary op a ∙ (ap (λ m. and_then m (apply_unary op)) (computes a _ g) ∙ unary_is op v r u)
-    computes _ _ (rule.gives_binary op a b {v} {w} {r} g h u) = at_binary op a b ∙ (ap (λ m. and_then m (λ v. and_then (gives b) (apply_binary E op v))) (computes a _ g) ∙ (ap (λ m. and_then m (apply_binary E op v)) (computes b _ h) ∙ binary_is W above D L op v w r u))
-    computes _ _ (rule.gives_field a name {v} {r} g u) = at_field a name ∙ (ap (λ m. and_then m (field_of E name)) (computes a _ g) ∙ field_is W above D name v r u)
-    computes _ _ (rule.gives_has a name {v} {r} g u) = at_has a name ∙ (ap (λ m. and_then m (has_field E name)) (computes a _ g) ∙ has_is W above D name v r u)
+    computes _ _ (rule.gives_binary op a b {v} {w} {r} g h u) = at_binary op a b ∙ (ap (λ m. and_then m (λ v. and_then (gives b) (apply_binary E op v))) (computes a _ g) ∙ (ap (λ m. and_then m (apply_binary E op v)) (computes b _ h) ∙ binary_is W ancestor_test D L op v w r u))
+    computes _ _ (rule.gives_field a name {v} {r} g u) = at_field a name ∙ (ap (λ m. and_then m (field_of E name)) (computes a _ g) ∙ field_is W ancestor_test D name v r u)
+    computes _ _ (rule.gives_has a name {v} {r} g u) = at_has a name ∙ (ap (λ m. and_then m (has_field E name)) (computes a _ g) ∙ has_is W ancestor_test D name v r u)
     computes _ _ (rule.gives_set xs {vs} {s} g h) = at_set xs ∙ (ap (λ m. and_then m to_set) (each_computes xs _ g) ∙ sym (ap (λ ws. Ok (set (values_of ws))) (L.one vs s h)))
     computes _ _ (rule.gives_record xs {vs} g) = at_record_of_values xs ∙ ap (λ m. and_then (and_then m (λ vs. Ok (put_each xs vs []))) to_record) (each_computes (map (λ x. x.value) xs) _ g)
     computes _ _ (rule.gives_unary_call called a {v} {r} g u) = at_unary_call called a ∙ (ap (λ m. and_then m (apply_unary_call called)) (computes a _ g) ∙ unary_call_is L called v r u)
@@ -240,16 +240,16 @@ module _ (L : LawsBelow) (W : Entities) (above : EntityUid → EntityUid → Boo
   unary_case op a (Err e) g = rule.operand_fails (rule.of_unary op a) (rule.each_fails g)
 
   binary_case : (op : Binary) (a b : Expr) (m n : EvaluationResult) → EvaluatesTo W q a m → EvaluatesTo W q b n → EvaluatesTo W q (form.Binary op a b) (and_then m (λ v. and_then n (apply_binary E op v)))
-  binary_case op a b (Ok v) (Ok w) g h = rule.gives_binary op a b g h (binary_exists W above D L op v w)
+  binary_case op a b (Ok v) (Ok w) g h = rule.gives_binary op a b g h (binary_exists W ancestor_test D L op v w)
   binary_case op a b (Ok v) (Err e) g h = rule.operand_fails (rule.of_binary op a b) (rule.each_fails_later g (rule.each_fails h))
   binary_case op a b (Err e) n g h = rule.operand_fails (rule.of_binary op a b) (rule.each_fails g)
 
   field_case : (a : Expr) (name : List ℕ) (m : EvaluationResult) → EvaluatesTo W q a m → EvaluatesTo W q (form.Field a name) (and_then m (field_of E name))
-  field_case a name (Ok v) g = rule.gives_field a name g (field_exists W above D name v)
+  field_case a name (Ok v) g = rule.gives_field a name g (field_exists W ancestor_test D name v)
   field_case a name (Err e) g = rule.operand_fails (rule.of_field a name) (rule.each_fails g)
 
   has_case : (a : Expr) (name : List ℕ) (m : EvaluationResult) → EvaluatesTo W q a m → EvaluatesTo W q (form.Has a name) (and_then m (has_field E name))
-  has_case a name (Ok v) g = rule.gives_has a name g (has_exists W above D name v)
+  has_case a name (Ok v) g = rule.gives_has a name g (has_exists W ancestor_test D name v)
   has_case a name (Err e) g = rule.operand_fails (rule.of_has a name) (rule.each_fails g)
 
   set_case : (xs : List Expr) (m : Result (List PlainValue) EvalFault) → EachEvaluatesTo W q xs m → EvaluatesTo W q (form.Set xs) (and_then m to_set)
@@ -322,7 +322,7 @@ module _ (L : LawsBelow) (W : Entities) (above : EntityUid → EntityUid → Boo
   only_given x r g = sym (computes x r g)
 
 pub meanings_are_given : LawsBelow → MeaningsAreGiven
-meanings_are_given L W above D q x = record { given = given L W above D q x; only = only_given L W above D q x }
+meanings_are_given L W ancestor_test D q x = record { given = given L W ancestor_test D q x; only = only_given L W ancestor_test D q x }
 
 -- ---- so an answer is what is given
 

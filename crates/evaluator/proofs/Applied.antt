@@ -136,9 +136,9 @@ attribute_is stored name _ (of_stored.attribute fs s e) = ap (λ o. attribute o 
 attribute_is stored name _ (of_stored.no_attribute fs s e) = ap (λ o. attribute o name) s ∙ ap (found_or AttrDoesNotExist) e
 attribute_is stored name _ (of_stored.not_stored s) = ap (λ o. attribute o name) s
 
-module _ (W : Entities) (above : EntityUid → EntityUid → Bool) (D : Decides W.parents above) where
+module _ (W : Entities) (ancestor_test : EntityUid → EntityUid → Bool) (D : Decides W.parents ancestor_test) where
   abbrev pub E : DecidedEntities
-  E = decided_entities W.stored above
+  E = decided_entities W.stored ancestor_test
 
   members_are : (a : EntityUid) (us : List EntityUid) → in_members E a (map entity us) ≡ Ok (list_any (is_in E a) us)
   members_are a [] = refl
@@ -152,7 +152,7 @@ module _ (W : Entities) (above : EntityUid → EntityUid → Bool) (D : Decides 
   ]
 
   some_iff : (a : EntityUid) (us : List EntityUid) → IsTrue (list_any (is_in E a) us) ↔ ((u : EntityUid) × Contains us u × IsIn W.parents a u)
-  some_iff a us = any_iff (is_in E a) (IsIn W.parents a) (λ u. is_in_iff W above D a u) us
+  some_iff a us = any_iff (is_in E a) (IsIn W.parents a) (λ u. is_in_iff W ancestor_test D a u) us
 
   in_set_is : (a : EntityUid) (vs : List PlainValue) (us : List EntityUid) → vs ≡ map entity us → and_then (in_members E a vs) truth ≡ truth (list_any (is_in E a) us)
   in_set_is a vs us e = ap (λ ws. and_then (in_members E a ws) truth) e ∙ ap (λ r. and_then r truth) (members_are a us)
@@ -166,7 +166,7 @@ module _ (W : Entities) (above : EntityUid → EntityUid → Bool) (D : Decides 
   ]
 
   in_exists : (a : EntityUid) (w : PlainValue) → BinaryGives W ops.In (entity a) w (in_value E a w)
-  in_exists a (entity b) = rule.in_entity (tells_test (is_in E a b) (is_in_iff W above D a b))
+  in_exists a (entity b) = rule.in_entity (tells_test (is_in E a b) (is_in_iff W ancestor_test D a b))
   in_exists a (set vs) = set_exists a vs
   in_exists a (boolean b) = rule.in_other refl refl
   in_exists a (long z) = rule.in_other refl refl
@@ -241,7 +241,7 @@ module _ (W : Entities) (above : EntityUid → EntityUid → Bool) (D : Decides 
   binary_is L _ _ _ _ (rule.equal {v} {w} {r} h) = test_is (is_eq (value_cmp v w)) (value_eq_iff v w) r h
   binary_is L _ _ _ _ (rule.of_numbers {op} {x} {y} {r} h) = of_numbers_is op x y r h
   binary_is L _ _ _ _ (rule.no_numbers {op} {v} {w} takes h) = no_numbers_are op v w takes h
-  binary_is L _ _ _ _ (rule.in_entity {a} {b} {r} h) = test_is (is_in E a b) (is_in_iff W above D a b) r h
+  binary_is L _ _ _ _ (rule.in_entity {a} {b} {r} h) = test_is (is_in E a b) (is_in_iff W ancestor_test D a b) r h
   binary_is L _ _ _ _ (rule.in_set {a} {vs} {r} us e h) = in_set_is a (list_of vs) us e ∙ test_is (list_any (is_in E a) us) (some_iff a us) r h
   binary_is L _ _ _ _ (rule.in_mixed_set {a} {vs} v c e) = ap (λ r. and_then r truth) (mixed_are a (list_of vs) v c e)
   binary_is L _ _ _ _ (rule.in_other {a} {w} e f) = in_other_is a w e f

@@ -13,14 +13,14 @@ use Rattle.evaluator.specs.Operators.{Entities}
 use Rattle.evaluator.specs.inner.Computing.{DecidedEntities, decided_entities, demanded, and_then, is_in, in_members}
 use Rattle.evaluator.proofs.Telling.{is_in_iff}
 
-pub within_is : (W : Entities) (above : EntityUid → EntityUid → Bool) → Decides W.parents above →
+pub within_is : (W : Entities) (ancestor_test : EntityUid → EntityUid → Bool) → Decides W.parents ancestor_test →
     (a b : EntityUid) (ancestors : List EntityUid) → AreAllAncestorsOf W.parents a ancestors →
-    (found : Bool) → (IsTrue found ↔ ((a ≡ b) ⊎ Contains ancestors b)) → found ≡ is_in (decided_entities W.stored above) a b
-within_is W above d a b ancestors all found tells = same_from_decides {P = IsIn W.parents a b} found (is_in (decided_entities W.stored above) a b) (
+    (found : Bool) → (IsTrue found ↔ ((a ≡ b) ⊎ Contains ancestors b)) → found ≡ is_in (decided_entities W.stored ancestor_test) a b
+within_is W ancestor_test d a b ancestors all found tells = same_from_decides {P = IsIn W.parents a b} found (is_in (decided_entities W.stored ancestor_test) a b) (
   (λ t. elim (tells.0 t) [ inl e ↦ inl e | inr m ↦ inr ((all b).0 m) ]),
   (λ i. tells.1 (elim i [ inl e ↦ inl e | inr path ↦ inr ((all b).1 path) ])),
 )
-    (is_in_iff W above d a b)
+    (is_in_iff W ancestor_test d a b)
 
 pub newly_found : (before after here : Bool) → before ≡ false → after ≡ here → after ≡ (before || here)
 newly_found true after here none is = absurd (cc)

@@ -118,8 +118,8 @@ module _ {X : Type 0} (p : X → Bool) (P : X → Type 0) (i : (x : X) → IsTru
   )
 
 -- being in, where a test decides who is above whom
-pub is_in_iff : (W : Entities) (above : EntityUid → EntityUid → Bool) → Decides W.parents above → (a b : EntityUid) → IsTrue (is_in (decided_entities W.stored above) a b) ↔ IsIn W.parents a b
-is_in_iff W above d a b = either_iff (is_eq (uid_cmp a b)) (above b a) (equal-is uid_cmp-IsTotalOrder uid_cmp-IsAntisymmetric a b) (d b a)
+pub is_in_iff : (W : Entities) (ancestor_test : EntityUid → EntityUid → Bool) → Decides W.parents ancestor_test → (a b : EntityUid) → IsTrue (is_in (decided_entities W.stored ancestor_test) a b) ↔ IsIn W.parents a b
+is_in_iff W ancestor_test d a b = either_iff (is_eq (uid_cmp a b)) (ancestor_test b a) (equal-is uid_cmp-IsTotalOrder uid_cmp-IsAntisymmetric a b) (d b a)
 
 pub bounded_is : (z : ℤ) (r : EvaluationResult) → IsChecked z r → bounded z ≡ r
 bounded_is z r h = by (is_bounded z) (bounded_iff z) r h

@@ -16,7 +16,7 @@ HasOneOutcome W q x = (r : EvaluationResult) × EvaluatesTo W q x r
 
 -- `HaveOneOutcome`: each expression has exactly one outcome, if a test decides the ancestor relation.
 abbrev pub HaveOneOutcome : Type 0
-HaveOneOutcome = (W : Entities) (above : EntityUid → EntityUid → Bool) → Decides W.parents above
+HaveOneOutcome = (W : Entities) (ancestor_test : EntityUid → EntityUid → Bool) → Decides W.parents ancestor_test
     → (q : Request) (x : Expr) → HasOneOutcome W q x
 
 -- `HaveOneOutcomeInFiniteHierarchies`: each expression has exactly one outcome, if finitely many entities have parents.

@@ -1,5 +1,5 @@
 pub mod VariableFields
-pub mod Borrowed
+pub mod OwnershipViews
 pub mod Evaluation
 pub mod Laws
 pub mod Operators

@@ -34,7 +34,7 @@ impl<'a> Model for BorrowedOrOwned<'a> {
 
     ghost coded = { value_code };
 
-    ghost use Rattle.evaluator.specs.Borrowed.{of_ownership};
+    ghost use Rattle.evaluator.specs.OwnershipViews.{of_ownership};
 
     ghost view = { λ a. of_ownership a.ownership };
 }

@@ -20,15 +20,16 @@ pub(crate) fn choice_of<'a, L: EvalEnv>(
     test: &'a Expr,
     consequent: &'a Expr,
     alternative: &'a Expr,
-    store: &'a L,
+    env: &'a L,
 ) -> Result<BorrowedOrOwned<'a>, EvalFault>
-    ensures { let gives = meaning (L.asked store.now) (decided_entities (L.stored store.now) (L.above store.now)) in
+    ensures { let gives = meaning (L.request_of env.now)
+        (decided_entities (L.stored env.now) (L.ancestor_test env.now)) in
         Answers result (choice (gives test.now) (gives consequent.now) (gives alternative.now)) }
 {
-    if test_of(alloc, test, store)? {
-        outcome_of(alloc, consequent, store)
+    if test_of(alloc, test, env)? {
+        outcome_of(alloc, consequent, env)
     } else {
-        outcome_of(alloc, alternative, store)
+        outcome_of(alloc, alternative, env)
     }
 }
 
@@ -40,15 +41,16 @@ pub(crate) fn choice_test<'a, L: EvalEnv>(
     test: &'a Expr,
     consequent: &'a Expr,
     alternative: &'a Expr,
-    store: &'a L,
+    env: &'a L,
 ) -> Result<bool, EvalFault>
-    ensures { let gives = meaning (L.asked store.now) (decided_entities (L.stored store.now) (L.above store.now)) in
+    ensures { let gives = meaning (L.request_of env.now)
+        (decided_entities (L.stored env.now) (L.ancestor_test env.now)) in
         Answers result (as_test (choice (gives test.now) (gives consequent.now) (gives alternative.now))) }
 {
-    if test_of(alloc, test, store)? {
-        test_of(alloc, consequent, store)
+    if test_of(alloc, test, env)? {
+        test_of(alloc, consequent, env)
     } else {
-        test_of(alloc, alternative, store)
+        test_of(alloc, alternative, env)
     }
 }
 
@@ -59,15 +61,16 @@ pub(crate) fn both_test<'a, L: EvalEnv>(
     alloc: Global,
     left: &'a Expr,
     right: &'a Expr,
-    store: &'a L,
+    env: &'a L,
 ) -> Result<bool, EvalFault>
-    ensures { let gives = meaning (L.asked store.now) (decided_entities (L.stored store.now) (L.above store.now)) in
+    ensures { let gives = meaning (L.request_of env.now)
+        (decided_entities (L.stored env.now) (L.ancestor_test env.now)) in
         Answers result (as_test (both (gives left.now) (gives right.now))) }
 {
-    let first = test_of(alloc, left, store);
+    let first = test_of(alloc, left, env);
     match decided_by_first(first) {
         Some(outcome) => outcome,
-        None => test_of(alloc, right, store),
+        None => test_of(alloc, right, env),
     }
 }
 
@@ -78,16 +81,17 @@ pub(crate) fn either_test<'a, L: EvalEnv>(
     alloc: Global,
     left: &'a Expr,
     right: &'a Expr,
-    store: &'a L,
+    env: &'a L,
 ) -> Result<bool, EvalFault>
-    ensures { let gives = meaning (L.asked store.now) (decided_entities (L.stored store.now) (L.above store.now)) in
+    ensures { let gives = meaning (L.request_of env.now)
+        (decided_entities (L.stored env.now) (L.ancestor_test env.now)) in
         Answers result (as_test (either (gives left.now) (gives right.now))) }
 {
-    let first = test_of(alloc, left, store)?;
+    let first = test_of(alloc, left, env)?;
     if first {
         Ok(first)
     } else {
-        test_of(alloc, right, store)
+        test_of(alloc, right, env)
     }
 }
 
@@ -98,12 +102,13 @@ pub(crate) fn both_of<'a, L: EvalEnv>(
     alloc: Global,
     left: &'a Expr,
     right: &'a Expr,
-    store: &'a L,
+    env: &'a L,
 ) -> Result<BorrowedOrOwned<'a>, EvalFault>
-    ensures { let gives = meaning (L.asked store.now) (decided_entities (L.stored store.now) (L.above store.now)) in
+    ensures { let gives = meaning (L.request_of env.now)
+        (decided_entities (L.stored env.now) (L.ancestor_test env.now)) in
         Answers result (both (gives left.now) (gives right.now)) }
 {
-    truth_of(both_test(alloc, left, right, store))
+    truth_of(both_test(alloc, left, right, env))
 }
 
 /// Evaluates `||`.
@@ -113,10 +118,11 @@ pub(crate) fn either_of<'a, L: EvalEnv>(
     alloc: Global,
     left: &'a Expr,
     right: &'a Expr,
-    store: &'a L,
+    env: &'a L,
 ) -> Result<BorrowedOrOwned<'a>, EvalFault>
-    ensures { let gives = meaning (L.asked store.now) (decided_entities (L.stored store.now) (L.above store.now)) in
+    ensures { let gives = meaning (L.request_of env.now)
+        (decided_entities (L.stored env.now) (L.ancestor_test env.now)) in
         Answers result (either (gives left.now) (gives right.now)) }
 {
-    truth_of(either_test(alloc, left, right, store))
+    truth_of(either_test(alloc, left, right, env))
 }

@@ -13,16 +13,16 @@ use values::{EntityUid, Record, Request};
 /// request's entities can return their attributes by variable, without a search by uid.
 pub trait EvalEnv: Lookup {
     /// The request.
-    ghost asked: { Self → Request };
+    ghost request_of: { Self → Request };
 
     /// Returns the request.
     fn request(&self) -> &Request
-        ensures { result.now ≡ asked self.now };
+        ensures { result.now ≡ request_of self.now };
 
     /// Returns the fields of a variable: those of the context, or the attributes of the variable's entity. Returns
     /// `None` if and only if that entity is not stored. Does not allocate.
     fn fields_of(&self, variable: Variable) -> Option<&Record>
-        ensures { option_map (λ r. r.now) result ≡ fields_under (Self.stored self.now) (asked self.now) variable };
+        ensures { option_map (λ r. r.now) result ≡ fields_under (Self.stored self.now) (request_of self.now) variable };
 }
 
 /// A request with the stored entities. Each access to a variable's entity looks up the entity.
@@ -37,9 +37,9 @@ pub struct RequestEnv<'a, L: Lookup> {
 impl<L: Lookup> Ancestry for RequestEnv<'_, L> {
     ghost parents = { λ s. L.parents s.store.now };
 
-    ghost above = { λ s. L.above s.store.now };
+    ghost ancestor_test = { λ s. L.ancestor_test s.store.now };
 
-    ghost above_is = { λ s. L.above_is s.store.now };
+    ghost ancestor_test_decides = { λ s. L.ancestor_test_decides s.store.now };
 
     fn is_ancestor(&self, a: &EntityUid, b: &EntityUid) -> Result<bool, NoMemory> {
         self.store.is_ancestor(a, b)
@@ -67,7 +67,7 @@ impl<L: Lookup> Lookup for RequestEnv<'_, L> {
 }
 
 impl<L: Lookup> EvalEnv for RequestEnv<'_, L> {
-    ghost asked = { λ s. s.request.now };
+    ghost request_of = { λ s. s.request.now };
 
     fn request(&self) -> &Request {
         self.request

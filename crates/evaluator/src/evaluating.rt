@@ -76,15 +76,15 @@ pub fn evaluate_test<L: Lookup>(
 pub fn evaluate_in<'a, L: EvalEnv>(
     alloc: Global,
     expr: &'a Expr,
-    store: &'a L,
+    env: &'a L,
 ) -> Result<BorrowedOrOwned<'a>, EvalFault>
-    ensures given { IsSoundEvaluation (entities_with (L.stored store.now) (L.parents store.now)) (L.asked store.now)
+    ensures given { IsSoundEvaluation (entities_with (L.stored env.now) (L.parents env.now)) (L.request_of env.now)
         expr.now result }
-    ensures all { IsCompleteEvaluation (entities_with (L.stored store.now) (L.parents store.now)) (L.asked store.now)
+    ensures all { IsCompleteEvaluation (entities_with (L.stored env.now) (L.parents env.now)) (L.request_of env.now)
         expr.now result }
 {
     meanings_are_given();
-    outcome_of(alloc, expr, store)
+    outcome_of(alloc, expr, env)
 }
 
 /// Returns whether an expression evaluates to true, as a condition.
@@ -96,13 +96,13 @@ pub fn evaluate_in<'a, L: EvalEnv>(
 pub fn evaluate_condition<L: EvalEnv>(
     alloc: Global,
     expr: &Expr,
-    store: &L,
+    env: &L,
 ) -> Result<bool, EvalFault>
-    ensures { AnswersTest (entities_with (L.stored store.now) (L.parents store.now)) (L.asked store.now) expr.now
+    ensures { AnswersTest (entities_with (L.stored env.now) (L.parents env.now)) (L.request_of env.now) expr.now
         result }
 {
     meanings_are_given();
-    test_of(alloc, expr, store)
+    test_of(alloc, expr, env)
 }
 
 // Evaluates an expression. Each arm is one call, so that a level of the recursion takes little stack: a function
@@ -112,29 +112,27 @@ pub fn evaluate_condition<L: EvalEnv>(
 pub(crate) fn outcome_of<'a, L: EvalEnv>(
     alloc: Global,
     expr: &'a Expr,
-    store: &'a L,
+    env: &'a L,
 ) -> Result<BorrowedOrOwned<'a>, EvalFault>
     ensures { Answers result
-        (meaning (L.asked store.now) (decided_entities (L.stored store.now) (L.above store.now)) expr.now) }
+        (meaning (L.request_of env.now) (decided_entities (L.stored env.now) (L.ancestor_test env.now)) expr.now) }
 {
     match expr {
         Expr::Literal(literal) => literal_of(literal),
-        Expr::Variable(variable) => variable_of(*variable, store),
+        Expr::Variable(variable) => variable_of(*variable, env),
         Expr::If(test, consequent, alternative) => {
-            choice_of(alloc, test, consequent, alternative, store)
+            choice_of(alloc, test, consequent, alternative, env)
         }
-        Expr::And(left, right) => both_of(alloc, left, right, store),
-        Expr::Or(left, right) => either_of(alloc, left, right, store),
-        Expr::Unary(operator, operand) => one_operand(alloc, operator, operand, store),
-        Expr::Binary(operator, left, right) => {
-            two_operands(alloc, *operator, left, right, store)
-        }
-        Expr::Field(owner, name) => field_of(alloc, owner, name.as_str(), store),
-        Expr::Has(owner, name) => has_of(alloc, owner, name.as_str(), store),
-        Expr::Set(members) => set_of(alloc, members.as_slice(), store),
-        Expr::Record(fields) => record_of(alloc, fields, store),
-        Expr::UnaryCall(called, operand) => one_called(alloc, *called, operand, store),
-        Expr::BinaryCall(called, left, right) => { two_called(alloc, *called, left, right, store) }
+        Expr::And(left, right) => both_of(alloc, left, right, env),
+        Expr::Or(left, right) => either_of(alloc, left, right, env),
+        Expr::Unary(operator, operand) => one_operand(alloc, operator, operand, env),
+        Expr::Binary(operator, left, right) => { two_operands(alloc, *operator, left, right, env) }
+        Expr::Field(owner, name) => field_of(alloc, owner, name.as_str(), env),
+        Expr::Has(owner, name) => has_of(alloc, owner, name.as_str(), env),
+        Expr::Set(members) => set_of(alloc, members.as_slice(), env),
+        Expr::Record(fields) => record_of(alloc, fields, env),
+        Expr::UnaryCall(called, operand) => one_called(alloc, *called, operand, env),
+        Expr::BinaryCall(called, left, right) => { two_called(alloc, *called, left, right, env) }
     }
 }
 
@@ -146,17 +144,17 @@ pub(crate) fn two_operands<'a, L: EvalEnv>(
     operator: Binary,
     left: &'a Expr,
     right: &'a Expr,
-    store: &'a L,
+    env: &'a L,
 ) -> Result<BorrowedOrOwned<'a>, EvalFault>
-    ensures { let world = decided_entities (L.stored store.now) (L.above store.now) in
-        Answers result (and_then (meaning (L.asked store.now) world left.now)
-        (λ v. and_then (meaning (L.asked store.now) world right.now) (apply_binary world operator v))) }
+    ensures { let world = decided_entities (L.stored env.now) (L.ancestor_test env.now) in
+        Answers result (and_then (meaning (L.request_of env.now) world left.now)
+        (λ v. and_then (meaning (L.request_of env.now) world right.now) (apply_binary world operator v))) }
 {
-    let left = outcome_of(alloc, left, store);
+    let left = outcome_of(alloc, left, env);
     match &left {
         Ok(value) => {
-            let right = outcome_of(alloc, right, store);
-            on_operands(store, operator, value, &right)
+            let right = outcome_of(alloc, right, env);
+            on_operands(env, operator, value, &right)
         }
         Err(fault) => Err(*fault),
     }
@@ -170,16 +168,16 @@ fn two_called<'a, L: EvalEnv>(
     called: BinaryCall,
     left: &'a Expr,
     right: &'a Expr,
-    store: &'a L,
+    env: &'a L,
 ) -> Result<BorrowedOrOwned<'a>, EvalFault>
-    ensures { let world = decided_entities (L.stored store.now) (L.above store.now) in
-        Answers result (and_then (meaning (L.asked store.now) world left.now)
-        (λ v. and_then (meaning (L.asked store.now) world right.now) (apply_binary_call called v))) }
+    ensures { let world = decided_entities (L.stored env.now) (L.ancestor_test env.now) in
+        Answers result (and_then (meaning (L.request_of env.now) world left.now)
+        (λ v. and_then (meaning (L.request_of env.now) world right.now) (apply_binary_call called v))) }
 {
-    let left = outcome_of(alloc, left, store);
+    let left = outcome_of(alloc, left, env);
     match &left {
         Ok(value) => {
-            let right = outcome_of(alloc, right, store);
+            let right = outcome_of(alloc, right, env);
             called_on_two(called, value, &right)
         }
         Err(fault) => Err(*fault),
@@ -193,13 +191,13 @@ fn one_operand<'a, L: EvalEnv>(
     alloc: Global,
     operator: &Unary,
     operand: &'a Expr,
-    store: &'a L,
+    env: &'a L,
 ) -> Result<BorrowedOrOwned<'a>, EvalFault>
     ensures { Answers result (and_then
-        (meaning (L.asked store.now) (decided_entities (L.stored store.now) (L.above store.now)) operand.now)
+        (meaning (L.request_of env.now) (decided_entities (L.stored env.now) (L.ancestor_test env.now)) operand.now)
         (apply_unary operator.now)) }
 {
-    let given = outcome_of(alloc, operand, store);
+    let given = outcome_of(alloc, operand, env);
     on_operand(operator, &given)
 }
 
@@ -210,13 +208,13 @@ fn one_called<'a, L: EvalEnv>(
     alloc: Global,
     called: UnaryCall,
     operand: &'a Expr,
-    store: &'a L,
+    env: &'a L,
 ) -> Result<BorrowedOrOwned<'a>, EvalFault>
     ensures { Answers result (and_then
-        (meaning (L.asked store.now) (decided_entities (L.stored store.now) (L.above store.now)) operand.now)
+        (meaning (L.request_of env.now) (decided_entities (L.stored env.now) (L.ancestor_test env.now)) operand.now)
         (apply_unary_call called)) }
 {
-    let given = outcome_of(alloc, operand, store);
+    let given = outcome_of(alloc, operand, env);
     called_on(called, &given)
 }
 
@@ -227,20 +225,20 @@ pub(crate) fn field_of<'a, L: EvalEnv>(
     alloc: Global,
     owner: &'a Expr,
     name: &str,
-    store: &'a L,
+    env: &'a L,
 ) -> Result<BorrowedOrOwned<'a>, EvalFault>
     ensures { Answers result (and_then
-        (meaning (L.asked store.now) (decided_entities (L.stored store.now) (L.above store.now)) owner.now)
-        (field_of (decided_entities (L.stored store.now) (L.above store.now)) name.now)) }
+        (meaning (L.request_of env.now) (decided_entities (L.stored env.now) (L.ancestor_test env.now)) owner.now)
+        (field_of (decided_entities (L.stored env.now) (L.ancestor_test env.now)) name.now)) }
 {
     match owner {
         Expr::Variable(variable) => {
-            let value = variable_field(store, *variable, name)?;
+            let value = variable_field(env, *variable, name)?;
             Ok(BorrowedOrOwned::borrowed(value))
         }
         other => {
-            let given = outcome_of(alloc, other, store);
-            field_in(alloc, store, &given, name)
+            let given = outcome_of(alloc, other, env);
+            field_in(alloc, env, &given, name)
         }
     }
 }
@@ -252,14 +250,14 @@ fn has_of<'a, L: EvalEnv>(
     alloc: Global,
     owner: &'a Expr,
     name: &str,
-    store: &'a L,
+    env: &'a L,
 ) -> Result<BorrowedOrOwned<'a>, EvalFault>
     ensures { Answers result (and_then
-        (meaning (L.asked store.now) (decided_entities (L.stored store.now) (L.above store.now)) owner.now)
-        (has_field (decided_entities (L.stored store.now) (L.above store.now)) name.now)) }
+        (meaning (L.request_of env.now) (decided_entities (L.stored env.now) (L.ancestor_test env.now)) owner.now)
+        (has_field (decided_entities (L.stored env.now) (L.ancestor_test env.now)) name.now)) }
 {
-    let given = outcome_of(alloc, owner, store);
-    has_in(store, &given, name)
+    let given = outcome_of(alloc, owner, env);
+    has_in(env, &given, name)
 }
 
 /// Returns the set of the values of expressions.
@@ -268,16 +266,16 @@ fn has_of<'a, L: EvalEnv>(
 fn set_of<'a, L: EvalEnv>(
     alloc: Global,
     members: &'a [Expr],
-    store: &'a L,
+    env: &'a L,
 ) -> Result<BorrowedOrOwned<'a>, EvalFault>
     ensures { Answers result (and_then
-        (each (map (meaning (L.asked store.now) (decided_entities (L.stored store.now) (L.above store.now)))
+        (each (map (meaning (L.request_of env.now) (decided_entities (L.stored env.now) (L.ancestor_test env.now)))
         members.now))
         (λ vs. Ok (set (values_of (set_list vs))))) }
 {
     let mut values = Vec::with_capacity(alloc, members.len())?;
     for member in members {
-        let given = outcome_of(alloc, member, store);
+        let given = outcome_of(alloc, member, env);
         add_value(alloc, &mut values, given)?;
     }
     Ok(BorrowedOrOwned::computed(Value::set(values)?))
@@ -289,16 +287,17 @@ fn set_of<'a, L: EvalEnv>(
 fn record_of<'a, L: EvalEnv>(
     alloc: Global,
     fields: &'a Items<Named<Expr>>,
-    store: &'a L,
+    env: &'a L,
 ) -> Result<BorrowedOrOwned<'a>, EvalFault>
     ensures { Answers result (and_then
         (each_field
-        (map (named_meaning (L.asked store.now) (decided_entities (L.stored store.now) (L.above store.now))) fields.now)
+        (map (named_meaning (L.request_of env.now)
+        (decided_entities (L.stored env.now) (L.ancestor_test env.now))) fields.now)
         []) (λ done. Ok (record_of (fields_of done)))) }
 {
     let mut record = Record::new(alloc);
     for field in fields.as_slice() {
-        let given = outcome_of(alloc, &field.value, store);
+        let given = outcome_of(alloc, &field.value, env);
         add_field(alloc, &mut record, &field.name, given)?;
     }
     Ok(BorrowedOrOwned::computed(Value::from_record(record)))

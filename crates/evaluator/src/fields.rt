@@ -17,8 +17,8 @@ use values::{BorrowedKind, EntityUid, Kind, Record, Value};
 
 /// Returns the value of an attribute, borrowed. `fields` are the attributes of the entity, `None` if it is not stored.
 fn attribute_at<'a>(fields: Option<&'a Record>, name: &str) -> Result<&'a Value, EvalFault>
-    ensures { let due = attribute (option_map (λ r. r.now) fields.entry) name.now in
-        MatchResult result (λ v. due ≡ Ok v.now) (λ e. due ≡ Err e) }
+    ensures { let expected = attribute (option_map (λ r. r.now) fields.entry) name.now in
+        MatchResult result (λ v. expected ≡ Ok v.now) (λ e. expected ≡ Err e) }
 {
     let unstored = EvalFault::EntityDoesNotExist;
     match attribute_in(fields, name, unstored, EvalFault::AttrDoesNotExist) {
@@ -43,27 +43,27 @@ fn attribute<'a, L: Lookup>(
 /// conditions have such an access.
 #[tactic(auto, using(crate::proofs::Variables::field_under))]
 pub(crate) fn variable_field<'a, L: EvalEnv>(
-    store: &'a L,
+    env: &'a L,
     variable: Variable,
     name: &str,
 ) -> Result<&'a Value, EvalFault>
-    ensures { let due = field_of (decided_entities (L.stored store.now) (L.above store.now)) name.now
-        (variable_value variable (L.asked store.now)) in
-        MatchResult result (λ v. due ≡ Ok v.now) (λ e. due ≡ Err e) }
+    ensures { let expected = field_of (decided_entities (L.stored env.now) (L.ancestor_test env.now)) name.now
+        (variable_value variable (L.request_of env.now)) in
+        MatchResult result (λ v. expected ≡ Ok v.now) (λ e. expected ≡ Err e) }
 {
-    attribute_at(store.fields_of(variable), name)
+    attribute_at(env.fields_of(variable), name)
 }
 
 /// Returns the integer in a field or an attribute of a variable, or `None` if its value is of another kind.
 pub(crate) fn variable_number<L: EvalEnv>(
-    store: &L,
+    env: &L,
     variable: Variable,
     name: &str,
 ) -> Result<Option<i64>, EvalFault>
-    ensures { AnswersNumber result (field_of (decided_entities (L.stored store.now) (L.above store.now)) name.now
-        (variable_value variable (L.asked store.now))) }
+    ensures { AnswersNumber result (field_of (decided_entities (L.stored env.now) (L.ancestor_test env.now)) name.now
+        (variable_value variable (L.request_of env.now))) }
 {
-    match variable_field(store, variable, name) {
+    match variable_field(env, variable, name) {
         Ok(value) => Ok(number_or_none(value)),
         Err(fault) => Err(fault),
     }
@@ -82,11 +82,11 @@ fn has_attribute(fields: Option<&Record>, name: &str) -> bool
 
 /// Returns whether a variable has a field or an attribute.
 #[tactic(auto, using(crate::proofs::Variables::has_under))]
-pub(crate) fn variable_has<L: EvalEnv>(store: &L, variable: Variable, name: &str) -> bool
-    ensures { has_field (decided_entities (L.stored store.now) (L.above store.now)) name.now
-        (variable_value variable (L.asked store.now)) ≡ truth result }
+pub(crate) fn variable_has<L: EvalEnv>(env: &L, variable: Variable, name: &str) -> bool
+    ensures { has_field (decided_entities (L.stored env.now) (L.ancestor_test env.now)) name.now
+        (variable_value variable (L.request_of env.now)) ≡ truth result }
 {
-    has_attribute(store.fields_of(variable), name)
+    has_attribute(env.fields_of(variable), name)
 }
 
 /// Returns the value of a field or an attribute of a borrowed value.
@@ -96,7 +96,7 @@ fn field_of_borrowed<'a, L: Lookup>(
     owner: BorrowedKind<'a>,
     name: &str,
 ) -> Result<BorrowedOrOwned<'a>, EvalFault>
-    ensures { result ≡ field_of (decided_entities (L.stored store.now) (L.above store.now)) name.now
+    ensures { result ≡ field_of (decided_entities (L.stored store.now) (L.ancestor_test store.now)) name.now
         (of_borrowed owner.entry) }
 {
     match owner {
@@ -117,7 +117,8 @@ fn field_of_computed<'a, L: Lookup>(
     owner: &Value,
     name: &str,
 ) -> Result<BorrowedOrOwned<'a>, EvalFault>
-    ensures { Answers result (field_of (decided_entities (L.stored store.now) (L.above store.now)) name.now owner.now) }
+    ensures { Answers result
+        (field_of (decided_entities (L.stored store.now) (L.ancestor_test store.now)) name.now owner.now) }
 {
     match owner.kind() {
         Kind::Record(fields) => match fields.field(name) {
@@ -136,7 +137,8 @@ pub(crate) fn field<'a, L: Lookup>(
     owner: &BorrowedOrOwned<'a>,
     name: &str,
 ) -> Result<BorrowedOrOwned<'a>, EvalFault>
-    ensures { Answers result (field_of (decided_entities (L.stored store.now) (L.above store.now)) name.now owner.now) }
+    ensures { Answers result
+        (field_of (decided_entities (L.stored store.now) (L.ancestor_test store.now)) name.now owner.now) }
 {
     match &owner.ownership {
         Ownership::Borrowed(value) => field_of_borrowed(store, value.kind(), name),
@@ -151,7 +153,7 @@ pub(crate) fn has<L: Lookup>(
     owner: &BorrowedOrOwned<'_>,
     name: &str,
 ) -> Result<bool, EvalFault>
-    ensures { has_field (decided_entities (L.stored store.now) (L.above store.now)) name.now owner.now
+    ensures { has_field (decided_entities (L.stored store.now) (L.ancestor_test store.now)) name.now owner.now
         ≡ and_then result truth }
 {
     match owner.kind() {

@@ -1,5 +1,5 @@
-//! The values of literals and of variables. They are computed outside the recursion, so that the stack frame of a level
-//! has no space for them.
+//! The values of literals and of variables. They are computed outside the recursion of the evaluator, so that its stack
+//! frames need no space for them.
 ghost use Rattle.std.specs.Prelude.{◌≡◌, Ok};
 ghost use Rattle.evaluator.specs.Evaluation.{literal_value, variable_value};
 
@@ -29,11 +29,11 @@ pub(crate) fn literal_of(literal: &Literal) -> Result<BorrowedOrOwned<'_>, EvalF
 #[inline(never)]
 pub(crate) fn variable_of<L: EvalEnv>(
     variable: Variable,
-    store: &L,
+    env: &L,
 ) -> Result<BorrowedOrOwned<'_>, EvalFault>
-    ensures { result ≡ Ok (variable_value variable (L.asked store.now)) }
+    ensures { result ≡ Ok (variable_value variable (L.request_of env.now)) }
 {
-    let request = store.request();
+    let request = env.request();
     let value = match variable {
         Variable::Principal => ValueRef::entity(&request.principal),
         Variable::Action => ValueRef::entity(&request.action),

@@ -1,4 +1,4 @@
-//! Integer operands. They are read outside the recursion of the evaluator, so that its stack frame has no space for
+//! Integer operands. They are read outside the recursion of the evaluator, so that its stack frames need no space for
 //! them. A value of another kind is read as `None`.
 ghost use Rattle.std.specs.Prelude.{◌≡◌};
 ghost use Rattle.grammar_core.specs.declared.operator.Binary.TheVariants.{Less, LessOrEqual};

@@ -43,7 +43,8 @@ fn number(found: Option<i64>) -> Result<Value, EvalFault>
 
 /// Returns whether `a` is `b` or a descendant of `b`.
 fn is_in<L: Lookup>(store: &L, a: &EntityUid, b: &EntityUid) -> Result<bool, NoMemory>
-    ensures { IfOk result (λ r. r ≡ is_in (decided_entities (L.stored store.now) (L.above store.now)) a.now b.now) }
+    ensures { IfOk result
+        (λ r. r ≡ is_in (decided_entities (L.stored store.now) (L.ancestor_test store.now)) a.now b.now) }
 {
     if a.cmp(b).is_eq() {
         return Ok(true);
@@ -73,7 +74,7 @@ fn is_within(a: &EntityUid, ancestors: &[&EntityUid], b: &EntityUid) -> bool
 /// Returns whether `a` is one of `members` or a descendant of one; `TypeError` if some member is not an entity. Looks
 /// up the ancestors of `a` once.
 fn in_members<L: Lookup>(store: &L, a: &EntityUid, members: &[Value]) -> Result<bool, EvalFault>
-    ensures { Answers result (in_members (decided_entities (L.stored store.now) (L.above store.now)) a.now
+    ensures { Answers result (in_members (decided_entities (L.stored store.now) (L.ancestor_test store.now)) a.now
         members.now) }
 {
     let ancestors = store.ancestors(a)?;
@@ -94,7 +95,8 @@ fn in_value<L: Lookup>(
     a: &EntityUid,
     b: &BorrowedOrOwned<'_>,
 ) -> Result<Value, EvalFault>
-    ensures { Answers result (in_value (decided_entities (L.stored store.now) (L.above store.now)) a.now b.now) }
+    ensures { Answers result
+        (in_value (decided_entities (L.stored store.now) (L.ancestor_test store.now)) a.now b.now) }
 {
     match b.kind() {
         BorrowedKind::Entity(uid) => Ok(Value::boolean(is_in(store, a, uid)?)),
@@ -136,7 +138,7 @@ pub(crate) fn binary<L: Lookup>(
     b: &BorrowedOrOwned<'_>,
 ) -> Result<Value, EvalFault>
     ensures { Answers result
-        (apply_binary (decided_entities (L.stored store.now) (L.above store.now)) operator a.now b.now) }
+        (apply_binary (decided_entities (L.stored store.now) (L.ancestor_test store.now)) operator a.now b.now) }
 {
     match operator {
         Binary::Equal => Ok(Value::boolean(a.compare(b).is_eq())),

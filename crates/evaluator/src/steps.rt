@@ -38,7 +38,7 @@ pub(crate) fn has_as_bool<L: Lookup>(
     name: &str,
 ) -> Result<bool, EvalFault>
     ensures { (m : EvaluationResult) → Answers given.now m → Answers result (as_test
-        (and_then m (has_field (decided_entities (L.stored store.now) (L.above store.now)) name.now))) }
+        (and_then m (has_field (decided_entities (L.stored store.now) (L.ancestor_test store.now)) name.now))) }
 {
     match given {
         Ok(owner) => has(store, owner, name),
@@ -76,7 +76,7 @@ pub(crate) fn on_operands<'a, L: Lookup>(
     right: &Result<BorrowedOrOwned<'_>, EvalFault>,
 ) -> Result<BorrowedOrOwned<'a>, EvalFault>
     ensures { AnswersNext right.now
-        (apply_binary (decided_entities (L.stored store.now) (L.above store.now)) operator left.now) result }
+        (apply_binary (decided_entities (L.stored store.now) (L.ancestor_test store.now)) operator left.now) result }
 {
     match right {
         Ok(value) => Ok(BorrowedOrOwned::computed(binary(store, operator, left, value)?)),
@@ -122,7 +122,7 @@ pub(crate) fn field_in<'a, L: Lookup>(
     name: &str,
 ) -> Result<BorrowedOrOwned<'a>, EvalFault>
     ensures { AnswersNext given.now
-        (field_of (decided_entities (L.stored store.now) (L.above store.now)) name.now) result }
+        (field_of (decided_entities (L.stored store.now) (L.ancestor_test store.now)) name.now) result }
 {
     match given {
         Ok(owner) => field(alloc, store, owner, name),
@@ -138,7 +138,7 @@ pub(crate) fn has_in<'a, L: Lookup>(
     name: &str,
 ) -> Result<BorrowedOrOwned<'a>, EvalFault>
     ensures { AnswersNext given.now
-        (has_field (decided_entities (L.stored store.now) (L.above store.now)) name.now) result }
+        (has_field (decided_entities (L.stored store.now) (L.ancestor_test store.now)) name.now) result }
 {
     match given {
         Ok(owner) => truth_of(has(store, owner, name)),

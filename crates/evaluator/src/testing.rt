@@ -19,22 +19,22 @@ use std::alloc::Global;
 pub(crate) fn test_of<'a, L: EvalEnv>(
     alloc: Global,
     test: &'a Expr,
-    store: &'a L,
+    env: &'a L,
 ) -> Result<bool, EvalFault>
     ensures { Answers result (as_test
-        (meaning (L.asked store.now) (decided_entities (L.stored store.now) (L.above store.now)) test.now)) }
+        (meaning (L.request_of env.now) (decided_entities (L.stored env.now) (L.ancestor_test env.now)) test.now)) }
 {
     match test {
-        Expr::Has(owner, name) => has_test(alloc, owner, name.as_str(), store),
+        Expr::Has(owner, name) => has_test(alloc, owner, name.as_str(), env),
         Expr::If(test, consequent, alternative) => {
-            choice_test(alloc, test, consequent, alternative, store)
+            choice_test(alloc, test, consequent, alternative, env)
         }
-        Expr::And(left, right) => both_test(alloc, left, right, store),
-        Expr::Or(left, right) => either_test(alloc, left, right, store),
-        Expr::Unary(Unary::Not, operand) => Ok(!test_of(alloc, operand, store)?),
-        Expr::Binary(operator, left, right) => { binary_test(alloc, *operator, left, right, store) }
+        Expr::And(left, right) => both_test(alloc, left, right, env),
+        Expr::Or(left, right) => either_test(alloc, left, right, env),
+        Expr::Unary(Unary::Not, operand) => Ok(!test_of(alloc, operand, env)?),
+        Expr::Binary(operator, left, right) => { binary_test(alloc, *operator, left, right, env) }
         other => {
-            let given = outcome_of(alloc, other, store);
+            let given = outcome_of(alloc, other, env);
             tested(&given)
         }
     }
@@ -48,17 +48,17 @@ fn binary_test<'a, L: EvalEnv>(
     operator: Binary,
     left: &'a Expr,
     right: &'a Expr,
-    store: &'a L,
+    env: &'a L,
 ) -> Result<bool, EvalFault>
-    ensures { let world = decided_entities (L.stored store.now) (L.above store.now) in
-        Answers result (as_test (and_then (meaning (L.asked store.now) world left.now)
-        (λ v. and_then (meaning (L.asked store.now) world right.now) (apply_binary world operator v)))) }
+    ensures { let world = decided_entities (L.stored env.now) (L.ancestor_test env.now) in
+        Answers result (as_test (and_then (meaning (L.request_of env.now) world left.now)
+        (λ v. and_then (meaning (L.request_of env.now) world right.now) (apply_binary world operator v)))) }
 {
     match operator {
-        Binary::Less => is_less(two_numbers(alloc, left, right, store)),
-        Binary::LessOrEqual => is_less_or_equal(two_numbers(alloc, left, right, store)),
+        Binary::Less => is_less(two_numbers(alloc, left, right, env)),
+        Binary::LessOrEqual => is_less_or_equal(two_numbers(alloc, left, right, env)),
         _ => {
-            let given = two_operands(alloc, operator, left, right, store);
+            let given = two_operands(alloc, operator, left, right, env);
             tested(&given)
         }
     }
@@ -71,17 +71,17 @@ fn has_test<'a, L: EvalEnv>(
     alloc: Global,
     owner: &'a Expr,
     name: &str,
-    store: &'a L,
+    env: &'a L,
 ) -> Result<bool, EvalFault>
     ensures { Answers result (as_test (and_then
-        (meaning (L.asked store.now) (decided_entities (L.stored store.now) (L.above store.now)) owner.now)
-        (has_field (decided_entities (L.stored store.now) (L.above store.now)) name.now))) }
+        (meaning (L.request_of env.now) (decided_entities (L.stored env.now) (L.ancestor_test env.now)) owner.now)
+        (has_field (decided_entities (L.stored env.now) (L.ancestor_test env.now)) name.now))) }
 {
     match owner {
-        Expr::Variable(variable) => { Ok(variable_has(store, *variable, name)) }
+        Expr::Variable(variable) => { Ok(variable_has(env, *variable, name)) }
         other => {
-            let given = outcome_of(alloc, other, store);
-            has_as_bool(store, &given, name)
+            let given = outcome_of(alloc, other, env);
+            has_as_bool(env, &given, name)
         }
     }
 }
@@ -93,13 +93,14 @@ fn two_numbers<'a, L: EvalEnv>(
     alloc: Global,
     left: &'a Expr,
     right: &'a Expr,
-    store: &'a L,
+    env: &'a L,
 ) -> Result<Numbers, EvalFault>
-    ensures { let gives = meaning (L.asked store.now) (decided_entities (L.stored store.now) (L.above store.now)) in
+    ensures { let gives = meaning (L.request_of env.now)
+        (decided_entities (L.stored env.now) (L.ancestor_test env.now)) in
         AnswersNumbers result (gives left.now) (gives right.now) }
 {
-    let first = number_of(alloc, left, store)?;
-    let second = number_of(alloc, right, store)?;
+    let first = number_of(alloc, left, env)?;
+    let second = number_of(alloc, right, env)?;
     Ok(Numbers { first, second })
 }
 
@@ -109,16 +110,16 @@ fn two_numbers<'a, L: EvalEnv>(
 fn number_of<'a, L: EvalEnv>(
     alloc: Global,
     expr: &'a Expr,
-    store: &'a L,
+    env: &'a L,
 ) -> Result<Option<i64>, EvalFault>
     ensures { AnswersNumber result
-        (meaning (L.asked store.now) (decided_entities (L.stored store.now) (L.above store.now)) expr.now) }
+        (meaning (L.request_of env.now) (decided_entities (L.stored env.now) (L.ancestor_test env.now)) expr.now) }
 {
     match expr {
         Expr::Literal(literal) => Ok(literal_number(literal)),
-        Expr::Field(owner, name) => field_number(alloc, owner, name.as_str(), store),
+        Expr::Field(owner, name) => field_number(alloc, owner, name.as_str(), env),
         other => {
-            let given = outcome_of(alloc, other, store);
+            let given = outcome_of(alloc, other, env);
             number_in(&given)
         }
     }
@@ -132,16 +133,16 @@ fn field_number<'a, L: EvalEnv>(
     alloc: Global,
     owner: &'a Expr,
     name: &str,
-    store: &'a L,
+    env: &'a L,
 ) -> Result<Option<i64>, EvalFault>
     ensures { AnswersNumber result (and_then
-        (meaning (L.asked store.now) (decided_entities (L.stored store.now) (L.above store.now)) owner.now)
-        (field_of (decided_entities (L.stored store.now) (L.above store.now)) name.now)) }
+        (meaning (L.request_of env.now) (decided_entities (L.stored env.now) (L.ancestor_test env.now)) owner.now)
+        (field_of (decided_entities (L.stored env.now) (L.ancestor_test env.now)) name.now)) }
 {
     match owner {
-        Expr::Variable(variable) => variable_number(store, *variable, name),
+        Expr::Variable(variable) => variable_number(env, *variable, name),
         _ => {
-            let given = field_of(alloc, owner, name, store);
+            let given = field_of(alloc, owner, name, env);
             number_in(&given)
         }
     }

@@ -6,7 +6,7 @@ use Rattle.explanation_texts.specs.declared.table.CodeWords.{CodeWords}
 use Rattle.explanation_texts.specs.Codes.{codes_of_group}
 use Rattle.explanation_texts.specs.CodeText.{Texts, texts_of, rows_of_group, words_on}
 use Rattle.explanation_texts.specs.Printable.{is_clean}
-use Rattle.explanation_texts.specs.Explained.{AreWordsOf}
+use Rattle.explanation_texts.specs.ExplanationText.{AreWordsOf}
 
 abbrev Words : Type 0
 Words = CodeWords (Bor (List ℕ))

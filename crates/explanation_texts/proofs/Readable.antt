@@ -14,8 +14,8 @@ use Rattle.explanation_texts.specs.Excerpt.{is_hidden, shown_char, blank_char, r
 use Rattle.explanation_texts.specs.Excerpt.{mark_if, heading, line_row, caret_row, excerpt}
 use Rattle.explanation_texts.specs.declared.finding.SourceFinding.{SourceFinding}
 use Rattle.explanation_texts.specs.declared.finding.WholeFinding.{WholeFinding}
-use Rattle.explanation_texts.specs.Explained.{readable, cut_text, cause_part, says_line, hint_line, detail_line, rest_text, place_text}
-use Rattle.explanation_texts.specs.Explained.{span_between, IsSourceText, index_part, file_line, IsWholeText}
+use Rattle.explanation_texts.specs.ExplanationText.{readable, cut_text, cause_part, says_line, hint_line, detail_line, rest_text, place_text}
+use Rattle.explanation_texts.specs.ExplanationText.{span_between, IsSourceText, index_part, file_line, IsWholeText}
 use Rattle.explanation_texts.specs.Readable.{is_shown, IsReadable}
 
 -- ---- tests

@@ -3,5 +3,5 @@ pub mod Excerpt
 pub mod Codes
 pub mod CodeText
 pub mod Printable
-pub mod Explained
+pub mod ExplanationText
 pub mod Readable

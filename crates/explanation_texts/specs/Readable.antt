@@ -7,7 +7,7 @@ use Rattle.std.specs.List.{list_all}
 use Rattle.explanation_texts.specs.Excerpt.{is_hidden}
 use Rattle.explanation_texts.specs.declared.finding.SourceFinding.{SourceFinding}
 use Rattle.explanation_texts.specs.declared.finding.WholeFinding.{WholeFinding}
-use Rattle.explanation_texts.specs.Explained.{IsSourceText, IsWholeText}
+use Rattle.explanation_texts.specs.ExplanationText.{IsSourceText, IsWholeText}
 
 -- `is_shown c` tests for a character that is not hidden, or a line feed.
 abbrev pub is_shown : ℕ → Bool

@@ -1,7 +1,7 @@
 //! Explanations of an error in a part of a text.
 ghost use Rattle.std.specs.Prelude.{◌≡◌, ◌++◌, OnOk, string_bytes, ℕ, List};
-ghost use Rattle.explanation_texts.specs.Explained.{cut_text, cause_part, detail_line, says_line, hint_line};
-ghost use Rattle.explanation_texts.specs.Explained.{source_text, AreClean, AreWordsOf, IsSourceText};
+ghost use Rattle.explanation_texts.specs.ExplanationText.{cut_text, cause_part, detail_line, says_line, hint_line};
+ghost use Rattle.explanation_texts.specs.ExplanationText.{source_text, AreClean, AreWordsOf, IsSourceText};
 ghost use Rattle.explanation_texts.specs.CodeText.{words_on};
 
 use crate::excerpts::{count_chars, push_excerpt, push_mark};

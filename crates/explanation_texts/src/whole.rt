@@ -1,6 +1,6 @@
 //! Explanations of an error that show no line of its text: of a text as a whole, or of an item of an array.
 ghost use Rattle.std.specs.Prelude.{◌≡◌, ◌++◌, OnOk, string_bytes, ℕ, List};
-ghost use Rattle.explanation_texts.specs.Explained.{index_part, file_line, whole_text, IsWholeText};
+ghost use Rattle.explanation_texts.specs.ExplanationText.{index_part, file_line, whole_text, IsWholeText};
 
 use crate::finding::WholeFinding;
 use crate::shown::{push_number, push_shown};

@@ -2,7 +2,7 @@
 use Rattle.std.proofs.Common.{◌≡◌, inl, inr, ℕ, Bool, true, false, List, [], ◌∷◌, ◌++◌, Option, None, Some, unwrap_or, option_map, Result, Err, OnOk, IfErr}
 use Rattle.std.proofs.Common.{refl, sym, ap, ◌∙◌, subst, length}
 use Rattle.std.specs.Prelude.{⊤, MatchOption}
-use Rattle.plain.specs.Refused.{OrNoMemory}
+use Rattle.plain.specs.AllocationErrors.{OrNoMemory}
 use Rattle.grammar_desugaring.specs.grammar_tokens.declared.token.Token.{Token}
 use Rattle.policy_grammar.specs.declared.policy.Policy.{Policy}
 use Rattle.policy_grammar.specs.declared.fault.ReadFault.{ReadFault}
@@ -17,18 +17,18 @@ use Rattle.schema_decisions.specs.validator.declared.fault.TypeFault.{TypeFault}
 use Rattle.schema_decisions.specs.validator.Faults.{code_of}
 use Rattle.schema_decisions.specs.validator.Passing.{Passes, IsCheckRefused}
 use Rattle.fault_paths.specs.declared.explaining.PolicyFault.{PolicyFault}
-use Rattle.fault_paths.specs.Worded.{IsPolicyFault}
+use Rattle.fault_paths.specs.ReportWording.{IsPolicyFault}
 use Rattle.token_spans.specs.declared.spans.Span.{Span}
 use Rattle.token_spans.specs.Spans.{IsSpanOf, IsNameSpanOf}
 use Rattle.explanations.specs.declared.pieces.Piece.{Piece}
 use Rattle.explanations.specs.Files.{File, Files}
 use Rattle.explanations.specs.Parts.{IsPartOf, IsNothing, IsSourceAt, IsWholeAt, IsMessageExplained, AppendsSome}
 use Rattle.explanations.specs.Pieces.{ArePiecesOf}
-use Rattle.explanations.specs.Policies.{is_searched, large_note, IsFoundAs, IsFaultText, IsCheckExplained, passes_so, rejected_so, too_large, ArePoliciesExplained}
-use Rattle.explanations.specs.Unread.{byte_in, is_that, IsPieceExplained, is_read, is_unread, ArePiecesExplained, AppendsExplained}
-use Rattle.explanations.specs.Others.{IsCheckedText, IsCheckOutcome, AreEntitiesExplained, IsRequestExplained}
-use Rattle.explanations.specs.Explained as whole
-use Rattle.explanations.specs.Explained.{IsTextOf, AreTokensOf, IsUnreadExplained, IsFileExplained, AreOthersExplained, IsExplainedUnder, IsExplainedAs, IsExplained}
+use Rattle.explanations.specs.Policies.{is_searched, large_note, IsNameOrExpressionSpan, IsFaultText, IsCheckExplained, passes_so, rejected_so, too_large, ArePoliciesExplained}
+use Rattle.explanations.specs.UnparsedFiles.{byte_in, is_that, IsPieceExplained, is_read, is_unread, ArePiecesExplained, AppendsExplained}
+use Rattle.explanations.specs.EntitiesAndRequests.{IsCheckedText, IsCheckOutcome, AreEntitiesExplained, IsRequestExplained}
+use Rattle.explanations.specs.FileExplanations as whole
+use Rattle.explanations.specs.FileExplanations.{IsTextOf, AreTokensOf, IsUnreadExplained, IsFileExplained, AreOthersExplained, IsExplainedUnder, IsExplainedAs, IsExplained}
 use Rattle.explanations.proofs.Appending.{in_turn, nothing_more}
 use Rattle.explanations.proofs.Judging.{judged}
 
@@ -201,11 +201,11 @@ given_as given o old new e a = subst (λ (p : Option File). AppendsSome (IsExpla
 -- ---- spans
 
 pub found_name : (b : Bool) (part path as_stated : List ℕ) (found : Option Span) → b ≡ true → path ≡ as_stated → IsNameSpanOf part path found
-    → IsFoundAs b part as_stated found
+    → IsNameOrExpressionSpan b part as_stated found
 found_name b part path as_stated found e f h =
-    subst (λ (c : Bool). IsFoundAs c part as_stated found) (sym e) (subst (λ (p : List ℕ). IsNameSpanOf part p found) f h)
+    subst (λ (c : Bool). IsNameOrExpressionSpan c part as_stated found) (sym e) (subst (λ (p : List ℕ). IsNameSpanOf part p found) f h)
 
 pub found_form : (b : Bool) (part path as_stated : List ℕ) (found : Option Span) → b ≡ false → path ≡ as_stated → IsSpanOf part path found
-    → IsFoundAs b part as_stated found
+    → IsNameOrExpressionSpan b part as_stated found
 found_form b part path as_stated found e f h =
-    subst (λ (c : Bool). IsFoundAs c part as_stated found) (sym e) (subst (λ (p : List ℕ). IsSpanOf part p found) f h)
+    subst (λ (c : Bool). IsNameOrExpressionSpan c part as_stated found) (sym e) (subst (λ (p : List ℕ). IsSpanOf part p found) f h)

@@ -1,10 +1,10 @@
 -- What was judged, and the bytes that explain it.
 use Rattle.std.proofs.Common.{inl, inr, ℕ, List, Option, Result, Ok, Err, OnOk, IfErr}
 use Rattle.std.specs.Prelude.{⊤}
-use Rattle.plain.specs.Refused.{OrNoMemory}
+use Rattle.plain.specs.AllocationErrors.{OrNoMemory}
 use Rattle.schema_decisions.specs.answer_lines.declared.refusal.Refusal.{Refusal}
 use Rattle.schema_decisions.specs.answer_lines.Refusals.{no_memory}
-use Rattle.explanations.specs.Others.{IsCheckedText, IsCheckOutcome}
+use Rattle.explanations.specs.EntitiesAndRequests.{IsCheckedText, IsCheckOutcome}
 
 pub judged : (name bytes : List ℕ) (Read : Type 0) (Refused : Refusal → Type 0) (IsDetail : Option ℕ → List ℕ → Type 0) (r : Result ⊤ Refusal) → OnOk r Read → IfErr r (OrNoMemory no_memory Refused)
     → IsCheckedText name IsDetail r bytes → IsCheckOutcome name Read Refused IsDetail bytes

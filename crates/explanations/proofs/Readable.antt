@@ -11,12 +11,12 @@ use Rattle.explanations.specs.Files.{File, Files}
 use Rattle.explanations.specs.Parts.{IsNothing, IsSourceAt, IsWholeAt, IsMessageExplained}
 use Rattle.explanations.specs.Policies as of_policies
 use Rattle.explanations.specs.Policies.{IsFaultText, IsCheckExplained, passes_so, rejected_so, too_large, IsPolicyExplained, ArePoliciesExplained}
-use Rattle.explanations.specs.Unread as of_pieces
-use Rattle.explanations.specs.Unread.{IsPieceExplained, is_read, is_unread, ArePiecesExplained}
-use Rattle.explanations.specs.Others.{IsCheckOutcome, AreEntitiesRead, AreEntitiesRefused, IsRequestRead, IsRequestRefused, AreEntitiesExplained, IsRequestExplained}
-use Rattle.explanations.specs.Others.{IsEntityPartNamed, IsRequestPartNamed}
-use Rattle.explanations.specs.Explained as whole
-use Rattle.explanations.specs.Explained.{IsUnreadExplained, IsOutcomeExplained, AreOthersExplained, IsExplainedUnder, IsExplainedAs, IsExplained}
+use Rattle.explanations.specs.UnparsedFiles as of_pieces
+use Rattle.explanations.specs.UnparsedFiles.{IsPieceExplained, is_read, is_unread, ArePiecesExplained}
+use Rattle.explanations.specs.EntitiesAndRequests.{IsCheckOutcome, AreEntitiesRead, AreEntitiesRefused, IsRequestRead, IsRequestRefused, AreEntitiesExplained, IsRequestExplained}
+use Rattle.explanations.specs.EntitiesAndRequests.{IsEntityPartNamed, IsRequestPartNamed}
+use Rattle.explanations.specs.FileExplanations as whole
+use Rattle.explanations.specs.FileExplanations.{IsUnreadExplained, IsOutcomeExplained, AreOthersExplained, IsExplainedUnder, IsExplainedAs, IsExplained}
 
 empty : (bytes : List ℕ) → bytes ≡ [] → IsReadable bytes
 empty bytes e = subst IsReadable (sym e) nothing

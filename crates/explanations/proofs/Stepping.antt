@@ -12,8 +12,8 @@ use Rattle.explanations.specs.Pieces.{ArePieces, open_after, pieces_after, piece
 use Rattle.explanations.specs.Parts.{AppendsSome}
 use Rattle.explanations.specs.Policies as explained
 use Rattle.explanations.specs.Policies.{IsPolicyExplained, ArePoliciesExplained}
-use Rattle.explanations.specs.Unread as unread
-use Rattle.explanations.specs.Unread.{IsPieceExplained, ArePiecesExplained, AppendsExplained}
+use Rattle.explanations.specs.UnparsedFiles as unread
+use Rattle.explanations.specs.UnparsedFiles.{IsPieceExplained, ArePiecesExplained, AppendsExplained}
 use Rattle.explanations.proofs.Appending.{in_turn, nothing_more}
 
 -- one more at the end, which is the one at this place

@@ -5,7 +5,7 @@ use Rattle.std.specs.Prelude.{ℕ, List}
 use Rattle.explanation_texts.specs.Readable.{IsReadable}
 use Rattle.explanations.specs.Files.{Files}
 use Rattle.explanations.specs.Parts.{IsMessageExplained}
-use Rattle.explanations.specs.Explained.{IsExplained}
+use Rattle.explanations.specs.FileExplanations.{IsExplained}
 
 -- `ExplainedTextsAreReadable`: each explanation of files, and of a rejected message, is readable (`IsReadable`),
 -- whatever the files contain and whatever their names are.

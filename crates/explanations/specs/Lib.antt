@@ -2,9 +2,9 @@ pub mod Files
 pub mod Pieces
 pub mod Parts
 pub mod Policies
-pub mod Unread
-pub mod Others
-pub mod Explained
+pub mod UnparsedFiles
+pub mod EntitiesAndRequests
+pub mod FileExplanations
 pub mod Laws
 pub mod inner
 -- Specifications of lower crates, re-exported.

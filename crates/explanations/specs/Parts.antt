@@ -5,7 +5,7 @@ use Rattle.std.specs.Prelude.{◌≡◌, ◌⊎◌, ℕ, List, [], ◌++◌, Opt
 use Rattle.std.specs.Str.{IsCharBoundary}
 use Rattle.explanation_texts.specs.declared.finding.SourceFinding.{SourceFinding}
 use Rattle.explanation_texts.specs.declared.finding.WholeFinding.{WholeFinding}
-use Rattle.explanation_texts.specs.Explained.{IsSourceText, IsWholeText}
+use Rattle.explanation_texts.specs.ExplanationText.{IsSourceText, IsWholeText}
 
 -- `IsPartOf text from to part` holds if `part` is the text between the bytes `from` and `to`, or empty if they are not
 -- character boundaries of `text` in this order.

@@ -15,9 +15,9 @@ use Rattle.schema_decisions.specs.validator.declared.fault.TypeFault.TheVariants
 use Rattle.schema_decisions.specs.validator.Faults.{code_of}
 use Rattle.schema_decisions.specs.validator.Passing.{Passes, IsCheckRefused}
 use Rattle.explanation_texts.specs.declared.finding.SourceFinding.{SourceFinding}
-use Rattle.explanation_texts.specs.Explained.{IsSourceText}
+use Rattle.explanation_texts.specs.ExplanationText.{IsSourceText}
 use Rattle.fault_paths.specs.declared.explaining.PolicyFault.{PolicyFault}
-use Rattle.fault_paths.specs.Worded.{IsPolicyFault}
+use Rattle.fault_paths.specs.ReportWording.{IsPolicyFault}
 use Rattle.explanations.specs.declared.pieces.Piece.{Piece}
 use Rattle.explanations.specs.Pieces.{piece_at}
 use Rattle.token_spans.specs.declared.spans.Span.{Span}
@@ -36,16 +36,17 @@ is_name fault.UnknownType = true
 is_name fault.UnknownAction = true
 is_name f = false
 
--- `IsFoundAs is_name part path found` holds if `found` is the span of the name at `path` of the policy `part`, if
--- `is_name`; otherwise the span of the expression there.
-abbrev pub IsFoundAs : Bool → List ℕ → List ℕ → Option Span → Type 0
-IsFoundAs true part path found = IsNameSpanOf part path found
-IsFoundAs false part path found = IsSpanOf part path found
+-- `IsNameOrExpressionSpan is_name part path found` holds if `found` is the span of the name at `path` of the policy
+-- `part`, if `is_name`; otherwise the span of the expression there.
+abbrev pub IsNameOrExpressionSpan : Bool → List ℕ → List ℕ → Option Span → Type 0
+IsNameOrExpressionSpan true part path found = IsNameSpanOf part path found
+IsNameOrExpressionSpan false part path found = IsSpanOf part path found
 
 -- `IsSpanFound text place f found` holds if `found` is the span of what the error `f` blames of the policy at `place`.
 abbrev pub IsSpanFound : List ℕ → Piece → PolicyFault → Option Span → Type 0
 IsSpanFound text place f found =
-    (part : List ℕ) × IsPartOf text place.start place.end part × IsFoundAs (is_name f.fault) part f.path.items found
+    (part : List ℕ) × IsPartOf text place.start place.end part
+    × IsNameOrExpressionSpan (is_name f.fault) part f.path.items found
 
 -- `start_at place found` is the byte of the whole text at which the span `found` in the policy begins; if nothing was
 -- found, the byte at which the policy begins. (At most 2^64 - 1, which is no restriction: no text is so long.)

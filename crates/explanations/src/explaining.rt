@@ -3,8 +3,9 @@ ghost use Rattle.std.specs.Prelude.{◌≡◌, OnOk, IfOk, option_map, string_by
 ghost use Rattle.schema_decisions.specs.schema.Views.{schema_view};
 ghost use Rattle.explanations.specs.Files.{file_of, files_of};
 ghost use Rattle.explanations.specs.Parts.{AppendsSome};
-ghost use Rattle.explanations.specs.Explained.{IsTextOf, AreTokensOf, IsFileExplained, AreOthersExplained, IsExplained};
-ghost use Rattle.explanations.specs.Explained.{IsUnreadExplained, IsExplainedUnder};
+ghost use Rattle.explanations.specs.FileExplanations.{IsTextOf, AreTokensOf, IsFileExplained, AreOthersExplained};
+ghost use Rattle.explanations.specs.FileExplanations.{IsExplained};
+ghost use Rattle.explanations.specs.FileExplanations.{IsUnreadExplained, IsExplainedUnder};
 
 use crate::given::{Given, NamedText};
 use crate::others::{explain_entities, explain_request};

@@ -1,14 +1,15 @@
 //! Explains rejected entities and requests.
 ghost use Rattle.std.specs.Prelude.{◌≡◌, OnOk, IfOk, IfErr, option_map, string_bytes};
-ghost use Rattle.plain.specs.Refused.{OrNoMemory};
+ghost use Rattle.plain.specs.AllocationErrors.{OrNoMemory};
 ghost use Rattle.schema_decisions.specs.schema.Views.{schema_view};
 ghost use Rattle.schema_decisions.specs.answer_lines.Refusals.{no_memory};
 ghost use Rattle.explanations.specs.Files.{file_of};
 ghost use Rattle.explanations.specs.Parts.{AppendsSome, IsWholeAt};
-ghost use Rattle.explanations.specs.Others.{any_request, AreBareTextsRead, AreBareTextsRefused};
-ghost use Rattle.explanations.specs.Others.{AreEntitiesRead, AreEntitiesRefused, IsRequestRead};
-ghost use Rattle.explanations.specs.Others.{IsRequestRefused, IsCheckedText, AreEntitiesExplained, IsRequestExplained};
-ghost use Rattle.explanations.specs.Others.{IsEntityPartNamed, IsRequestPartNamed};
+ghost use Rattle.explanations.specs.EntitiesAndRequests.{any_request, AreBareTextsRead, AreBareTextsRefused};
+ghost use Rattle.explanations.specs.EntitiesAndRequests.{AreEntitiesRead, AreEntitiesRefused, IsRequestRead};
+ghost use Rattle.explanations.specs.EntitiesAndRequests.{IsRequestRefused, IsCheckedText, AreEntitiesExplained};
+ghost use Rattle.explanations.specs.EntitiesAndRequests.{IsRequestExplained};
+ghost use Rattle.explanations.specs.EntitiesAndRequests.{IsEntityPartNamed, IsRequestPartNamed};
 
 use crate::given::NamedText;
 use crate::parts::{push_refusal, unless_no_memory};

@@ -4,8 +4,8 @@ ghost use Rattle.std.specs.Prelude.{◌≡◌, ◌∷◌, ◌||◌, [], OnOk, If
 ghost use Rattle.schema_decisions.specs.schema.Views.{schema_view};
 ghost use Rattle.explanations.specs.Parts.{AppendsSome, IsSourceAt};
 ghost use Rattle.explanations.specs.Policies.{ArePoliciesExplained};
-ghost use Rattle.explanations.specs.Unread.{IsPieceExplained, ArePiecesExplained, AppendsExplained};
-ghost use Rattle.explanations.specs.Unread.{is_placeless, is_that};
+ghost use Rattle.explanations.specs.UnparsedFiles.{IsPieceExplained, ArePiecesExplained, AppendsExplained};
+ghost use Rattle.explanations.specs.UnparsedFiles.{is_placeless, is_that};
 
 use crate::parts::{PlainFinding, part_of, push_at};
 use crate::pieces::Piece;

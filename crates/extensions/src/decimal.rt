@@ -188,7 +188,8 @@ fn ten_thousandths(fraction: &str) -> Option<u64>
     Some(number(fraction)? * scale(places))
 }
 
-/// Returns the number of ten-thousandths in a unit of the last of `places` decimal places, as 100 for two places.
+/// Returns how many ten-thousandths one unit of the last decimal place is, where `places` is the number of places: 100
+/// for two.
 fn scale(places: usize) -> u64
     requires { places ≤ 4 }
     ensures { result ≡ 10 ^ (4 - places) }

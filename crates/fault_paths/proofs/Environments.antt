@@ -6,7 +6,7 @@ use Rattle.std.proofs.lemmas.List.{take_more, drop_more, take-append-drop, take_
 use Rattle.std.proofs.lemmas.List.Elements.{All-nil, All-cons, All-head, All-tail, All-append}
 use Rattle.grammar_core.specs.declared.expr.Expr.{Expr}
 use Rattle.type_checker.specs.policy_grammar.declared.policy.Policy.{Policy}
-use Rattle.type_checker.specs.policy_grammar.Whole.{expression_of}
+use Rattle.type_checker.specs.policy_grammar.PolicyExpression.{expression_of}
 use Rattle.type_checker.specs.schema.declared.parts.Environment as given
 use Rattle.type_checker.specs.schema.Schemas.{StatedSchema}
 use Rattle.type_checker.specs.schema.Views.{environment_view}
@@ -18,7 +18,7 @@ use Rattle.validator.specs.typing.Laws.{HaveOneJudgement}
 use Rattle.validator.specs.Passing
 use Rattle.validator.specs.Passing.{environments_of, HasType, HasBooleanType, FirstFaulty}
 use Rattle.validator.proofs.OutcomeLemmas.{policy_is_test, typed_or_faulty}
-use Rattle.typing.specs.Blamed.{Blame, blamed}
+use Rattle.typing.specs.BlamedExpressions.{Blame, blamed}
 use Rattle.fault_paths.specs.FirstBlamed.{environment_blamed, blamed_there}
 use Rattle.fault_paths.specs.Views.{place_view}
 use Rattle.fault_paths.specs.FirstTypingError.{IsFirstBlame, IsTypeBlame}

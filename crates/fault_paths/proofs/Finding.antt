@@ -6,7 +6,7 @@ use Rattle.grammar_core.specs.declared.expr.Expr.{Expr}
 use Rattle.validator.specs.declared.fault.TypeFault.{TypeFault}
 use Rattle.validator.specs.typing.Types as types
 use Rattle.validator.specs.typing.Environment.{Environment, ExpressionFault}
-use Rattle.validator.specs.typing.Gained.{Pairs}
+use Rattle.validator.specs.typing.Gained.{CapabilityList}
 use Rattle.validator.specs.typing.Typing.{Types}
 use Rattle.validator.specs.typing.Faults.{Faults}
 use Rattle.validator.specs.Faults.{of_typing, of_types}
@@ -14,12 +14,12 @@ use Rattle.validator.specs.Passing.{HasType}
 use Rattle.type_checker.specs.Views.{static_view, boolean_view, fault_view}
 use Rattle.type_checker.specs.declared.static_type.BooleanType.{BooleanType}
 use Rattle.type_checker.specs.declared.static_type.BooleanType.TheVariants as truth
-use Rattle.type_checker.specs.type_capabilities.Pairs.{pair_of, pairs}
+use Rattle.type_checker.specs.type_capabilities.CapabilityList.{capability_of, capabilities}
 use Rattle.type_checker.specs.type_capabilities.declared.pair.Capability.{Capability}
 use Rattle.type_checker.specs.declared.typed.Typed.{Typed}
 use Rattle.type_checker.specs.declared.fault.ExpressionFault as at_hand
 use Rattle.type_checker.specs.declared.fault.ExpressionFault.TheVariants as fault
-use Rattle.typing.specs.Blamed.{blamed}
+use Rattle.typing.specs.BlamedExpressions.{blamed}
 use Rattle.fault_paths.specs.Views.{place_view}
 use Rattle.fault_paths.specs.declared.blaming.TypeBlame.{TypeBlame}
 use Rattle.fault_paths.specs.inner.Judging.{IsFault, IsFaultyIn, IsTypingFault, IsBlamedAt}
@@ -27,27 +27,27 @@ use Rattle.fault_paths.specs.inner.Steps.{IsFound, IsFoundIn}
 
 module _ (env : Environment) (x : Expr) where
   abbrev TypedBehind : List Capability → Typed → Type 0
-  TypedBehind ps t = Types env (pairs ps) x (static_view t.kind) (pairs t.learns.items)
+  TypedBehind ps t = Types env (capabilities ps) x (static_view t.kind) (capabilities t.gains.items)
 
   abbrev FaultyBehind : List Capability → at_hand.ExpressionFault → Type 0
-  FaultyBehind ps f = f ≢ fault.NoMemory → Faults env (pairs ps) x (fault_view f)
+  FaultyBehind ps f = f ≢ fault.NoMemory → Faults env (capabilities ps) x (fault_view f)
 
   found_at : {B : Type 0} (ps : List Capability) (r : Result Typed at_hand.ExpressionFault) (q : Result (Option Typed) B)
-      → IfOk r (TypedBehind ps) → IfErr r (FaultyBehind ps) → IsFoundIn r q → IfOk q (IsFound env (pairs ps) x)
+      → IfOk r (TypedBehind ps) → IfErr r (FaultyBehind ps) → IsFoundIn r q → IfOk q (IsFound env (capabilities ps) x)
   found_at ps r (Ok (Some t)) h g e = subst (λ s. IfOk s (TypedBehind ps)) e h
   found_at ps r (Ok None) h g e = (fault_view e.0, subst (λ s. IfErr s (FaultyBehind ps)) e.2 g e.1)
   found_at ps r (Err m) h g e = tt
 
   pub found_is : {B : Type 0} (qs ps : List Capability) (r : Result Typed at_hand.ExpressionFault) (q : Result (Option Typed) B)
-      → qs ≡ ps → IfOk r (TypedBehind qs) → IfErr r (FaultyBehind qs) → IsFoundIn r q → IfOk q (IsFound env (pairs ps) x)
+      → qs ≡ ps → IfOk r (TypedBehind qs) → IfErr r (FaultyBehind qs) → IsFoundIn r q → IfOk q (IsFound env (capabilities ps) x)
   found_is qs ps r q e h g f =
       found_at ps r q (subst (λ rs. IfOk r (TypedBehind rs)) e h) (subst (λ rs. IfErr r (FaultyBehind rs)) e g) f
 
-  pub some_found : (K : Pairs) {o : Option Typed} {t : Typed} → o ≡ Some t → IsFound env K x o
-      → Types env K x (static_view t.kind) (pairs t.learns.items)
+  pub some_found : (K : CapabilityList) {o : Option Typed} {t : Typed} → o ≡ Some t → IsFound env K x o
+      → Types env K x (static_view t.kind) (capabilities t.gains.items)
   some_found K e h = subst (IsFound env K x) e h
 
-  pub none_found : (K : Pairs) {o : Option Typed} → o ≡ None → IsFound env K x o → (n : ExpressionFault) × Faults env K x n
+  pub none_found : (K : CapabilityList) {o : Option Typed} → o ≡ None → IsFound env K x o → (n : ExpressionFault) × Faults env K x n
   none_found K e h = subst (IsFound env K x) e h
 
   told_as : (f : at_hand.ExpressionFault) → f ≢ fault.NoMemory → of_types f ≡ of_typing (fault_view f)
@@ -62,12 +62,12 @@ module _ (env : Environment) (x : Expr) where
   pub typed_there : (ps : List Capability) {r : Result Typed at_hand.ExpressionFault} {t : Typed} → ps ≡ [] → r ≡ Ok t
       → IfOk r (TypedBehind ps) → IsFaultyIn env x None
   typed_there ps {t = t} e is h =
-      (static_view t.kind, (pairs t.learns.items, subst (λ qs. TypedBehind qs t) e (subst (λ s. IfOk s (TypedBehind ps)) is h)))
+      (static_view t.kind, (capabilities t.gains.items, subst (λ qs. TypedBehind qs t) e (subst (λ s. IfOk s (TypedBehind ps)) is h)))
 
   pub faulty_there : (ps : List Capability) {r : Result Typed at_hand.ExpressionFault} {f : at_hand.ExpressionFault} (g : TypeFault) → ps ≡ []
       → r ≡ Err f → f ≢ fault.NoMemory → g ≡ of_types f → IfErr r (FaultyBehind ps) → IsFaultyIn env x (Some g)
   faulty_there ps {f = f} g e is n told h =
-      (fault_view f, told ∙ told_as f n, subst (λ qs. Faults env (pairs qs) x (fault_view f)) e (subst (λ s. IfErr s (FaultyBehind ps)) is h n))
+      (fault_view f, told ∙ told_as f n, subst (λ qs. Faults env (capabilities qs) x (fault_view f)) e (subst (λ s. IfErr s (FaultyBehind ps)) is h n))
 
 module _ (env : Environment) (x : Expr) where
   pub told_is : {B : Type 0} (ps : List Capability) (r : Result Typed at_hand.ExpressionFault) (q : Result (Option TypeFault) B) → ps ≡ []
@@ -83,8 +83,8 @@ blamed_so env other x i b e at f h = subst (λ E. IsBlamedAt E i x b) e (at, f, 
 pub typed_so : (env other : Environment) (x : Expr) → env ≡ other → IsFaultyIn env x None → (t : types.StaticType) × HasType x t other
 typed_so env other x e h = subst (λ E. IsFaultyIn E x None) e h
 
-pub pairs_append : (ps qs rs : List Capability) → rs ≡ ps ++ qs → pairs rs ≡ pairs ps ++ pairs qs
-pairs_append ps qs rs e = ap pairs e ∙ map-append pair_of ps qs
+pub pairs_append : (ps qs rs : List Capability) → rs ≡ ps ++ qs → capabilities rs ≡ capabilities ps ++ capabilities qs
+pairs_append ps qs rs e = ap capabilities e ∙ map-append capability_of ps qs
 
 boolean_view_boolean : (t : BooleanType) → types.IsBoolean (boolean_view t)
 boolean_view_boolean truth.True = types.is_true

@@ -3,14 +3,14 @@ use Rattle.std.specs.Prelude.{◌≡◌, ℕ, List, [], ◌∷◌, ◌++◌, map
 use Rattle.std.proofs.Common.{sym, ap, ◌∙◌, subst, append_assoc}
 use Rattle.grammar_core.specs.declared.expr.Expr.{Expr}
 use Rattle.validator.specs.typing.Environment.{Environment, ExpressionFault}
-use Rattle.validator.specs.typing.Gained.{Pairs}
+use Rattle.validator.specs.typing.Gained.{CapabilityList}
 use Rattle.validator.specs.typing.Faults.{Faults}
 use Rattle.type_checker.specs.Views.{static_view}
 use Rattle.type_checker.specs.declared.static_type.StaticType.{StaticType}
-use Rattle.typing.specs.Blamed.{Blame, under, blamed}
+use Rattle.typing.specs.BlamedExpressions.{Blame, under, blamed}
 use Rattle.fault_paths.specs.inner.Steps.{Reaches, below, last_of, stopped}
 
-pub reaches_itself : (env : Environment) (x : Expr) (p : List ℕ) (K : Pairs) → p ≡ [] → K ≡ [] → Reaches env x p K x
+pub reaches_itself : (env : Environment) (x : Expr) (p : List ℕ) (K : CapabilityList) → p ≡ [] → K ≡ [] → Reaches env x p K x
 reaches_itself env x p K e f =
     subst (λ q. Reaches env x q K x) (sym e) (subst (λ J. Reaches env x [] J x) (sym f) (λ n h. (h, refl)))
 
@@ -19,8 +19,8 @@ below_more p i b =
     let P : List ℕ → Blame = λ q. record { path = q; form = b.form; types = b.types } in
     ap P (sym (append_assoc p (i ∷ []) b.path))
 
-module _ (env : Environment) (whole : Expr) (p : List ℕ) (K : Pairs) (x : Expr) (r : Reaches env whole p K x) where
-  pub reaches_on : (i : ℕ) (y : Expr) (J : Pairs) (q : List ℕ)
+module _ (env : Environment) (whole : Expr) (p : List ℕ) (K : CapabilityList) (x : Expr) (r : Reaches env whole p K x) where
+  pub reaches_on : (i : ℕ) (y : Expr) (J : CapabilityList) (q : List ℕ)
       → ((n : ExpressionFault) (h : Faults env K x n) → (g : Faults env J y n) × (blamed h ≡ under i (blamed g)))
       → q ≡ p ++ i ∷ [] → Reaches env whole q J y
   reaches_on i y J q s e n h =

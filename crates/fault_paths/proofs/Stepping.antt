@@ -12,7 +12,7 @@ use Rattle.grammar_core.specs.declared.expr.Expr.TheViews.{out-Expr}
 use Rattle.validator.specs.typing.Types as types
 use Rattle.validator.specs.typing.Types.{IsBoolean, false_type}
 use Rattle.validator.specs.typing.Environment.{Environment, ExpressionFault}
-use Rattle.validator.specs.typing.Gained.{Pairs}
+use Rattle.validator.specs.typing.Gained.{CapabilityList}
 use Rattle.validator.specs.typing.Typing
 use Rattle.validator.specs.typing.Typing.{Types, TypesEach}
 use Rattle.validator.specs.typing.Faults.{Faults}
@@ -22,7 +22,7 @@ use Rattle.type_checker.specs.declared.static_type.StaticType.{StaticType}
 use Rattle.type_checker.specs.declared.typed.Typed.{Typed}
 use Rattle.fault_paths.specs.declared.steps.Step.{Step}
 use Rattle.fault_paths.specs.declared.steps.Step.TheVariants as step
-use Rattle.typing.specs.Blamed.{Blame, at_itself, at_operand, under, blamed}
+use Rattle.typing.specs.BlamedExpressions.{Blame, at_itself, at_operand, under, blamed}
 use Rattle.typing.specs.Places.{operands_in, operands_of}
 use Rattle.fault_paths.specs.inner.Steps.{IsStep, IsStepAmong, IsFound, KeepsType, StopsAt, StopsAtItself, last_of, stopped}
 use Rattle.typing.proofs.Layers.{EachFaults, LayerFaults, layer}
@@ -32,10 +32,10 @@ use Rattle.typing.proofs.Going.{Goes}
 use Rattle.typing.proofs.Lower.{lower, lower_at}
 
 -- that this much is blamed is as the step says
-abbrev pub Says : Environment → Pairs → Expr → Blame → Type 0
+abbrev pub Says : Environment → CapabilityList → Expr → Blame → Type 0
 Says env K x d = (n : ExpressionFault) (h : Faults env K x n) → blamed h ≡ d
 
-module _ (env : Environment) (K J : Pairs) (x : Expr) where
+module _ (env : Environment) (K J : CapabilityList) (x : Expr) where
   pub stop_is : (i : ℕ) (k : StaticType) (st : Step) → StopsAt i k st → Says env K x (at_operand i x (static_view k ∷ []))
       → IsStep env K x J st
   stop_is i k (step.Down j y) s h = absurd s
@@ -48,7 +48,7 @@ module _ (env : Environment) (K J : Pairs) (x : Expr) where
   stop_is_itself p q (step.Stop o ts) s h =
       λ n g. h n g ∙ sym (ap (λ r. stopped x r ts.items) s.0 ∙ ap (λ us. stopped x None us) s.1)
 
-module _ (one : HaveOneJudgement) (env : Environment) (K : Pairs) where
+module _ (one : HaveOneJudgement) (env : Environment) (K : CapabilityList) where
   -- ---- `&&`
 
   pub and_down_left : (x : Expr) (y : Bor Expr) (b : Expr) {m : ExpressionFault} → x ≡ form.And y.now b → Faults env K y.now m
@@ -59,12 +59,12 @@ module _ (one : HaveOneJudgement) (env : Environment) (K : Pairs) where
         λ n h. Going.and_goes_left one env x y.now b f (layer env (Expr-F.And y.now b) o h),
       )
 
-  pub and_stop_left : (a b : Expr) {s : types.StaticType} {L : Pairs} → Types env K a s L → ¬ IsBoolean s
+  pub and_stop_left : (a b : Expr) {s : types.StaticType} {L : CapabilityList} → Types env K a s L → ¬ IsBoolean s
       → Says env K (form.And a b) (at_operand 0 (form.And a b) (s ∷ []))
   and_stop_left a b t i n h =
       Going.and_stops_left one env (form.And a b) a b t i (layer env (Expr-F.And a b) (form.outs-And a b) h)
 
-  pub and_down_right : (a : Expr) (y : Bor Expr) (J : Pairs) {s : types.StaticType} {L : Pairs} {m : ExpressionFault}
+  pub and_down_right : (a : Expr) (y : Bor Expr) (J : CapabilityList) {s : types.StaticType} {L : CapabilityList} {m : ExpressionFault}
       → Types env K a s L → IsBoolean s → J ≡ K ++ L → Faults env (K ++ L) y.now m
       → IsStep env K (form.And a y.now) J (step.Down 1 y)
   and_down_right a y J {s} {L} t i e f =
@@ -75,7 +75,7 @@ module _ (one : HaveOneJudgement) (env : Environment) (K : Pairs) where
         λ n h. Going.and_is_sound one env x a y.now t i f (layer env (Expr-F.And a y.now) o h),
       )
 
-  pub and_stop_right : (a b : Expr) {s u : types.StaticType} {L M : Pairs} → Types env K a s L → IsBoolean s
+  pub and_stop_right : (a b : Expr) {s u : types.StaticType} {L M : CapabilityList} → Types env K a s L → IsBoolean s
       → Types env (K ++ L) b u M → Says env K (form.And a b) (at_operand 1 (form.And a b) (u ∷ []))
   and_stop_right a b t i g n h =
       Going.and_stops_right one env (form.And a b) a b t i g (layer env (Expr-F.And a b) (form.outs-And a b) h)
@@ -90,12 +90,12 @@ module _ (one : HaveOneJudgement) (env : Environment) (K : Pairs) where
         λ n h. Going.or_goes_left one env x y.now b f (layer env (Expr-F.Or y.now b) o h),
       )
 
-  pub or_stop_left : (a b : Expr) {s : types.StaticType} {L : Pairs} → Types env K a s L → ¬ IsBoolean s
+  pub or_stop_left : (a b : Expr) {s : types.StaticType} {L : CapabilityList} → Types env K a s L → ¬ IsBoolean s
       → Says env K (form.Or a b) (at_operand 0 (form.Or a b) (s ∷ []))
   or_stop_left a b t i n h =
       Going.or_stops_left one env (form.Or a b) a b t i (layer env (Expr-F.Or a b) (form.outs-Or a b) h)
 
-  pub or_down_right : (a : Expr) (y : Bor Expr) {s : types.StaticType} {L : Pairs} {m : ExpressionFault}
+  pub or_down_right : (a : Expr) (y : Bor Expr) {s : types.StaticType} {L : CapabilityList} {m : ExpressionFault}
       → Types env K a s L → IsBoolean s → Faults env K y.now m → IsStep env K (form.Or a y.now) K (step.Down 1 y)
   or_down_right a y t i f =
       let o = form.outs-Or a y.now in
@@ -104,7 +104,7 @@ module _ (one : HaveOneJudgement) (env : Environment) (K : Pairs) where
         λ n h. Going.or_is_sound one env x a y.now t i f (layer env (Expr-F.Or a y.now) o h),
       )
 
-  pub or_stop_right : (a b : Expr) {s u : types.StaticType} {L M : Pairs} → Types env K a s L → IsBoolean s
+  pub or_stop_right : (a b : Expr) {s u : types.StaticType} {L M : CapabilityList} → Types env K a s L → IsBoolean s
       → Types env K b u M → Says env K (form.Or a b) (at_operand 1 (form.Or a b) (u ∷ []))
   or_stop_right a b t i g n h =
       Going.or_stops_right one env (form.Or a b) a b t i g (layer env (Expr-F.Or a b) (form.outs-Or a b) h)
@@ -119,12 +119,12 @@ module _ (one : HaveOneJudgement) (env : Environment) (K : Pairs) where
         λ n h. Going.if_goes_test one env x y.now b c f (layer env (Expr-F.If y.now b c) o h),
       )
 
-  pub if_stop_test : (a b c : Expr) {s : types.StaticType} {L : Pairs} → Types env K a s L → ¬ IsBoolean s
+  pub if_stop_test : (a b c : Expr) {s : types.StaticType} {L : CapabilityList} → Types env K a s L → ¬ IsBoolean s
       → Says env K (form.If a b c) (at_operand 0 (form.If a b c) (s ∷ []))
   if_stop_test a b c t i n h =
       Going.if_stops_test one env (form.If a b c) a b c t i (layer env (Expr-F.If a b c) (form.outs-If a b c) h)
 
-  pub if_down_only_else : (a b : Expr) (y : Bor Expr) {s : types.StaticType} {L : Pairs} → Types env K a s L → s ≡ false_type
+  pub if_down_only_else : (a b : Expr) (y : Bor Expr) {s : types.StaticType} {L : CapabilityList} → Types env K a s L → s ≡ false_type
       → IsStep env K (form.If a b y.now) K (step.Down 2 y)
   if_down_only_else a b y {s} {L} t e =
       let o = form.outs-If a b y.now in
@@ -134,7 +134,7 @@ module _ (one : HaveOneJudgement) (env : Environment) (K : Pairs) where
             (layer env (Expr-F.If a b y.now) o h),
       )
 
-  pub if_down_then : (a : Expr) (y : Bor Expr) (c : Expr) (J : Pairs) {s : types.StaticType} {L : Pairs} {m : ExpressionFault}
+  pub if_down_then : (a : Expr) (y : Bor Expr) (c : Expr) (J : CapabilityList) {s : types.StaticType} {L : CapabilityList} {m : ExpressionFault}
       → Types env K a s L → IsBoolean s → ¬ (s ≡ false_type) → J ≡ K ++ L → Faults env (K ++ L) y.now m
       → IsStep env K (form.If a y.now c) J (step.Down 1 y)
   if_down_then a y c J {s} {L} t i r e f =
@@ -145,7 +145,7 @@ module _ (one : HaveOneJudgement) (env : Environment) (K : Pairs) where
         λ n h. Going.if_goes_then one env x a y.now c t i r f (layer env (Expr-F.If a y.now c) o h),
       )
 
-  pub if_down_else : (a b : Expr) (y : Bor Expr) {s u : types.StaticType} {L M : Pairs} {m : ExpressionFault} → Types env K a s L
+  pub if_down_else : (a b : Expr) (y : Bor Expr) {s u : types.StaticType} {L M : CapabilityList} {m : ExpressionFault} → Types env K a s L
       → IsBoolean s → ¬ (s ≡ false_type) → Types env (K ++ L) b u M → Faults env K y.now m
       → IsStep env K (form.If a b y.now) K (step.Down 2 y)
   if_down_else a b y t i r g f =
@@ -155,7 +155,7 @@ module _ (one : HaveOneJudgement) (env : Environment) (K : Pairs) where
         λ n h. Going.if_goes_else one env x a b y.now t i r g f (layer env (Expr-F.If a b y.now) o h),
       )
 
-  pub if_stop : (a b c : Expr) {s u w : types.StaticType} {L M N : Pairs} → Types env K a s L → IsBoolean s
+  pub if_stop : (a b c : Expr) {s u w : types.StaticType} {L M N : CapabilityList} → Types env K a s L → IsBoolean s
       → ¬ (s ≡ false_type) → Types env (K ++ L) b u M → Types env K c w N
       → Says env K (form.If a b c) (at_itself (form.If a b c) (u ∷ w ∷ []))
   if_stop a b c t i r g k n h =
@@ -187,8 +187,8 @@ module _ (one : HaveOneJudgement) (env : Environment) (K : Pairs) where
       Going.each_stops one env (operands_in y) B t (w n (blamed h) (layer env y e h))
       ∙ ap (λ q. stopped x q ts.items) (sym s.0)
 
-module _ (env : Environment) (K : Pairs) where
-  each_more : {xs : List Expr} {ts : List types.StaticType} {x : Expr} {t : types.StaticType} {L : Pairs} → TypesEach env K xs ts
+module _ (env : Environment) (K : CapabilityList) where
+  each_more : {xs : List Expr} {ts : List types.StaticType} {x : Expr} {t : types.StaticType} {L : CapabilityList} → TypesEach env K xs ts
       → Types env K x t L → TypesEach env K (xs ++ x ∷ []) (ts ++ t ∷ [])
   each_more Typing.types_none h = Typing.types_more h Typing.types_none
   each_more (Typing.types_more g gs) h = Typing.types_more g (each_more gs h)
@@ -204,7 +204,7 @@ module _ (env : Environment) (K : Pairs) where
       → TypesEach env K (take i (operands_of x)) ts → TypesEach env K (operands_of x) ts
   among_end x i ts e h = subst (λ ys. TypesEach env K ys ts) (all_taken (operands_of x) i e) h
 
-  pub among_more : (x : Expr) (ts us : List StaticType) (k : StaticType) (y : Expr) {L : Pairs}
+  pub among_more : (x : Expr) (ts us : List StaticType) (k : StaticType) (y : Expr) {L : CapabilityList}
       → slice_get (operands_of x) (length ts) ≡ Some y → TypesEach env K (take (length ts) (operands_of x)) (map static_view ts)
       → Types env K y (static_view k) L → us ≡ ts ++ k ∷ []
       → TypesEach env K (take (length us) (operands_of x)) (map static_view us)
@@ -258,20 +258,20 @@ kept_fewer x y i (Some k) ts us b h e at g =
 
 -- of expressions that are the same
 
-pub step_at : (env : Environment) (K J : Pairs) (st : Step) {x y : Expr} → x ≡ y → IsStep env K y J st → IsStep env K x J st
+pub step_at : (env : Environment) (K J : CapabilityList) (st : Step) {x y : Expr} → x ≡ y → IsStep env K y J st → IsStep env K x J st
 step_at env K J st e h = subst (λ z. IsStep env K z J st) (sym e) h
 
-pub and_at : (env : Environment) (K J : Pairs) (st : Step) {a b c d : Expr} → a ≡ c → b ≡ d → IsStep env K (form.And a b) J st
+pub and_at : (env : Environment) (K J : CapabilityList) (st : Step) {a b c d : Expr} → a ≡ c → b ≡ d → IsStep env K (form.And a b) J st
     → IsStep env K (form.And c d) J st
 and_at env K J st {a} {b} {c} {d} e f h =
     subst (λ z. IsStep env K (form.And z d) J st) e (subst (λ z. IsStep env K (form.And a z) J st) f h)
 
-pub or_at : (env : Environment) (K J : Pairs) (st : Step) {a b c d : Expr} → a ≡ c → b ≡ d → IsStep env K (form.Or a b) J st
+pub or_at : (env : Environment) (K J : CapabilityList) (st : Step) {a b c d : Expr} → a ≡ c → b ≡ d → IsStep env K (form.Or a b) J st
     → IsStep env K (form.Or c d) J st
 or_at env K J st {a} {b} {c} {d} e f h =
     subst (λ z. IsStep env K (form.Or z d) J st) e (subst (λ z. IsStep env K (form.Or a z) J st) f h)
 
-pub if_at : (env : Environment) (K J : Pairs) (st : Step) {a b c d f g : Expr} → a ≡ d → b ≡ f → c ≡ g
+pub if_at : (env : Environment) (K J : CapabilityList) (st : Step) {a b c d f g : Expr} → a ≡ d → b ≡ f → c ≡ g
     → IsStep env K (form.If a b c) J st → IsStep env K (form.If d f g) J st
 if_at env K J st {a} {b} {c} {d} {f} {g} e i j h =
     subst (λ z. IsStep env K (form.If z f g) J st) e

@@ -3,7 +3,7 @@ use Rattle.std.specs.Prelude.{◌≡◌, All, Option, Some, None, MatchOption}
 use Rattle.std.proofs.Common.{sym, subst}
 use Rattle.grammar_core.specs.declared.expr.Expr.{Expr}
 use Rattle.type_checker.specs.policy_grammar.declared.policy.Policy.{Policy}
-use Rattle.type_checker.specs.policy_grammar.Whole.{expression_of}
+use Rattle.type_checker.specs.policy_grammar.PolicyExpression.{expression_of}
 use Rattle.type_checker.specs.schema.Schemas.{StatedSchema}
 use Rattle.validator.specs.Names.{names_in}
 use Rattle.validator.specs.Unknown.{IsKnown}
@@ -11,7 +11,7 @@ use Rattle.validator.specs.Passing
 use Rattle.validator.specs.Passing.{environments_of, HasBooleanType, Passes, IsCheckRefused}
 use Rattle.fault_paths.specs.NamesAt.{IsNameBlame}
 use Rattle.fault_paths.specs.FirstTypingError.{IsTypeBlame}
-use Rattle.fault_paths.specs.Refused.{IsBlame}
+use Rattle.fault_paths.specs.PolicyReports.{IsBlame}
 use Rattle.fault_paths.specs.declared.names.NameBlame.{NameBlame}
 use Rattle.fault_paths.specs.declared.blaming.TypeBlame.{TypeBlame}
 use Rattle.fault_paths.specs.declared.refusing.PolicyBlame.TheVariants.{Name, Typing}

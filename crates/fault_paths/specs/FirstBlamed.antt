@@ -5,7 +5,7 @@ use Rattle.std.specs.Prelude.{ℕ, suc, List}
 use Rattle.grammar_core.specs.declared.expr.Expr.{Expr}
 use Rattle.validator.specs.typing.Environment.{Environment, ExpressionFault}
 use Rattle.validator.specs.Passing.{FirstFaulty, faulty_here, faulty_later}
-use Rattle.typing.specs.Blamed.{Blame, blamed}
+use Rattle.typing.specs.BlamedExpressions.{Blame, blamed}
 
 -- `environment_blamed f` is the index of the environment that the derivation `f` shows to be the first with an error.
 abbrev pub environment_blamed : {x : Expr} {envs : List Environment} {n : ExpressionFault} → FirstFaulty x envs n → ℕ

@@ -1,9 +1,9 @@
 pub mod FirstBlamed
 pub mod Laws
 pub mod NamesAt
-pub mod Refused
+pub mod PolicyReports
 pub mod FirstTypingError
 pub mod Views
 pub mod Words
-pub mod Worded
+pub mod ReportWording
 pub mod inner

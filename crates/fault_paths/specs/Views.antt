@@ -3,7 +3,7 @@
 use Rattle.std.specs.Prelude.{map}
 use Rattle.type_checker.specs.Views.{static_view}
 use Rattle.fault_paths.specs.declared.descending.BlamedForm.{BlamedForm}
-use Rattle.typing.specs.Blamed.{Blame}
+use Rattle.typing.specs.BlamedExpressions.{Blame}
 
 -- `place_view p` is the blame that the code's value `p` represents: its path, its form and its types.
 abbrev pub place_view : BlamedForm → Blame

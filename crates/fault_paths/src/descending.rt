@@ -3,7 +3,7 @@ ghost use Rattle.std.specs.Prelude.{◌≡◌, [], ◌++◌, IfOk};
 ghost use Rattle.validator.specs.typing.Environment as typing;
 ghost use Rattle.validator.specs.typing.Faults.{Faults};
 ghost use Rattle.type_checker.specs.Views.{typing_environment};
-ghost use Rattle.typing.specs.Blamed.{blamed};
+ghost use Rattle.typing.specs.BlamedExpressions.{blamed};
 ghost use Rattle.fault_paths.specs.Views.{place_view};
 ghost use Rattle.fault_paths.specs.inner.Steps.{last_of};
 

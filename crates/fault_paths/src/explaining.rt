@@ -1,11 +1,11 @@
 //! The report on a policy that does not pass validation, in words.
 ghost use Rattle.std.specs.Prelude.{◌≡◌, IfOk, MatchOption, string_bytes};
-ghost use Rattle.type_checker.specs.policy_grammar.Whole.{expression_of};
+ghost use Rattle.type_checker.specs.policy_grammar.PolicyExpression.{expression_of};
 ghost use Rattle.type_checker.specs.schema.Views.{schema_view};
 ghost use Rattle.fault_paths.specs.NamesAt.{name_view};
 ghost use Rattle.validator.specs.Passing.{Passes};
 ghost use Rattle.fault_paths.specs.Words.{name_words, typing_cause, typing_detail};
-ghost use Rattle.fault_paths.specs.Worded.{IsPolicyFault, IsWordedAs};
+ghost use Rattle.fault_paths.specs.ReportWording.{IsPolicyFault, IsWordedAs};
 
 use crate::blaming::TypeBlame;
 use crate::causes::push_cause;

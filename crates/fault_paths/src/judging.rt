@@ -1,7 +1,7 @@
 //! The types of expressions on the path to the expression at fault.
 ghost use Rattle.std.specs.Prelude.{◌≡◌, ◌++◌, IfOk};
 ghost use Rattle.type_checker.specs.Views.{typing_environment};
-ghost use Rattle.type_checker.specs.type_capabilities.Pairs.{pairs};
+ghost use Rattle.type_checker.specs.type_capabilities.CapabilityList.{capabilities};
 ghost use Rattle.fault_paths.specs.inner.Steps.{IsFound, IsFoundIn};
 
 use grammar_core::Expr;
@@ -29,7 +29,7 @@ pub(crate) fn judge<'a>(
     known: &Vec<Capability<'a>>,
     expr: &'a Expr,
 ) -> Result<Option<Typed<'a>>, NoMemory>
-    ensures { IfOk result (λ found. IsFound (typing_environment env.entry) (pairs known.now.items)
+    ensures { IfOk result (λ found. IsFound (typing_environment env.entry) (capabilities known.now.items)
         expr.entry.now found) }
 {
     found(judge_under(alloc, env, known.as_slice(), expr))
@@ -38,38 +38,38 @@ pub(crate) fn judge<'a>(
 /// Appends the gained capabilities to the known ones.
 pub(crate) fn know_too<'a>(
     known: &mut Vec<Capability<'a>>,
-    learns: &Vec<Capability<'a>>,
+    gains: &Vec<Capability<'a>>,
 ) -> Result<(), NoMemory>
-    ensures { IfOk result (λ _. known.new.items ≡ known.old.items ++ learns.now.items) }
+    ensures { IfOk result (λ _. known.new.items ≡ known.old.items ++ gains.now.items) }
 {
-    known.extend_from_slice(learns.as_slice())
+    known.extend_from_slice(gains.as_slice())
 }
 
 /// Returns the known capabilities, followed by the gained ones.
 fn both<'a>(
     alloc: Global,
     known: &Vec<Capability<'a>>,
-    learns: &Vec<Capability<'a>>,
+    gains: &Vec<Capability<'a>>,
 ) -> Result<Vec<Capability<'a>>, NoMemory>
-    ensures { IfOk result (λ both. both.items ≡ known.now.items ++ learns.now.items) }
+    ensures { IfOk result (λ both. both.items ≡ known.now.items ++ gains.now.items) }
 {
     let mut both = Vec::new(alloc);
     know_too(&mut both, known)?;
-    know_too(&mut both, learns)?;
+    know_too(&mut both, gains)?;
     Ok(both)
 }
 
-/// Returns the type of an expression under the capabilities `known` and then `learns`, or `None` if it has none.
+/// Returns the type of an expression under the capabilities `known` and then `gains`, or `None` if it has none.
 pub(crate) fn judge_with<'a>(
     alloc: Global,
     env: TypingEnvironment<'a>,
     known: &Vec<Capability<'a>>,
-    learns: &Vec<Capability<'a>>,
+    gains: &Vec<Capability<'a>>,
     expr: &'a Expr,
 ) -> Result<Option<Typed<'a>>, NoMemory>
     ensures { IfOk result (λ found. IsFound (typing_environment env.entry)
-        (pairs known.now.items ++ pairs learns.now.items) expr.entry.now found) }
+        (capabilities known.now.items ++ capabilities gains.now.items) expr.entry.now found) }
 {
-    let known = both(alloc, known, learns)?;
+    let known = both(alloc, known, gains)?;
     judge(alloc, env, &known, expr)
 }

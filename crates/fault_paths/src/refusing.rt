@@ -1,11 +1,11 @@
 //! The report on a policy that does not pass validation.
 ghost use Rattle.std.specs.Prelude.{◌≡◌, All, IfOk, MatchOption};
-ghost use Rattle.type_checker.specs.policy_grammar.Whole.{expression_of};
+ghost use Rattle.type_checker.specs.policy_grammar.PolicyExpression.{expression_of};
 ghost use Rattle.type_checker.specs.schema.Views.{schema_view};
 ghost use Rattle.validator.specs.Names.{names_in};
 ghost use Rattle.validator.specs.Unknown.{IsKnown};
 ghost use Rattle.validator.specs.Passing.{Passes};
-ghost use Rattle.fault_paths.specs.Refused.{IsBlame};
+ghost use Rattle.fault_paths.specs.PolicyReports.{IsBlame};
 
 use crate::blaming::{TypeBlame, blame_type};
 use crate::names::{NameBlame, blame_name};

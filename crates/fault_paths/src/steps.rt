@@ -4,10 +4,10 @@ ghost use Rattle.grammar_core.specs.declared.expr.Expr.{Expr};
 ghost use Rattle.grammar_core.specs.declared.expr.Expr.TheVariants as form;
 ghost use Rattle.validator.specs.typing.Types as types;
 ghost use Rattle.validator.specs.typing.Types.{false_type, IsBoolean};
-ghost use Rattle.validator.specs.typing.Gained.{Pairs};
+ghost use Rattle.validator.specs.typing.Gained.{CapabilityList};
 ghost use Rattle.validator.specs.typing.Typing.{Types};
 ghost use Rattle.type_checker.specs.Views.{static_view, typing_environment};
-ghost use Rattle.type_checker.specs.type_capabilities.Pairs.{pairs};
+ghost use Rattle.type_checker.specs.type_capabilities.CapabilityList.{capabilities};
 ghost use Rattle.fault_paths.specs.inner.Steps.{IsStep, IsStepAmong, StopsAt, StopsAtItself, KeepsType};
 
 use crate::judging::{judge, judge_with, know_too};
@@ -52,23 +52,23 @@ fn stop_at_branches<'a>(
     Ok(Step::Stop(None, types))
 }
 
-/// Returns the step from an `&&` whose left side is a boolean and gains the capabilities `learns`.
+/// Returns the step from an `&&` whose left side is a boolean and gains the capabilities `gains`.
 fn from_right_of_and<'a>(
     alloc: Global,
     env: TypingEnvironment<'a>,
     known: &mut Vec<Capability<'a>>,
-    learns: Vec<Capability<'a>>,
+    gains: Vec<Capability<'a>>,
     right: &'a Expr,
 ) -> Result<Step<'a>, NoMemory>
-    ensures { let E = typing_environment env.entry in let K = pairs known.old.items in IfOk result (λ step.
-        (a : Expr) (s : types.StaticType) → Types E K a s (pairs learns.entry.items) → IsBoolean s
-        → IsStep E K (form.And a right.entry.now) (pairs known.new.items) step) }
+    ensures { let E = typing_environment env.entry in let K = capabilities known.old.items in IfOk result (λ step.
+        (a : Expr) (s : types.StaticType) → Types E K a s (capabilities gains.entry.items) → IsBoolean s
+        → IsStep E K (form.And a right.entry.now) (capabilities known.new.items) step) }
 {
     expressions_have_one_judgement();
-    match judge_with(alloc, env, known, &learns, right)? {
+    match judge_with(alloc, env, known, &gains, right)? {
         Some(typed) => stop_at(alloc, 1, typed.kind),
         None => {
-            know_too(known, &learns)?;
+            know_too(known, &gains)?;
             Ok(Step::Down(1, right))
         }
     }
@@ -82,13 +82,13 @@ fn from_and<'a>(
     left: Typed<'a>,
     right: &'a Expr,
 ) -> Result<Step<'a>, NoMemory>
-    ensures { let E = typing_environment env.entry in let K = pairs known.old.items in IfOk result (λ step.
-        (a : Expr) → Types E K a (static_view left.entry.kind) (pairs left.entry.learns.items)
-        → IsStep E K (form.And a right.entry.now) (pairs known.new.items) step) }
+    ensures { let E = typing_environment env.entry in let K = capabilities known.old.items in IfOk result (λ step.
+        (a : Expr) → Types E K a (static_view left.entry.kind) (capabilities left.entry.gains.items)
+        → IsStep E K (form.And a right.entry.now) (capabilities known.new.items) step) }
 {
     expressions_have_one_judgement();
     match left.kind.as_boolean() {
-        Some(_) => from_right_of_and(alloc, env, known, left.learns, right),
+        Some(_) => from_right_of_and(alloc, env, known, left.gains, right),
         None => stop_at(alloc, 0, left.kind),
     }
 }
@@ -100,8 +100,8 @@ fn from_right_of_or<'a>(
     known: &Vec<Capability<'a>>,
     right: &'a Expr,
 ) -> Result<Step<'a>, NoMemory>
-    ensures { let E = typing_environment env.entry in let K = pairs known.now.items in IfOk result (λ step.
-        (a : Expr) (s : types.StaticType) (L : Pairs) → Types E K a s L → IsBoolean s
+    ensures { let E = typing_environment env.entry in let K = capabilities known.now.items in IfOk result (λ step.
+        (a : Expr) (s : types.StaticType) (L : CapabilityList) → Types E K a s L → IsBoolean s
         → IsStep E K (form.Or a right.entry.now) K step) }
 {
     expressions_have_one_judgement();
@@ -119,8 +119,8 @@ fn from_or<'a>(
     left: Typed<'a>,
     right: &'a Expr,
 ) -> Result<Step<'a>, NoMemory>
-    ensures { let E = typing_environment env.entry in let K = pairs known.now.items in IfOk result (λ step.
-        (a : Expr) → Types E K a (static_view left.entry.kind) (pairs left.entry.learns.items)
+    ensures { let E = typing_environment env.entry in let K = capabilities known.now.items in IfOk result (λ step.
+        (a : Expr) → Types E K a (static_view left.entry.kind) (capabilities left.entry.gains.items)
         → IsStep E K (form.Or a right.entry.now) K step) }
 {
     expressions_have_one_judgement();
@@ -138,8 +138,8 @@ fn from_else<'a>(
     then: StaticType<'a>,
     alternative: &'a Expr,
 ) -> Result<Step<'a>, NoMemory>
-    ensures { let E = typing_environment env.entry in let K = pairs known.now.items in IfOk result (λ step.
-        (a b : Expr) (s : types.StaticType) (L M : Pairs) → Types E K a s L → IsBoolean s → ¬ (s ≡ false_type)
+    ensures { let E = typing_environment env.entry in let K = capabilities known.now.items in IfOk result (λ step.
+        (a b : Expr) (s : types.StaticType) (L M : CapabilityList) → Types E K a s L → IsBoolean s → ¬ (s ≡ false_type)
         → Types E (K ++ L) b (static_view then.entry) M → IsStep E K (form.If a b alternative.entry.now) K step) }
 {
     expressions_have_one_judgement();
@@ -149,25 +149,25 @@ fn from_else<'a>(
     }
 }
 
-/// Returns the step from an `if` whose test may be true and gains the capabilities `learns`.
+/// Returns the step from an `if` whose test may be true and gains the capabilities `gains`.
 fn from_branches<'a>(
     alloc: Global,
     env: TypingEnvironment<'a>,
     known: &mut Vec<Capability<'a>>,
-    learns: Vec<Capability<'a>>,
+    gains: Vec<Capability<'a>>,
     consequent: &'a Expr,
     alternative: &'a Expr,
 ) -> Result<Step<'a>, NoMemory>
-    ensures { let E = typing_environment env.entry in let K = pairs known.old.items in IfOk result (λ step.
-        (a : Expr) (s : types.StaticType) → Types E K a s (pairs learns.entry.items) → IsBoolean s
+    ensures { let E = typing_environment env.entry in let K = capabilities known.old.items in IfOk result (λ step.
+        (a : Expr) (s : types.StaticType) → Types E K a s (capabilities gains.entry.items) → IsBoolean s
         → ¬ (s ≡ false_type)
-        → IsStep E K (form.If a consequent.entry.now alternative.entry.now) (pairs known.new.items) step) }
+        → IsStep E K (form.If a consequent.entry.now alternative.entry.now) (capabilities known.new.items) step) }
 {
     expressions_have_one_judgement();
-    match judge_with(alloc, env, known, &learns, consequent)? {
+    match judge_with(alloc, env, known, &gains, consequent)? {
         Some(then) => from_else(alloc, env, known, then.kind, alternative),
         None => {
-            know_too(known, &learns)?;
+            know_too(known, &gains)?;
             Ok(Step::Down(1, consequent))
         }
     }
@@ -182,9 +182,9 @@ fn from_if<'a>(
     consequent: &'a Expr,
     alternative: &'a Expr,
 ) -> Result<Step<'a>, NoMemory>
-    ensures { let E = typing_environment env.entry in let K = pairs known.old.items in IfOk result (λ step.
-        (a : Expr) → Types E K a (static_view test.entry.kind) (pairs test.entry.learns.items)
-        → IsStep E K (form.If a consequent.entry.now alternative.entry.now) (pairs known.new.items) step) }
+    ensures { let E = typing_environment env.entry in let K = capabilities known.old.items in IfOk result (λ step.
+        (a : Expr) → Types E K a (static_view test.entry.kind) (capabilities test.entry.gains.items)
+        → IsStep E K (form.If a consequent.entry.now alternative.entry.now) (capabilities known.new.items) step) }
 {
     expressions_have_one_judgement();
     if test.kind.is_false() {
@@ -192,7 +192,7 @@ fn from_if<'a>(
         return Ok(Step::Down(2, alternative));
     }
     match test.kind.as_boolean() {
-        Some(_) => from_branches(alloc, env, known, test.learns, consequent, alternative),
+        Some(_) => from_branches(alloc, env, known, test.gains, consequent, alternative),
         None => stop_at(alloc, 0, test.kind),
     }
 }
@@ -222,7 +222,8 @@ fn from_operands<'a>(
     expr: &'a Expr,
     blamed: Option<usize>,
 ) -> Result<Step<'a>, NoMemory>
-    ensures { IfOk result (IsStepAmong (typing_environment env.entry) (pairs known.now.items) expr.entry.now blamed) }
+    ensures { IfOk result
+        (IsStepAmong (typing_environment env.entry) (capabilities known.now.items) expr.entry.now blamed) }
 {
     let mut types = Vec::new(alloc);
     'each: loop {
@@ -248,8 +249,8 @@ fn step_and<'a>(
     left: &'a Shared<Expr>,
     right: &'a Shared<Expr>,
 ) -> Result<Step<'a>, NoMemory>
-    ensures { IfOk result (IsStep (typing_environment env.entry) (pairs known.old.items)
-        (form.And left.entry.now right.entry.now) (pairs known.new.items)) }
+    ensures { IfOk result (IsStep (typing_environment env.entry) (capabilities known.old.items)
+        (form.And left.entry.now right.entry.now) (capabilities known.new.items)) }
 {
     expressions_have_one_judgement();
     let left = &**left;
@@ -268,7 +269,7 @@ fn step_or<'a>(
     left: &'a Shared<Expr>,
     right: &'a Shared<Expr>,
 ) -> Result<Step<'a>, NoMemory>
-    ensures { let K = pairs known.now.items in IfOk result (IsStep (typing_environment env.entry) K
+    ensures { let K = capabilities known.now.items in IfOk result (IsStep (typing_environment env.entry) K
         (form.Or left.entry.now right.entry.now) K) }
 {
     expressions_have_one_judgement();
@@ -289,8 +290,8 @@ fn step_if<'a>(
     consequent: &'a Shared<Expr>,
     alternative: &'a Shared<Expr>,
 ) -> Result<Step<'a>, NoMemory>
-    ensures { IfOk result (IsStep (typing_environment env.entry) (pairs known.old.items)
-        (form.If test.entry.now consequent.entry.now alternative.entry.now) (pairs known.new.items)) }
+    ensures { IfOk result (IsStep (typing_environment env.entry) (capabilities known.old.items)
+        (form.If test.entry.now consequent.entry.now alternative.entry.now) (capabilities known.new.items)) }
 {
     expressions_have_one_judgement();
     let test = &**test;
@@ -310,8 +311,8 @@ pub(crate) fn step_from<'a>(
     known: &mut Vec<Capability<'a>>,
     expr: &'a Expr,
 ) -> Result<Step<'a>, NoMemory>
-    ensures { IfOk result (IsStep (typing_environment env.entry) (pairs known.old.items) expr.entry.now
-        (pairs known.new.items)) }
+    ensures { IfOk result (IsStep (typing_environment env.entry) (capabilities known.old.items) expr.entry.now
+        (capabilities known.new.items)) }
 {
     expressions_have_one_judgement();
     match expr {

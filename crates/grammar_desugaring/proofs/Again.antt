@@ -5,7 +5,7 @@ use Rattle.std.proofs.lemmas.Bool.{ltb-true, ltb-false}
 use Rattle.std.proofs.lemmas.Slice.Eq.{bytes_eq-Decides}
 use Rattle.grammar_desugaring.specs.declared.fault.DesugarFault.{DesugarFault}
 use Rattle.grammar_desugaring.specs.declared.fault.DesugarFault.TheVariants.{RepeatedKey}
-use Rattle.grammar_desugaring.specs.Refused.{earlier_of, least}
+use Rattle.grammar_desugaring.specs.ReportedErrors.{earlier_of, least}
 use Rattle.grammar_desugaring.specs.Repeats.{NameAt, IsRepeatedAt, places_of, repeats, repeat_faults, RepeatsAreExact, RepeatsAreReported}
 use Rattle.grammar_trees.specs.Repeats.{IsLeast, ReportsLeast}
 use Rattle.grammar_trees.specs.inner.Lesser.{lesser_of}

@@ -1,7 +1,7 @@
 -- The fault at the least place, of faults in a row.
 use Rattle.std.proofs.Common.{◌≡◌, ℕ, List, [], ◌∷◌, ◌++◌, Option, Some, None, nat_lt, if◌then◌else◌, refl, ◌∙◌, ap, arith}
 use Rattle.grammar_desugaring.specs.declared.fault.DesugarFault.{DesugarFault}
-use Rattle.grammar_desugaring.specs.Refused.{at, earlier_of, least}
+use Rattle.grammar_desugaring.specs.ReportedErrors.{at, earlier_of, least}
 
 -- the same on any numbers, so that no fault is looked at
 pick : {A : Type 0} → (A → ℕ) → A → A → A

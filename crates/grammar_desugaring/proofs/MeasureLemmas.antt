@@ -30,10 +30,10 @@ use Rattle.grammar_core.specs.Operators.{method_of, method_takes}
 use Rattle.grammar_desugaring.specs.Core as spec
 use Rattle.grammar_desugaring.specs.Core.{core_of, accessed, added, field, in_term, in_entry, in_access, function}
 use Rattle.grammar_desugaring.specs.Repeats.{repeat_faults}
-use Rattle.grammar_desugaring.specs.Refused.{earlier_of, least}
+use Rattle.grammar_desugaring.specs.ReportedErrors.{earlier_of, least}
 use Rattle.grammar_desugaring.specs.Faults.{faults_of, range, call_faults, function_faults, access_faults, key_of}
-use Rattle.grammar_desugaring.specs.Measured.{measure, of, of_row, measured, measured_negated}
-use Rattle.grammar_desugaring.specs.Sums.{nothing, leaf, above, side_by_side, paired, called, with_fault, measured_all}
+use Rattle.grammar_desugaring.specs.TreeMeasures.{measure, of, of_row, measured, measured_negated}
+use Rattle.grammar_desugaring.specs.Sums.{nothing, leaf, node_measure, side_by_side, paired, called, with_fault, measured_all}
 use Rattle.grammar_desugaring.specs.Sums.{measured_chain, measured_term, measured_entry, measured_compared, measured_call}
 use Rattle.grammar_desugaring.specs.Sums.{measured_access}
 use Rattle.grammar_trees.proofs.Flat.{flat_map_map}
@@ -79,7 +79,7 @@ module _ (text : List ℕ) where
   heights step (entry ∷ entries) = ap (λ ns. step (core_of text entry.value) ∷ ns) (heights step entries)
 
   of-Record : (entries : List (RecordEntry ExprTree)) (fs : List DesugarFault) →
-      of (core.Record (map (field text) (map (in_entry (core_of text)) entries))) fs ≡ above (of_row (map (λ entry. core_of text entry.value) entries) fs)
+      of (core.Record (map (field text) (map (in_entry (core_of text)) entries))) fs ≡ node_measure (of_row (map (λ entry. core_of text entry.value) entries) fs)
   of-Record entries fs =
       let values = map (λ entry. core_of text entry.value) entries in
       let fields = map (field text) (map (in_entry (core_of text)) entries) in
@@ -90,7 +90,7 @@ module _ (text : List ℕ) where
   -- calls
   access_law : (e : Expr) (fs : List DesugarFault) (x : Access (List ExprTree)) →
       of (accessed text e (in_access (core_of text) x)) (fs ++ access_faults text (in_access (faults_of text) x)) ≡ measured_access text (of e fs) x
-  access_law e fs (access.Field key) = of-Field e (name_of text key) (fs ++ []) ∙ ap (λ gs. above (of e gs)) (append-nil fs)
+  access_law e fs (access.Field key) = of-Field e (name_of text key) (fs ++ []) ∙ ap (λ gs. node_measure (of e gs)) (append-nil fs)
   access_law e fs (access.Method name xs) =
       let m = method_of (spelling_of text name) in
       let cs = map (core_of text) xs in
@@ -136,23 +136,23 @@ module _ (text : List ℕ) where
   measured-Parentheses a =
       same_of (core-Parentheses text a) (faults-Parentheses text a)
 
-  pub measured-Set : (members : List ExprTree) → measured text (t.Set members) ≡ above (measured_all text members)
+  pub measured-Set : (members : List ExprTree) → measured text (t.Set members) ≡ node_measure (measured_all text members)
   measured-Set members =
-      same_of (core-Set text members) (faults-Set text members) ∙ of-Set (map (core_of text) members) (flat_map (faults_of text) members) ∙ ap above (rowed members)
+      same_of (core-Set text members) (faults-Set text members) ∙ of-Set (map (core_of text) members) (flat_map (faults_of text) members) ∙ ap node_measure (rowed members)
 
-  pub measured-Record : (entries : List (RecordEntry ExprTree)) → measured text (t.Record entries) ≡ above (with_fault (least (repeat_faults (map (key_of text) entries))) (fold (measured_entry text) nothing entries))
+  pub measured-Record : (entries : List (RecordEntry ExprTree)) → measured text (t.Record entries) ≡ node_measure (with_fault (least (repeat_faults (map (key_of text) entries))) (fold (measured_entry text) nothing entries))
   measured-Record entries =
       same_of (core-Record text entries) (faults-Record text entries) ∙ of-Record entries (repeat_faults (map (key_of text) entries) ++ flat_map (λ entry. faults_of text entry.value) entries)
-      ∙ ap (λ o. above (measure (greatest (map height (map (λ entry. core_of text entry.value) entries))) (total (map node_count (map (λ entry. core_of text entry.value) entries))) o))
+      ∙ ap (λ o. node_measure (measure (greatest (map height (map (λ entry. core_of text entry.value) entries))) (total (map node_count (map (λ entry. core_of text entry.value) entries))) o))
       (least-append (repeat_faults (map (key_of text) entries)) (flat_map (λ entry. faults_of text entry.value) entries))
-      ∙ ap (λ j. above (with_fault (least (repeat_faults (map (key_of text) entries))) j)) (valued entries)
+      ∙ ap (λ j. node_measure (with_fault (least (repeat_faults (map (key_of text) entries))) j)) (valued entries)
 
   pub measured-Member : (a : ExprTree) (accesses : List (Access (List ExprTree))) → measured text (t.Member a accesses) ≡ fold (measured_access text) (measured text a) accesses
   measured-Member a accesses =
       same_of (core-Member text a accesses) (faults-Member text a accesses) ∙ ap (λ e. of e (faults_of text a ++ flat_map (λ x. access_faults text (in_access (faults_of text) x)) accesses)) (fold_map (accessed text) (in_access (core_of text)) accesses (core_of text a))
       ∙ fused of (λ e x. accessed text e (in_access (core_of text) x)) (λ x. access_faults text (in_access (faults_of text) x)) (measured_access text) access_law accesses (core_of text a) (faults_of text a)
 
-  pub measured-Not : (a : ExprTree) → measured text (t.Not a) ≡ above (measured text a)
+  pub measured-Not : (a : ExprTree) → measured text (t.Not a) ≡ node_measure (measured text a)
   measured-Not a =
       same_of (core-Not text a) (faults-Not text a) ∙ of-Unary Not (core_of text a) (faults_of text a)
 
@@ -175,26 +175,26 @@ module _ (text : List ℕ) where
   measured-Compare a operator b =
       same_of (core-Compare text a operator b) (faults-Compare text a operator b) ∙ of-compared operator (core_of text a) (core_of text b) (faults_of text a) (faults_of text b)
 
-  pub measured-Has : (a : ExprTree) (key : KeyTree) → measured text (t.Has a key) ≡ above (measured text a)
+  pub measured-Has : (a : ExprTree) (key : KeyTree) → measured text (t.Has a key) ≡ node_measure (measured text a)
   measured-Has a key =
       same_of (core-Has text a key) (faults-Has text a key) ∙ of-Has (core_of text a) (name_of text key) (faults_of text a)
 
-  pub measured-Like : (a : ExprTree) (token : Token) → measured text (t.Like a token) ≡ above (measured text a)
+  pub measured-Like : (a : ExprTree) (token : Token) → measured text (t.Like a token) ≡ node_measure (measured text a)
   measured-Like a token =
       same_of (core-Like text a token) (faults-Like text a token) ∙ of-Unary (Like (pattern_of (spelling_of text token))) (core_of text a) (faults_of text a)
 
-  pub measured-Is : (a : ExprTree) (path : PathTree) → measured text (t.Is a path) ≡ above (measured text a)
+  pub measured-Is : (a : ExprTree) (path : PathTree) → measured text (t.Is a path) ≡ node_measure (measured text a)
   measured-Is a path =
       same_of (core-Is text a path) (faults-Is text a path) ∙ of-Unary (Is (path_name text path)) (core_of text a) (faults_of text a)
 
-  pub measured-IsIn : (a : ExprTree) (path : PathTree) (b : ExprTree) → measured text (t.IsIn a path b) ≡ paired (above (measured text a)) (paired (measured text a) (measured text b))
+  pub measured-IsIn : (a : ExprTree) (path : PathTree) (b : ExprTree) → measured text (t.IsIn a path b) ≡ paired (node_measure (measured text a)) (paired (measured text a) (measured text b))
   measured-IsIn a path b =
       same_of (core-IsIn text a path b) (faults-IsIn text a path b) ∙ ap (measure (height (core.And (core.Unary (Is (path_name text path)) (core_of text a)) (core.Binary In (core_of text a) (core_of text b))))
       (node_count (core.And (core.Unary (Is (path_name text path)) (core_of text a)) (core.Binary In (core_of text a) (core_of text b)))))
       (twice (faults_of text a) (faults_of text b))
       ∙ of-And (core.Unary (Is (path_name text path)) (core_of text a)) (core.Binary In (core_of text a) (core_of text b)) (faults_of text a) (faults_of text a ++ faults_of text b)
       ∙ ap (λ j. paired j (of (core.Binary In (core_of text a) (core_of text b)) (faults_of text a ++ faults_of text b))) (of-Unary (Is (path_name text path)) (core_of text a) (faults_of text a))
-      ∙ ap (paired (above (measured text a))) (of-Binary In (core_of text a) (core_of text b) (faults_of text a) (faults_of text b))
+      ∙ ap (paired (node_measure (measured text a))) (of-Binary In (core_of text a) (core_of text b) (faults_of text a) (faults_of text b))
 
   pub measured-And : (a : ExprTree) (more : List ExprTree) → measured text (t.And a more) ≡ measured_chain text (measured text a) more
   measured-And a more =
@@ -206,12 +206,12 @@ module _ (text : List ℕ) where
       same_of (core-Or text a more) (faults-Or text a more) ∙ ap (λ e. of e (faults_of text a ++ flat_map (faults_of text) more)) (fold_map core.Or (core_of text) more (core_of text a))
       ∙ fused of (λ e x. core.Or e (core_of text x)) (faults_of text) (λ j x. paired j (measured text x)) (λ e fs x. of-Or e (core_of text x) fs (faults_of text x)) more (core_of text a) (faults_of text a)
 
-  pub measured-If : (a b c : ExprTree) → measured text (t.If a b c) ≡ above (side_by_side (measured text a) (side_by_side (measured text b) (measured text c)))
+  pub measured-If : (a b c : ExprTree) → measured text (t.If a b c) ≡ node_measure (side_by_side (measured text a) (side_by_side (measured text b) (measured text c)))
   measured-If a b c =
       same_of (core-If text a b c) (faults-If text a b c) ∙ of-If (core_of text a) (core_of text b) (core_of text c) (faults_of text a) (faults_of text b) (faults_of text c)
 
   pub measured_negated-Number : (token : Token) → measured_negated text (t.Number token) ≡ leaf (least (range (fits_negated (spelling_of text token)) token))
   measured_negated-Number token = same_of (negated-Number text token) (negated_faults-Number text token) ∙ of-Literal _ (range (fits_negated (spelling_of text token)) token)
 
-  pub measured_negated-other : (a : ExprTree) → ((token : Token) → a ≡ t.Number token → ⊥) → measured_negated text a ≡ above (measured text a)
+  pub measured_negated-other : (a : ExprTree) → ((token : Token) → a ≡ t.Number token → ⊥) → measured_negated text a ≡ node_measure (measured text a)
   measured_negated-other a other = same_of (negated-other text a other) (negated_faults-other text a other) ∙ of-Unary Negate (core_of text a) (faults_of text a)

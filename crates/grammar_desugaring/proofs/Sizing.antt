@@ -22,13 +22,13 @@ use Rattle.grammar_desugaring.specs.declared.fault.DesugarFault.TheVariants.{Unk
 use Rattle.grammar_desugaring.specs.declared.measure.Measure.{Measure}
 use Rattle.grammar_core.specs.declared.operator.Method.{Method}
 use Rattle.grammar_core.specs.declared.operator.Method.TheVariants as method
-use Rattle.grammar_desugaring.specs.Refused.{earlier_of, least}
+use Rattle.grammar_desugaring.specs.ReportedErrors.{earlier_of, least}
 use Rattle.grammar_core.specs.Operators.{function_takes, method_takes}
 use Rattle.grammar_desugaring.specs.Core.{compared, method_called, no_call}
 use Rattle.grammar_desugaring.specs.Core as spec
 use Rattle.grammar_desugaring.specs.Faults.{call_faults}
-use Rattle.grammar_desugaring.specs.Measured.{measure, of, of_row}
-use Rattle.grammar_desugaring.specs.Sums.{leaf, above, side_by_side, paired, called, with_fault, measured_compared}
+use Rattle.grammar_desugaring.specs.TreeMeasures.{measure, of, of_row}
+use Rattle.grammar_desugaring.specs.Sums.{leaf, node_measure, side_by_side, paired, called, with_fault, measured_compared}
 use Rattle.grammar_desugaring.proofs.Least.{least-append}
 
 pub same : (h k f g : ℕ) (o p : Option DesugarFault) → h ≡ k → f ≡ g → o ≡ p → measure h f o ≡ measure k g p
@@ -41,7 +41,7 @@ as_is h f o = record { height = h; node_count = f; fault = o }
 made : (h k f g : ℕ) (o : Option DesugarFault) → h ≡ k → f ≡ g → as_is h f o ≡ as_is k g o
 made h k f g o a b = ap (λ x. as_is x f o) a ∙ ap (λ x. as_is k x o) b
 
-pub capped_above : (h f : ℕ) (o : Option DesugarFault) → measure (h + 1) (f + 1) o ≡ above (measure h f o)
+pub capped_above : (h f : ℕ) (o : Option DesugarFault) → measure (h + 1) (f + 1) o ≡ node_measure (measure h f o)
 capped_above h f o =
     let e : capped (h + 1) ≡ capped (capped h + 1) = omega arith in
     let d : capped (f + 1) ≡ capped (capped f + 1) = omega arith in
@@ -59,25 +59,25 @@ of-Literal l fs = same _ _ _ _ _ _ (fold_literal ℕ height_step l) (fold_litera
 pub of-Variable : (v : Variable) (fs : List DesugarFault) → of (core.Variable v) fs ≡ leaf (least fs)
 of-Variable v fs = same _ _ _ _ _ _ (fold_variable ℕ height_step v) (fold_variable ℕ node_count_step v) refl
 
-pub of-Unary : (op : Unary) (a : Expr) (fs : List DesugarFault) → of (core.Unary op a) fs ≡ above (of a fs)
+pub of-Unary : (op : Unary) (a : Expr) (fs : List DesugarFault) → of (core.Unary op a) fs ≡ node_measure (of a fs)
 of-Unary op a fs = same _ _ _ _ _ _ (fold_unary ℕ height_step op a) (fold_unary ℕ node_count_step op a) refl ∙ capped_above (height a) (node_count a) (least fs)
 
-pub of-UnaryCall : (call : UnaryCall) (a : Expr) (fs : List DesugarFault) → of (core.UnaryCall call a) fs ≡ above (of a fs)
+pub of-UnaryCall : (call : UnaryCall) (a : Expr) (fs : List DesugarFault) → of (core.UnaryCall call a) fs ≡ node_measure (of a fs)
 of-UnaryCall call a fs = same _ _ _ _ _ _ (fold_unary_call ℕ height_step call a) (fold_unary_call ℕ node_count_step call a) refl ∙ capped_above (height a) (node_count a) (least fs)
 
-pub of-Field : (a : Expr) (name : List ℕ) (fs : List DesugarFault) → of (core.Field a name) fs ≡ above (of a fs)
+pub of-Field : (a : Expr) (name : List ℕ) (fs : List DesugarFault) → of (core.Field a name) fs ≡ node_measure (of a fs)
 of-Field a name fs = same _ _ _ _ _ _ (fold_field ℕ height_step a name) (fold_field ℕ node_count_step a name) refl ∙ capped_above (height a) (node_count a) (least fs)
 
-pub of-Has : (a : Expr) (name : List ℕ) (fs : List DesugarFault) → of (core.Has a name) fs ≡ above (of a fs)
+pub of-Has : (a : Expr) (name : List ℕ) (fs : List DesugarFault) → of (core.Has a name) fs ≡ node_measure (of a fs)
 of-Has a name fs = same _ _ _ _ _ _ (fold_has ℕ height_step a name) (fold_has ℕ node_count_step a name) refl ∙ capped_above (height a) (node_count a) (least fs)
 
-pub of-Set : (es : List Expr) (fs : List DesugarFault) → of (core.Set es) fs ≡ above (of_row es fs)
+pub of-Set : (es : List Expr) (fs : List DesugarFault) → of (core.Set es) fs ≡ node_measure (of_row es fs)
 of-Set es fs = same _ _ _ _ _ _ (fold_set ℕ height_step es) (fold_set ℕ node_count_step es) refl ∙ capped_above (greatest (map height es)) (total (map node_count es)) (least fs)
 
 two : (h k f g : ℕ) (fs gs : List DesugarFault) → measure (max h k + 1) (f + g + 1) (least (fs ++ gs)) ≡ paired (measure h f (least fs)) (measure k g (least gs))
 two h k f g fs gs =
     ap (measure (max h k + 1) (f + g + 1)) (least-append fs gs) ∙ capped_above (max h k) (f + g) (earlier_of (least fs) (least gs))
-    ∙ ap above (capped_beside h k f g (least fs) (least gs))
+    ∙ ap node_measure (capped_beside h k f g (least fs) (least gs))
 
 pub of-And : (a b : Expr) (fs gs : List DesugarFault) → of (core.And a b) (fs ++ gs) ≡ paired (of a fs) (of b gs)
 of-And a b fs gs = same _ _ _ _ _ _ (fold_and ℕ height_step a b) (fold_and ℕ node_count_step a b) refl ∙ two (height a) (height b) (node_count a) (node_count b) fs gs
@@ -95,20 +95,20 @@ of-BinaryCall call a b fs gs =
 three : (a b c : ℕ) → a + b + c + 1 ≡ a + (b + c) + 1
 three a b c = omega arith
 
-pub of-If : (a b c : Expr) (fs gs hs : List DesugarFault) → of (core.If a b c) (fs ++ (gs ++ hs)) ≡ above (side_by_side (of a fs) (side_by_side (of b gs) (of c hs)))
+pub of-If : (a b c : Expr) (fs gs hs : List DesugarFault) → of (core.If a b c) (fs ++ (gs ++ hs)) ≡ node_measure (side_by_side (of a fs) (side_by_side (of b gs) (of c hs)))
 of-If a b c fs gs hs =
     same _ _ _ _ _ _ (fold_if ℕ height_step a b c) (fold_if ℕ node_count_step a b c ∙ three (node_count a) (node_count b) (node_count c)) refl
     ∙ two (height a) (max (height b) (height c)) (node_count a) (node_count b + node_count c) fs (gs ++ hs)
-    ∙ ap (λ j. above (side_by_side (of a fs) j))
+    ∙ ap (λ j. node_measure (side_by_side (of a fs) j))
     (ap (measure (max (height b) (height c)) (node_count b + node_count c)) (least-append gs hs) ∙ capped_beside (height b) (height c) (node_count b) (node_count c) (least gs) (least hs))
 
 pub of-compared : (operator : Comparison) (a b : Expr) (fs gs : List DesugarFault) → of (compared operator a b) (fs ++ gs) ≡ measured_compared operator (of a fs) (of b gs)
 of-compared is.Less a b fs gs = of-Binary Less a b fs gs
 of-compared is.LessOrEqual a b fs gs = of-Binary LessOrEqual a b fs gs
-of-compared is.Greater a b fs gs = of-Unary Not (core.Binary LessOrEqual a b) (fs ++ gs) ∙ ap above (of-Binary LessOrEqual a b fs gs)
-of-compared is.GreaterOrEqual a b fs gs = of-Unary Not (core.Binary Less a b) (fs ++ gs) ∙ ap above (of-Binary Less a b fs gs)
+of-compared is.Greater a b fs gs = of-Unary Not (core.Binary LessOrEqual a b) (fs ++ gs) ∙ ap node_measure (of-Binary LessOrEqual a b fs gs)
+of-compared is.GreaterOrEqual a b fs gs = of-Unary Not (core.Binary Less a b) (fs ++ gs) ∙ ap node_measure (of-Binary Less a b fs gs)
 of-compared is.Equal a b fs gs = of-Binary Equal a b fs gs
-of-compared is.NotEqual a b fs gs = of-Unary Not (core.Binary Equal a b) (fs ++ gs) ∙ ap above (of-Binary Equal a b fs gs)
+of-compared is.NotEqual a b fs gs = of-Unary Not (core.Binary Equal a b) (fs ++ gs) ∙ ap node_measure (of-Binary Equal a b fs gs)
 of-compared is.In a b fs gs = of-Binary In a b fs gs
 
 -- rows
@@ -190,7 +190,7 @@ pub of-called : (f : Option UnaryCall) (at : ℕ) (es : List Expr) (gs : List De
     ≡ called (least (call_faults at (function_takes f) (length es))) (with_fault (least (call_faults at (function_takes f) (length es))) (of_row es gs))
 of-called None at es gs = refused (UnknownCall at) gs
 of-called (Some f) at [] gs = refused (Arity at) gs
-of-called (Some f) at (e ∷ []) gs = of-UnaryCall f e gs ∙ ap above (sym (row_one e gs))
+of-called (Some f) at (e ∷ []) gs = of-UnaryCall f e gs ∙ ap node_measure (sym (row_one e gs))
 of-called (Some f) at (e ∷ (d ∷ es)) gs = count_refused (nat_eq (suc (suc (length es))) 1) at gs (of_row (e ∷ (d ∷ es)) gs) (several (length es)) refl
 
 pub of-method : (m : Option Method) (at : ℕ) (e : Expr) (fs : List DesugarFault) (es : List Expr) (gs : List DesugarFault) →
@@ -199,7 +199,7 @@ pub of-method : (m : Option Method) (at : ℕ) (e : Expr) (fs : List DesugarFaul
 of-method None at e fs es gs = refused_behind (UnknownCall at) fs gs
 of-method (Some (method.Alone call)) at e fs [] gs =
     of-UnaryCall call e (fs ++ gs)
-    ∙ ap above (no_row (height e) (node_count e) fs gs)
+    ∙ ap node_measure (no_row (height e) (node_count e) fs gs)
 of-method (Some (method.Alone call)) at e fs (x ∷ xs) gs = method_refused (nat_eq (suc (length xs)) 0) at e fs gs (of_row (x ∷ xs) gs) (some (length xs)) refl
 of-method (Some (method.Operator op)) at e fs [] gs = refused_behind (Arity at) fs gs
 of-method (Some (method.Operator op)) at e fs (x ∷ []) gs = of-Binary op e x fs gs ∙ ap (paired (of e fs)) (sym (row_one x gs))

@@ -4,7 +4,7 @@ use Rattle.std.specs.Prelude.{Contains}
 use Rattle.std.proofs.lemmas.Bool.{ltb-true, ltb-false}
 use Rattle.plain.proofs.Members.{Contains-here, Contains-there}
 use Rattle.grammar_desugaring.specs.declared.fault.DesugarFault.{DesugarFault}
-use Rattle.grammar_desugaring.specs.Refused.{at, earlier_of, least, IsLeastOf, LeastIsLeast, NoneOfNone}
+use Rattle.grammar_desugaring.specs.ReportedErrors.{at, earlier_of, least, IsLeastOf, LeastIsLeast, NoneOfNone}
 
 is_some : (x : DesugarFault) (o : Option DesugarFault) → earlier_of (Some x) o ≡ None → ⊥
 is_some x None none = absurd (cc)

@@ -1,6 +1,6 @@
 pub mod Core
 pub mod Faults
-pub mod Measured
+pub mod TreeMeasures
 pub mod Meaning
 pub mod Numbers
 pub mod Repeats
@@ -8,7 +8,7 @@ pub mod BuiltFrom
 pub mod StringMeaning
 pub mod Strings
 pub mod Sums
-pub mod Refused
+pub mod ReportedErrors
 pub mod inner
 -- Specifications of lower crates, re-exported.
 pub use Rattle.grammar_trees.specs as grammar_trees

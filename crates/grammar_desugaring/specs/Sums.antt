@@ -17,10 +17,10 @@ use Rattle.grammar_trees.specs.declared.tree.Term.{Term}
 use Rattle.grammar_trees.specs.declared.tree.ExprTree.{ExprTree}
 use Rattle.grammar_desugaring.specs.declared.fault.DesugarFault.{DesugarFault}
 use Rattle.grammar_desugaring.specs.declared.measure.Measure.{Measure}
-use Rattle.grammar_desugaring.specs.Refused.{earlier_of, least}
+use Rattle.grammar_desugaring.specs.ReportedErrors.{earlier_of, least}
 use Rattle.grammar_core.specs.Operators.{method_of, method_takes}
 use Rattle.grammar_desugaring.specs.Faults.{call_faults, function_faults}
-use Rattle.grammar_desugaring.specs.Measured.{measure, of, measured}
+use Rattle.grammar_desugaring.specs.TreeMeasures.{measure, of, measured}
 
 -- `nothing` is the measure of no expressions side by side; `leaf fault` is that of a node without operands, with the
 -- error `fault`, if there is one.
@@ -30,9 +30,9 @@ nothing = measure 0 0 None
 abbrev pub leaf : Option DesugarFault → Measure
 leaf fault = measure 1 1 fault
 
--- `above j` is the measure of a node over one operand of the measure `j`.
-abbrev pub above : Measure → Measure
-above j = measure (j.height + 1) (j.node_count + 1) j.fault
+-- `node_measure j` is the measure of a node over one operand of the measure `j`.
+abbrev pub node_measure : Measure → Measure
+node_measure j = measure (j.height + 1) (j.node_count + 1) j.fault
 
 -- `side_by_side i j` is the measure of two expressions side by side, with the measures `i` and `j`; `paired i j` is
 -- that of a node over both.
@@ -40,13 +40,13 @@ abbrev pub side_by_side : Measure → Measure → Measure
 side_by_side i j = measure (max i.height j.height) (i.node_count + j.node_count) (earlier_of i.fault j.fault)
 
 abbrev pub paired : Measure → Measure → Measure
-paired i j = above (side_by_side i j)
+paired i j = node_measure (side_by_side i j)
 
 -- `called fault operands` is the measure of a call, where `fault` is the call's own error, and `operands` is the
 -- measure of its operands side by side. A call with an error of its own has a placeholder, a leaf, as its core
 -- expression.
 abbrev pub called : Option DesugarFault → Measure → Measure
-called None operands = above operands
+called None operands = node_measure operands
 called (Some fault) operands = leaf operands.fault
 
 -- `with_fault fault j` is the measure `j` with the earlier of `fault` and the error of `j`.
@@ -56,14 +56,14 @@ with_fault fault j = record { height = j.height; node_count = j.node_count; faul
 -- ## Theorems
 
 -- `LiteralIsLeaf`, `UnaryIsAbove` and `AndIsPaired`: the measures of a literal, of a unary operator and of `&&` are
--- `leaf`, `above` and `paired` of the measures of their parts. `faults` are the errors of the tree; for `&&`, `faults`
--- are those of the left operand, and `more` those of the right one.
+-- `leaf`, `node_measure` and `paired` of the measures of their parts. `faults` are the errors of the tree; for `&&`,
+-- `faults` are those of the left operand, and `more` those of the right one.
 abbrev pub LiteralIsLeaf : Type 0
 LiteralIsLeaf = (value : Literal) (faults : List DesugarFault) → of (core.Literal value) faults ≡ leaf (least faults)
 
 abbrev pub UnaryIsAbove : Type 0
 UnaryIsAbove = (operator : Unary) (a : Expr) (faults : List DesugarFault) →
-    of (core.Unary operator a) faults ≡ above (of a faults)
+    of (core.Unary operator a) faults ≡ node_measure (of a faults)
 
 abbrev pub AndIsPaired : Type 0
 AndIsPaired = (a b : Expr) (faults more : List DesugarFault) →
@@ -95,10 +95,10 @@ measured_entry text j entry = side_by_side j (measured text entry.value)
 abbrev pub measured_compared : Comparison → Measure → Measure → Measure
 measured_compared is.Less i j = paired i j
 measured_compared is.LessOrEqual i j = paired i j
-measured_compared is.Greater i j = above (paired i j)
-measured_compared is.GreaterOrEqual i j = above (paired i j)
+measured_compared is.Greater i j = node_measure (paired i j)
+measured_compared is.GreaterOrEqual i j = node_measure (paired i j)
 measured_compared is.Equal i j = paired i j
-measured_compared is.NotEqual i j = above (paired i j)
+measured_compared is.NotEqual i j = node_measure (paired i j)
 measured_compared is.In i j = paired i j
 
 -- `measured_call text path arguments` is the measure of a call of the function `path` with `arguments`.
@@ -109,7 +109,7 @@ measured_call text path arguments =
 
 -- `measured_access text j access` is the measure of the access `access` to an expression with the measure `j`.
 abbrev pub measured_access : List ℕ → Measure → Access (List ExprTree) → Measure
-measured_access text j (access.Field key) = above j
+measured_access text j (access.Field key) = node_measure j
 measured_access text j (access.Method name arguments) =
     let fault = least (call_faults name.start (method_takes (method_of (spelling_of text name))) (length arguments)) in
     called fault (side_by_side j (with_fault fault (measured_all text arguments)))

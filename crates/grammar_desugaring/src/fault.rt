@@ -1,6 +1,6 @@
 //! Errors of desugaring.
 ghost use Rattle.std.specs.Prelude.{◌≡◌};
-ghost use Rattle.grammar_desugaring.specs.Refused as spec;
+ghost use Rattle.grammar_desugaring.specs.ReportedErrors as spec;
 
 use thiserror::Error;
 

@@ -1,5 +1,5 @@
 //! Theorems about errors, strings, repeated names and measures. The functions are no-ops.
-ghost use Rattle.grammar_desugaring.specs.Refused.{LeastIsLeast, NoneOfNone, LeastOfBoth};
+ghost use Rattle.grammar_desugaring.specs.ReportedErrors.{LeastIsLeast, NoneOfNone, LeastOfBoth};
 ghost use Rattle.grammar_desugaring.specs.Repeats.{RepeatsAreExact, RepeatsAreReported};
 ghost use Rattle.grammar_desugaring.specs.Strings.{ValueIsValue, PatternIsPattern};
 ghost use Rattle.grammar_desugaring.specs.Sums.{LiteralIsLeaf, UnaryIsAbove, AndIsPaired};

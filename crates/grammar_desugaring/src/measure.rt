@@ -40,8 +40,8 @@ impl Measure {
     }
 
     /// Returns the measure of a node over one operand.
-    pub fn above(self) -> Measure
-        ensures { result ≡ spec.above self }
+    pub fn node_measure(self) -> Measure
+        ensures { result ≡ spec.node_measure self }
     {
         Measure {
             height: self.height.saturating_add(1),
@@ -66,7 +66,7 @@ impl Measure {
     pub fn paired(self, other: Measure) -> Measure
         ensures { result ≡ spec.paired self other }
     {
-        self.side_by_side(other).above()
+        self.side_by_side(other).node_measure()
     }
 
     /// Returns the measure of a call, where `self` is the measure of its operands, and `fault` is the call's own error.
@@ -75,7 +75,7 @@ impl Measure {
         ensures { result ≡ spec.called fault self }
     {
         match fault {
-            None => self.above(),
+            None => self.node_measure(),
             Some(_) => Measure::leaf(self.fault),
         }
     }

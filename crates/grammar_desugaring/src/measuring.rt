@@ -9,9 +9,9 @@ ghost use Rattle.grammar_trees.specs.grammar_tokens.Grammar.{identifiers};
 ghost use Rattle.grammar_desugaring.specs.Core.{function};
 ghost use Rattle.grammar_core.specs.Operators.{method_takes, method_of};
 ghost use Rattle.grammar_desugaring.specs.Numbers as number;
-ghost use Rattle.grammar_desugaring.specs.Refused.{least};
+ghost use Rattle.grammar_desugaring.specs.ReportedErrors.{least};
 ghost use Rattle.grammar_desugaring.specs.Faults.{range, call_faults, function_faults};
-ghost use Rattle.grammar_desugaring.specs.Measured.{measured, measured_negated};
+ghost use Rattle.grammar_desugaring.specs.TreeMeasures.{measured, measured_negated};
 ghost use Rattle.grammar_desugaring.specs.inner.WellFormed.{WellFormed, TokenIn, PathIn, AllWellFormed};
 ghost use Rattle.grammar_desugaring.specs.inner.WellFormed.{WellFormedEntry};
 ghost use Rattle.grammar_desugaring.specs.inner.WellFormed.{WellFormedTerm};
@@ -117,10 +117,10 @@ fn method_fault(text: &str, name: Token, count: usize) -> Option<DesugarFault>
 }
 
 /// Returns the measure of a node over one operand.
-fn above(operand: MeasureResult) -> MeasureResult
-    ensures { IfOk result (λ j. Gave operand (λ i. j ≡ spec.above i)) }
+fn node_measure(operand: MeasureResult) -> MeasureResult
+    ensures { IfOk result (λ j. Gave operand (λ i. j ≡ spec.node_measure i)) }
 {
-    Ok(operand?.above())
+    Ok(operand?.node_measure())
 }
 
 /// Returns the measure of a function call, from its arguments and its own error.
@@ -132,10 +132,10 @@ fn call(fault: Option<DesugarFault>, arguments: MeasureResult) -> MeasureResult
 
 /// Returns the measure of a record, from its entries and the error of its keys.
 fn record(fault: Result<Option<DesugarFault>, NoMemory>, entries: MeasureResult) -> MeasureResult
-    ensures { IfOk result (λ j. Gave fault (λ o. Gave entries (λ i. j ≡ spec.above (spec.with_fault o i)))) }
+    ensures { IfOk result (λ j. Gave fault (λ o. Gave entries (λ i. j ≡ spec.node_measure (spec.with_fault o i)))) }
 {
     let fault = fault?;
-    Ok(entries?.with_fault(fault).above())
+    Ok(entries?.with_fault(fault).node_measure())
 }
 
 /// Returns the measure of `left operator right`. `>`, `>=` and `!=` become negations, which have one more node.
@@ -145,7 +145,9 @@ fn compare(operator: Comparison, operands: BothMeasured) -> MeasureResult
     let (left, right) = operands?;
     let both = left.paired(right);
     match operator {
-        Comparison::Greater | Comparison::GreaterOrEqual | Comparison::NotEqual => Ok(both.above()),
+        Comparison::Greater | Comparison::GreaterOrEqual | Comparison::NotEqual => Ok(
+            both.node_measure(),
+        ),
         Comparison::Less | Comparison::LessOrEqual | Comparison::Equal | Comparison::In => {
             Ok(both)
         }
@@ -155,10 +157,10 @@ fn compare(operator: Comparison, operands: BothMeasured) -> MeasureResult
 /// Returns the measure of `operand is path in ancestor`, in which the operand occurs twice.
 fn is_in(operands: BothMeasured) -> MeasureResult
     ensures { IfOk result
-        (λ j. Gave operands (λ pair. j ≡ spec.paired (spec.above pair.0) (spec.paired pair.0 pair.1))) }
+        (λ j. Gave operands (λ pair. j ≡ spec.paired (spec.node_measure pair.0) (spec.paired pair.0 pair.1))) }
 {
     let (operand, ancestor) = operands?;
-    Ok(operand.above().paired(operand.paired(ancestor)))
+    Ok(operand.node_measure().paired(operand.paired(ancestor)))
 }
 
 /// Returns the measure of `if test then consequent else alternative`.
@@ -168,13 +170,13 @@ fn if_then_else(
     alternative: MeasureResult,
 ) -> MeasureResult
     ensures { IfOk result (λ j. Gave test (λ i. Gave consequent
-        (λ k. Gave alternative (λ l. j ≡ spec.above (spec.side_by_side i (spec.side_by_side k l)))))) }
+        (λ k. Gave alternative (λ l. j ≡ spec.node_measure (spec.side_by_side i (spec.side_by_side k l)))))) }
 {
     let test = test?;
     let consequent = consequent?;
     Ok(
         test.side_by_side(consequent.side_by_side(alternative?))
-            .above(),
+            .node_measure(),
     )
 }
 
@@ -195,22 +197,22 @@ pub(crate) fn measure_tree(alloc: Global, text: &str, tree: &ExprTree) -> Measur
             measure_all(alloc, text, arguments.as_slice()),
         ),
         ExprTree::Parentheses(inner) => measure_tree(alloc, text, inner),
-        ExprTree::Set(members) => above(measure_all(alloc, text, members.as_slice())),
+        ExprTree::Set(members) => node_measure(measure_all(alloc, text, members.as_slice())),
         ExprTree::Record(entries) => record(
             repeated_key(alloc, text, entries.as_slice()),
             measure_entries(alloc, text, entries.as_slice()),
         ),
         ExprTree::Member(inner, accesses) => measure_accesses(alloc, text, accesses, inner),
-        ExprTree::Not(inner) => above(measure_tree(alloc, text, inner)),
+        ExprTree::Not(inner) => node_measure(measure_tree(alloc, text, inner)),
         ExprTree::Minus(inner) => measure_behind_minus(alloc, text, inner),
         ExprTree::Product(inner, more) => measure_chain(alloc, text, more, inner),
         ExprTree::Sum(inner, terms) => measure_terms(alloc, text, terms, inner),
         ExprTree::Compare(left, operator, right) => {
             compare(*operator, measure_both(alloc, text, left, right))
         }
-        ExprTree::Has(inner, _) => above(measure_tree(alloc, text, inner)),
-        ExprTree::Like(inner, _) => above(measure_tree(alloc, text, inner)),
-        ExprTree::Is(inner, _) => above(measure_tree(alloc, text, inner)),
+        ExprTree::Has(inner, _) => node_measure(measure_tree(alloc, text, inner)),
+        ExprTree::Like(inner, _) => node_measure(measure_tree(alloc, text, inner)),
+        ExprTree::Is(inner, _) => node_measure(measure_tree(alloc, text, inner)),
         ExprTree::IsIn(inner, _, outer) => is_in(measure_both(alloc, text, inner, outer)),
         ExprTree::And(inner, more) => measure_chain(alloc, text, more, inner),
         ExprTree::Or(inner, more) => measure_chain(alloc, text, more, inner),
@@ -231,7 +233,7 @@ fn measure_behind_minus(alloc: Global, text: &str, tree: &ExprTree) -> MeasureRe
 {
     match tree {
         ExprTree::Number(token) => Ok(measure_negated_number(text, *token)),
-        _ => above(measure_tree(alloc, text, tree)),
+        _ => node_measure(measure_tree(alloc, text, tree)),
     }
 }
 
@@ -346,7 +348,7 @@ fn measure_access(
     ensures { IfOk result (λ j. j ≡ spec.measured_access text.now receiver access.now) }
 {
     match access {
-        Access::Field(_) => Ok(receiver.above()),
+        Access::Field(_) => Ok(receiver.node_measure()),
         Access::Method(name, arguments) => {
             let row = measure_all(alloc, text, arguments.as_slice())?;
             let fault = method_fault(text, *name, arguments.len());

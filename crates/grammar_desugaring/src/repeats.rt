@@ -2,14 +2,14 @@
 ghost use Rattle.std.specs.Prelude.{◌≡◌, IfOk, map};
 ghost use Rattle.std.specs.List.{AllByRecursion};
 ghost use Rattle.grammar_desugaring.specs.inner.WellFormed.{WellFormedEntry};
-ghost use Rattle.grammar_desugaring.specs.Refused.{least};
+ghost use Rattle.grammar_desugaring.specs.ReportedErrors.{least};
 ghost use Rattle.grammar_desugaring.specs.Repeats.{repeat_faults, abstract_names};
 ghost use Rattle.grammar_desugaring.specs.Faults.{key_of};
 ghost use Rattle.grammar_desugaring.specs.inner.Searching.{repeat_fault, held};
 
 use crate::fault::DesugarFault;
 use crate::words::{name, place};
-use grammar_trees::{ExprTree, NameAt, RecordEntry, least_place};
+use grammar_trees::{ExprTree, NameAt, RecordEntry, least_offset};
 use plain::{NoMemory, Text};
 use std::alloc::Global;
 
@@ -40,7 +40,7 @@ pub fn first_duplicate(
 ) -> Result<Option<DesugarFault>, NoMemory>
     ensures { IfOk result (λ fault. fault ≡ least (repeat_faults (abstract_names marks.now))) }
 {
-    let place = least_place(alloc, marks)?;
+    let place = least_offset(alloc, marks)?;
     Ok(fault_at(place))
 }
 

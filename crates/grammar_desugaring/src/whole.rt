@@ -5,7 +5,7 @@ ghost use Rattle.grammar_desugaring.specs.BuiltFrom.{IsBuiltFrom};
 ghost use Rattle.grammar_desugaring.specs.Meaning.{path_name};
 ghost use Rattle.grammar_desugaring.specs.Core.{core_of};
 ghost use Rattle.grammar_desugaring.specs.Faults.{faults_of};
-ghost use Rattle.grammar_desugaring.specs.Measured.{measured};
+ghost use Rattle.grammar_desugaring.specs.TreeMeasures.{measured};
 
 use crate::build::build_tree;
 use crate::measure::Measure;
@@ -18,7 +18,7 @@ use std::alloc::Global;
 use values::TypeName;
 
 /// Returns the measure of a tree: the size of its core expression, which is not built, and its error at the least
-/// offset.
+/// offset, if it has one.
 ///
 /// Allocates only for the keys of records. Takes time proportional to the size of the tree, except that n keys of a
 /// record take O(n log n). The only error is `NoMemory`.

@@ -20,7 +20,7 @@ use Rattle.policy_grammar.specs.declared.policy.ActionScope.{ActionScope}
 use Rattle.policy_grammar.specs.declared.policy.ActionScope.TheVariants as actions
 use Rattle.policy_grammar.specs.declared.policy.Policy.{Policy}
 use Rattle.values.specs.declared.entity_uid.EntityUid.{EntityUid}
-use Rattle.policy_grammar.specs.Conditions.{asked_by, condition_of, joined}
+use Rattle.policy_grammar.specs.Conditions.{condition_expression, condition_of, joined}
 use Rattle.policy_grammar.specs.CoreOf.{AreUidsOf, IsEntityScopeOf, IsActionScopeOf, IsCoreOf}
 use Rattle.grammar_files.proofs.Kin.{Kin, Both, of_kin, empty_kin, both_kin, giving_kin, or_kin, maybe_kin, many_kin}
 use Rattle.grammar_files.proofs.Kin.{symbol_kin, behind_kin}
@@ -226,7 +226,7 @@ module _ (text part : List ℕ) where
   asked [] [] h = refl
   asked [] (y ∷ ys) h = absurd h
   asked (x ∷ xs) [] h = absurd h
-  asked (x ∷ xs) (y ∷ ys) h = λ i. asked_by (h.0.0 i) (h.0.1 i).alone ∷ asked xs ys h.1 i
+  asked (x ∷ xs) (y ∷ ys) h = λ i. condition_expression (h.0.0 i) (h.0.1 i).alone ∷ asked xs ys h.1 i
 
   pub core_of_other : (a b : PolicyTree) (policy : Policy) → SamePolicy a b → IsCoreOf text a policy → IsCoreOf part b policy
   core_of_other a b policy s c = record {

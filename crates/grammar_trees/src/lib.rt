@@ -15,5 +15,5 @@ pub use grammar_tokens::{
     read_more, read_to_end, rest_of_name, spelling, strings_have_one_meaning, tokens, uid,
 };
 pub use relations::{Related, relation};
-pub use repeats::{NameAt, least_place};
+pub use repeats::{NameAt, least_offset};
 pub use tree::{Access, Comparison, ExprTree, KeyTree, RecordEntry, RequestKeyword, Sign, Term};

@@ -33,7 +33,7 @@ fn lesser(a: Option<usize>, b: Option<usize>) -> Option<usize>
 /// # Errors
 ///
 /// - `NoMemory`: an allocation failed.
-pub fn least_place(alloc: Global, marks: &[NameAt<'_>]) -> Result<Option<usize>, NoMemory>
+pub fn least_offset(alloc: Global, marks: &[NameAt<'_>]) -> Result<Option<usize>, NoMemory>
     ensures { IfOk result (ReportsLeast (IsRepeatedAt (abstract_names marks.now))) }
 {
     let mut seen = BTreeSet::new(alloc);

@@ -18,7 +18,7 @@ use Rattle.http.specs.declared.status.StatusCode.{StatusCode}
 use Rattle.http_routes.specs.Routes.{route_stated}
 use Rattle.http_routes.specs.declared.route.Route.{Route}
 use Rattle.http_routes.specs.declared.route.Route.TheVariants as route
-use Rattle.http_logs.specs.LogLines.{decision_tail, head_text, inner_text, IsLogLine, IsUndone, log_line, made_tail}
+use Rattle.http_logs.specs.LogLines.{decision_tail, head_text, inner_text, IsLogLine, IsUndone, log_line, executed_tail}
 use Rattle.http_logs.specs.LogLines.{member_text, members_text as asked_text, name_text, named_text, object_text, plain_tail}
 use Rattle.http_logs.specs.LogLines.{stamp_tail, status_text, string_or_null, tail_of, text_of, uid_text, unread_line}
 use Rattle.http_logs.specs.OneLine.{HasNoLineFeed, IsOneLine, is_line_feed}
@@ -214,7 +214,7 @@ decision_one status json reply h =
     ([], refl, refl)
 
 pub made_one : (asking : Route) (status : StatusCode) (body reply : List ℕ) → HasNoLineFeed reply
-    → IsOneLine (made_tail asking status body reply)
+    → IsOneLine (executed_tail asking status body reply)
 made_one route.Authorize status body reply h = decision_one status (json_of body) reply h
 made_one (route.PutPolicy id) status body reply h = stamp_one status reply h
 made_one (route.DeletePolicy id) status body reply h = stamp_one status reply h
@@ -229,12 +229,12 @@ made_one route.Unknown status body reply h = plain_one status
 made_one route.OtherMethod status body reply h = plain_one status
 
 tail_at : (made : Bool) (asking : Route) (status : StatusCode) (body reply : List ℕ)
-    → IsOneLine (made_tail asking status body reply)
-    → IsOneLine (if made then made_tail asking status body reply else plain_tail status)
+    → IsOneLine (executed_tail asking status body reply)
+    → IsOneLine (if made then executed_tail asking status body reply else plain_tail status)
 tail_at true asking status body reply h = h
 tail_at false asking status body reply h = plain_one status
 
-pub tail_one : (asking : Route) (status : StatusCode) (body reply : List ℕ) → IsOneLine (made_tail asking status body reply)
+pub tail_one : (asking : Route) (status : StatusCode) (body reply : List ℕ) → IsOneLine (executed_tail asking status body reply)
     → IsOneLine (tail_of asking status body reply)
 tail_one asking status body reply h = tail_at (status == 200) asking status body reply h
 
@@ -246,7 +246,7 @@ same_line line other e (front, is, h) = (front, e ∙ is, h)
 
 -- of a reply that goes into the line, or not
 pub log_line_one : (method target body : List ℕ) (status : StatusCode) (reply line : List ℕ)
-    → IsOneLine (made_tail (route_stated method target) status body reply)
+    → IsOneLine (executed_tail (route_stated method target) status body reply)
     → line ≡ log_line method target body status reply → IsOneLine line
 log_line_one method target body status reply line h is = same_line line _ is
     (led (head_text (text_of method) (text_of target)) (tail_of (route_stated method target) status body reply)

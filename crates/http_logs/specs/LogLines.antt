@@ -102,26 +102,26 @@ decision_tail status json reply = status_text status ++ members_text json ++ cod
 abbrev pub decided_tail : StatusCode → Option Data → List ℕ → List ℕ
 decided_tail status json reply = if status == 200 then decision_tail status json reply else plain_tail status
 
--- `made_tail route status body reply` is the end of the line of an executed operation, that of `route`, for a request
--- with `body`.
-abbrev pub made_tail : Route → StatusCode → List ℕ → List ℕ → List ℕ
-made_tail Authorize status body reply = decision_tail status (json_of body) reply
-made_tail (PutPolicy id) status body reply = stamp_tail status reply
-made_tail (DeletePolicy id) status body reply = stamp_tail status reply
-made_tail PutEntity status body reply = stamp_tail status reply
-made_tail DeleteEntity status body reply = stamp_tail status reply
-made_tail (GetPolicy id) status body reply = plain_tail status
-made_tail State status body reply = plain_tail status
-made_tail Summary status body reply = plain_tail status
-made_tail Delta status body reply = plain_tail status
-made_tail Merge status body reply = plain_tail status
-made_tail Unknown status body reply = plain_tail status
-made_tail OtherMethod status body reply = plain_tail status
+-- `executed_tail route status body reply` is the end of the line of an executed operation, that of `route`, for a
+-- request with `body`.
+abbrev pub executed_tail : Route → StatusCode → List ℕ → List ℕ → List ℕ
+executed_tail Authorize status body reply = decision_tail status (json_of body) reply
+executed_tail (PutPolicy id) status body reply = stamp_tail status reply
+executed_tail (DeletePolicy id) status body reply = stamp_tail status reply
+executed_tail PutEntity status body reply = stamp_tail status reply
+executed_tail DeleteEntity status body reply = stamp_tail status reply
+executed_tail (GetPolicy id) status body reply = plain_tail status
+executed_tail State status body reply = plain_tail status
+executed_tail Summary status body reply = plain_tail status
+executed_tail Delta status body reply = plain_tail status
+executed_tail Merge status body reply = plain_tail status
+executed_tail Unknown status body reply = plain_tail status
+executed_tail OtherMethod status body reply = plain_tail status
 
 -- `tail_of route status body reply` is the end of the line of any request: that of an executed operation if `status` is
 -- 200, else only the status.
 abbrev pub tail_of : Route → StatusCode → List ℕ → List ℕ → List ℕ
-tail_of route status body reply = if status == 200 then made_tail route status body reply else plain_tail status
+tail_of route status body reply = if status == 200 then executed_tail route status body reply else plain_tail status
 
 -- `log_line method target body status reply` is the line of a request and its reply.
 abbrev pub log_line : List ℕ → List ℕ → List ℕ → StatusCode → List ℕ → List ℕ

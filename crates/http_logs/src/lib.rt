@@ -11,11 +11,11 @@ pub use laws::{decision_lines_name_requests, lines_have_one_line_feed};
 pub use line::{put_decided_tail, put_head, put_plain_tail, put_tail, put_unread_line};
 
 /// An upper bound of the bytes of a line without method and target.
-pub const UNREAD_ROOM: usize = 64;
+pub const MOST_UNREAD_LINE: usize = 64;
 
 /// An upper bound of the bytes that follow method and target in the line of a change, or of a reply that is reported by
 /// its status alone.
-pub const TAIL_ROOM: usize = 192;
+pub const MOST_TAIL: usize = 192;
 
 /// An upper bound of the bytes in the body of a reply to a change.
 pub const MOST_STAMP: usize = 128;

@@ -7,13 +7,13 @@ ghost use Rattle.std.specs.Prelude.{◌≡◌, ◌≢◌, ◌≤◌, ◌+◌, �
 ghost use Rattle.std.specs.Prelude.{vec_len};
 ghost use Rattle.std.specs.Vec.{vec_capacity};
 ghost use Rattle.serde_json.specs.View.{view};
-ghost use Rattle.http_logs.specs.LogLines.{decided_tail, decision_tail, head_text, made_tail};
+ghost use Rattle.http_logs.specs.LogLines.{decided_tail, decision_tail, head_text, executed_tail};
 ghost use Rattle.http_logs.specs.LogLines.{plain_tail, stamp_tail};
 ghost use Rattle.http_logs.specs.LogLines.{status_text, tail_of, text_of, unread_line};
-ghost use Rattle.http_logs.specs.declared.TheConstants.{TAIL_ROOM, UNREAD_ROOM};
+ghost use Rattle.http_logs.specs.declared.TheConstants.{MOST_TAIL, MOST_UNREAD_LINE};
 
 use crate::pieces::{append, append_number, head_of, members_of};
-use crate::{MOST_STAMP, TAIL_ROOM};
+use crate::{MOST_STAMP, MOST_TAIL};
 use http::StatusCode;
 use http_routes::Route;
 use plain::NoMemory;
@@ -32,7 +32,7 @@ pub fn put_head(
     target: &[u8],
 ) -> Result<(), NoMemory>
     ensures ok { OnOk result (line.new.items ≡ line.old.items ++ head_text (text_of method.now) (text_of target.now)) }
-    ensures room { OnOk result (vec_len line.new + TAIL_ROOM ≤ vec_capacity line.new) }
+    ensures room { OnOk result (vec_len line.new + MOST_TAIL ≤ vec_capacity line.new) }
     ensures err { OnErr result (line.new.items ≡ line.old.items) }
     ensures kept { vec_capacity line.old ≤ vec_capacity line.new }
 {
@@ -45,11 +45,11 @@ pub fn put_head(
 /// Appends a piece, and reserves memory for the rest of a line.
 fn put_with_room(line: &mut Vec<u8>, piece: &[u8]) -> Result<(), NoMemory>
     ensures ok { OnOk result (line.new.items ≡ line.old.items ++ piece.now) }
-    ensures room { OnOk result (vec_len line.new + TAIL_ROOM ≤ vec_capacity line.new) }
+    ensures room { OnOk result (vec_len line.new + MOST_TAIL ≤ vec_capacity line.new) }
     ensures err { OnErr result (line.new.items ≡ line.old.items) }
     ensures kept { vec_capacity line.old ≤ vec_capacity line.new }
 {
-    let Some(room) = piece.len().checked_add(TAIL_ROOM) else {
+    let Some(room) = piece.len().checked_add(MOST_TAIL) else {
         return Err(NoMemory);
     };
     line.reserve(room)?;
@@ -81,7 +81,7 @@ pub fn put_plain_tail(line: &mut Vec<u8>, status: StatusCode)
 /// Ends the line of a change with its reply, the stamp. A reply of over 128 bytes, which no change has, is left out.
 /// Does not allocate.
 fn put_stamp_tail(line: &mut Vec<u8>, status: StatusCode, reply: &[u8])
-    requires { vec_len line.old + TAIL_ROOM ≤ vec_capacity line.old }
+    requires { vec_len line.old + MOST_TAIL ≤ vec_capacity line.old }
     ensures items { line.new.items ≡ line.old.items ++ stamp_tail status reply.now }
     ensures kept { vec_capacity line.old ≤ vec_capacity line.new }
 {
@@ -106,7 +106,7 @@ fn behind_first(bytes: &[u8]) -> &[u8]
 }
 
 /// Ends the line of a decision, where `asked` has the members that name principal, action and resource.
-fn put_asked_tail(
+fn put_tail_with_names(
     line: &mut Vec<u8>,
     status: StatusCode,
     asked: &[u8],
@@ -121,7 +121,7 @@ fn put_asked_tail(
     let Some(pieces) = asked.len().checked_add(reply.len()) else {
         return Err(NoMemory);
     };
-    let Some(room) = pieces.checked_add(TAIL_ROOM) else {
+    let Some(room) = pieces.checked_add(MOST_TAIL) else {
         return Err(NoMemory);
     };
     line.reserve(room)?;
@@ -148,7 +148,7 @@ fn put_decision_tail(
     ensures kept { vec_capacity line.old ≤ vec_capacity line.new }
 {
     match members_of(alloc, json) {
-        Ok(asked) => put_asked_tail(line, status, asked.as_slice(), reply),
+        Ok(asked) => put_tail_with_names(line, status, asked.as_slice(), reply),
         Err(error) => Err(error),
     }
 }
@@ -165,7 +165,7 @@ pub fn put_decided_tail(
     status: StatusCode,
     reply: &[u8],
 ) -> Result<(), NoMemory>
-    requires { vec_len line.old + TAIL_ROOM ≤ vec_capacity line.old }
+    requires { vec_len line.old + MOST_TAIL ≤ vec_capacity line.old }
     ensures ok { OnOk result (line.new.items
         ≡ line.old.items ++ decided_tail status (option_map view json.now) reply.now) }
     ensures err { OnErr result (line.new.items ≡ line.old.items) }
@@ -181,9 +181,9 @@ pub fn put_decided_tail(
 
 /// Ends the line of an executed operation other than a decision. Does not allocate.
 fn put_made_tail(line: &mut Vec<u8>, route: &Route, status: StatusCode, reply: &[u8])
-    requires { vec_len line.old + TAIL_ROOM ≤ vec_capacity line.old }
+    requires { vec_len line.old + MOST_TAIL ≤ vec_capacity line.old }
     ensures items { route.now ≢ Route.Authorize
-        → (body : List ℕ) → line.new.items ≡ line.old.items ++ made_tail route.now status body reply.now }
+        → (body : List ℕ) → line.new.items ≡ line.old.items ++ executed_tail route.now status body reply.now }
     ensures kept { vec_capacity line.old ≤ vec_capacity line.new }
 {
     match route {
@@ -204,7 +204,7 @@ fn put_made_tail(line: &mut Vec<u8>, route: &Route, status: StatusCode, reply: &
 /// Ends the line of a request whose reply has `status` and the body `reply`. Does not allocate. A request to decide
 /// needs [`put_decided_tail`] instead.
 pub fn put_tail(line: &mut Vec<u8>, route: &Route, status: StatusCode, reply: &[u8])
-    requires { vec_len line.old + TAIL_ROOM ≤ vec_capacity line.old }
+    requires { vec_len line.old + MOST_TAIL ≤ vec_capacity line.old }
     ensures items { route.now ≢ Route.Authorize
         → (body : List ℕ) → line.new.items ≡ line.old.items ++ tail_of route.now status body reply.now }
     ensures kept { vec_capacity line.old ≤ vec_capacity line.new }
@@ -218,7 +218,7 @@ pub fn put_tail(line: &mut Vec<u8>, route: &Route, status: StatusCode, reply: &[
 
 /// Puts the line for bytes that are not a request, or for a request when out of memory. Does not allocate.
 pub fn put_unread_line(line: &mut Vec<u8>, status: StatusCode)
-    requires room { vec_len line.old + UNREAD_ROOM ≤ vec_capacity line.old }
+    requires room { vec_len line.old + MOST_UNREAD_LINE ≤ vec_capacity line.old }
     ensures items { line.new.items ≡ line.old.items ++ unread_line status }
     ensures kept { vec_capacity line.old ≤ vec_capacity line.new }
 {

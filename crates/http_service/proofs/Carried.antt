@@ -11,9 +11,9 @@ use Rattle.site_calls.specs.site_steps.Runs.{Run}
 use Rattle.site_calls.proofs.of_site_steps.RunLemmas.{run_push, same_step}
 use Rattle.http_routes.specs.Routes.{route_stated}
 use Rattle.site_calls.specs.SiteRequest.{SiteRequest, gives, rejects, unserved}
-use Rattle.http_service.specs.Asked.{request_of}
+use Rattle.http_service.specs.RequestInputs.{request_of}
 use Rattle.site_calls.specs.Answers.{Replies}
-use Rattle.http_service.specs.Answered.{answers_over}
+use Rattle.http_service.specs.RequestReplies.{answers_over}
 use Rattle.http_service.specs.Serving.{Served, before_requests, Continues, continues_run, IsServed}
 use Rattle.http_service.specs.declared.site_service.SiteService.{SiteService}
 use Rattle.http_service.proofs.RunLemmas.{RunsTake}

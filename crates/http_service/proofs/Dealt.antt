@@ -29,7 +29,7 @@ use Rattle.http_routes.specs.Routes.{has_id}
 use Rattle.site_calls.specs.Answers.{Appends}
 use Rattle.site_calls.specs.SiteRequest.{gives, rejects, unserved, put_asked, removal_asked, not_text}
 use Rattle.site_calls.specs.Reports.{reported}
-use Rattle.http_service.specs.Asked.{request_of}
+use Rattle.http_service.specs.RequestInputs.{request_of}
 use Rattle.site_calls.specs.Replies.{fault_reply, found_reply, put_reply, stamp_reply, status_reply}
 use Rattle.site_calls.specs.site_steps.schema.Schemas.{StatedSchema}
 

@@ -9,7 +9,7 @@ use Rattle.json_words.specs.Json.{json_of}
 use Rattle.serde_json.specs.Data.{Data, boolean, number, unsigned, string, object, no_members, member}
 use Rattle.http.specs.declared.status.StatusCode.{StatusCode}
 use Rattle.http_logs.proofs.Feeds.{compact_free, line_unread, log_line_one, made_one, plain_one}
-use Rattle.http_logs.specs.LogLines.{IsLogLine, IsUndone, head_text, made_tail, stamp_tail, plain_tail, tail_of, text_of, unread_line}
+use Rattle.http_logs.specs.LogLines.{IsLogLine, IsUndone, head_text, executed_tail, stamp_tail, plain_tail, tail_of, text_of, unread_line}
 use Rattle.http_logs.specs.OneLine.{HasNoLineFeed, IsOneLine}
 use Rattle.http_routes.specs.Routes.{route_stated}
 use Rattle.http_routes.specs.declared.route.PolicyId.TheVariants.{Named, NotUtf8}
@@ -44,8 +44,8 @@ use Rattle.values.specs.declared.entity_uid.EntityUid.{EntityUid}
 use Rattle.site_calls.specs.Answers.{Replies}
 use Rattle.site_calls.specs.SiteRequest.{SiteRequest, gives, not_text, rejects, unserved, removal_asked}
 use Rattle.site_calls.specs.Reports.{reported}
-use Rattle.http_service.specs.Answered.{answers}
-use Rattle.http_service.specs.Asked.{request_of}
+use Rattle.http_service.specs.RequestReplies.{answers}
+use Rattle.http_service.specs.RequestInputs.{request_of}
 use Rattle.http_service.specs.Lines.{IsChange, stamped_end}
 
 -- ---- the lengths of stamps
@@ -398,7 +398,7 @@ change_free old new asking body status line c h =
 -- ---- one line of each request that is served
 
 served_tail : (old new : SiteView) (asking : Route) (body : List ℕ) (status : StatusCode) (line : List ℕ)
-    → Replies old (request_of asking body) status line new → IsOneLine (made_tail asking status body line)
+    → Replies old (request_of asking body) status line new → IsOneLine (executed_tail asking status body line)
 served_tail old new route.Authorize body status line h =
     made_one route.Authorize status body line (asked_free old new (request_of route.Authorize body) status line tt h)
 served_tail old new (route.PutPolicy id) body status line h =

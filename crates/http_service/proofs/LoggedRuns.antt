@@ -4,7 +4,7 @@ use Rattle.http.specs.declared.status.StatusCode.{StatusCode}
 use Rattle.http_streams.specs.Serving.{IsAnswered}
 use Rattle.http_streams.specs.declared.serve.StreamFault.{StreamFault}
 use Rattle.http_streams.proofs.Simulated.{answered}
-use Rattle.http_service.specs.Answered.{answers_logged, answers_over}
+use Rattle.http_service.specs.RequestReplies.{answers_logged, answers_over}
 use Rattle.http_service.specs.Serving.{IsServed}
 use Rattle.http_service.specs.declared.site_service.LoggedService.{LoggedService}
 use Rattle.http_service.specs.declared.site_service.SiteService.{SiteService}

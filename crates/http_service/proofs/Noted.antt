@@ -18,9 +18,9 @@ use Rattle.http_routes.specs.Routes.{has_id, route_stated}
 use Rattle.http_routes.specs.declared.route.Route.{Route}
 use Rattle.http_routes.specs.declared.route.Route.TheVariants as route
 use Rattle.site_calls.specs.SiteRequest.{SiteRequest, unserved}
-use Rattle.http_service.specs.Asked.{request_of}
+use Rattle.http_service.specs.RequestInputs.{request_of}
 use Rattle.site_calls.specs.Answers.{Appends, Replies}
-use Rattle.http_service.specs.inner.Noting.{AnswersWithLine, AnswersWithTail, IsUndoneReply, unserved_status}
+use Rattle.http_service.specs.inner.LoggedAnswers.{AnswersWithLine, AnswersWithTail, IsUndoneReply, unserved_status}
 use Rattle.http_service.proofs.Dealt.{handed, removal_lacks, unrouted, unserves}
 
 -- the reply that was shown is the one that was appended

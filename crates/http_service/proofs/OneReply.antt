@@ -18,10 +18,10 @@ use Rattle.site_calls.specs.site_steps.Outcomes.{IsWhole, InputsHaveOneOutcome}
 use Rattle.site_calls.specs.site_steps.Runs.{Step}
 use Rattle.http_routes.specs.Routes.{route_stated}
 use Rattle.site_calls.specs.SiteRequest.{SiteRequest, gives, rejects, unserved}
-use Rattle.http_service.specs.Asked.{request_of}
+use Rattle.http_service.specs.RequestInputs.{request_of}
 use Rattle.site_calls.specs.Answers.{Replies}
 use Rattle.site_calls.specs.Reports.{reported}
-use Rattle.http_service.specs.Answered.{IsAlike, answers}
+use Rattle.http_service.specs.RequestReplies.{IsAlike, answers}
 
 -- ---- memory sufficed where the status does not say that it did not
 

@@ -2,7 +2,7 @@
 use Rattle.std.proofs.Common.{◌≡◌, ℕ, zero, suc, Bool, true, false, List, [], ◌∷◌, ◌++◌, refl, sym, ap, ◌∙◌, subst, inl}
 use Rattle.std.proofs.Common.{inr}
 use Rattle.http.specs.declared.status.StatusCode.{StatusCode}
-use Rattle.http_streams.specs.Stream.{Closes, Ends, Exchanges, Halts, Rests, Serves, Stops}
+use Rattle.http_streams.specs.Stream.{Closes, EndsByReply, Exchanges, RepliesInPart, AnswersAllRequests, Serves, StopsWithinReply}
 use Rattle.site_calls.specs.site_steps.schema.Schemas.{StatedSchema}
 use Rattle.site_calls.specs.site_steps.schema.Views.{schema_view}
 use Rattle.site_calls.specs.site_steps.stamped_store.Store.{Store, store_of, updates}
@@ -12,9 +12,9 @@ use Rattle.site_calls.specs.site_steps.Inputs.{Input}
 use Rattle.site_calls.specs.site_steps.declared.reply.Reply.{Reply}
 use Rattle.http_routes.specs.Routes.{route_stated}
 use Rattle.site_calls.specs.SiteRequest.{SiteRequest, gives, rejects, unserved}
-use Rattle.http_service.specs.Asked.{request_of}
+use Rattle.http_service.specs.RequestInputs.{request_of}
 use Rattle.site_calls.specs.Answers.{Replies}
-use Rattle.http_service.specs.Answered.{answers}
+use Rattle.http_service.specs.RequestReplies.{answers}
 use Rattle.http_service.specs.Streams.{inputs_of, HaveInputs, LeavesRun}
 
 -- the run of some requests, its store not yet told
@@ -113,7 +113,7 @@ one old new bytes after last out h = goes_more 0 old new new bytes after after l
 none : (old new : SiteView) (bytes : List ℕ) → new ≡ old → Goes 0 old bytes bytes new
 none old new bytes h = subst (λ (s : SiteView). Goes 0 old bytes bytes s) (sym h) (goes_none old bytes)
 
-pub rests_run : RunsTake → (old new : SiteView) (bytes out : List ℕ) → Rests answers old bytes out new
+pub rests_run : RunsTake → (old new : SiteView) (bytes out : List ℕ) → AnswersAllRequests answers old bytes out new
     → LeavesRun old bytes new
 rests_run law old new bytes out h =
     left law old new bytes h.rest
@@ -124,21 +124,21 @@ closes_run : (old new : SiteView) (bytes out : List ℕ) → Closes answers old 
 closes_run old new bytes out (inl h) = (1, h.0, one old new bytes h.0 true out h.1)
 closes_run old new bytes out (inr h) = (0, bytes, none old new bytes h.3)
 
-halts_run : (old new : SiteView) (bytes out : List ℕ) → Halts answers old bytes out new
+halts_run : (old new : SiteView) (bytes out : List ℕ) → RepliesInPart answers old bytes out new
     → (n : ℕ) × (rest : List ℕ) × Goes n old bytes rest new
 halts_run old new bytes out (back, some, inl h) = (1, h.0, one old new bytes h.0 h.1 (out ++ back) h.2)
 halts_run old new bytes out (back, some, inr h) = (0, bytes, none old new bytes h.3)
 
-pub ends_run : RunsTake → (old new : SiteView) (bytes out : List ℕ) → Ends answers old bytes out new
+pub ends_run : RunsTake → (old new : SiteView) (bytes out : List ℕ) → EndsByReply answers old bytes out new
     → LeavesRun old bytes new
 ends_run law old new bytes out h =
     let last = closes_run h.mid new h.rest h.last h.closes in
     left law old new bytes last.1
     (goes_then h.count last.0 old h.mid new bytes h.rest h.before last.1 h.serves last.2)
 
-pub stops_run : RunsTake → (old new : SiteView) (bytes out : List ℕ) → Stops answers old bytes out new
+pub stops_run : RunsTake → (old new : SiteView) (bytes out : List ℕ) → StopsWithinReply answers old bytes out new
     → LeavesRun old bytes new
 stops_run law old new bytes out h =
-    let last = halts_run h.mid new h.rest h.last h.halts in
+    let last = halts_run h.mid new h.rest h.last h.replies_in_part in
     left law old new bytes last.1
     (goes_then h.count last.0 old h.mid new bytes h.rest h.before last.1 h.serves last.2)

@@ -3,7 +3,7 @@ use Rattle.std.proofs.Common.{◌≡◌, ℕ, zero, suc, Bool, true, false, Opti
 use Rattle.std.proofs.Common.{ap, ◌∙◌, subst, inl, inr, append-nil, append_assoc}
 use Rattle.std.specs.Io.KnownBytes.{Consumes}
 use Rattle.http.specs.declared.status.StatusCode.{StatusCode}
-use Rattle.http_streams.specs.Stream.{Closes, Ends, Exchanges, Halts, Rests, Serves, Stops}
+use Rattle.http_streams.specs.Stream.{Closes, EndsByReply, Exchanges, RepliesInPart, AnswersAllRequests, Serves, StopsWithinReply}
 use Rattle.http_streams.specs.Serving.{EndsAs, IsAnswered}
 use Rattle.http_streams.specs.declared.serve.StreamFault.{StreamFault}
 use Rattle.http_streams.specs.declared.serve.StreamFault.TheVariants as fault
@@ -12,9 +12,9 @@ use Rattle.site_calls.specs.site_steps.SiteViews.{SiteView}
 use Rattle.site_calls.specs.site_steps.Inputs.{Input}
 use Rattle.http_routes.specs.Routes.{route_stated}
 use Rattle.site_calls.specs.SiteRequest.{SiteRequest, gives, rejects, unserved}
-use Rattle.http_service.specs.Asked.{request_of}
+use Rattle.http_service.specs.RequestInputs.{request_of}
 use Rattle.site_calls.specs.Answers.{Replies}
-use Rattle.http_service.specs.Answered.{answers}
+use Rattle.http_service.specs.RequestReplies.{answers}
 use Rattle.http_service.specs.Streams.{inputs_of, HaveInputs, LeavesRun}
 use Rattle.http_service.specs.Serving.{Served, before_requests, Continues, continues_run, IsServed}
 use Rattle.http_service.proofs.RunLemmas.{RunsTake, rests_run, ends_run, stops_run}
@@ -82,21 +82,21 @@ asks_closes : (v w : Served) (bytes out : List ℕ) → Closes continues_run v b
 asks_closes v w bytes out (inl h) = asks_more v w w bytes h.0 true out h.1 (asks_none w w h.0 refl)
 asks_closes v w bytes out (inr h) = asks_none v w bytes h.3
 
-asks_halts : (v w : Served) (bytes out : List ℕ) → Halts continues_run v bytes out w → Asks v bytes w
+asks_halts : (v w : Served) (bytes out : List ℕ) → RepliesInPart continues_run v bytes out w → Asks v bytes w
 asks_halts v w bytes out (back, some, inl h) =
     asks_more v w w bytes h.0 h.1 (out ++ back) h.2 (asks_none w w h.0 refl)
 asks_halts v w bytes out (back, some, inr h) = asks_none v w bytes h.3
 
-asks_rests : (v w : Served) (bytes out : List ℕ) → Rests continues_run v bytes out w → Asks v bytes w
+asks_rests : (v w : Served) (bytes out : List ℕ) → AnswersAllRequests continues_run v bytes out w → Asks v bytes w
 asks_rests v w bytes out h = asks_then h.count v w w bytes h.rest out h.serves (asks_none w w h.rest refl)
 
-asks_ends : (v w : Served) (bytes out : List ℕ) → Ends continues_run v bytes out w → Asks v bytes w
+asks_ends : (v w : Served) (bytes out : List ℕ) → EndsByReply continues_run v bytes out w → Asks v bytes w
 asks_ends v w bytes out h =
     asks_then h.count v h.mid w bytes h.rest h.before h.serves (asks_closes h.mid w h.rest h.last h.closes)
 
-asks_stops : (v w : Served) (bytes out : List ℕ) → Stops continues_run v bytes out w → Asks v bytes w
+asks_stops : (v w : Served) (bytes out : List ℕ) → StopsWithinReply continues_run v bytes out w → Asks v bytes w
 asks_stops v w bytes out h =
-    asks_then h.count v h.mid w bytes h.rest h.before h.serves (asks_halts h.mid w h.rest h.last h.halts)
+    asks_then h.count v h.mid w bytes h.rest h.before h.serves (asks_halts h.mid w h.rest h.last h.replies_in_part)
 
 -- ---- a call
 

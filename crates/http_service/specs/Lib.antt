@@ -1,6 +1,6 @@
 pub mod inner
-pub mod Asked
-pub mod Answered
+pub mod RequestInputs
+pub mod RequestReplies
 pub mod Lines
 pub mod Streams
 pub mod Serving

@@ -10,7 +10,7 @@ use Rattle.site_calls.specs.site_steps.Inputs.{Input}
 use Rattle.site_calls.specs.site_steps.declared.reply.Reply.{Reply}
 use Rattle.http_routes.specs.Routes.{route_stated}
 use Rattle.site_calls.specs.SiteRequest.{SiteRequest, gives, rejects, unserved}
-use Rattle.http_service.specs.Asked.{request_of}
+use Rattle.http_service.specs.RequestInputs.{request_of}
 
 -- `inputs_of a` is the list of the inputs of a request that asks for `a`: one, or an empty list.
 abbrev pub inputs_of : SiteRequest → List Input

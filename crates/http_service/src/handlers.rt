@@ -7,9 +7,10 @@ ghost use Rattle.http_streams.specs.declared.TheConstants.{REPLY_ROOM};
 ghost use Rattle.http_routes.specs.Routes.{route_stated};
 ghost use Rattle.site_calls.specs.site_steps.SiteViews.{SiteView};
 ghost use Rattle.site_calls.specs.Answers.{Appends};
-ghost use Rattle.http_service.specs.Asked.{request_of};
-ghost use Rattle.http_logs.specs.declared.TheConstants.{TAIL_ROOM, UNREAD_ROOM};
-ghost use Rattle.http_service.specs.inner.Noting.{AnswersWithLine, AnswersWithTail, IsUndoneReply, unserved_status};
+ghost use Rattle.http_service.specs.RequestInputs.{request_of};
+ghost use Rattle.http_logs.specs.declared.TheConstants.{MOST_TAIL, MOST_UNREAD_LINE};
+ghost use Rattle.http_service.specs.inner.LoggedAnswers.{AnswersWithLine, AnswersWithTail, IsUndoneReply};
+ghost use Rattle.http_service.specs.inner.LoggedAnswers.{unserved_status};
 
 use http::StatusCode;
 use http_logs::{put_decided_tail, put_head, put_plain_tail, put_tail, put_unread_line};
@@ -130,7 +131,7 @@ fn report_no_memory(route: &Route, text: &mut Vec<u8>) -> StatusCode
 /// Reports that an allocation failed for a decision, and ends the line of its request.
 fn report_undecided(text: &mut Vec<u8>, line: &mut Vec<u8>) -> StatusCode
     requires room { vec_len text.old + REPLY_ROOM ≤ vec_capacity text.old }
-    requires tail { vec_len line.old + TAIL_ROOM ≤ vec_capacity line.old }
+    requires tail { vec_len line.old + MOST_TAIL ≤ vec_capacity line.old }
     ensures reply { (site : SiteView) (body : List ℕ) → AnswersWithTail site Route.Authorize body result text.old.items
         text.new.items line.old.items line.new.items site }
     ensures kept { vec_capacity text.old ≤ vec_capacity text.new }
@@ -151,7 +152,7 @@ fn decide_parsed(
     line: &mut Vec<u8>,
 ) -> StatusCode
     requires room { vec_len text.old + REPLY_ROOM ≤ vec_capacity text.old }
-    requires tail { vec_len line.old + TAIL_ROOM ≤ vec_capacity line.old }
+    requires tail { vec_len line.old + MOST_TAIL ≤ vec_capacity line.old }
     ensures reply { (body : List ℕ) → json_of body ≡ option_map view json.now
         → AnswersWithTail site.now Route.Authorize body result text.old.items text.new.items line.old.items
         line.new.items site.now }
@@ -180,7 +181,7 @@ fn decide_logged(
     line: &mut Vec<u8>,
 ) -> StatusCode
     requires room { vec_len text.old + REPLY_ROOM ≤ vec_capacity text.old }
-    requires tail { vec_len line.old + TAIL_ROOM ≤ vec_capacity line.old }
+    requires tail { vec_len line.old + MOST_TAIL ≤ vec_capacity line.old }
     ensures reply { AnswersWithTail site.now Route.Authorize body.now result text.old.items text.new.items
         line.old.items line.new.items site.now }
     ensures kept { vec_capacity text.old ≤ vec_capacity text.new }
@@ -204,7 +205,7 @@ fn answer_other_route(
 ) -> StatusCode
     requires other { route.now ≢ Route.Authorize }
     requires room { vec_len text.old + REPLY_ROOM ≤ vec_capacity text.old }
-    requires tail { vec_len line.old + TAIL_ROOM ≤ vec_capacity line.old }
+    requires tail { vec_len line.old + MOST_TAIL ≤ vec_capacity line.old }
     ensures reply { AnswersWithTail site.old route.now body.now result text.old.items text.new.items line.old.items
         line.new.items site.new }
     ensures kept { vec_capacity text.old ≤ vec_capacity text.new }
@@ -227,7 +228,7 @@ fn answer_logged(
     line: &mut Vec<u8>,
 ) -> StatusCode
     requires room { vec_len text.old + REPLY_ROOM ≤ vec_capacity text.old }
-    requires tail { vec_len line.old + TAIL_ROOM ≤ vec_capacity line.old }
+    requires tail { vec_len line.old + MOST_TAIL ≤ vec_capacity line.old }
     ensures reply { AnswersWithTail site.old route.now body.now result text.old.items text.new.items line.old.items
         line.new.items site.new }
     ensures kept { vec_capacity text.old ≤ vec_capacity text.new }
@@ -253,7 +254,7 @@ pub(crate) fn answer_with_line(
 ) -> StatusCode
     requires room { vec_len text.old + REPLY_ROOM ≤ vec_capacity text.old }
     requires empty { line.old.items ≡ [] }
-    requires line_room { UNREAD_ROOM ≤ vec_capacity line.old }
+    requires line_room { MOST_UNREAD_LINE ≤ vec_capacity line.old }
     ensures reply { AnswersWithLine site.old method.now target.now body.now result text.old.items text.new.items
         line.new.items site.new }
     ensures kept { vec_capacity text.old ≤ vec_capacity text.new }

@@ -7,7 +7,7 @@ ghost use Rattle.http_logs.specs.OneLine.{IsOneLine};
 ghost use Rattle.http_routes.specs.Routes.{route_stated};
 ghost use Rattle.http_streams.specs.Laws.{AgreeOn, AnswersAll, BeginsAnswer, HasOneAnswer, StopsIn, in_memory};
 ghost use Rattle.http_streams.specs.Serving.{IsAnswered};
-ghost use Rattle.http_streams.specs.Stream.{Ends, Rests, Stops};
+ghost use Rattle.http_streams.specs.Stream.{EndsByReply, AnswersAllRequests, StopsWithinReply};
 ghost use Rattle.site_calls.specs.Lines.{put_line, stamp_line};
 ghost use Rattle.site_calls.specs.site_steps.SiteViews.{SiteView};
 ghost use Rattle.site_calls.specs.site_steps.Steps.{most_count};
@@ -20,7 +20,7 @@ ghost use Rattle.site_calls.specs.site_steps.Permitted.{IsPermittedReply};
 ghost use Rattle.site_calls.specs.Answers.{Replies};
 ghost use Rattle.site_calls.specs.SiteRequest.{gives};
 ghost use Rattle.site_calls.specs.Reports.{reported};
-ghost use Rattle.http_service.specs.Answered.{IsAlike, answers};
+ghost use Rattle.http_service.specs.RequestReplies.{IsAlike, answers};
 ghost use Rattle.http_service.specs.Lines.{IsChange, stamped_end};
 ghost use Rattle.http_service.specs.Serving.{IsServed};
 ghost use Rattle.http_service.specs.Streams.{HaveInputs, LeavesRun};
@@ -35,11 +35,11 @@ use site_calls::{inputs_have_one_outcome, runs_are_sound, runs_leave_what_they_t
 /// first of these requests ask for, in order. So the store of the site is the join of the updates that the site had and
 /// those that the run applied. No-op.
 pub fn streams_leave_runs()
-    ensures rests { (old new : SiteView) (bytes out : List ℕ) → Rests answers old bytes out new
+    ensures rests { (old new : SiteView) (bytes out : List ℕ) → AnswersAllRequests answers old bytes out new
         → LeavesRun old bytes new }
-    ensures ends { (old new : SiteView) (bytes out : List ℕ) → Ends answers old bytes out new
+    ensures ends { (old new : SiteView) (bytes out : List ℕ) → EndsByReply answers old bytes out new
         → LeavesRun old bytes new }
-    ensures stops { (old new : SiteView) (bytes out : List ℕ) → Stops answers old bytes out new
+    ensures stops { (old new : SiteView) (bytes out : List ℕ) → StopsWithinReply answers old bytes out new
         → LeavesRun old bytes new }
 {
     runs_leave_what_they_took();

@@ -6,7 +6,7 @@ ghost use Rattle.http_streams.specs.Logs.{IsLogged};
 ghost use Rattle.http_service.specs.Serving.{IsServed};
 
 use crate::site_service::{LoggedService, SiteService};
-use http_logs::UNREAD_ROOM;
+use http_logs::MOST_UNREAD_LINE;
 use http_streams::serve::{
     StreamFault, serve as serve_stream, serve_logged as serve_stream_logged,
 };
@@ -74,7 +74,7 @@ fn serve_borrowed_logged<R: Source, W: Sink, L: Sink>(
     log: &mut L,
     line: &mut Vec<u8>,
 ) -> Result<(), StreamFault>
-    requires { UNREAD_ROOM ≤ vec_capacity line.old }
+    requires { MOST_UNREAD_LINE ≤ vec_capacity line.old }
     ensures same_reference { logged.new.service.site.ghost_name ≡ logged.old.service.site.ghost_name }
     ensures served { IsServed R.left R.failed R.reads R.fails W.holds W.failed W.fails reader.old reader.new writer.old
         writer.new logged.old.service.site.now logged.new.service.site.now result }
@@ -107,7 +107,7 @@ pub fn serve_logged<R: Source, W: Sink, L: Sink>(
         writer.old writer.new log.old log.new result }
 {
     runs_leave_what_they_took();
-    let Ok(mut line) = Vec::with_capacity(alloc, UNREAD_ROOM) else {
+    let Ok(mut line) = Vec::with_capacity(alloc, MOST_UNREAD_LINE) else {
         return Err(StreamFault::NoMemory);
     };
     let mut kept = Scratch::new(alloc);

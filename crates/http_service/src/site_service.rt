@@ -22,7 +22,7 @@ pub struct SiteService<'a> {
 }
 
 impl Answers for SiteService<'_> {
-    ghost use Rattle.http_service.specs.Answered.{answers_over};
+    ghost use Rattle.http_service.specs.RequestReplies.{answers_over};
 
     ghost answers = { answers_over };
 }
@@ -47,7 +47,7 @@ impl Model for ViewedSite {
 }
 
 impl Answers for ViewedSite {
-    ghost use Rattle.http_service.specs.Answered.{answers, IsAlike};
+    ghost use Rattle.http_service.specs.RequestReplies.{answers, IsAlike};
 
     ghost answers = { answers };
 
@@ -82,7 +82,7 @@ pub struct LoggedService<'a> {
 }
 
 impl Answers for LoggedService<'_> {
-    ghost use Rattle.http_service.specs.Answered.{answers_logged};
+    ghost use Rattle.http_service.specs.RequestReplies.{answers_logged};
 
     ghost answers = { answers_logged };
 }
@@ -94,7 +94,7 @@ impl Service for LoggedService<'_> {
 
     ghost refusal_line = { unread_line };
 
-    // `UNREAD_ROOM`, an upper bound of the bytes of a line without method and target
+    // `MOST_UNREAD_LINE`, an upper bound of the bytes of a line without method and target
     ghost line_room = { 64 };
 
     fn call(

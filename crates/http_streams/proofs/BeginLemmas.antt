@@ -4,16 +4,16 @@ use Rattle.std.proofs.Common.{append_assoc, append-nil}
 use Rattle.http_streams.specs.Laws.{AnswersAll, BeginsAnswer, HasOneAnswer, StopsIn}
 use Rattle.http_streams.specs.ReplyText.{error_line, reply_text}
 use Rattle.http_streams.specs.Request.{IsUnfinished}
-use Rattle.http_streams.specs.Stream.{Answering, Closes, Ends, Halts, Rests, Serves}
+use Rattle.http_streams.specs.Stream.{Answering, Closes, EndsByReply, RepliesInPart, AnswersAllRequests, Serves}
 use Rattle.http_streams.proofs.StreamLemmas.{Exchanges-append, Serves-append, Serves-push}
 use Rattle.http_streams.proofs.UniqueLemmas.{agree_on, refuses-append, exchange_unique, open_not_ended, to_end}
 use Rattle.http_streams.proofs.OneRequest.{whole_not_unfinished}
 
-pub halts-append : {S : Type 0} (answers : Answering S) (old new : S) (bytes out more : List ℕ) → Halts answers old bytes out new
-    → Halts answers old (bytes ++ more) out new
-halts-append answers old new bytes out more (back, some, inl (rest, last, e)) =
+pub replies_in_part-append : {S : Type 0} (answers : Answering S) (old new : S) (bytes out more : List ℕ) → RepliesInPart answers old bytes out new
+    → RepliesInPart answers old (bytes ++ more) out new
+replies_in_part-append answers old new bytes out more (back, some, inl (rest, last, e)) =
     (back, some, inl (rest ++ more, last, Exchanges-append answers e more))
-halts-append answers old new bytes out more (back, some, inr e) =
+replies_in_part-append answers old new bytes out more (back, some, inr e) =
     (back, some, inr (refuses-append answers old new bytes (out ++ back) more e))
 
 module _ {S : Type 0} (answers : Answering S) (same : S → S → Type 0) (one : HasOneAnswer answers same) where
@@ -44,7 +44,7 @@ module _ {S : Type 0} (answers : Answering S) (same : S → S → Type 0) (one :
       )
 
   serves_all : (k : ℕ) (old old2 mid new : S) (s r b more : List ℕ) → same old old2 → Serves answers k old s r b mid
-      → Rests answers old2 s more new ⊎ Ends answers old2 s more new → (back : List ℕ) × (more ≡ b ++ back)
+      → AnswersAllRequests answers old2 s more new ⊎ EndsByReply answers old2 s more new → (back : List ℕ) × (more ≡ b ++ back)
   serves_all k old old2 mid new s r b more w x (inl y) = serves_rests k y.count old old2 mid new s r y.rest b more w x y.serves y.unfinished
   serves_all k old old2 mid new s r b more w x (inr y) =
       let found = serves_ends k y.count old old2 mid y.mid new s r y.rest b y.before y.last w x y.serves y.closes in
@@ -55,7 +55,7 @@ module _ {S : Type 0} (answers : Answering S) (same : S → S → Type 0) (one :
       → Closes answers mid r (front ++ back) new → AnswersAll answers old2 s more other → BeginsAnswer answers old2 s (b ++ front) more other
   closing k old old2 mid other new s r b front back more w x e y =
       let refusal = reply_text true 400 (error_line 400) in
-      let ends : Ends answers old s (b ++ (front ++ back)) new = record {
+      let ends : EndsByReply answers old s (b ++ (front ++ back)) new = record {
         count = k;
         mid = mid;
         rest = r;
@@ -75,7 +75,7 @@ module _ {S : Type 0} (answers : Answering S) (same : S → S → Type 0) (one :
       ]
 
   halting : (k : ℕ) (old old2 mid other new : S) (s r b last more : List ℕ) → same old old2 → Serves answers k old s r b mid
-      → Halts answers mid r last new → AnswersAll answers old2 s more other → BeginsAnswer answers old2 s (b ++ last) more other
+      → RepliesInPart answers mid r last new → AnswersAll answers old2 s more other → BeginsAnswer answers old2 s (b ++ last) more other
   halting k old old2 mid other new s r b last more w x (back, some, inl (rest, true, e)) y =
       closing k old old2 mid other new s r b last back more w x (inl (rest, e)) y
   halting k old old2 mid other new s r b last more w x (back, some, inl (rest, false, e)) y =
@@ -97,6 +97,6 @@ module _ {S : Type 0} (answers : Answering S) (same : S → S → Type 0) (one :
   begins_answer old old2 new other stream out more w (front, after, is, inr e) y =
       let serves = subst (λ (t : List ℕ). Serves answers e.count old t (e.rest ++ after) e.before e.mid) (sym is)
       (Serves-append answers e.count old e.mid front e.rest e.before after e.serves) in
-      let halts = halts-append answers e.mid new e.rest e.last after e.halts in
+      let replies_in_part = replies_in_part-append answers e.mid new e.rest e.last after e.replies_in_part in
       subst (λ (t : List ℕ). BeginsAnswer answers old2 stream t more other) (sym e.joined)
-      (halting e.count old old2 e.mid other new stream (e.rest ++ after) e.before e.last more w serves halts y)
+      (halting e.count old old2 e.mid other new stream (e.rest ++ after) e.before e.last more w serves replies_in_part y)

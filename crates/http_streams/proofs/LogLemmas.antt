@@ -10,7 +10,7 @@ use Rattle.std.proofs.KnownBytes.{Appends-nil}
 use Rattle.http_streams.specs.ReplyText.{ending, error_line, length_lines, phrase, reply_text, status_line}
 use Rattle.http_streams.specs.Request.{IsRefused}
 use Rattle.http.specs.declared.status.StatusCode.{StatusCode}
-use Rattle.http_streams.specs.Stream.{Exchanges, Halts, Refuses, Serves, Answering}
+use Rattle.http_streams.specs.Stream.{Exchanges, RepliesInPart, Refuses, Serves, Answering}
 use Rattle.http_streams.specs.Logs.{LineRelation, IsFront, notes, cuts, AreNoted, IsLastNoted, HasLogFailed, IsLogged}
 use Rattle.http_streams.specs.inner.Sending.{IsSentInPart, fault_of}
 use Rattle.http_streams.specs.declared.serve.Broken.{Broken}
@@ -96,7 +96,7 @@ module _ {S L W : Type 0} (answers : Answering S) (lines : LineRelation) (refusa
       → (Appends (logged l) (logged k) line → Exchanges (notes lines logged) l bytes last reply k rest)
       → (IsFront line (logged l) (logged k) → Exchanges (cuts lines logged) l bytes last reply k rest)
       → IsSentInPart broken logged holds line reply l k v w
-      → (out : List ℕ) × Appends (holds v) (holds w) out × Halts answers a bytes out b
+      → (out : List ℕ) × Appends (holds v) (holds w) out × RepliesInPart answers a bytes out b
       × IsLastNoted lines refusal logged (Err (fault_of broken)) l bytes out k
   broken_off Log a b l k v w bytes line reply rest last some whole noted cut x = (
     [],
@@ -118,7 +118,7 @@ module _ {S L W : Type 0} (answers : Answering S) (lines : LineRelation) (refusa
   -- that of a refusal broke off, or its line did
   pub refusal_broken : (broken : Broken) (a : S) (l k : L) (v w : W) (bytes : List ℕ) (status : StatusCode) → IsRefused bytes status
       → IsSentInPart broken logged holds (refusal status) (reply_text true status (error_line status)) l k v w
-      → (out : List ℕ) × Appends (holds v) (holds w) out × Halts answers a bytes out a
+      → (out : List ℕ) × Appends (holds v) (holds w) out × RepliesInPart answers a bytes out a
       × IsLastNoted lines refusal logged (Err (fault_of broken)) l bytes out k
   refusal_broken Log a l k v w bytes status refused x = (
     [],

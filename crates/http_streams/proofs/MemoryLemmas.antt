@@ -4,7 +4,7 @@ use Rattle.std.proofs.Common.{append_assoc, append-nil}
 use Rattle.http_streams.specs.Laws.{AnswersAll, HasFirst503, StopsIn, in_memory}
 use Rattle.std.proofs.lemmas.Bool.Decides.{eqb_tells}
 use Rattle.http.specs.declared.status.StatusCode.{StatusCode}
-use Rattle.http_streams.specs.Stream.{Answering, Closes, Ends, Exchanges, Halts, Rests, Serves, Stops}
+use Rattle.http_streams.specs.Stream.{Answering, Closes, EndsByReply, Exchanges, RepliesInPart, AnswersAllRequests, Serves, StopsWithinReply}
 use Rattle.http_streams.proofs.StreamLemmas.{Exchanges-append, Serves-append, Serves-none, Serves-then, status-append}
 
 decide : (s : StatusCode) → (s ≡ 503) ⊎ (s ≢ 503)
@@ -151,16 +151,16 @@ module _ {S : Type 0} (answers : Answering S) where
       ]
   closes old new bytes out (inr refused) = inl (inr refused)
 
-  rests : (old new : S) (bytes out : List ℕ) → Rests answers old bytes out new
-      → Rests (in_memory answers) old bytes out new ⊎ HasFirst503 answers old bytes out []
+  rests : (old new : S) (bytes out : List ℕ) → AnswersAllRequests answers old bytes out new
+      → AnswersAllRequests (in_memory answers) old bytes out new ⊎ HasFirst503 answers old bytes out []
   rests old new bytes out x =
       elim (served x.count old new bytes x.rest out x.serves) [
         | inl y ↦ inl (record { count = x.count; rest = x.rest; serves = y; unfinished = x.unfinished })
         | inr l ↦ inr l
       ]
 
-  ends : (old new : S) (bytes out : List ℕ) → Ends answers old bytes out new
-      → Ends (in_memory answers) old bytes out new ⊎ HasFirst503 answers old bytes out []
+  ends : (old new : S) (bytes out : List ℕ) → EndsByReply answers old bytes out new
+      → EndsByReply (in_memory answers) old bytes out new ⊎ HasFirst503 answers old bytes out []
   ends old new bytes out x =
       elim (served x.count old x.mid bytes x.rest x.before x.serves) [
         | inl y ↦ elim (closes x.mid new x.rest x.last x.closes) [
@@ -192,21 +192,21 @@ module _ {S : Type 0} (answers : Answering S) where
   breaks old new bytes out back rest last e is =
       lacks_at old bytes back (sym (append-nil out)) (first out back [] e is (inr refl))
 
-  halts : (old new : S) (bytes out : List ℕ) → Halts answers old bytes out new
-      → Halts (in_memory answers) old bytes out new ⊎ ((unsent : List ℕ) × HasFirst503 answers old bytes out unsent)
-  halts old new bytes out (back, some, inl (rest, last, e)) =
+  replies_in_part : (old new : S) (bytes out : List ℕ) → RepliesInPart answers old bytes out new
+      → RepliesInPart (in_memory answers) old bytes out new ⊎ ((unsent : List ℕ) × HasFirst503 answers old bytes out unsent)
+  replies_in_part old new bytes out (back, some, inl (rest, last, e)) =
       elim (decide e.status) [
         | inl is ↦ inr (back, breaks old new bytes out back rest last e is)
         | inr other ↦ inl (back, some, inl (rest, last, narrow e other))
       ]
-  halts old new bytes out (back, some, inr refused) = inl (back, some, inr refused)
+  replies_in_part old new bytes out (back, some, inr refused) = inl (back, some, inr refused)
 
-  stops : (old new : S) (bytes out : List ℕ) → Stops answers old bytes out new
-      → Stops (in_memory answers) old bytes out new ⊎ ((unsent : List ℕ) × HasFirst503 answers old bytes out unsent)
+  stops : (old new : S) (bytes out : List ℕ) → StopsWithinReply answers old bytes out new
+      → StopsWithinReply (in_memory answers) old bytes out new ⊎ ((unsent : List ℕ) × HasFirst503 answers old bytes out unsent)
   stops old new bytes out x =
       elim (served x.count old x.mid bytes x.rest x.before x.serves) [
-        | inl y ↦ elim (halts x.mid new x.rest x.last x.halts) [
-          | inl e ↦ inl (record { count = x.count; mid = x.mid; rest = x.rest; before = x.before; last = x.last; serves = y; halts = e; joined = x.joined })
+        | inl y ↦ elim (replies_in_part x.mid new x.rest x.last x.replies_in_part) [
+          | inl e ↦ inl (record { count = x.count; mid = x.mid; rest = x.rest; before = x.before; last = x.last; serves = y; replies_in_part = e; joined = x.joined })
           | inr b ↦ inr (b.0, lacks_at old bytes b.0 x.joined (behind x.count old x.mid bytes x.rest x.before x.last b.0 y b.1))
         ]
         | inr l ↦ inr ([], lacks_at old bytes [] x.joined (and_more old bytes x.before x.last l))

@@ -21,7 +21,7 @@ use Rattle.http_streams.specs.RequestText.{body_bytes, length_field, request_sta
 use Rattle.http_streams.specs.declared.parts.Ask.{Ask}
 use Rattle.http_streams.specs.Fields.{announced, values_named}
 use Rattle.http_streams.specs.Request.{Admits, IsCut, IsRefused, ReadsWhole, closes_of, framing_by, framing_of, needs_length, pairs}
-use Rattle.http_streams.specs.Sent.{FitsLimits, IsAsked, IsReadBack}
+use Rattle.http_streams.specs.RequestRoundTrip.{FitsLimits, IsAsked, IsReadBack}
 use Rattle.http_streams.specs.declared.TheConstants.{MAX_BODY, MAX_FIELDS}
 use Rattle.http_streams.specs.declared.cut.Cut.{Cut}
 use Rattle.http_streams.specs.declared.cut.Cut.TheVariants as Cuts

@@ -2,7 +2,7 @@
 use Rattle.std.proofs.Common.{ℕ, zero, suc, Bool, true, false, Option, List, ◌++◌, Result, Ok, Err, refl, sym, subst}
 use Rattle.std.proofs.Common.{inl, inr}
 use Rattle.http.specs.declared.status.StatusCode.{StatusCode}
-use Rattle.http_streams.specs.Stream.{Answering, Closes, Ends, Exchanges, Halts, KeepsUp, Rests, Serves, Stops}
+use Rattle.http_streams.specs.Stream.{Answering, Closes, EndsByReply, Exchanges, RepliesInPart, RepliesPromptly, AnswersAllRequests, Serves, StopsWithinReply}
 use Rattle.http_streams.specs.Serving.{EndsAs, IsAnswered}
 use Rattle.http_streams.specs.declared.serve.StreamFault.{StreamFault}
 use Rattle.http_streams.specs.declared.serve.StreamFault.TheVariants as fault
@@ -43,22 +43,22 @@ module _ {S T : Type 0} (says : Answering S) (tells : Answering T) (Meets : S �
   closes a b x bytes out meets (inr h) =
       (x, inr (h.0, h.1, h.2, refl), subst (λ (c : S). Meets c x) (sym h.3) meets)
 
-  halts : (a b : S) (x : T) (bytes out : List ℕ) → Meets a x → Halts says a bytes out b
-      → (y : T) × Halts tells x bytes out y × Meets b y
-  halts a b x bytes out meets (back, some, inl h) =
+  replies_in_part : (a b : S) (x : T) (bytes out : List ℕ) → Meets a x → RepliesInPart says a bytes out b
+      → (y : T) × RepliesInPart tells x bytes out y × Meets b y
+  replies_in_part a b x bytes out meets (back, some, inl h) =
       let one = exchanges a b x bytes h.1 (out ++ back) h.0 meets h.2 in
       (one.0, (back, some, inl (h.0, h.1, one.1)), one.2)
-  halts a b x bytes out meets (back, some, inr h) =
+  replies_in_part a b x bytes out meets (back, some, inr h) =
       (x, (back, some, inr (h.0, h.1, h.2, refl)), subst (λ (c : S). Meets c x) (sym h.3) meets)
 
-  rests : (a b : S) (x : T) (bytes out : List ℕ) → Meets a x → Rests says a bytes out b
-      → (y : T) × Rests tells x bytes out y × Meets b y
+  rests : (a b : S) (x : T) (bytes out : List ℕ) → Meets a x → AnswersAllRequests says a bytes out b
+      → (y : T) × AnswersAllRequests tells x bytes out y × Meets b y
   rests a b x bytes out meets h =
       let all = serves h.count a b x bytes h.rest out meets h.serves in
       (all.0, record { count = h.count; rest = h.rest; serves = all.1; unfinished = h.unfinished }, all.2)
 
-  ends : (a b : S) (x : T) (bytes out : List ℕ) → Meets a x → Ends says a bytes out b
-      → (y : T) × Ends tells x bytes out y × Meets b y
+  ends : (a b : S) (x : T) (bytes out : List ℕ) → Meets a x → EndsByReply says a bytes out b
+      → (y : T) × EndsByReply tells x bytes out y × Meets b y
   ends a b x bytes out meets h =
       let all = serves h.count a h.mid x bytes h.rest h.before meets h.serves in
       let last = closes h.mid b all.0 h.rest h.last all.2 h.closes in (
@@ -76,11 +76,11 @@ module _ {S T : Type 0} (says : Answering S) (tells : Answering T) (Meets : S �
         last.2,
       )
 
-  stops : (a b : S) (x : T) (bytes out : List ℕ) → Meets a x → Stops says a bytes out b
-      → (y : T) × Stops tells x bytes out y × Meets b y
+  stops : (a b : S) (x : T) (bytes out : List ℕ) → Meets a x → StopsWithinReply says a bytes out b
+      → (y : T) × StopsWithinReply tells x bytes out y × Meets b y
   stops a b x bytes out meets h =
       let all = serves h.count a h.mid x bytes h.rest h.before meets h.serves in
-      let last = halts h.mid b all.0 h.rest h.last all.2 h.halts in (
+      let last = replies_in_part h.mid b all.0 h.rest h.last all.2 h.replies_in_part in (
         last.0,
         record {
           count = h.count;
@@ -89,7 +89,7 @@ module _ {S T : Type 0} (says : Answering S) (tells : Answering T) (Meets : S �
           before = h.before;
           last = h.last;
           serves = all.1;
-          halts = last.1;
+          replies_in_part = last.1;
           joined = h.joined;
         },
         last.2,
@@ -99,7 +99,7 @@ module _ {S T : Type 0} (says : Answering S) (tells : Answering T) (Meets : S �
       (read_fails : R → R → Type 0) (holds : W → Option (List ℕ)) (write_failures : W → ℕ)
       (write_fails : W → W → Type 0) where
     keeps_up : (a : S) (x : T) (first last : R) (bytes out : List ℕ) → Meets a x
-        → KeepsUp says left reads a first last bytes out → KeepsUp tells left reads x first last bytes out
+        → RepliesPromptly says left reads a first last bytes out → RepliesPromptly tells left reads x first last bytes out
     keeps_up a x first last bytes out meets h =
         let all = rests a h.state x h.front h.sent meets h.answered in
         record {

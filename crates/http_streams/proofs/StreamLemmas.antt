@@ -7,7 +7,7 @@ use Rattle.http_streams.specs.Request.{IsUnfinished, IsWholeAt}
 use Rattle.http_streams.proofs.OneRequest.{ReadsWhole-append}
 use Rattle.http_streams.specs.declared.cut.Parts.{Parts}
 use Rattle.http.specs.declared.status.StatusCode.{StatusCode}
-use Rattle.http_streams.specs.Stream.{Answering, Closes, Ends, Exchanges, Halts, Rests, Serves, Stops}
+use Rattle.http_streams.specs.Stream.{Answering, Closes, EndsByReply, Exchanges, RepliesInPart, AnswersAllRequests, Serves, StopsWithinReply}
 
 module _ {S : Type 0} (answers : Answering S) where
   -- a whole request that was answered, with its reply
@@ -78,9 +78,9 @@ module _ {S : Type 0} (answers : Answering S) where
   Serves-push n old mid new bytes rest last out more x e =
       Serves-then n 1 old mid new bytes rest last out more x (new, last, more, [], e, (refl, refl, refl), sym (append-nil more))
 
-  pub Ends-after : (n : ℕ) (old mid new : S) (bytes rest out more : List ℕ) → Serves answers n old bytes rest out mid
-      → Ends answers mid rest more new → Ends answers old bytes (out ++ more) new
-  Ends-after n old mid new bytes rest out more x e =
+  pub EndsByReply-after : (n : ℕ) (old mid new : S) (bytes rest out more : List ℕ) → Serves answers n old bytes rest out mid
+      → EndsByReply answers mid rest more new → EndsByReply answers old bytes (out ++ more) new
+  EndsByReply-after n old mid new bytes rest out more x e =
       let k = Serves-then n e.count old mid e.mid bytes rest e.rest out e.before x e.serves in
       record {
         count = k.0;
@@ -93,9 +93,9 @@ module _ {S : Type 0} (answers : Answering S) where
         joined = ap (λ (t : List ℕ). out ++ t) e.joined ∙ sym (append_assoc out e.before e.last);
       }
 
-  pub Stops-after : (n : ℕ) (old mid new : S) (bytes rest out more : List ℕ) → Serves answers n old bytes rest out mid
-      → Stops answers mid rest more new → Stops answers old bytes (out ++ more) new
-  Stops-after n old mid new bytes rest out more x e =
+  pub StopsWithinReply-after : (n : ℕ) (old mid new : S) (bytes rest out more : List ℕ) → Serves answers n old bytes rest out mid
+      → StopsWithinReply answers mid rest more new → StopsWithinReply answers old bytes (out ++ more) new
+  StopsWithinReply-after n old mid new bytes rest out more x e =
       let k = Serves-then n e.count old mid e.mid bytes rest e.rest out e.before x e.serves in
       record {
         count = k.0;
@@ -104,13 +104,13 @@ module _ {S : Type 0} (answers : Answering S) where
         before = out ++ e.before;
         last = e.last;
         serves = k.1;
-        halts = e.halts;
+        replies_in_part = e.replies_in_part;
         joined = ap (λ (t : List ℕ). out ++ t) e.joined ∙ sym (append_assoc out e.before e.last);
       }
 
   -- the first thing that stands there ends it
-  pub Ends-now : (old new : S) (bytes out : List ℕ) → Closes answers old bytes out new → Ends answers old bytes out new
-  Ends-now old new bytes out x = record {
+  pub EndsByReply-now : (old new : S) (bytes out : List ℕ) → Closes answers old bytes out new → EndsByReply answers old bytes out new
+  EndsByReply-now old new bytes out x = record {
     count = 0;
     mid = old;
     rest = bytes;
@@ -121,15 +121,15 @@ module _ {S : Type 0} (answers : Answering S) where
     joined = refl;
   }
 
-  pub Stops-now : (old new : S) (bytes out : List ℕ) → Halts answers old bytes out new → Stops answers old bytes out new
-  Stops-now old new bytes out x = record {
+  pub StopsWithinReply-now : (old new : S) (bytes out : List ℕ) → RepliesInPart answers old bytes out new → StopsWithinReply answers old bytes out new
+  StopsWithinReply-now old new bytes out x = record {
     count = 0;
     mid = old;
     rest = bytes;
     before = [];
     last = out;
     serves = Serves-none old bytes;
-    halts = x;
+    replies_in_part = x;
     joined = refl;
   }
 
@@ -140,13 +140,13 @@ module _ {S : Type 0} (answers : Answering S) where
       subst (λ (b : Bool). Exchanges answers old same b out new rest) f
       (subst (λ (t : List ℕ). Exchanges answers old t last out new rest) e x)
 
-  pub Halts-at : (old new : S) {bytes same : List ℕ} (out : List ℕ) → bytes ≡ same → Halts answers old bytes out new → Halts answers old same out new
-  Halts-at old new out e x = subst (λ (t : List ℕ). Halts answers old t out new) e x
+  pub RepliesInPart-at : (old new : S) {bytes same : List ℕ} (out : List ℕ) → bytes ≡ same → RepliesInPart answers old bytes out new → RepliesInPart answers old same out new
+  RepliesInPart-at old new out e x = subst (λ (t : List ℕ). RepliesInPart answers old t out new) e x
 
   -- the state in which the loop reads on: how much was read and written, and what is left to answer
-  pub Rests-from : (n : ℕ) (old new : S) (bytes rest out : List ℕ) → Serves answers n old bytes rest out new → IsUnfinished rest
-      → Rests answers old bytes out new
-  Rests-from n old new bytes rest out x unfinished = record { count = n; rest = rest; serves = x; unfinished = unfinished }
+  pub AnswersAllRequests-from : (n : ℕ) (old new : S) (bytes rest out : List ℕ) → Serves answers n old bytes rest out new → IsUnfinished rest
+      → AnswersAllRequests answers old bytes out new
+  AnswersAllRequests-from n old new bytes rest out x unfinished = record { count = n; rest = rest; serves = x; unfinished = unfinished }
 
   -- after a read
   pub Serves-read : (n : ℕ) (old new : S) (bytes rest out more whole : List ℕ) → Serves answers n old bytes rest out new

@@ -7,7 +7,7 @@ use Rattle.http_streams.specs.declared.cut.Framing.TheVariants.{Body, Refused}
 use Rattle.http_streams.specs.Request.{IsRefused, IsUnfinished, framing_of, closes_of}
 use Rattle.http_streams.specs.ReplyText.{reply_text, error_line}
 use Rattle.http.specs.declared.status.StatusCode.{StatusCode}
-use Rattle.http_streams.specs.Stream.{Answering, Closes, Ends, Exchanges, Refuses, Rests, Serves}
+use Rattle.http_streams.specs.Stream.{Answering, Closes, EndsByReply, Exchanges, Refuses, AnswersAllRequests, Serves}
 use Rattle.http_streams.specs.Laws.{AgreeOn, AnswersAll, DiffersInBadTarget, HasOneAnswer, EndsInBadTarget}
 use Rattle.http_streams.proofs.OneRequest.{admits_unique, refused-append, refused_unique, whole_not_unfinished}
 use Rattle.http_streams.proofs.OneRequest.{whole_or_refused, whole_unique}
@@ -38,8 +38,8 @@ pub closes-append : {S : Type 0} (answers : Answering S) (old new : S) (bytes ou
 closes-append answers old new bytes out more (inl (rest, x)) = inl (rest ++ more, Exchanges-append answers x more)
 closes-append answers old new bytes out more (inr x) = inr (refuses-append answers old new bytes out more x)
 
-pub ends-append : {S : Type 0} (answers : Answering S) (old new : S) (bytes out more : List ℕ) → Ends answers old bytes out new
-    → Ends answers old (bytes ++ more) out new
+pub ends-append : {S : Type 0} (answers : Answering S) (old new : S) (bytes out more : List ℕ) → EndsByReply answers old bytes out new
+    → EndsByReply answers old (bytes ++ more) out new
 ends-append answers old new bytes out more e = record {
   count = e.count;
   mid = e.mid;
@@ -164,8 +164,8 @@ module _ {S : Type 0} (answers : Answering S) (same : S → S → Type 0) (one :
             ∙ ap (λ (a : List ℕ). x.2 ++ a) later.2 ∙ sym (append_assoc x.2 x.3 corner) ∙ sym (ap (λ (t : List ℕ). t ++ corner) x.6),
       )
 
-  mixed : (old old2 new new2 : S) (stream out more : List ℕ) → same old old2 → Rests answers old stream out new
-      → Ends answers old2 stream more new2 → same new new2 × DiffersInBadTarget answers old stream out more new
+  mixed : (old old2 new new2 : S) (stream out more : List ℕ) → same old old2 → AnswersAllRequests answers old stream out new
+      → EndsByReply answers old2 stream more new2 → same new new2 × DiffersInBadTarget answers old stream out more new
   mixed old old2 new new2 stream out more s x y =
       let found = rests_ends x.count y.count old old2 new y.mid new2 stream x.rest y.rest out y.before y.last s x.serves x.unfinished y.serves y.closes in
       (found.0, (x.count, x.rest, x.serves, found.1, y.joined ∙ found.2))
@@ -176,15 +176,15 @@ turned answers same one old old2 m t b st st2 x x2 new new2 s first second =
     let found = one old2 old m t b st2 st x2 x new2 new s second first in (sym found.0, sym found.1, found.2)
 
 pub to_end : {S : Type 0} (answers : Answering S) (old new : S) (stream out : List ℕ) → AnswersAll answers old stream out new
-    → Rests answers old stream out new ⊎ Ends answers old stream out new
+    → AnswersAllRequests answers old stream out new ⊎ EndsByReply answers old stream out new
 to_end answers old new stream out (inl x) = inl x
 to_end answers old new stream out (inr (front, rest, is, x)) =
-    inr (subst (λ (t : List ℕ). Ends answers old t out new) (sym is) (ends-append answers old new front out rest x))
+    inr (subst (λ (t : List ℕ). EndsByReply answers old t out new) (sym is) (ends-append answers old new front out rest x))
 
 module _ {S : Type 0} (answers : Answering S) (same : S → S → Type 0) (one : HasOneAnswer answers same) where
   agree : (old old2 new new2 : S) (stream out more : List ℕ) → same old old2
-      → Rests answers old stream out new ⊎ Ends answers old stream out new
-      → Rests answers old2 stream more new2 ⊎ Ends answers old2 stream more new2
+      → AnswersAllRequests answers old stream out new ⊎ EndsByReply answers old stream out new
+      → AnswersAllRequests answers old2 stream more new2 ⊎ EndsByReply answers old2 stream more new2
       → AgreeOn answers same old old2 stream out more new new2
   agree old old2 new new2 stream out more s (inl x) (inl y) =
       let found = rests_unique answers same one x.count y.count old old2 new new2 stream x.rest y.rest out more s x.serves x.unfinished y.serves y.unfinished in

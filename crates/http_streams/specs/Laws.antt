@@ -4,7 +4,7 @@
 use Rattle.std.specs.Prelude.{◌≡◌, ◌≢◌, ◌≤◌, ℕ, ◌⊎◌, Bool, List, [], ◌++◌, length, true}
 use Rattle.httparse.specs.Grammar.{EndsInTarget, NeverHasRequest}
 use Rattle.http_streams.specs.ReplyText.{error_line, reply_text}
-use Rattle.http_streams.specs.Stream.{Answering, Ends, Exchanges, Rests, Serves, Stops}
+use Rattle.http_streams.specs.Stream.{Answering, EndsByReply, Exchanges, AnswersAllRequests, Serves, StopsWithinReply}
 use Rattle.http_streams.specs.declared.TheConstants.{MAX_HEAD}
 use Rattle.http.specs.declared.status.StatusCode.{StatusCode}
 
@@ -33,8 +33,8 @@ module _ {S : Type 0} (answers : Answering S) where
   -- it.
   abbrev pub AnswersAll : S → List ℕ → List ℕ → S → Type 0
   AnswersAll old stream out new =
-      Rests answers old stream out new
-      ⊎ ((front : List ℕ) × (rest : List ℕ) × (stream ≡ front ++ rest) × Ends answers old front out new)
+      AnswersAllRequests answers old stream out new
+      ⊎ ((front : List ℕ) × (rest : List ℕ) × (stream ≡ front ++ rest) × EndsByReply answers old front out new)
 
   -- `DiffersInBadTarget old stream out more new` holds if `out` are the replies to some requests, the rest of the
   -- stream after these ends inside a target that is not UTF-8 (`EndsInBadTarget`), and `more` is `out` followed by the
@@ -57,7 +57,7 @@ module _ {S : Type 0} (answers : Answering S) where
   abbrev pub StopsIn : S → List ℕ → List ℕ → S → Type 0
   StopsIn old stream out new =
       (front : List ℕ) × (rest : List ℕ) × (stream ≡ front ++ rest)
-      × (Rests answers old front out new ⊎ Stops answers old front out new)
+      × (AnswersAllRequests answers old front out new ⊎ StopsWithinReply answers old front out new)
 
   -- `BeginsAnswer old stream out more new` holds if `out` is a prefix of `more`, or, if the stream ends inside a target
   -- that is not UTF-8, of `more` followed by the reply 400 to the rest.

@@ -11,6 +11,6 @@ pub mod Fields
 pub mod Request
 pub mod Reply
 pub mod FramingLaws
-pub mod Sent
+pub mod RequestRoundTrip
 pub mod Devices
 pub mod Memory

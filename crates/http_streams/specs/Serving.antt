@@ -5,7 +5,7 @@ use Rattle.std.specs.Prelude.{◌≡◌, ◌≤◌, ◌^◌, ◌-◌, ◌⊎◌,
 use Rattle.std.specs.Io.KnownBytes.{Appends, Consumes, IsAtEnd}
 use Rattle.http_streams.specs.Devices.{FailsAtLast}
 use Rattle.http_streams.specs.Reads.{EndsByOneRead}
-use Rattle.http_streams.specs.Stream.{Answering, Ends, KeepsUp, Rests, Stops}
+use Rattle.http_streams.specs.Stream.{Answering, EndsByReply, RepliesPromptly, AnswersAllRequests, StopsWithinReply}
 use Rattle.http_streams.specs.declared.serve.StreamFault.{StreamFault}
 use Rattle.http_streams.specs.declared.serve.StreamFault.TheVariants as fault
 
@@ -28,21 +28,22 @@ module _ {S R W : Type 0} (answers : Answering S) (left : R → Option (List ℕ
   -- - Log: as Write, but only the log failed; `IsLastNoted` of Logs states that nothing of the last reply was sent.
   abbrev pub EndsAs : R → R → W → W → S → S → List ℕ → List ℕ → Result (Unit {0}) StreamFault → Type 0
   EndsAs first last before after old new bytes out (Ok done) =
-      ((Rests answers old bytes out new × IsAtEnd (left last) × EndsByOneRead left reads first last bytes bytes)
-      ⊎ (Ends answers old bytes out new × KeepsUp answers left reads old first last bytes out))
+      ((AnswersAllRequests answers old bytes out new × IsAtEnd (left last)
+      × EndsByOneRead left reads first last bytes bytes)
+      ⊎ (EndsByReply answers old bytes out new × RepliesPromptly answers left reads old first last bytes out))
       × (read_failures last ≡ read_failures first) × (write_failures after ≡ write_failures before)
   EndsAs first last before after old new bytes out (Err fault.Read) =
-      Rests answers old bytes out new
+      AnswersAllRequests answers old bytes out new
       × (FailsAtLast read_failures read_fails first last ⊎ (2 ^ 64 - 1 ≤ length bytes))
       × (write_failures after ≡ write_failures before)
   EndsAs first last before after old new bytes out (Err fault.NoMemory) =
-      Rests answers old bytes out new
+      AnswersAllRequests answers old bytes out new
       × (read_failures last ≡ read_failures first) × (write_failures after ≡ write_failures before)
   EndsAs first last before after old new bytes out (Err fault.Write) =
-      Stops answers old bytes out new × KeepsUp answers left reads old first last bytes out
+      StopsWithinReply answers old bytes out new × RepliesPromptly answers left reads old first last bytes out
       × FailsAtLast write_failures write_fails before after × (read_failures last ≡ read_failures first)
   EndsAs first last before after old new bytes out (Err fault.Log) =
-      Stops answers old bytes out new × KeepsUp answers left reads old first last bytes out
+      StopsWithinReply answers old bytes out new × RepliesPromptly answers left reads old first last bytes out
       × (write_failures after ≡ write_failures before) × (read_failures last ≡ read_failures first)
 
   -- `IsAnswered first last before after old new result` holds if a call led from the reader `first`, the writer

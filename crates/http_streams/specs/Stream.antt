@@ -45,16 +45,17 @@ module _ {S : Type 0} (answers : Answering S) where
   abbrev pub Closes : S → List ℕ → List ℕ → S → Type 0
   Closes old bytes out new = ((rest : List ℕ) × Exchanges old bytes true out new rest) ⊎ Refuses old bytes out new
 
-  -- `Rests old bytes out new` holds if `out` are the replies to all requests in `bytes`, and the bytes after these
-  -- requests are less than a request.
-  pub record Rests (old : S) (bytes : List ℕ) (out : List ℕ) (new : S) : Type 0 where
+  -- `AnswersAllRequests old bytes out new` holds if `out` are the replies to all requests in `bytes`, and the bytes
+  -- after these requests are less than a request.
+  pub record AnswersAllRequests (old : S) (bytes : List ℕ) (out : List ℕ) (new : S) : Type 0 where
     pub count : ℕ
     pub rest : List ℕ
     pub serves : Serves count old bytes rest out new
     pub unfinished : IsUnfinished rest
 
-  -- `Ends old bytes out new` holds if `out` are the replies to requests in `bytes`, and the last reply ends the stream.
-  pub record Ends (old : S) (bytes : List ℕ) (out : List ℕ) (new : S) : Type 0 where
+  -- `EndsByReply old bytes out new` holds if `out` are the replies to requests in `bytes`, and the last reply ends the
+  -- stream.
+  pub record EndsByReply (old : S) (bytes : List ℕ) (out : List ℕ) (new : S) : Type 0 where
     pub count : ℕ
     pub mid : S
     pub rest : List ℕ
@@ -64,34 +65,35 @@ module _ {S : Type 0} (answers : Answering S) where
     pub closes : Closes mid rest last new
     pub joined : out ≡ before ++ last
 
-  -- `Halts old bytes out new` holds if `out` is a proper prefix of the reply to a prefix of `bytes`.
-  abbrev pub Halts : S → List ℕ → List ℕ → S → Type 0
-  Halts old bytes out new =
+  -- `RepliesInPart old bytes out new` holds if `out` is a proper prefix of the reply to a prefix of `bytes`.
+  abbrev pub RepliesInPart : S → List ℕ → List ℕ → S → Type 0
+  RepliesInPart old bytes out new =
       (back : List ℕ) × (0 < length back)
       × (((rest : List ℕ) × (last : Bool) × Exchanges old bytes last (out ++ back) new rest)
       ⊎ Refuses old bytes (out ++ back) new)
 
-  -- `Stops old bytes out new` holds if `out` are the replies to some requests in `bytes`, the last one cut off.
-  pub record Stops (old : S) (bytes : List ℕ) (out : List ℕ) (new : S) : Type 0 where
+  -- `StopsWithinReply old bytes out new` holds if `out` are the replies to some requests in `bytes`, the last one cut
+  -- off.
+  pub record StopsWithinReply (old : S) (bytes : List ℕ) (out : List ℕ) (new : S) : Type 0 where
     pub count : ℕ
     pub mid : S
     pub rest : List ℕ
     pub before : List ℕ
     pub last : List ℕ
     pub serves : Serves count old bytes rest before mid
-    pub halts : Halts mid rest last new
+    pub replies_in_part : RepliesInPart mid rest last new
     pub joined : out ≡ before ++ last
 
 -- Of a reader, `left` gives the bytes left, and `reads` relates the states around a call.
 module _ {S R : Type 0} (answers : Answering S) (left : R → Option (List ℕ)) (reads : R → ℕ → List ℕ → R → Type 0) where
-  -- `KeepsUp old first last bytes out` holds if a reader went from the state `first` to `last` by reading `bytes`, and
-  -- `out` begins with the replies to all requests that were complete before the last read. None of these replies ended
-  -- the stream.
-  pub record KeepsUp (old : S) (first last : R) (bytes out : List ℕ) : Type 0 where
+  -- `RepliesPromptly old first last bytes out` holds if a reader went from the state `first` to `last` by reading
+  -- `bytes`, and `out` begins with the replies to all requests that were complete before the last read. None of these
+  -- replies ended the stream.
+  pub record RepliesPromptly (old : S) (first last : R) (bytes out : List ℕ) : Type 0 where
     pub front : List ℕ
     pub sent : List ℕ
     pub more : List ℕ
     pub state : S
-    pub answered : Rests answers old front sent state
+    pub answered : AnswersAllRequests answers old front sent state
     pub read : EndsByOneRead left reads first last bytes front
     pub joined : out ≡ sent ++ more

@@ -1,7 +1,7 @@
 //! Theorems about the reply at the front of a stream, about a request that is sent, and about the limits.
 ghost use Rattle.std.specs.Prelude.{◌≡◌, ℕ, List};
 ghost use Rattle.http_streams.specs.FramingLaws.{HasOneReply};
-ghost use Rattle.http_streams.specs.Sent.{FitsLimits, IsReadBack};
+ghost use Rattle.http_streams.specs.RequestRoundTrip.{FitsLimits, IsReadBack};
 ghost use Rattle.http_streams.specs.declared.parts.Ask.{Ask};
 
 use crate::{MAX_BODY, MAX_FIELDS, MAX_HEAD, MAX_REPLY};

@@ -8,7 +8,7 @@ ghost use Rattle.http_streams.specs.ReplyText.{error_line, reply_text};
 ghost use Rattle.http_streams.specs.Request.{IsUnfinishedBelow, IsWholeAt};
 ghost use Rattle.http_streams.specs.Logs.{AreNoted, IsLastNoted, IsLogged, notes};
 ghost use Rattle.http_streams.specs.Serving.{IsAnswered};
-ghost use Rattle.http_streams.specs.Stream.{Ends, Exchanges, Halts, Serves, Stops};
+ghost use Rattle.http_streams.specs.Stream.{EndsByReply, Exchanges, RepliesInPart, Serves, StopsWithinReply};
 ghost use Rattle.http_streams.specs.inner.Sending.{IsSentInPart, fault_of};
 ghost use Rattle.http_streams.specs.declared.TheConstants.{REPLY_ROOM};
 
@@ -256,7 +256,7 @@ fn answer<S: Service, W: Sink, L: Sink>(
         × Exchanges (notes S.lines L.holds) log.old bytes.now parts.now.closes out log.new
         (drop parts.now.end bytes.now)) }
     ensures err { IfErr result (λ broken. (out : List ℕ) × Appends (W.holds writer.old) (W.holds writer.new) out
-        × Halts S.answers service.old bytes.now out service.new
+        × RepliesInPart S.answers service.old bytes.now out service.new
         × IsLastNoted S.lines S.refusal_line L.holds (Err (fault_of broken)) log.old bytes.now out log.new) }
     ensures write { result ≡ Err Broken.Write → FailsAtLast W.failed W.fails writer.old writer.new
         × (L.failed log.new ≡ L.failed log.old) }
@@ -327,10 +327,10 @@ fn answer_all<S: Service, W: Sink, L: Sink>(
         × Serves S.answers n service.old bytes.now (drop left.at bytes.now) out service.new
         × (m : ℕ) × Serves (notes S.lines L.holds) m log.old bytes.now (drop left.at bytes.now) out log.new))) }
     ensures closed { result ≡ Ok None → (out : List ℕ) × Appends (W.holds writer.old) (W.holds writer.new) out
-        × Ends S.answers service.old bytes.now out service.new
+        × EndsByReply S.answers service.old bytes.now out service.new
         × AreNoted S.lines S.refusal_line L.holds (Ok tt) log.old bytes.now out log.new }
     ensures err { IfErr result (λ broken. (out : List ℕ) × Appends (W.holds writer.old) (W.holds writer.new) out
-        × Stops S.answers service.old bytes.now out service.new
+        × StopsWithinReply S.answers service.old bytes.now out service.new
         × AreNoted S.lines S.refusal_line L.holds (Err (fault_of broken)) log.old bytes.now out log.new) }
     ensures write { result ≡ Err Broken.Write → FailsAtLast W.failed W.fails writer.old writer.new
         × (L.failed log.new ≡ L.failed log.old) }

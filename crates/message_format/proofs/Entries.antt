@@ -9,7 +9,7 @@ use Rattle.stamped_store.specs.declared.entry.Stamp.{Stamp}
 use Rattle.stamped_store.specs.Deltas.{is_unseen}
 use Rattle.stamped_store.specs.Store.{Update}
 use Rattle.message_format.specs.Summaries.{name_json}
-use Rattle.entity_uids.specs.Tokens.{Adds, IsReadAgain, AppendsValue, AppendsMember, AppendsAll}
+use Rattle.entity_uids.specs.Tokens.{AppendsTokens, IsReadAgain, AppendsValue, AppendsMember, AppendsAll}
 use Rattle.entity_uids.proofs.Appending.{and_then, member_again, object_again, none_written, one_written}
 use Rattle.message_format.specs.Messages.{body_json, entry_json, message_json}
 use Rattle.message_format.specs.inner.Writing.{missing_json_by}
@@ -27,9 +27,9 @@ entry_again u b h k =
     ∙ member_again (codes "count") count (member (codes "name") name site) first h
     ∙ member_again (codes "name") name site (put (codes "count") count first) k)
 
-pub entry_written : {a b c d e f g : Written} (u : Update) (site : List ℕ) → site ≡ u.1.site → Adds a b (begin_object ∷ []) → AppendsMember b c (codes "body") (body_json u.1.body)
+pub entry_written : {a b c d e f g : Written} (u : Update) (site : List ℕ) → site ≡ u.1.site → AppendsTokens a b (begin_object ∷ []) → AppendsMember b c (codes "body") (body_json u.1.body)
     → AppendsMember c d (codes "count") (number (unsigned u.1.count)) → AppendsMember d e (codes "name") (name_json u.0) → AppendsMember e f (codes "site") (string site)
-    → Adds f g (end_object ∷ []) → AppendsValue a g (entry_json u)
+    → AppendsTokens f g (end_object ∷ []) → AppendsValue a g (entry_json u)
 entry_written {e = e} {f = f} u site same first body count name told last =
     let of_site : AppendsMember e f (codes "site") (string u.1.site) = subst (λ (s : List ℕ). AppendsMember e f (codes "site") (string s)) same told in
     record {
@@ -45,9 +45,9 @@ pub one_news : {v w : Written} (known : Option Stamp) (u : Update) (b : Bool) �
 one_news {v} {w} known u b is told h = subst (λ (x : Bool). AppendsAll v w (if x then entry_json u ∷ [] else [])) (sym told ∙ is) (one_written h)
 
 -- ---- a message
-pub message_written : {a b c d e f g h : Written} (kind label : List ℕ) (us : List Update) → Adds a b (begin_object ∷ []) → Adds b c (key (codes "entries") ∷ [])
+pub message_written : {a b c d e f g h : Written} (kind label : List ℕ) (us : List Update) → AppendsTokens a b (begin_object ∷ []) → AppendsTokens b c (key (codes "entries") ∷ [])
     → AppendsValue c d (array (items_of (map entry_json us))) → AppendsMember d e (codes "kind") (string kind) → AppendsMember e f (codes "schema") (string label)
-    → AppendsMember f g (codes "version") (number (unsigned 2)) → Adds g h (end_object ∷ []) → AppendsValue a h (message_json kind label us)
+    → AppendsMember f g (codes "version") (number (unsigned 2)) → AppendsTokens g h (end_object ∷ []) → AppendsValue a h (message_json kind label us)
 message_written kind label us first named entries of_kind schema version last =
     let all = array (items_of (map entry_json us)) in
     let two = number (unsigned 2) in

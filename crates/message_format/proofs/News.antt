@@ -19,7 +19,7 @@ use Rattle.stamped_store.specs.Deltas.{Summary, is_unseen, delta}
 use Rattle.stamped_store.specs.Abstraction.{abstract_entries}
 use Rattle.stamped_store.specs.Store.{Store, Update, updates, StoreEntries, abstract_store}
 use Rattle.stamped_store.specs.Store.{abstract_updates, id_name, entity_name}
-use Rattle.stamped_store.specs.Stored.{value_at}
+use Rattle.stamped_store.specs.JoinMaps.{value_at}
 use Rattle.message_format.specs.Messages.{entry_json, message_json, state_json}
 use Rattle.message_format.specs.inner.Writing.{is_new, missing_json, all_missing_json}
 

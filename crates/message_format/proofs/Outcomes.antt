@@ -15,7 +15,7 @@ use Rattle.stamped_store.specs.Reading.{IsBodyRead}
 use Rattle.stamped_store.specs.Store.{Update as PlainUpdate, policy_name, entity_name}
 use Rattle.message_format.specs.declared.fault.MessageFault.{MessageFault}
 use Rattle.message_format.specs.declared.fault.MessageFault.TheVariants.{CountRange, BadEntry, BodyOfOtherName}
-use Rattle.message_format.specs.Summaries.{IsStamped, judged, is_name_in_range, bad_id}
+use Rattle.message_format.specs.Summaries.{IsStamped, checked_stamp, is_name_in_range, bad_id}
 use Rattle.message_format.specs.declared.bodies.BodyFault.{BodyFault}
 use Rattle.message_format.specs.declared.bodies.BodyFault.TheVariants as body
 use Rattle.message_format.specs.declared.update.Update.{Update}
@@ -25,13 +25,13 @@ use Rattle.message_format.specs.Messages.{updates_stated}
 use Rattle.message_format.specs.Updates.{plain_update, plain_updates, stamped, fault_at, AreInRange, IsBodyRefused}
 use Rattle.message_format.specs.Updates.{IsUpdateRead, IsReadable, IsValid, AreValid, IsMessage, IsUnreadable}
 use Rattle.message_format.specs.Updates.{IsBodyFault, IsFaultAt, IsFirstFault, IsMessageFault}
-use Rattle.message_format.specs.inner.Reading.{IsReadAs, AreTaken}
+use Rattle.message_format.specs.inner.Reading.{IsReadAs, AreReadInRange}
 use Rattle.message_format.proofs.Found.{AreFound, stated_found}
 use Rattle.message_format.proofs.Taking.{Sound, readable, is_message}
 
 -- an update in its ranges passes the checks
 abbrev pub Passes : Type 0
-Passes = (place : ℕ) (u : Name × Stamp) → IsStamped u → judged place u ≡ Ok u
+Passes = (place : ℕ) (u : Name × Stamp) → IsStamped u → checked_stamp place u ≡ Ok u
 
 abbrev done : {A : Type 0} → A → Result A MessageFault
 done x = Ok x
@@ -39,8 +39,8 @@ done x = Ok x
 done_is : {A : Type 0} (x y : A) → done x ≡ done y → x ≡ y
 done_is x y h = cc
 
-passed_same : (place : ℕ) (u v : Name × Stamp) → judged place u ≡ done v → u ≡ v
-unfolding judged
+passed_same : (place : ℕ) (u v : Name × Stamp) → checked_stamp place u ≡ done v → u ≡ v
+unfolding checked_stamp
 passed_same place u v e =
     let a = bind_ok (demand (CountRange place) (nat_le 1 u.1.count && nat_le u.1.count 1_000_000_000_000_000_000)) (λ counted. demand (BadEntry place bad_id) (is_name_in_range u.0) >>= λ named. done u) v e in
     let b = bind_ok (demand (BadEntry place bad_id) (is_name_in_range u.0)) (λ named. done u) v a.2 in
@@ -169,7 +169,7 @@ module _ {P E : Type 0} (Policies : List ℕ → List ℕ → P → Type 0) (Ent
   one_first : Passes → (place : ℕ) (us : List PlainUpdate) (f g : MessageFault) → IsFirstFault Policies Entities NoPolicies NoEntities place us f
       → IsFirstFault Policies Entities NoPolicies NoEntities place us g → f ≡ g
   one_first passes place [] f g h k = absurd h
-  one_first passes place (u ∷ us) f g (inl h) (inl k) = one_at place u f g (judged place (stamped u)) h k
+  one_first passes place (u ∷ us) f g (inl h) (inl k) = one_at place u f g (checked_stamp place (stamped u)) h k
   one_first passes place (u ∷ us) f g (inl h) (inr k) = absurd (no_fault passes place u f k.0 k.1 h)
   one_first passes place (u ∷ us) f g (inr h) (inl k) = absurd (no_fault passes place u g h.0 h.1 k)
   one_first passes place (u ∷ us) f g (inr h) (inr k) = one_first passes (suc place) us f g h.2 k.2
@@ -197,36 +197,36 @@ module _ {P E : Type 0} (Policies : List ℕ → List ℕ → P → Type 0) (Ent
     told (name.Entity uid) (Some t) = some_entity uid t
 
     abbrev Outcome : ℕ → List PlainUpdate → Type 0
-    Outcome place us = ((rs : List (Update P E)) × AreTaken Policies Entities place us rs) ⊎ ((why : MessageFault) × IsFirstFault Policies Entities NoPolicies NoEntities place us why)
+    Outcome place us = ((rs : List (Update P E)) × AreReadInRange Policies Entities place us rs) ⊎ ((why : MessageFault) × IsFirstFault Policies Entities NoPolicies NoEntities place us why)
 
     faulty : (place : ℕ) (u : PlainUpdate) (us : List PlainUpdate) (why : MessageFault) → IsFaultAt NoPolicies NoEntities place u why → Outcome place (u ∷ us)
     faulty place u us why h = inr (why, inl h)
 
-    goes_on : Sound → (place : ℕ) (u : PlainUpdate) (us : List PlainUpdate) → IsStamped (stamped u) → judged place (stamped u) ≡ Ok (stamped u) → IsValid Policies Entities u
+    goes_on : Sound → (place : ℕ) (u : PlainUpdate) (us : List PlainUpdate) → IsStamped (stamped u) → checked_stamp place (stamped u) ≡ Ok (stamped u) → IsValid Policies Entities u
         → Outcome (suc place) us → Outcome place (u ∷ us)
     goes_on sound place u us range passed v (inl (rs, taken)) =
         let one = read_of Policies Entities u.0 u.1.count u.1.site u.1.body v in
         inl (one.0 ∷ rs, (record { passed = passed; taken = one.1 }, taken))
     goes_on sound place u us range passed v (inr (why, fault)) = inr (why, inr (range, v, fault))
 
-    by_body : Sound → (place : ℕ) (u : PlainUpdate) (us : List PlainUpdate) → IsStamped (stamped u) → judged place (stamped u) ≡ Ok (stamped u) → Outcome (suc place) us
+    by_body : Sound → (place : ℕ) (u : PlainUpdate) (us : List PlainUpdate) → IsStamped (stamped u) → checked_stamp place (stamped u) ≡ Ok (stamped u) → Outcome (suc place) us
         → Told u.0 u.1.body → Outcome place (u ∷ us)
     by_body sound place u us range passed rest (inl v) = goes_on sound place u us range passed v rest
     by_body sound place u us range passed rest (inr (f, h)) =
         let here : IsBodyFault NoPolicies NoEntities place u (fault_at place f) = record { within = f; unreadable = h; is = refl } in
         faulty place u us (fault_at place f) (subst (λ (r : Result (Name × Stamp) MessageFault). MatchResult r (λ _. IsBodyFault NoPolicies NoEntities place u (fault_at place f)) (λ first. fault_at place f ≡ first)) (sym passed) here)
 
-    by_stamp : Sound → (place : ℕ) (u : PlainUpdate) (us : List PlainUpdate) → AreFound (u ∷ us) → Outcome (suc place) us → (r : Result (Name × Stamp) MessageFault) → judged place (stamped u) ≡ r
+    by_stamp : Sound → (place : ℕ) (u : PlainUpdate) (us : List PlainUpdate) → AreFound (u ∷ us) → Outcome (suc place) us → (r : Result (Name × Stamp) MessageFault) → checked_stamp place (stamped u) ≡ r
         → Outcome place (u ∷ us)
     by_stamp sound place u us f rest (Ok v) e =
-        let passed : judged place (stamped u) ≡ Ok (stamped u) = e ∙ ap (λ (x : Name × Stamp). Ok x) (sym (passed_same place (stamped u) v e)) in
+        let passed : checked_stamp place (stamped u) ≡ Ok (stamped u) = e ∙ ap (λ (x : Name × Stamp). Ok x) (sym (passed_same place (stamped u) v e)) in
         by_body sound place u us (sound place f.0.0 f.0.1 (stamped u) (stamped u) f.0.2 passed) passed rest (told u.0 u.1.body)
     by_stamp sound place u us f rest (Err why) e =
         faulty place u us why (subst (λ (r : Result (Name × Stamp) MessageFault). MatchResult r (λ _. IsBodyFault NoPolicies NoEntities place u why) (λ first. why ≡ first)) (sym e) refl)
 
     outcome : Sound → (place : ℕ) (us : List PlainUpdate) → AreFound us → Outcome place us
     outcome sound place [] f = inl ([], tt)
-    outcome sound place (u ∷ us) f = by_stamp sound place u us f (outcome sound (suc place) us f.1) (judged place (stamped u)) refl
+    outcome sound place (u ∷ us) f = by_stamp sound place u us f (outcome sound (suc place) us f.1) (checked_stamp place (stamped u)) refl
 
     abbrev MessageOutcome : List ℕ → List ℕ → Type 0
     MessageOutcome label bytes = ((us : List (Update P E)) × IsMessage Policies Entities label bytes us) ⊎ ((why : MessageFault) × IsMessageFault Policies Entities NoPolicies NoEntities label bytes why)
@@ -245,8 +245,8 @@ module _ {P E : Type 0} (Policies : List ℕ → List ℕ → P → Type 0) (Ent
     some_outcome sound label bytes = of_bytes sound label bytes (updates_stated label bytes) refl
 
 -- ---- a policy is never refused as of another name
-stamp_fault : (place other : ℕ) (u : Name × Stamp) → judged place u ≡ Err (BodyOfOtherName other) → ⊥
-unfolding judged
+stamp_fault : (place other : ℕ) (u : Name × Stamp) → checked_stamp place u ≡ Err (BodyOfOtherName other) → ⊥
+unfolding checked_stamp
 stamp_fault place other u e =
     elim (nat_le 1 u.1.count && nat_le u.1.count 1_000_000_000_000_000_000) as (λ b. (demand (CountRange place) b >>= λ counted. demand (BadEntry place bad_id) (is_name_in_range u.0) >>= λ named. done u) ≡ Err (BodyOfOtherName other) → ⊥) [
       | true ↦ name_fault place other u (is_name_in_range u.0)
@@ -268,10 +268,10 @@ module _ (NoPolicies : List ℕ → List ℕ → BodyFault → Type 0) (NoEntiti
   within_other place other id b (body.Refused n) h e = absurd (cc)
   within_other place other id b body.OtherName h e = no_other id b h
 
-  by_judged : (place other : ℕ) (id : List ℕ) (e : PlainEntry) (r : Result (Name × Stamp) MessageFault) → judged place (stamped (policy_name id, e)) ≡ r
+  by_judged : (place other : ℕ) (id : List ℕ) (e : PlainEntry) (r : Result (Name × Stamp) MessageFault) → checked_stamp place (stamped (policy_name id, e)) ≡ r
       → MatchResult r (λ _. IsBodyFault NoPolicies NoEntities place (policy_name id, e) (BodyOfOtherName other)) (λ first. BodyOfOtherName other ≡ first) → ⊥
   by_judged place other id e (Ok v) is h = within_other place other id e.body h.within h.unreadable h.is
   by_judged place other id e (Err first) is h = stamp_fault place other (stamped (policy_name id, e)) (is ∙ ap (λ (x : MessageFault). Err x) (sym h))
 
   pub never_other : (place other : ℕ) (id : List ℕ) (e : PlainEntry) → IsFaultAt NoPolicies NoEntities place (policy_name id, e) (BodyOfOtherName other) → ⊥
-  never_other place other id e h = by_judged place other id e (judged place (stamped (policy_name id, e))) refl h
+  never_other place other id e h = by_judged place other id e (checked_stamp place (stamped (policy_name id, e))) refl h

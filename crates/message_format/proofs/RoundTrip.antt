@@ -29,7 +29,7 @@ use Rattle.message_format.specs.declared.version.MessageVersion.TheVariants.{One
 use Rattle.message_format.specs.Summaries.{version_in, numbered_in, raised_in, named_in, ascend, IsName, IsStamped}
 use Rattle.message_format.specs.Summaries.{AreStamped, name_json, stamp_json, summary_json, policy_in, entity_name_in}
 use Rattle.message_format.specs.Summaries.{name_in, stamped_by, stamped_in, stamp_in, stamps_of, stamps_in}
-use Rattle.message_format.specs.Summaries.{is_name_in_range, judged, summary_in, summary_stated}
+use Rattle.message_format.specs.Summaries.{is_name_in_range, checked_stamp, summary_in, summary_stated}
 use Rattle.message_format.specs.NumberedSummaries.{NumberedStamp, HaveNumbers, raise_stamp, raise_stamps, numbered_stamp_json}
 use Rattle.message_format.specs.NumberedSummaries.{numbered_summary_json}
 
@@ -51,8 +51,8 @@ id_again : (n : Name) → IsName n → is_name_in_range n ≡ true
 id_again (Policy id) h = rw (le-leb _ _ h.0, le-leb _ _ h.1) refl
 id_again (Entity uid) h = refl
 
-pub judged_again : (k : ℕ) (u : Name × Stamp) → IsStamped u → judged k u ≡ Ok u
-unfolding judged
+pub judged_again : (k : ℕ) (u : Name × Stamp) → IsStamped u → checked_stamp k u ≡ Ok u
+unfolding checked_stamp
 judged_again k u h = rw (le-leb _ _ h.counted, le-leb _ _ h.bounded, id_again u.0 h.name) refl
 
 -- ---- all stamps
@@ -61,7 +61,7 @@ unfolding each
 stamps_again told sites k [] h = refl
 stamps_again told sites k (u ∷ m) h = rw (stamp_again told sites u h.0, stamps_again told sites (suc k) m h.1) refl
 
-all_judged : (k : ℕ) (m : Summary) → AreStamped m → each judged k m ≡ Ok m
+all_judged : (k : ℕ) (m : Summary) → AreStamped m → each checked_stamp k m ≡ Ok m
 unfolding each
 all_judged k [] h = refl
 all_judged k (u ∷ m) h = rw (judged_again k u h.0, all_judged (suc k) m h.1) refl

@@ -30,7 +30,7 @@ use Rattle.message_format.specs.declared.fault.MessageFault.TheVariants.{BadEntr
 use Rattle.message_format.specs.Summaries.{ascend, IsName, IsStamped, AreStamped, number_at, policy_in, entity_name_in}
 use Rattle.message_format.specs.Summaries.{name_in, version_in, numbered_in, raised_in, named_in, site_in, StampAt}
 use Rattle.message_format.specs.Summaries.{stamped_by, stamped_in, stamp_in, stamps_of, stamps_in, is_name_in_range}
-use Rattle.message_format.specs.Summaries.{bad_id, judged, summary_in, summary_stated}
+use Rattle.message_format.specs.Summaries.{bad_id, checked_stamp, summary_in, summary_stated}
 
 abbrev read : {A : Type 0} → A → Result A MessageFault
 read x = Ok x
@@ -182,8 +182,8 @@ id_in_range : (n : Name) → IsSpelled n → is_name_in_range n ≡ true → IsN
 id_in_range (Policy id) h is = (leb-true 1 (length id) (left (nat_le 1 (length id)) (nat_le (length id) 256) is), leb-true (length id) 256 (right (nat_le 1 (length id)) (nat_le (length id) 256) is))
 id_in_range (Entity uid) h is = h
 
-judged_stamped : (k : ℕ) (u v : Name × Stamp) → IsShaped u → judged k u ≡ read v → IsStamped v
-unfolding judged
+judged_stamped : (k : ℕ) (u v : Name × Stamp) → IsShaped u → checked_stamp k u ≡ read v → IsStamped v
+unfolding checked_stamp
 judged_stamped k u v h e =
     let test = nat_le 1 u.1.count && nat_le u.1.count 1_000_000_000_000_000_000 in
     let a = bind_ok (demand (CountRange k) test) (λ counted. demand (BadEntry k bad_id) (is_name_in_range u.0) >>= λ named. read u) v e in
@@ -197,8 +197,8 @@ judged_stamped k u v h e =
     } in
     subst IsStamped (read_is u v b.2) stamped
 
-judged_same : (k : ℕ) (u v : Name × Stamp) → judged k u ≡ read v → u ≡ v
-unfolding judged
+judged_same : (k : ℕ) (u v : Name × Stamp) → checked_stamp k u ≡ read v → u ≡ v
+unfolding checked_stamp
 judged_same k u v e =
     let test = nat_le 1 u.1.count && nat_le u.1.count 1_000_000_000_000_000_000 in
     let a = bind_ok (demand (CountRange k) test) (λ counted. demand (BadEntry k bad_id) (is_name_in_range u.0) >>= λ named. read u) v e in
@@ -206,15 +206,15 @@ judged_same k u v e =
     read_is u v b.2
 
 -- a stamp that was read and passed the checks
-pub judged_in_range : AreFound → (k : ℕ) (version : MessageVersion) (d : Data) (u v : Name × Stamp) → stamped_in version d ≡ read u → judged k u ≡ read v → IsStamped u
+pub judged_in_range : AreFound → (k : ℕ) (version : MessageVersion) (d : Data) (u v : Name × Stamp) → stamped_in version d ≡ read u → checked_stamp k u ≡ read v → IsStamped u
 judged_in_range all k version d u v e h = subst IsStamped (sym (judged_same k u v h)) (judged_stamped k u v (stamped_shaped all version d u e) h)
 
-all_stamped : (k : ℕ) (us m : Summary) → AllByRecursion IsShaped us → each judged k us ≡ read m → AreStamped m × (us ≡ m)
+all_stamped : (k : ℕ) (us m : Summary) → AllByRecursion IsShaped us → each checked_stamp k us ≡ read m → AreStamped m × (us ≡ m)
 unfolding each
 all_stamped k [] m h e = (subst AreStamped (read_is [] m e) tt, read_is [] m e)
 all_stamped k (u ∷ us) m h e =
-    let a = bind_ok (judged k u) (λ y. each judged (suc k) us >>= λ ys. read (y ∷ ys)) m e in
-    let b = bind_ok (each judged (suc k) us) (λ ys. read (a.0 ∷ ys)) m a.2 in
+    let a = bind_ok (checked_stamp k u) (λ y. each checked_stamp (suc k) us >>= λ ys. read (y ∷ ys)) m e in
+    let b = bind_ok (each checked_stamp (suc k) us) (λ ys. read (a.0 ∷ ys)) m a.2 in
     let rest = all_stamped (suc k) us b.0 h.1 b.1 in
     let same : u ∷ us ≡ a.0 ∷ b.0 = ap (λ (x : Name × Stamp). x ∷ us) (judged_same k u a.0 a.1) ∙ ap (λ (xs : Summary). a.0 ∷ xs) rest.1 in
     (subst AreStamped (read_is (a.0 ∷ b.0) m b.2) (judged_stamped k u a.0 h.0 a.1, rest.0), same ∙ read_is (a.0 ∷ b.0) m b.2)
@@ -231,7 +231,7 @@ stamps_shaped all version d m e =
 
 -- ---- the whole
 abbrev of_schema : MessageVersion → List ℕ → Data → List ℕ → Result Summary MessageFault
-of_schema version label d schema = stamps_in version d >>= λ stamps. demand OtherSchema (bytes_eq schema label) >>= λ same. each judged 0 stamps
+of_schema version label d schema = stamps_in version d >>= λ stamps. demand OtherSchema (bytes_eq schema label) >>= λ same. each checked_stamp 0 stamps
 
 abbrev of_kind : MessageVersion → List ℕ → Data → List ℕ → Result Summary MessageFault
 of_kind version label d kind = demand BadShape (bytes_eq kind (codes "summary")) >>= λ summary. or_fault BadShape (text_at (codes "schema") d) >>= λ schema. of_schema version label d schema
@@ -251,8 +251,8 @@ value_stamped all label d m e =
     let f = bind_ok (or_fault BadShape (text_at (codes "kind") d)) (λ kind. of_kind version label d kind) m c.2 in
     let g = bind_ok (demand BadShape (bytes_eq f.0 (codes "summary"))) (λ summary. or_fault BadShape (text_at (codes "schema") d) >>= λ schema. of_schema version label d schema) m f.2 in
     let h = bind_ok (or_fault BadShape (text_at (codes "schema") d)) (λ schema. of_schema version label d schema) m g.2 in
-    let s = bind_ok (stamps_in version d) (λ stamps. demand OtherSchema (bytes_eq h.0 label) >>= λ same. each judged 0 stamps) m h.2 in
-    let o = bind_ok (demand OtherSchema (bytes_eq h.0 label)) (λ same. each judged 0 s.0) m s.2 in
+    let s = bind_ok (stamps_in version d) (λ stamps. demand OtherSchema (bytes_eq h.0 label) >>= λ same. each checked_stamp 0 stamps) m h.2 in
+    let o = bind_ok (demand OtherSchema (bytes_eq h.0 label)) (λ same. each checked_stamp 0 s.0) m s.2 in
     let shaped = stamps_shaped all version d s.0 s.1 in
     let whole = all_stamped 0 s.0 m shaped.0 o.2 in
     (whole.0, subst (λ (x : Summary). ascend x ≡ true) whole.1 shaped.1)

@@ -17,7 +17,7 @@ use Rattle.stamped_store.specs.Deltas.{Summary, stamp_of, summary_of}
 use Rattle.stamped_store.specs.Store.{StoreEntries, Update, abstract_store, abstract_updates, updates, id_name}
 use Rattle.stamped_store.specs.Store.{entity_name}
 use Rattle.message_format.specs.Summaries.{name_json, stamp_json, summary_json}
-use Rattle.entity_uids.specs.Tokens.{Adds, IsReadAgain, AppendsValue, AppendsMember, AppendsAll}
+use Rattle.entity_uids.specs.Tokens.{AppendsTokens, IsReadAgain, AppendsValue, AppendsMember, AppendsAll}
 use Rattle.message_format.specs.inner.SummaryWriting.{stamps_json}
 use Rattle.entity_uids.proofs.Appending.{and_then, member_again, object_again, both_written, one_written, array_written}
 
@@ -29,8 +29,8 @@ stamp_again u h k =
     object_again (member (codes "count") count (member (codes "name") (name_json u.0) site))
     (member_again (codes "count") count (member (codes "name") (name_json u.0) site) no_members h ∙ member_again (codes "name") (name_json u.0) site (member (codes "count") count no_members) k)
 
-pub stamp_written : {a b c d e f : Written} (u : Name × Stamp) (site : List ℕ) → site ≡ u.1.site → Adds a b (begin_object ∷ []) → AppendsMember b c (codes "count") (number (unsigned u.1.count))
-    → AppendsMember c d (codes "name") (name_json u.0) → AppendsMember d e (codes "site") (string site) → Adds e f (end_object ∷ []) → AppendsValue a f (stamp_json u)
+pub stamp_written : {a b c d e f : Written} (u : Name × Stamp) (site : List ℕ) → site ≡ u.1.site → AppendsTokens a b (begin_object ∷ []) → AppendsMember b c (codes "count") (number (unsigned u.1.count))
+    → AppendsMember c d (codes "name") (name_json u.0) → AppendsMember d e (codes "site") (string site) → AppendsTokens e f (end_object ∷ []) → AppendsValue a f (stamp_json u)
 stamp_written {d = d} {e = e} u site same first count name told last =
     let of_site : AppendsMember d e (codes "site") (string u.1.site) = subst (λ (s : List ℕ). AppendsMember d e (codes "site") (string s)) same told in
     record {
@@ -61,7 +61,7 @@ in_order k order =
 
 pub store_written : {P E : Type 0} {a b c d f : Written} (k : StoreEntries P E) (ps : List (String Global × Entry P)) (es : List (EntityUid × Entry E))
     → updates (abstract_store k) ≡ abstract_updates k → ps ≡ k.policies → es ≡ k.entities
-    → Adds a b (begin_array ∷ []) → AppendsAll b c (stamps_json id_name ps) → AppendsAll c d (stamps_json entity_name es) → Adds d f (end_array ∷ [])
+    → AppendsTokens a b (begin_array ∷ []) → AppendsAll b c (stamps_json id_name ps) → AppendsAll c d (stamps_json entity_name es) → AppendsTokens d f (end_array ∷ [])
     → AppendsValue a f (array (items_of (map stamp_json (summary_of (abstract_store k)))))
 store_written {a = a} {b = b} {c = c} {d = d} {f = f} k ps es order of_policies of_entities first policies entities last =
     let front : AppendsAll b c (stamps_json id_name k.policies) = subst (λ xs. AppendsAll b c (stamps_json id_name xs)) of_policies policies in
@@ -69,9 +69,9 @@ store_written {a = a} {b = b} {c = c} {d = d} {f = f} k ps es order of_policies 
     array_written first (subst (AppendsAll b d) (in_order k order) (both_written front back)) last
 
 -- ---- a summary
-pub summary_written : {a b c d e f g h : Written} (label : List ℕ) (m : Summary) → Adds a b (begin_object ∷ []) → AppendsMember b c (codes "kind") (string (codes "summary"))
-    → AppendsMember c d (codes "schema") (string label) → Adds d e (key (codes "stamps") ∷ []) → AppendsValue e f (array (items_of (map stamp_json m)))
-    → AppendsMember f g (codes "version") (number (unsigned 2)) → Adds g h (end_object ∷ []) → AppendsValue a h (summary_json label m)
+pub summary_written : {a b c d e f g h : Written} (label : List ℕ) (m : Summary) → AppendsTokens a b (begin_object ∷ []) → AppendsMember b c (codes "kind") (string (codes "summary"))
+    → AppendsMember c d (codes "schema") (string label) → AppendsTokens d e (key (codes "stamps") ∷ []) → AppendsValue e f (array (items_of (map stamp_json m)))
+    → AppendsMember f g (codes "version") (number (unsigned 2)) → AppendsTokens g h (end_object ∷ []) → AppendsValue a h (summary_json label m)
 summary_written label m first kind schema named stamps version last =
     let all = array (items_of (map stamp_json m)) in
     let two = number (unsigned 2) in

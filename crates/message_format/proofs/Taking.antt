@@ -17,21 +17,21 @@ use Rattle.stamped_store.specs.Store.{Update as PlainUpdate}
 use Rattle.message_format.specs.declared.fault.MessageFault.{MessageFault}
 use Rattle.message_format.specs.declared.fault.MessageFault.TheVariants as message
 use Rattle.message_format.specs.declared.version.MessageVersion.{MessageVersion}
-use Rattle.message_format.specs.Summaries.{IsStamped, judged, stamped_in}
+use Rattle.message_format.specs.Summaries.{IsStamped, checked_stamp, stamped_in}
 use Rattle.message_format.specs.declared.bodies.BodyFault.{BodyFault}
 use Rattle.message_format.specs.declared.stated.ReadEntry.{ReadEntry}
 use Rattle.message_format.specs.declared.update.Update.{Update}
 use Rattle.message_format.specs.declared.update.Update.TheVariants.{Policy, Entity}
-use Rattle.plain.specs.Refused.{OrNoMemory}
+use Rattle.plain.specs.AllocationErrors.{OrNoMemory}
 use Rattle.message_format.specs.Messages.{updates_stated}
 use Rattle.message_format.specs.Updates.{plain_update, plain_updates, stamped, AreInRange, IsBodyReadable, IsUpdateRead}
 use Rattle.message_format.specs.Updates.{IsValid, IsMessage, IsFaultAt, IsFirstFault, IsMessageFault}
-use Rattle.message_format.specs.inner.Reading.{stated_update, IsReadAs, IsTaken, AreTaken, Stops}
+use Rattle.message_format.specs.inner.Reading.{stated_update, IsReadAs, IsReadInRange, AreReadInRange, IsFirstUpdateFault}
 use Rattle.message_format.proofs.Found.{AreFound, stated_found}
 
 -- a name with a stamp that was read and passed the checks has both in their ranges
 abbrev pub Sound : Type 0
-Sound = (place : ℕ) (version : MessageVersion) (d : Data) (u v : Name × Stamp) → stamped_in version d ≡ Ok u → judged place u ≡ Ok v → IsStamped u
+Sound = (place : ℕ) (version : MessageVersion) (d : Data) (u v : Name × Stamp) → stamped_in version d ≡ Ok u → checked_stamp place u ≡ Ok v → IsStamped u
 
 -- ---- what is read is readable
 body_readable : {P : Type 0} (Reads : List ℕ → P → Type 0) (t : Option (ReadText P)) → IsBodyRead Reads t → IsBodyReadable Reads (body_bytes t)
@@ -68,26 +68,26 @@ module _ {P E : Type 0} (Policies : List ℕ → List ℕ → P → Type 0) (Ent
 
   -- one more is read
   push : (k : ℕ) (us : List PlainUpdate) (rs : List (Update P E)) (u : PlainUpdate) (r : Update P E)
-      → AreTaken Policies Entities k us rs → IsTaken Policies Entities (k + length us) u r → AreTaken Policies Entities k (us ++ u ∷ []) (rs ++ r ∷ [])
-  push k [] [] u r h one = let same : k + 0 ≡ k = omega arith in (subst (λ n. IsTaken Policies Entities n u r) same one, tt)
+      → AreReadInRange Policies Entities k us rs → IsReadInRange Policies Entities (k + length us) u r → AreReadInRange Policies Entities k (us ++ u ∷ []) (rs ++ r ∷ [])
+  push k [] [] u r h one = let same : k + 0 ≡ k = omega arith in (subst (λ n. IsReadInRange Policies Entities n u r) same one, tt)
   push k [] (s ∷ rs) u r h one = absurd h
   push k (v ∷ us) [] u r h one = absurd h
   push k (v ∷ us) (s ∷ rs) u r h one =
       let same : k + suc (length us) ≡ suc k + length us = omega arith in
-      (h.0, push (suc k) us rs u r h.1 (subst (λ n. IsTaken Policies Entities n u r) same one))
+      (h.0, push (suc k) us rs u r h.1 (subst (λ n. IsReadInRange Policies Entities n u r) same one))
 
   pub taken_more : (es : List ReadEntry) (i : ℕ) (e : ReadEntry) (rs : List (Update P E)) (r : Update P E) → i < length es → e ≡ get_or es i e
-      → AreTaken Policies Entities 0 (map stated_update (take i es)) rs → IsTaken Policies Entities i (stated_update e) r
-      → AreTaken Policies Entities 0 (map stated_update (take (i + 1) es)) (rs ++ r ∷ [])
+      → AreReadInRange Policies Entities 0 (map stated_update (take i es)) rs → IsReadInRange Policies Entities i (stated_update e) r
+      → AreReadInRange Policies Entities 0 (map stated_update (take (i + 1) es)) (rs ++ r ∷ [])
   taken_more es i e rs r lt at before one =
-      let pushed = push 0 (map stated_update (take i es)) rs (stated_update e) r before (subst (λ n. IsTaken Policies Entities n (stated_update e) r) (sym (place_is es i lt)) one) in
+      let pushed = push 0 (map stated_update (take i es)) rs (stated_update e) r before (subst (λ n. IsReadInRange Policies Entities n (stated_update e) r) (sym (place_is es i lt)) one) in
       rw (take_more es i e lt, map-append, ← at) pushed
 
-  pub taken_all : (es : List ReadEntry) (i : ℕ) (rs : List (Update P E)) → length es ≤ i → AreTaken Policies Entities 0 (map stated_update (take i es)) rs
-      → AreTaken Policies Entities 0 (map stated_update es) rs
-  taken_all es i rs le h = subst (λ (l : List ReadEntry). AreTaken Policies Entities 0 (map stated_update l) rs) (take_all i es le) h
+  pub taken_all : (es : List ReadEntry) (i : ℕ) (rs : List (Update P E)) → length es ≤ i → AreReadInRange Policies Entities 0 (map stated_update (take i es)) rs
+      → AreReadInRange Policies Entities 0 (map stated_update es) rs
+  taken_all es i rs le h = subst (λ (l : List ReadEntry). AreReadInRange Policies Entities 0 (map stated_update l) rs) (take_all i es le) h
 
-  shown_all : (k : ℕ) (us : List PlainUpdate) (rs : List (Update P E)) → AreTaken Policies Entities k us rs → us ≡ plain_updates rs
+  shown_all : (k : ℕ) (us : List PlainUpdate) (rs : List (Update P E)) → AreReadInRange Policies Entities k us rs → us ≡ plain_updates rs
   shown_all k [] [] h = refl
   shown_all k [] (r ∷ rs) h = absurd h
   shown_all k (u ∷ us) [] h = absurd h
@@ -95,19 +95,19 @@ module _ {P E : Type 0} (Policies : List ℕ → List ℕ → P → Type 0) (Ent
       let rest = shown_all (suc k) us rs h.1 in
       λ i. (sym h.0.taken.shown) i ∷ rest i
 
-  read_each : (k : ℕ) (us : List PlainUpdate) (rs : List (Update P E)) → AreTaken Policies Entities k us rs → AllByRecursion (IsUpdateRead Policies Entities) rs
+  read_each : (k : ℕ) (us : List PlainUpdate) (rs : List (Update P E)) → AreReadInRange Policies Entities k us rs → AllByRecursion (IsUpdateRead Policies Entities) rs
   read_each k [] [] h = tt
   read_each k [] (r ∷ rs) h = absurd h
   read_each k (u ∷ us) [] h = absurd h
   read_each k (u ∷ us) (r ∷ rs) h = (h.0.taken.is_read, read_each (suc k) us rs h.1)
 
-  in_range : Sound → (k : ℕ) (us : List PlainUpdate) (rs : List (Update P E)) → AreFound us → AreTaken Policies Entities k us rs → AreInRange us
+  in_range : Sound → (k : ℕ) (us : List PlainUpdate) (rs : List (Update P E)) → AreFound us → AreReadInRange Policies Entities k us rs → AreInRange us
   in_range sound k [] [] f h = tt
   in_range sound k [] (r ∷ rs) f h = absurd h
   in_range sound k (u ∷ us) [] f h = absurd h
   in_range sound k (u ∷ us) (r ∷ rs) f h = (sound k f.0.0 f.0.1 (stamped u) (stamped u) f.0.2 h.0.passed, in_range sound (suc k) us rs f.1 h.1)
 
-  pub is_message : Sound → (label bytes : List ℕ) (us : List PlainUpdate) (rs : List (Update P E)) → updates_stated label bytes ≡ Ok us → AreTaken Policies Entities 0 us rs
+  pub is_message : Sound → (label bytes : List ℕ) (us : List PlainUpdate) (rs : List (Update P E)) → updates_stated label bytes ≡ Ok us → AreReadInRange Policies Entities 0 us rs
       → IsMessage Policies Entities label bytes rs
   is_message sound label bytes us rs e h =
       let same = shown_all 0 us rs h in
@@ -120,7 +120,7 @@ module _ {P E : Type 0} (Policies : List ℕ → List ℕ → P → Type 0) (Ent
 module _ {P E : Type 0} (Policies : List ℕ → List ℕ → P → Type 0) (Entities : EntityUid → List ℕ → E → Type 0)
     (NoPolicies : List ℕ → List ℕ → BodyFault → Type 0) (NoEntities : EntityUid → List ℕ → BodyFault → Type 0) where
   stops : (k : ℕ) (us : List PlainUpdate) (rs : List (Update P E)) (u : PlainUpdate) (more : List PlainUpdate) (why : MessageFault)
-      → AreTaken Policies Entities k us rs → IsFaultAt NoPolicies NoEntities (k + length us) u why → Stops Policies Entities NoPolicies NoEntities k (us ++ u ∷ more) why
+      → AreReadInRange Policies Entities k us rs → IsFaultAt NoPolicies NoEntities (k + length us) u why → IsFirstUpdateFault Policies Entities NoPolicies NoEntities k (us ++ u ∷ more) why
   stops k [] [] u more why h one = let same : k + 0 ≡ k = omega arith in inl (subst (λ n. IsFaultAt NoPolicies NoEntities n u why) same one)
   stops k [] (r ∷ rs) u more why h one = absurd h
   stops k (v ∷ us) [] u more why h one = absurd h
@@ -129,24 +129,24 @@ module _ {P E : Type 0} (Policies : List ℕ → List ℕ → P → Type 0) (Ent
       inr (h.0.passed, valid Policies Entities v r h.0.taken, stops (suc k) us rs u more why h.1 (subst (λ n. IsFaultAt NoPolicies NoEntities n u why) same one))
 
   pub taken_stops : (es : List ReadEntry) (i : ℕ) (e : ReadEntry) (rs : List (Update P E)) (why : MessageFault) → i < length es → e ≡ get_or es i e
-      → AreTaken Policies Entities 0 (map stated_update (take i es)) rs → IsFaultAt NoPolicies NoEntities i (stated_update e) why
-      → Stops Policies Entities NoPolicies NoEntities 0 (map stated_update es) why
+      → AreReadInRange Policies Entities 0 (map stated_update (take i es)) rs → IsFaultAt NoPolicies NoEntities i (stated_update e) why
+      → IsFirstUpdateFault Policies Entities NoPolicies NoEntities 0 (map stated_update es) why
   taken_stops es i e rs why lt at before one =
       let cut : es ≡ take i es ++ e ∷ drop (suc i) es = split_at es i e lt ∙ ap (λ (x : ReadEntry). take i es ++ x ∷ drop (suc i) es) (sym at) in
       let shown : map stated_update es ≡ map stated_update (take i es) ++ stated_update e ∷ map stated_update (drop (suc i) es) =
       ap (map stated_update) cut ∙ map-append stated_update (take i es) (e ∷ drop (suc i) es) in
-      subst (λ (l : List PlainUpdate). Stops Policies Entities NoPolicies NoEntities 0 l why) (sym shown)
+      subst (λ (l : List PlainUpdate). IsFirstUpdateFault Policies Entities NoPolicies NoEntities 0 l why) (sym shown)
       (stops 0 (map stated_update (take i es)) rs (stated_update e) (map stated_update (drop (suc i) es)) why before
       (subst (λ n. IsFaultAt NoPolicies NoEntities n (stated_update e) why) (sym (place_is es i lt)) one))
 
-  first_fault : Sound → (k : ℕ) (us : List PlainUpdate) (why : MessageFault) → AreFound us → Stops Policies Entities NoPolicies NoEntities k us why
+  first_fault : Sound → (k : ℕ) (us : List PlainUpdate) (why : MessageFault) → AreFound us → IsFirstUpdateFault Policies Entities NoPolicies NoEntities k us why
       → IsFirstFault Policies Entities NoPolicies NoEntities k us why
   first_fault sound k [] why f h = absurd h
   first_fault sound k (u ∷ us) why f (inl here) = inl here
   first_fault sound k (u ∷ us) why f (inr h) = inr (sound k f.0.0 f.0.1 (stamped u) (stamped u) f.0.2 h.0, h.1, first_fault sound (suc k) us why f.1 h.2)
 
   pub refused : Sound → (label bytes : List ℕ) (us : List PlainUpdate) → updates_stated label bytes ≡ Ok us → (why : MessageFault)
-      → OrNoMemory message.NoMemory (Stops Policies Entities NoPolicies NoEntities 0 us) why
+      → OrNoMemory message.NoMemory (IsFirstUpdateFault Policies Entities NoPolicies NoEntities 0 us) why
       → OrNoMemory message.NoMemory (IsMessageFault Policies Entities NoPolicies NoEntities label bytes) why
   refused sound label bytes us e why h other =
       subst (λ (r : Result (List PlainUpdate) MessageFault). MatchResult r (λ vs. IsFirstFault Policies Entities NoPolicies NoEntities 0 vs why) (λ first. why ≡ first)) (sym e)

@@ -25,7 +25,7 @@ use Rattle.stamped_store.specs.Deltas.{Summary, delta}
 use Rattle.stamped_store.specs.Abstraction.{abstract_entry, abstract_entries}
 use Rattle.stamped_store.specs.Store.{Update, updates, StoreEntries, abstract_store, abstract_updates}
 use Rattle.stamped_store.specs.Store.{id_name, entity_name}
-use Rattle.stamped_store.specs.Stored.{value_at}
+use Rattle.stamped_store.specs.JoinMaps.{value_at}
 use Rattle.message_format.specs.Summaries.{ascend}
 use Rattle.entity_uids.specs.Tokens.{AppendsAll}
 use Rattle.entity_uids.proofs.Appending.{none_written, both_written}

@@ -15,10 +15,10 @@ pub record HasAtMostOneOutcome {P : Type 0} (Reads : P → Type 0) (Refuses : Bo
 abbrev pub HasOutcome : {P : Type 0} → (P → Type 0) → (BodyFault → Type 0) → Type 0
 HasOutcome {P} Reads Refuses = ((p : P) × Reads p) ⊎ ((f : BodyFault) × Refuses f)
 
--- `TextsHaveOneOutcome Policies NoPolicies Entities NoEntities` holds if each text has at most one outcome as a policy
+-- `BodiesHaveOneOutcome Policies NoPolicies Entities NoEntities` holds if each text has at most one outcome as a policy
 -- with a given id, and at most one as an entity with a given uid. `Policies` and `Entities` give the values of texts,
 -- `NoPolicies` and `NoEntities` their errors.
-pub record TextsHaveOneOutcome {P E : Type 0} (Policies : List ℕ → List ℕ → P → Type 0)
+pub record BodiesHaveOneOutcome {P E : Type 0} (Policies : List ℕ → List ℕ → P → Type 0)
     (NoPolicies : List ℕ → List ℕ → BodyFault → Type 0) (Entities : EntityUid → List ℕ → E → Type 0)
     (NoEntities : EntityUid → List ℕ → BodyFault → Type 0) : Type 0 where
   pub policies : (id text : List ℕ) → HasAtMostOneOutcome (Policies id text) (NoPolicies id text)

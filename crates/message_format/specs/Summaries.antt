@@ -208,10 +208,10 @@ is_name_in_range (Entity uid) = true
 abbrev pub bad_id : ℕ
 bad_id = 19
 
--- `judged place u` is the name and stamp `u`, at the index `place`, if the count and a policy's id are in their ranges;
--- else the error of the count, else that of the id.
-unfoldable pub judged : ℕ → Name × Stamp → Result (Name × Stamp) MessageFault
-judged place u = do
+-- `checked_stamp place u` is the name and stamp `u`, at the index `place`, if the count and a policy's id are in their
+-- ranges; else the error of the count, else that of the id.
+unfoldable pub checked_stamp : ℕ → Name × Stamp → Result (Name × Stamp) MessageFault
+checked_stamp place u = do
   counted ← demand (CountRange place) (nat_le 1 u.1.count && nat_le u.1.count 1_000_000_000_000_000_000)
   named ← demand (BadEntry place bad_id) (is_name_in_range u.0)
   Ok u
@@ -228,7 +228,7 @@ summary_in label d = do
   schema ← or_fault BadShape (text_at (codes "schema") d)
   stamps ← stamps_in version d
   same ← demand OtherSchema (bytes_eq schema label)
-  each judged 0 stamps
+  each checked_stamp 0 stamps
 
 -- `summary_stated label bytes` is the summary that `bytes` describe under the schema with the label `label`, or the
 -- first error.

@@ -14,7 +14,7 @@ use Rattle.stamped_store.specs.Reading.{IsEntryRead}
 use Rattle.stamped_store.specs.Store.{Update as PlainUpdate, policy_name, entity_name}
 use Rattle.message_format.specs.declared.fault.MessageFault.{MessageFault}
 use Rattle.message_format.specs.declared.fault.MessageFault.TheVariants as message
-use Rattle.message_format.specs.Summaries.{IsStamped, judged}
+use Rattle.message_format.specs.Summaries.{IsStamped, checked_stamp}
 use Rattle.message_format.specs.declared.bodies.BodyFault.{BodyFault}
 use Rattle.message_format.specs.declared.bodies.BodyFault.TheVariants as body
 use Rattle.message_format.specs.declared.update.Update.{Update}
@@ -100,7 +100,8 @@ module _ (NoPolicies : List ℕ → List ℕ → BodyFault → Type 0)
   -- `IsFaultAt place u why` holds if `why` is the error of the update `u` at the index `place`: of its count, else of
   -- its name, else of its body.
   abbrev pub IsFaultAt : ℕ → PlainUpdate → MessageFault → Type 0
-  IsFaultAt place u why = MatchResult (judged place (stamped u)) (λ _. IsBodyFault place u why) (λ first. why ≡ first)
+  IsFaultAt place u why = MatchResult (checked_stamp place (stamped u)) (λ _. IsBodyFault place u why)
+      (λ first. why ≡ first)
 
 module _ {P E : Type 0} (Policies : List ℕ → List ℕ → P → Type 0) (Entities : EntityUid → List ℕ → E → Type 0)
     (NoPolicies : List ℕ → List ℕ → BodyFault → Type 0) (NoEntities : EntityUid → List ℕ → BodyFault → Type 0) where

@@ -3,7 +3,7 @@ ghost use Rattle.std.specs.Prelude.{◌≡◌, List, ℕ, IfOk, IfErr};
 ghost use Rattle.values.specs.declared.entity_uid.EntityUid.{EntityUid};
 ghost use Rattle.message_format.specs.declared.bodies.BodyFault.{BodyFault};
 ghost use Rattle.message_format.specs.declared.bodies.BodyFault.TheVariants as fault;
-ghost use Rattle.plain.specs.Refused.{OrNoMemory};
+ghost use Rattle.plain.specs.AllocationErrors.{OrNoMemory};
 
 use json_words::Scratch;
 use stamped_store::Readings;

@@ -12,7 +12,7 @@ ghost use Rattle.message_format.specs.declared.fault.MessageFault.TheVariants.{B
 ghost use Rattle.message_format.specs.Summaries.{number_at};
 ghost use Rattle.message_format.specs.declared.update.Update.{Update};
 ghost use Rattle.message_format.specs.declared.bodies.BodyFault.TheVariants.{OtherName};
-ghost use Rattle.message_format.specs.Bodies.{HasOutcome, TextsHaveOneOutcome};
+ghost use Rattle.message_format.specs.Bodies.{HasOutcome, BodiesHaveOneOutcome};
 ghost use Rattle.message_format.specs.Messages.{state_json, delta_json, state_text, delta_text};
 ghost use Rattle.message_format.specs.Messages.{is_kind, updates_in, updates_stated};
 ghost use Rattle.message_format.specs.Numbered.{IsVersion1Message, numbered_message_json};
@@ -57,24 +57,24 @@ pub fn messages_read_back()
 /// no text of a policy is rejected with `OtherName`, no entry of a policy is rejected with `BodyOfOtherName`.
 pub fn messages_have_one_outcome<P: Drop, E: Drop, B: Bodies<P, E>>()
     ensures updates { (b : B)
-        → TextsHaveOneOutcome (B.reads_policy b) (B.refuses_policy b) (B.reads_entity b) (B.refuses_entity b)
+        → BodiesHaveOneOutcome (B.reads_policy b) (B.refuses_policy b) (B.reads_entity b) (B.refuses_entity b)
         → (label bytes : List ℕ) (us vs : List (Update P E))
         → IsMessage (B.reads_policy b) (B.reads_entity b) label bytes us
         → IsMessage (B.reads_policy b) (B.reads_entity b) label bytes vs → us ≡ vs }
     ensures fault { (b : B)
-        → TextsHaveOneOutcome (B.reads_policy b) (B.refuses_policy b) (B.reads_entity b) (B.refuses_entity b)
+        → BodiesHaveOneOutcome (B.reads_policy b) (B.refuses_policy b) (B.reads_entity b) (B.refuses_entity b)
         → (label bytes : List ℕ) (f g : MessageFault)
         → IsMessageFault (B.reads_policy b) (B.reads_entity b) (B.refuses_policy b) (B.refuses_entity b) label bytes f
         → IsMessageFault (B.reads_policy b) (B.reads_entity b) (B.refuses_policy b) (B.refuses_entity b) label bytes g
         → f ≡ g }
     ensures apart { (b : B)
-        → TextsHaveOneOutcome (B.reads_policy b) (B.refuses_policy b) (B.reads_entity b) (B.refuses_entity b)
+        → BodiesHaveOneOutcome (B.reads_policy b) (B.refuses_policy b) (B.reads_entity b) (B.refuses_entity b)
         → (label bytes : List ℕ) (us : List (Update P E)) (f : MessageFault)
         → IsMessage (B.reads_policy b) (B.reads_entity b) label bytes us
         → IsMessageFault (B.reads_policy b) (B.reads_entity b) (B.refuses_policy b) (B.refuses_entity b) label bytes f
         → ⊥ }
     ensures some { (b : B)
-        → TextsHaveOneOutcome (B.reads_policy b) (B.refuses_policy b) (B.reads_entity b) (B.refuses_entity b)
+        → BodiesHaveOneOutcome (B.reads_policy b) (B.refuses_policy b) (B.reads_entity b) (B.refuses_entity b)
         → ((id text : List ℕ) → HasOutcome (B.reads_policy b id text) (B.refuses_policy b id text))
         → ((uid : EntityUid) (text : List ℕ) → HasOutcome (B.reads_entity b uid text) (B.refuses_entity b uid text))
         → (label bytes : List ℕ)

@@ -34,7 +34,7 @@ pub use stamped_store::laws::updates_have_one_store;
 pub use stamped_store::{Readings, StampedStore};
 pub use summary::Summary;
 pub use summary_laws::{stamps_read_back, summaries_read_back};
-pub use summary_reading::{judge_stamp, read_stamped, read_summary, read_version};
+pub use summary_reading::{check_stamp, read_stamped, read_summary, read_version};
 pub use summary_writing::write_summary;
 pub use update::Update;
 pub use version::MessageVersion;

@@ -4,17 +4,18 @@ ghost use Rattle.stamped_store.specs.Store.{issued, policy_name, entity_name};
 ghost use Rattle.stamped_store.specs.Raised.{NumberedUpdate, raise};
 ghost use Rattle.message_format.specs.declared.fault.MessageFault.TheVariants as MessageFault;
 ghost use Rattle.message_format.specs.declared.bodies.BodyFault.TheVariants as BodyFault;
-ghost use Rattle.plain.specs.Refused.{OrNoMemory};
+ghost use Rattle.plain.specs.AllocationErrors.{OrNoMemory};
 ghost use Rattle.message_format.specs.Numbered.{IsVersion1Message};
 ghost use Rattle.message_format.specs.Updates.{plain_updates, IsFaultAt, IsMessageFault};
 ghost use Rattle.message_format.specs.Updates.{fault_at as message_fault, IsMessage, IsBodyRefused, IsUnreadable};
-ghost use Rattle.message_format.specs.inner.Reading.{stated_update, IsBodyReadAs, IsReadAs, IsTaken, AreTaken, Stops};
+ghost use Rattle.message_format.specs.inner.Reading.{stated_update, IsBodyReadAs, IsReadAs, IsReadInRange};
+ghost use Rattle.message_format.specs.inner.Reading.{AreReadInRange, IsFirstUpdateFault};
 
 use crate::fault::MessageFault;
 use crate::laws::messages_are_raised;
 use crate::stated::{ReadEntry, read_stated};
 use crate::summary_laws::stamps_read_back;
-use crate::summary_reading::judge_stamp;
+use crate::summary_reading::check_stamp;
 use crate::{Bodies, BodyFault, Update};
 use json_words::Scratch;
 use plain::{Text, pair_with};
@@ -137,12 +138,12 @@ fn read_at<P: Drop, E: Drop, B: Bodies<P, E>>(
     stated: ReadEntry,
 ) -> Result<Update<P, E>, MessageFault>
     ensures read { IfOk result
-        (IsTaken (B.reads_policy bodies.now) (B.reads_entity bodies.now) place (stated_update stated)) }
+        (IsReadInRange (B.reads_policy bodies.now) (B.reads_entity bodies.now) place (stated_update stated)) }
     ensures refused { IfErr result (OrNoMemory MessageFault.NoMemory
         (IsFaultAt (B.refuses_policy bodies.now) (B.refuses_entity bodies.now) place (stated_update stated))) }
 {
-    let judged = judge_stamp(place, &stated.stamped);
-    let (stated, ()) = pair_with(stated, judged)?;
+    let checked_stamp = check_stamp(place, &stated.stamped);
+    let (stated, ()) = pair_with(stated, checked_stamp)?;
     match read_update(alloc, bodies, scratch, stated) {
         Ok(update) => Ok(update),
         Err(fault) => Err(fault_at(place, fault)),
@@ -156,9 +157,9 @@ fn read_all<P: Drop, E: Drop, B: Bodies<P, E>>(
     scratch: &mut Scratch,
     entries: Vec<ReadEntry>,
 ) -> Result<Vec<Update<P, E>>, MessageFault>
-    ensures read { IfOk result (λ us. AreTaken (B.reads_policy bodies.now) (B.reads_entity bodies.now) 0
+    ensures read { IfOk result (λ us. AreReadInRange (B.reads_policy bodies.now) (B.reads_entity bodies.now) 0
         (map stated_update entries.items) us.items) }
-    ensures refused { IfErr result (OrNoMemory MessageFault.NoMemory (Stops (B.reads_policy bodies.now)
+    ensures refused { IfErr result (OrNoMemory MessageFault.NoMemory (IsFirstUpdateFault (B.reads_policy bodies.now)
         (B.reads_entity bodies.now) (B.refuses_policy bodies.now) (B.refuses_entity bodies.now) 0
         (map stated_update entries.items))) }
 {

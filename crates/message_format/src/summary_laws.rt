@@ -11,7 +11,7 @@ ghost use Rattle.message_format.specs.Summaries.{ascend, AreStamped, summary_jso
 ghost use Rattle.message_format.specs.Summaries.{summary_text, summary_stated, IsWritten, IsName, IsStamped};
 ghost use Rattle.message_format.specs.NumberedSummaries.{NumberedStamp, HaveNumbers, raise_stamps};
 ghost use Rattle.message_format.specs.NumberedSummaries.{numbered_summary_json};
-ghost use Rattle.message_format.specs.Summaries.{name_json, name_in, stamped_in, judged};
+ghost use Rattle.message_format.specs.Summaries.{name_json, name_in, stamped_in, checked_stamp};
 
 use entity_uids::names_read_back;
 use json_words::compact_texts_read_back;
@@ -47,13 +47,13 @@ pub fn summaries_read_back()
 
 /// Proves the round trip of names and stamps. No-op.
 ///
-/// The JSON of a name in its range is parsed as that name. A name and a stamp in their ranges pass [`judge_stamp`]'s
+/// The JSON of a name in its range is parsed as that name. A name and a stamp in their ranges pass [`check_stamp`]'s
 /// checks. A name and a stamp that are parsed and pass these checks are in their ranges.
 pub fn stamps_read_back()
     ensures names { (n : Name) → IsName n → name_in (name_json n) ≡ Ok n }
-    ensures judged { (place : ℕ) (u : Name × Stamp) → IsStamped u → judged place u ≡ Ok u }
+    ensures checked_stamp { (place : ℕ) (u : Name × Stamp) → IsStamped u → checked_stamp place u ≡ Ok u }
     ensures sound { (place : ℕ) (version : MessageVersion) (d : Data) (u v : Name × Stamp)
-        → stamped_in version d ≡ Ok u → judged place u ≡ Ok v → IsStamped u }
+        → stamped_in version d ≡ Ok u → checked_stamp place u ≡ Ok v → IsStamped u }
 {
     path_tests_are_exact();
     site_names_are_recognized();

@@ -9,7 +9,7 @@ ghost use Rattle.message_format.specs.declared.fault.MessageFault.TheVariants as
 ghost use Rattle.message_format.specs.Summaries.{ascend as ascends, number_at as number_of, policy_in, entity_name_in};
 ghost use Rattle.message_format.specs.Summaries.{name_in, version_in, numbered_in, raised_in, named_in, site_in};
 ghost use Rattle.message_format.specs.Summaries.{stamped_in, stamp_in, stamps_of, stamps_in};
-ghost use Rattle.message_format.specs.Summaries.{is_name_in_range as has_id, judged};
+ghost use Rattle.message_format.specs.Summaries.{is_name_in_range as has_id, checked_stamp};
 ghost use Rattle.message_format.specs.Summaries.{summary_in, summary_stated};
 
 use crate::{MessageFault, MessageVersion, Summary};
@@ -261,9 +261,9 @@ fn has_id(name: &Name) -> bool
 ///
 /// - `CountRange` (54): the count is not from 1 to 10^18.
 /// - `BadEntry` (55), with code 19 within: a policy's id does not have 1 to 256 bytes.
-#[tactic(auto, unfolding(crate::specs::Summaries::judged))]
-pub fn judge_stamp(place: usize, stamp: &(Name, Stamp)) -> Result<(), MessageFault>
-    ensures { AlwaysReadsAs (λ u. stamp.now) result (judged place stamp.now) }
+#[tactic(auto, unfolding(crate::specs::Summaries::checked_stamp))]
+pub fn check_stamp(place: usize, stamp: &(Name, Stamp)) -> Result<(), MessageFault>
+    ensures { AlwaysReadsAs (λ u. stamp.now) result (checked_stamp place stamp.now) }
 {
     if !(1 <= stamp.1.count && stamp.1.count <= COUNT_MAX) {
         return Err(MessageFault::CountRange(place));
@@ -275,11 +275,11 @@ pub fn judge_stamp(place: usize, stamp: &(Name, Stamp)) -> Result<(), MessageFau
 }
 
 /// Checks the ranges of each name and stamp in turn. Returns the first error.
-fn judge_all(stamps: &[(Name, Stamp)]) -> Result<(), MessageFault>
-    ensures { ReadsAs MessageFault.NoMemory (λ u. stamps.now) result (each judged 0 stamps.now) }
+fn check_stamps(stamps: &[(Name, Stamp)]) -> Result<(), MessageFault>
+    ensures { ReadsAs MessageFault.NoMemory (λ u. stamps.now) result (each checked_stamp 0 stamps.now) }
 {
     for (place, stamp) in stamps.iter().enumerate() {
-        judge_stamp(place, stamp)?;
+        check_stamp(place, stamp)?;
     }
     Ok(())
 }
@@ -306,7 +306,7 @@ fn read_summary_value(alloc: Global, label: &str, value: &Value) -> Result<Summa
     if schema != label {
         return Err(MessageFault::OtherSchema);
     }
-    judge_all(&stamps)?;
+    check_stamps(&stamps)?;
     Ok(Summary { stamps })
 }
 

@@ -8,7 +8,7 @@ ghost use Rattle.values.specs.Names.{name_cmp};
 ghost use Rattle.stamped_store.specs.Deltas.{delta, is_unseen as is_news_where};
 ghost use Rattle.stamped_store.specs.EntryOrder.{plain_entry, body_bytes};
 ghost use Rattle.stamped_store.specs.Store.{abstract_store, updates};
-ghost use Rattle.stamped_store.specs.Stored.{value_at};
+ghost use Rattle.stamped_store.specs.JoinMaps.{value_at};
 ghost use Rattle.message_format.specs.Summaries.{ascend};
 ghost use Rattle.entity_uids.specs.Tokens.{AppendsValue, AppendsMember, AppendsAll};
 ghost use Rattle.message_format.specs.Messages.{body_json, entry_json, message_json, state_json, state_text};

@@ -1,3 +1,3 @@
 pub mod formers
-pub mod Refused
+pub mod AllocationErrors
 pub mod Words

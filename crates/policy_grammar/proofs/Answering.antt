@@ -32,7 +32,7 @@ use Rattle.grammar_policies.specs.declared.tree.PolicyTree.{PolicyTree}
 use Rattle.grammar_desugaring.specs.Meaning as meaning
 use Rattle.grammar_desugaring.specs.Meaning.{path_name}
 use Rattle.grammar_desugaring.specs.declared.fault.DesugarFault.{DesugarFault}
-use Rattle.grammar_desugaring.specs.Refused.{least, NoneOfNone}
+use Rattle.grammar_desugaring.specs.ReportedErrors.{least, NoneOfNone}
 use Rattle.policy_grammar.specs.declared.policy.Effect.{Effect}
 use Rattle.policy_grammar.specs.declared.policy.Effect.TheVariants.{Permit, Forbid}
 use Rattle.policy_grammar.specs.declared.policy.EntityScope.{EntityScope}

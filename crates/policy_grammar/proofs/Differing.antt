@@ -6,7 +6,7 @@ use Rattle.std.specs.Str.{bytes_eq}
 use Rattle.std.proofs.lemmas.Slice.Zip.{AllZip-long}
 use Rattle.grammar_desugaring.specs.declared.fault.DesugarFault.{DesugarFault}
 use Rattle.grammar_desugaring.specs.declared.fault.DesugarFault.TheVariants as desugar
-use Rattle.grammar_desugaring.specs.Refused.{at, LeastIsLeast}
+use Rattle.grammar_desugaring.specs.ReportedErrors.{at, LeastIsLeast}
 use Rattle.grammar_desugaring.specs.Repeats.{NameAt, places_of, repeats}
 use Rattle.policy_grammar.specs.CoreOf.{IsCoreOf}
 use Rattle.policy_grammar.specs.Faults.{place_of, of_desugaring}

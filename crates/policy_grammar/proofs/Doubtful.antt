@@ -7,7 +7,7 @@ use Rattle.std.specs.List.{AllZip, enumerate_from, starts_with}
 use Rattle.std.specs.Fmt.{decimal}
 use Rattle.std.proofs.Math.Seq.{drop-cons}
 use Rattle.std.proofs.lemmas.Fmt.{decimal_injective}
-use Rattle.grammar_desugaring.specs.Refused.{least}
+use Rattle.grammar_desugaring.specs.ReportedErrors.{least}
 use Rattle.grammar_desugaring.specs.Repeats.{NameAt, IsRepeatedAt, repeat_faults, RepeatsAreReported}
 use Rattle.grammar_desugaring.proofs.AgainFront.{Later, again-there, again-here, again-front, again-none}
 use Rattle.grammar_policies.specs.declared.tree.Annotation.{Annotation}

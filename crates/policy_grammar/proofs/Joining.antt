@@ -11,11 +11,11 @@ use Rattle.grammar_policies.specs.declared.tree.PolicyTree.{PolicyTree}
 use Rattle.grammar_policies.specs.WellFormed.{WellFormedCondition}
 use Rattle.grammar_desugaring.specs.declared.measure.Measure.{Measure}
 use Rattle.grammar_desugaring.specs.Faults.{faults_of}
-use Rattle.grammar_desugaring.specs.Measured.{of}
+use Rattle.grammar_desugaring.specs.TreeMeasures.{of}
 use Rattle.grammar_desugaring.specs.BuiltFrom.{IsBuiltFrom}
 use Rattle.grammar_desugaring.specs.Sums.{leaf, paired, LiteralIsLeaf, AndIsPaired}
 use Rattle.policy_grammar.proofs.Lists.{all-at, next, none-left, none-right}
-use Rattle.policy_grammar.specs.Whole.{truth}
+use Rattle.policy_grammar.specs.PolicyExpression.{truth}
 use Rattle.policy_grammar.specs.Conditions.{condition_of, conditions_of, condition_faults}
 use Rattle.policy_grammar.specs.PolicyText.{tree_faults}
 use Rattle.policy_grammar.specs.inner.Parts.{AreSound}

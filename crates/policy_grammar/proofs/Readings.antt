@@ -17,7 +17,7 @@ use Rattle.policy_grammar.specs.declared.fault.ReadFault.{ReadFault}
 use Rattle.policy_grammar.specs.declared.fault.ReadFault.TheVariants as fault
 use Rattle.policy_grammar.specs.CoreOf.{IsUidOf, AreNamesOf}
 use Rattle.grammar_desugaring.specs.declared.fault.DesugarFault.{DesugarFault}
-use Rattle.grammar_desugaring.specs.Refused.{least}
+use Rattle.grammar_desugaring.specs.ReportedErrors.{least}
 use Rattle.policy_grammar.specs.Faults.{of_desugaring}
 use Rattle.policy_grammar.specs.Limits.{most_policy_bytes, most_file_bytes, IsId, IsSmallTree}
 use Rattle.policy_grammar.specs.PolicyText.{Derives, IsUnread, IsUidText, IsUidRefused, IsPolicyOf, IsPolicyText}

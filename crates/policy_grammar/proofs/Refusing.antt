@@ -12,7 +12,7 @@ use Rattle.policy_grammar.specs.declared.fault.ReadFault.{ReadFault}
 use Rattle.policy_grammar.specs.declared.fault.ReadFault.TheVariants as fault
 use Rattle.policy_grammar.specs.CoreOf.{IsNameOf, AreNamesOf}
 use Rattle.policy_grammar.specs.Limits.{most_policy_bytes, most_file_bytes}
-use Rattle.plain.specs.Refused.{OrNoMemory}
+use Rattle.plain.specs.AllocationErrors.{OrNoMemory}
 use Rattle.policy_grammar.specs.PolicyText.{Derives, HasNoPolicy, HaveNoPolicies, IsPolicyOf, IsPolicyText}
 use Rattle.policy_grammar.specs.PolicyText.{IsPolicyRefused, IsFileRefused}
 

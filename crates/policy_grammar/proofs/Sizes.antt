@@ -27,12 +27,12 @@ use Rattle.policy_grammar.specs.declared.policy.EntityScope.TheVariants as entit
 use Rattle.policy_grammar.specs.declared.policy.ActionScope.{ActionScope}
 use Rattle.policy_grammar.specs.declared.policy.ActionScope.TheVariants as actions
 use Rattle.policy_grammar.specs.declared.policy.Policy.{Policy}
-use Rattle.policy_grammar.specs.Whole.{entity_literal, entity_part, action_part, expression_of}
+use Rattle.policy_grammar.specs.PolicyExpression.{entity_literal, entity_part, action_part, expression_of}
 use Rattle.policy_grammar.specs.Conditions.{conditions_of}
 use Rattle.policy_grammar.specs.CoreOf.{IsUidOf, IsEntityScopeOf, IsActionScopeOf, IsCoreOf, AreCoresOf}
 use Rattle.policy_grammar.specs.Limits.{Shape, leaf, over, both, literals, sized, node_count, height, part_shape}
 use Rattle.policy_grammar.specs.Limits.{action_shape, shape_over, shape_of, IsSmallOver, IsSmallTree, IsSmallPolicy}
-use Rattle.policy_grammar.specs.Limits.{ShapesAreSizes, NineFormsMore, HeadsAreLow}
+use Rattle.policy_grammar.specs.Limits.{ShapesAreSizes, NineNodesMore, HeadsAreLow}
 
 -- ---- no head is too high
 
@@ -214,7 +214,7 @@ nine text cs none = ap (λ ds. size.node_count (conditions_of text ds)) none ∙
 sum : (p a r c n : ℕ) → p ≡ 1 → a ≡ n + 3 → r ≡ 1 → c ≡ 1 → p + (a + (r + c + 1) + 1) + 1 ≡ n + 9
 sum p a r c n hp ha hr hc = omega arith
 
-pub nine_forms_more : NineFormsMore
+pub nine_forms_more : NineNodesMore
 nine_forms_more text tree uid uids principal acts resource none =
     sum (node_count (part_shape tree.principal)) (node_count (action_shape tree.action)) (node_count (part_shape tree.resource)) (size.node_count (conditions_of text tree.conditions)) (length (uid ∷ uids))
     (ap (λ p. node_count (part_shape p)) principal) (ap (λ a. node_count (action_shape a)) acts ∙ omega arith) (ap (λ p. node_count (part_shape p)) resource) (nine text tree.conditions none)

@@ -7,10 +7,10 @@ use Rattle.grammar_policies.specs.declared.tree.PolicyTree.{PolicyTree}
 use Rattle.grammar_core.specs.Size as size
 use Rattle.grammar_desugaring.specs.declared.fault.DesugarFault.{DesugarFault}
 use Rattle.grammar_desugaring.specs.declared.measure.Measure.{Measure}
-use Rattle.grammar_desugaring.specs.Measured.{of}
-use Rattle.grammar_desugaring.specs.Refused.{earlier_of, least, LeastOfBoth}
+use Rattle.grammar_desugaring.specs.TreeMeasures.{of}
+use Rattle.grammar_desugaring.specs.ReportedErrors.{earlier_of, least, LeastOfBoth}
 use Rattle.grammar_desugaring.specs.Repeats.{repeat_faults}
-use Rattle.policy_grammar.specs.declared.verdict.Verdict.{Verdict}
+use Rattle.policy_grammar.specs.declared.tree_check.TreeCheck.{TreeCheck}
 use Rattle.policy_grammar.specs.Conditions.{conditions_of, condition_faults}
 use Rattle.policy_grammar.specs.Limits.{IsSmallOver, IsSmallTree}
 use Rattle.policy_grammar.specs.PolicyText.{tree_faults, file_faults}
@@ -20,15 +20,15 @@ use Rattle.policy_grammar.proofs.Lists.{all-left, all-right}
 use Rattle.policy_grammar.proofs.Sizes.{decides}
 
 -- of one policy, by its annotations and by the measure of its conditions
-pub told-one : LeastOfBoth → (text : List ℕ) (tree : PolicyTree) (repeat : Option DesugarFault) (j : Measure) (verdict : Verdict) →
+pub told-one : LeastOfBoth → (text : List ℕ) (tree : PolicyTree) (repeat : Option DesugarFault) (j : Measure) (tree_check : TreeCheck) →
     repeat ≡ least (repeat_faults (annotation_keys text tree)) → j ≡ of (conditions_of text tree.conditions) (condition_faults text tree.conditions) →
-    (IsTrue verdict.small ↔ IsSmallOver tree j.height j.node_count) → verdict.fault ≡ earlier_of repeat j.fault → ReportsPolicy text tree verdict
-told-one both text tree repeat j verdict again is small same =
+    (IsTrue tree_check.small ↔ IsSmallOver tree j.height j.node_count) → tree_check.fault ≡ earlier_of repeat j.fault → ReportsPolicy text tree tree_check
+told-one both text tree repeat j tree_check again is small same =
     let e = conditions_of text tree.conditions in
     record {
       fault = same ∙ ap (λ o. earlier_of o j.fault) again ∙ ap (λ i. earlier_of (least (repeat_faults (annotation_keys text tree))) i.fault) is
           ∙ sym (both (repeat_faults (annotation_keys text tree)) (condition_faults text tree.conditions));
-      small = decides tree (size.height e) (size.node_count e) (IsTrue verdict.small) (subst (λ i. IsTrue verdict.small ↔ IsSmallOver tree i.height i.node_count) is small);
+      small = decides tree (size.height e) (size.node_count e) (IsTrue tree_check.small) (subst (λ i. IsTrue tree_check.small ↔ IsSmallOver tree i.height i.node_count) is small);
     }
 
 all-more : {A : Type 0} (P : A → Type 0) (xs : List A) (x : A) → AllByRecursion P xs → P x → AllByRecursion P (xs ++ x ∷ [])
@@ -36,7 +36,7 @@ all-more P [] x all p = (p, tt)
 all-more P (y ∷ xs) x all p = (all.0, all-more P xs x all.1 p)
 
 -- of one policy more
-pub told-more : LeastOfBoth → (text : List ℕ) (trees : List PolicyTree) (i : ℕ) (tree : PolicyTree) (old one new : Verdict) → ReportsFile text (take i trees) old → i < length trees →
+pub told-more : LeastOfBoth → (text : List ℕ) (trees : List PolicyTree) (i : ℕ) (tree : PolicyTree) (old one new : TreeCheck) → ReportsFile text (take i trees) old → i < length trees →
     tree ≡ get_or trees i tree → ReportsPolicy text tree one → new.fault ≡ earlier_of old.fault one.fault → (IsTrue new.small ↔ (IsTrue old.small × IsTrue one.small)) →
     ReportsFile text (take (i + 1) trees) new
 told-more law text trees i tree old one new was below is tells same both =
@@ -54,15 +54,15 @@ told-more law text trees i tree old one new was below is tells same both =
       );
     })
 
-pub told-none : (text : List ℕ) (verdict : Verdict) → verdict.fault ≡ None → verdict.small ≡ true → ReportsFile text [] verdict
-told-none text verdict none small = record { fault = none; small = (λ yes'. tt, λ all. small) }
+pub told-none : (text : List ℕ) (tree_check : TreeCheck) → tree_check.fault ≡ None → tree_check.small ≡ true → ReportsFile text [] tree_check
+told-none text tree_check none small = record { fault = none; small = (λ yes'. tt, λ all. small) }
 
-pub told-all : (text : List ℕ) (trees : List PolicyTree) (i : ℕ) (verdict : Verdict) → ReportsFile text (take i trees) verdict → length trees ≤ i → ReportsFile text trees verdict
-told-all text trees i verdict tells over = subst (λ ts. ReportsFile text ts verdict) (take_all i trees over) tells
+pub told-all : (text : List ℕ) (trees : List PolicyTree) (i : ℕ) (tree_check : TreeCheck) → ReportsFile text (take i trees) tree_check → length trees ≤ i → ReportsFile text trees tree_check
+told-all text trees i tree_check tells over = subst (λ ts. ReportsFile text ts tree_check) (take_all i trees over) tells
 
 -- of a file, by its names and by its policies
-pub told-file : LeastOfBoth → (text : List ℕ) (trees : List PolicyTree) (names : List (List ℕ)) (repeat : Option DesugarFault) (verdict : Verdict) (told : Option DesugarFault) →
-    repeat ≡ least (repeat_faults (policy_names names trees)) → ReportsFile text trees verdict → told ≡ earlier_of repeat verdict.fault → told ≡ least (file_faults text trees names)
-told-file both text trees names repeat verdict told again tells is =
-    is ∙ ap (λ o. earlier_of o verdict.fault) again ∙ ap (earlier_of (least (repeat_faults (policy_names names trees)))) tells.fault
+pub told-file : LeastOfBoth → (text : List ℕ) (trees : List PolicyTree) (names : List (List ℕ)) (repeat : Option DesugarFault) (tree_check : TreeCheck) (told : Option DesugarFault) →
+    repeat ≡ least (repeat_faults (policy_names names trees)) → ReportsFile text trees tree_check → told ≡ earlier_of repeat tree_check.fault → told ≡ least (file_faults text trees names)
+told-file both text trees names repeat tree_check told again tells is =
+    is ∙ ap (λ o. earlier_of o tree_check.fault) again ∙ ap (earlier_of (least (repeat_faults (policy_names names trees)))) tells.fault
     ∙ sym (both (repeat_faults (policy_names names trees)) (flat_map (tree_faults text) trees))

@@ -6,7 +6,7 @@ use Rattle.grammar_desugaring.specs.grammar_tokens.declared.fault.SyntaxFault.Th
 use Rattle.grammar_desugaring.specs.grammar_tokens.Lang.{Lang}
 use Rattle.grammar_desugaring.specs.grammar_tokens.ParseResults.{IsRefusedWithin}
 use Rattle.policy_grammar.specs.declared.fault.ReadFault.TheVariants as fault
-use Rattle.plain.specs.Refused.{OrNoMemory}
+use Rattle.plain.specs.AllocationErrors.{OrNoMemory}
 use Rattle.policy_grammar.specs.Texts.{IsUnread}
 use Rattle.policy_grammar.specs.inner.TreeParts.{LexedIn, refusal_of}
 

@@ -15,17 +15,17 @@ use Rattle.grammar_policies.specs.declared.tree.ConditionWord.TheVariants as wor
 use Rattle.grammar_desugaring.specs.declared.fault.DesugarFault.{DesugarFault}
 use Rattle.grammar_desugaring.specs.Core.{core_of}
 use Rattle.grammar_desugaring.specs.Faults.{faults_of}
-use Rattle.policy_grammar.specs.Whole.{truth}
+use Rattle.policy_grammar.specs.PolicyExpression.{truth}
 
--- `asked_by word e` is the expression that the keyword `word` makes of `e`: `e` for `when { e }`, and `!e` for
--- `unless { e }`.
-abbrev pub asked_by : ConditionWord → Expr → Expr
-asked_by word.When e = e
-asked_by word.Unless e = core.Unary Not e
+-- `condition_expression word e` is the expression that the keyword `word` makes of `e`: `e` for `when { e }`, and `!e`
+-- for `unless { e }`.
+abbrev pub condition_expression : ConditionWord → Expr → Expr
+condition_expression word.When e = e
+condition_expression word.Unless e = core.Unary Not e
 
 -- `condition_of text c` is the core expression of the condition `c`.
 abbrev pub condition_of : List ℕ → Condition → Expr
-condition_of text c = asked_by c.word (core_of text c.expression)
+condition_of text c = condition_expression c.word (core_of text c.expression)
 
 -- `joined es` is the conjunction of `es`, grouped to the right: `e && (f && ..)`; it is `true` if `es` is empty.
 abbrev pub joined : List Expr → Expr

@@ -2,7 +2,7 @@ pub mod Faults
 pub mod Texts
 pub mod Annotations
 pub mod inner
-pub mod Whole
+pub mod PolicyExpression
 pub mod Conditions
 pub mod CoreOf
 pub mod Limits

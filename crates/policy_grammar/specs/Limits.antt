@@ -12,7 +12,7 @@ use Rattle.grammar_core.specs.Size as size
 use Rattle.grammar_core.specs.Size.{most_height, most_nodes}
 pub use Rattle.policy_grammar.specs.Texts.{most_policy_bytes, most_file_bytes}
 use Rattle.policy_grammar.specs.declared.policy.Policy.{Policy}
-use Rattle.policy_grammar.specs.Whole.{expression_of}
+use Rattle.policy_grammar.specs.PolicyExpression.{expression_of}
 use Rattle.policy_grammar.specs.Conditions.{conditions_of}
 use Rattle.policy_grammar.specs.CoreOf.{IsCoreOf}
 
@@ -104,10 +104,10 @@ ShapesAreSizes = (text : List ℕ) (tree : PolicyTree) (policy : Policy) → IsC
     (height (shape_of text tree) ≡ size.height (expression_of policy))
     × (node_count (shape_of text tree) ≡ size.node_count (expression_of policy))
 
--- `NineFormsMore`: a policy without conditions, whose only constraint is a nonempty list of actions, has nine nodes
+-- `NineNodesMore`: a policy without conditions, whose only constraint is a nonempty list of actions, has nine nodes
 -- more than the list has actions.
-abbrev pub NineFormsMore : Type 0
-NineFormsMore = (text : List ℕ) (tree : PolicyTree) (uid : UidTree) (uids : List UidTree) →
+abbrev pub NineNodesMore : Type 0
+NineNodesMore = (text : List ℕ) (tree : PolicyTree) (uid : UidTree) (uids : List UidTree) →
     tree.principal ≡ part.Any → tree.action ≡ action.InList (uid ∷ uids) →
     tree.resource ≡ part.Any → tree.conditions ≡ [] → node_count (shape_of text tree) ≡ length (uid ∷ uids) + 9
 

@@ -12,7 +12,7 @@ use Rattle.grammar_policies.specs.grammar_expressions.Expressions.{nesting_limit
 use Rattle.grammar_policies.specs.Grammar as grammar
 pub use Rattle.policy_grammar.specs.Texts.{Derives, byte_of, StopsAt, IsUnread}
 use Rattle.grammar_desugaring.specs.declared.fault.DesugarFault.{DesugarFault}
-use Rattle.grammar_desugaring.specs.Refused.{least}
+use Rattle.grammar_desugaring.specs.ReportedErrors.{least}
 use Rattle.grammar_desugaring.specs.Repeats.{repeat_faults}
 use Rattle.policy_grammar.specs.declared.policy.Policy.{Policy}
 use Rattle.policy_grammar.specs.declared.fault.ReadFault.{ReadFault}

@@ -6,7 +6,7 @@ use Rattle.std.specs.Str.{bytes_eq}
 use Rattle.policy_grammar.specs.declared.policy.Policy.{Policy}
 use Rattle.policy_grammar.specs.declared.fault.ReadFault.{ReadFault}
 use Rattle.grammar_desugaring.specs.declared.fault.DesugarFault.{DesugarFault}
-use Rattle.grammar_desugaring.specs.Refused.{at, IsLeastOf}
+use Rattle.grammar_desugaring.specs.ReportedErrors.{at, IsLeastOf}
 use Rattle.policy_grammar.specs.Faults.{place_of}
 use Rattle.policy_grammar.specs.PolicyText.{IsPolicyFile, IsReportedOf}
 

@@ -4,12 +4,12 @@ ghost use Rattle.std.specs.Prelude.{◌≡◌, [], IfOk, IsTrue};
 ghost use Rattle.std.specs.List.{AllByRecursion};
 ghost use Rattle.grammar_core.specs.declared.expr.Expr.TheVariants as core;
 ghost use Rattle.grammar_desugaring.specs.Faults.{faults_of};
-ghost use Rattle.grammar_desugaring.specs.Measured.{of};
+ghost use Rattle.grammar_desugaring.specs.TreeMeasures.{of};
 ghost use Rattle.grammar_policies.specs.WellFormed.{WellFormedCondition};
 ghost use Rattle.policy_grammar.specs.Conditions.{condition_of, conditions_of, condition_faults};
 ghost use Rattle.grammar_desugaring.specs.BuiltFrom.{IsBuiltFrom};
 ghost use Rattle.policy_grammar.specs.inner.Parts.{AreSound};
-ghost use Rattle.policy_grammar.specs.Whole.{truth};
+ghost use Rattle.policy_grammar.specs.PolicyExpression.{truth};
 
 use grammar_core::{Expr, Literal, Unary};
 use grammar_desugaring::{Measure, build_expr, measure_expr, measures_add_up};
@@ -18,7 +18,7 @@ use plain::{NoMemory, Shared, pair_with};
 use std::alloc::Global;
 
 /// Returns the measure of a condition. The core expression of `unless { e }` is `!e`.
-fn judge_condition(alloc: Global, text: &str, condition: &Condition) -> Result<Measure, NoMemory>
+fn measure_condition(alloc: Global, text: &str, condition: &Condition) -> Result<Measure, NoMemory>
     requires { IsBuiltFrom text.now (λ tokens. WellFormedCondition tokens condition.now) }
     ensures { IfOk result (λ j. j ≡ of (condition_of text.now condition.now)
         (faults_of text.now condition.now.expression)) }
@@ -27,13 +27,13 @@ fn judge_condition(alloc: Global, text: &str, condition: &Condition) -> Result<M
     let measure = measure_expr(alloc, text, &condition.expression)?;
     match condition.word {
         ConditionWord::When => Ok(measure),
-        ConditionWord::Unless => Ok(measure.above()),
+        ConditionWord::Unless => Ok(measure.node_measure()),
     }
 }
 
 /// Returns the measure of the conditions: the height and the number of nodes of their core expression, and their error
 /// at the least offset. Allocates only for the keys of records.
-pub(crate) fn judge_conditions(
+pub(crate) fn measure_conditions(
     alloc: Global,
     text: &str,
     conditions: &[Condition],
@@ -52,10 +52,10 @@ pub(crate) fn judge_conditions(
         });
     }
     left -= 1;
-    let mut joined = judge_condition(alloc, text, &conditions[left])?;
+    let mut joined = measure_condition(alloc, text, &conditions[left])?;
     while left > 0 {
         left -= 1;
-        let first = judge_condition(alloc, text, &conditions[left])?;
+        let first = measure_condition(alloc, text, &conditions[left])?;
         joined = first.paired(joined);
     }
     Ok(joined)

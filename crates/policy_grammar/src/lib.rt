@@ -14,8 +14,8 @@ mod plain_uids;
 mod policy;
 mod repeats;
 mod texts;
+mod tree_check;
 mod trees;
-mod verdict;
 
 pub use annotations::repeated_annotation;
 pub use fault::ReadFault;

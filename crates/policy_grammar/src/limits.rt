@@ -1,7 +1,7 @@
 //! Limits on the size of a policy.
 ghost use Rattle.std.specs.Prelude.{◌≡◌, ◌↔◌, ◌<◌, ◌^◌, IsTrue, All};
 ghost use Rattle.policy_grammar.specs.Limits as spec;
-ghost use Rattle.policy_grammar.specs.Limits.{IsSmallOver, IsId, ShapesAreSizes, NineFormsMore, HeadsAreLow};
+ghost use Rattle.policy_grammar.specs.Limits.{IsSmallOver, IsId, ShapesAreSizes, NineNodesMore, HeadsAreLow};
 
 use grammar_core::{HEIGHT_MAX, NODES_MAX};
 use grammar_policies::{ActionTree, PartTree, PolicyTree};
@@ -18,7 +18,7 @@ const MOST_NODES: usize = NODES_MAX as usize;
 pub const MOST_ID_BYTES: usize = 256;
 
 /// Returns the number of nodes of a scope's part on the principal or the resource.
-fn part_forms(part: &PartTree) -> usize
+fn part_nodes(part: &PartTree) -> usize
     ensures is { result ≡ spec.node_count (spec.part_shape part.now) }
     ensures few { result < 7 }
 {
@@ -31,7 +31,7 @@ fn part_forms(part: &PartTree) -> usize
 }
 
 /// Returns the number of nodes of a scope's part on the action.
-fn action_forms(action: &ActionTree) -> usize
+fn action_nodes(action: &ActionTree) -> usize
     ensures is { result ≡ spec.node_count (spec.action_shape action.now) }
     ensures fits { result < 2 ^ 63 }
 {
@@ -49,9 +49,9 @@ fn action_forms(action: &ActionTree) -> usize
 pub(crate) fn is_small(tree: &PolicyTree, height: u32, node_count: u32) -> bool
     ensures { IsTrue result ↔ IsSmallOver tree.now height node_count }
 {
-    let head = part_forms(&tree.principal)
-        + action_forms(&tree.action)
-        + part_forms(&tree.resource)
+    let head = part_nodes(&tree.principal)
+        + action_nodes(&tree.action)
+        + part_nodes(&tree.resource)
         + 3;
     height <= MOST_CONDITION_HEIGHT && head + node_count as usize <= MOST_NODES
 }
@@ -76,6 +76,6 @@ pub(crate) fn are_ids(names: &[Text]) -> bool
 /// most three to the height of the conditions, unless the whole is at most 6 high. No-op.
 pub fn heads_are_small()
     ensures sizes { ShapesAreSizes }
-    ensures list { NineFormsMore }
+    ensures list { NineNodesMore }
     ensures low { HeadsAreLow }
 {}

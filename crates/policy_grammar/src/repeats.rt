@@ -3,7 +3,7 @@ ghost use Rattle.std.specs.Prelude.{◌≡◌, ◌||◌, IfOk, length};
 ghost use Rattle.std.specs.List.{AllByRecursion};
 ghost use Rattle.grammar_policies.specs.WellFormed.{WellFormedPolicy};
 ghost use Rattle.policy_grammar.specs.CoreOf.{AreNamesOf};
-ghost use Rattle.grammar_desugaring.specs.Refused.{least};
+ghost use Rattle.grammar_desugaring.specs.ReportedErrors.{least};
 ghost use Rattle.grammar_desugaring.specs.Repeats.{repeat_faults, abstract_names};
 ghost use Rattle.grammar_desugaring.specs.BuiltFrom.{IsBuiltFrom};
 ghost use Rattle.policy_grammar.specs.Repeats.{policy_names, start_of};
@@ -49,7 +49,7 @@ fn some_index_name(text: &str, names: &[Text], trees: &[PolicyTree]) -> bool
 
 /// Returns whether the name of a policy may repeat another: any name may if `wide` is true, else only the value of an
 /// `@id`.
-fn is_doubtful(text: &str, wide: bool, tree: &PolicyTree) -> bool
+fn may_repeat(text: &str, wide: bool, tree: &PolicyTree) -> bool
     requires { IsBuiltFrom text.now (λ tokens. WellFormedPolicy tokens tree.now) }
     ensures { result ≡ (wide || has_id text.now tree.now) }
 {
@@ -72,7 +72,7 @@ fn names_to_compare<'a>(
 {
     let mut marks = Vec::new(alloc);
     for (i, tree) in trees.iter().enumerate() {
-        if !is_doubtful(text, wide, tree) {
+        if !may_repeat(text, wide, tree) {
             continue;
         }
         marks.push(NameAt {

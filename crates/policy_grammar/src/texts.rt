@@ -6,7 +6,7 @@ ghost use Rattle.policy_grammar.specs.declared.fault.ReadFault.TheVariants as Re
 ghost use Rattle.policy_grammar.specs.CoreOf.{AreNamesOf};
 ghost use Rattle.policy_grammar.specs.PolicyText.{IsUidText, IsPolicyOf, HasNoPolicy, ArePoliciesOf, HaveNoPolicies};
 ghost use Rattle.policy_grammar.specs.PolicyText.{IsPolicyText, IsPolicyFile, IsUidRefused};
-ghost use Rattle.plain.specs.Refused.{OrNoMemory};
+ghost use Rattle.plain.specs.AllocationErrors.{OrNoMemory};
 ghost use Rattle.policy_grammar.specs.PolicyText.{IsPolicyRefused, IsFileRefused};
 ghost use Rattle.grammar_desugaring.specs.BuiltFrom.{IsBuiltFrom};
 
@@ -18,8 +18,8 @@ use crate::names::{named_of, names_of};
 use crate::plain_uids::plain_uid;
 use crate::policy::Policy;
 use crate::repeats::repeated_name;
+use crate::tree_check::{check_tree, check_trees};
 use crate::trees::{policy_tree, policy_trees, uid_tree};
-use crate::verdict::{judge_policies, judge_policy};
 use grammar_desugaring::{earlier_of, least_fault_is_reported};
 use grammar_policies::PolicyTree;
 use plain::{NoMemory, Text};
@@ -62,11 +62,11 @@ fn policy_of(alloc: Global, text: &str, tree: &PolicyTree) -> Result<Policy, Rea
     ensures refused { IfErr result (OrNoMemory ReadFault.NoMemory (HasNoPolicy text.now tree.now)) }
 {
     least_fault_is_reported();
-    let verdict = judge_policy(alloc, text, tree)?;
-    if let Some(fault) = verdict.fault {
+    let tree_check = check_tree(alloc, text, tree)?;
+    if let Some(fault) = tree_check.fault {
         return Err(ReadFault::from(fault));
     }
-    if !verdict.small {
+    if !tree_check.small {
         return Err(ReadFault::TooDeep(0));
     }
     Ok(core_like(alloc, text, tree, None)?)
@@ -115,11 +115,11 @@ fn policies_of(
 {
     least_fault_is_reported();
     let repeat = repeated_name(alloc, text, &names, &trees)?;
-    let verdict = judge_policies(alloc, text, &trees)?;
-    if let Some(fault) = earlier_of(repeat, verdict.fault) {
+    let tree_check = check_trees(alloc, text, &trees)?;
+    if let Some(fault) = earlier_of(repeat, tree_check.fault) {
         return Err(ReadFault::from(fault));
     }
-    if !verdict.small {
+    if !tree_check.small {
         return Err(ReadFault::TooDeep(0));
     }
     if !are_ids(&names) {

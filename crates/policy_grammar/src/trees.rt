@@ -7,7 +7,7 @@ ghost use Rattle.grammar_policies.specs.Grammar as grammar;
 ghost use Rattle.grammar_policies.specs.WellFormed.{WellFormedUid, WellFormedPolicy};
 ghost use Rattle.grammar_desugaring.specs.BuiltFrom.{IsBuiltFrom};
 ghost use Rattle.policy_grammar.specs.declared.fault.ReadFault.TheVariants as ReadFault;
-ghost use Rattle.plain.specs.Refused.{OrNoMemory};
+ghost use Rattle.plain.specs.AllocationErrors.{OrNoMemory};
 ghost use Rattle.policy_grammar.specs.Texts.{most_policy_bytes, most_file_bytes, Derives, IsUnread, byte_of};
 ghost use Rattle.policy_grammar.specs.inner.TreeParts.{LexedIn, IsUnlexed, refusal_of};
 

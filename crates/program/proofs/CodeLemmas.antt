@@ -3,7 +3,7 @@ use Rattle.std.proofs.Common.{◌≡◌, ◌∙◌, ℕ, false, List, Option, No
 use Rattle.explanations.specs.explanation_texts.declared.table.CodeWords.{CodeWords}
 use Rattle.explanations.specs.explanation_texts.Codes.{is_code}
 use Rattle.explanations.specs.explanation_texts.CodeText.{texts_of, words_on}
-use Rattle.program.specs.Explaining.{IsSmallNumeral, IsSmallNumber, AreWordsOn, IsNoCode}
+use Rattle.program.specs.ExplainCommand.{IsSmallNumeral, IsSmallNumber, AreWordsOn, IsNoCode}
 
 pub no_numeral : (word : List ℕ) → (IsSmallNumeral word → ⊥) → IsNoCode word
 no_numeral word lacks n h = absurd (lacks h.0)

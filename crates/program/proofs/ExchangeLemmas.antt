@@ -24,7 +24,7 @@ use Rattle.program.specs.Reports.{ended}
 use Rattle.program.specs.Courses.{Course, GoesOnAnnounced}
 use Rattle.program.specs.Pulling.{NoReadFailed, NoWriteFailed}
 use Rattle.program.specs.Exchanging.{Calls, CallsIfReached, CallsOver, Direction, IsCallErrorReported, IsCallReported, IsNotCalled, WritesTaken}
-use Rattle.program.specs.inner.Exchanged.{IsReplied, IsRepliedOver, Never, NoCourse, WasExchanged}
+use Rattle.program.specs.inner.ExchangeEvents.{IsReplied, IsRepliedOver, Never, NoCourse, WasExchanged}
 
 module _ {L H : Type 0} (does : H → Event L → H → Type 0) where
   does_both : (xs ys : List (Event L)) (old mid new : H) → Does does xs old mid → Does does ys mid new → Does does (xs ++ ys) old new

@@ -6,8 +6,8 @@ use Rattle.program.specs.declared.device.Stream.TheVariants.{Faults}
 use Rattle.program.specs.Events.{Event, wrote, Does, Runs}
 use Rattle.program.specs.Reports.{ended}
 use Rattle.program.specs.Courses.{Course}
-use Rattle.program.specs.Explaining.{IsWithoutEnd}
-use Rattle.program.specs.Explained.{IsTextWritten, IsExplanationWritten, Explains}
+use Rattle.program.specs.ExplainCommand.{IsWithoutEnd}
+use Rattle.program.specs.ExplainOption.{IsTextWritten, IsExplanationWritten, Explains}
 use Rattle.program.specs.inner.WrittenTexts.{IsMadeWritten}
 
 -- what holds of a result, in other words

@@ -6,7 +6,7 @@ use Rattle.program_drills.specs.http_service.answer_lines.Refusals.{no_memory}
 use Rattle.program.specs.Events.{Event}
 use Rattle.program.specs.Reports.{IsRefusalReported, IsMemoryReported}
 use Rattle.program.specs.Courses.{IsRefusedFor, IsLineOrRefusal}
-use Rattle.program.specs.Explained.{IsRefusalText, IsErrorReported, Explains, IsErrorThenText, IsLineOrErrorThenText, IsErrorExplained, IsLineOrErrorExplained}
+use Rattle.program.specs.ExplainOption.{IsRefusalText, IsErrorReported, Explains, IsErrorThenText, IsLineOrErrorThenText, IsErrorExplained, IsLineOrErrorExplained}
 
 one_or : (n : ℕ) → (n ≡ 1) ⊎ (n ≡ 1 → ⊥)
 one_or zero = inr (λ e. absurd cc)

@@ -30,10 +30,10 @@ use Rattle.program.specs.declared.device.NetworkFailed.{NetworkFailed}
 use Rattle.program.specs.declared.device.Stream.TheVariants.{Faults}
 use Rattle.program.specs.Events.{Event, accepted, closed, paused, served, wrote, Does, Runs}
 use Rattle.program.specs.Reports.{ended, IsFailureReported}
-use Rattle.program.specs.Beginning.{BeginsWith, IsInitialSite, IsInitialSiteRefused, IsStateRefused, site_refusal}
+use Rattle.program.specs.InitialSites.{BeginsWith, IsInitialSite, IsInitialSiteRefused, IsStateRefused, site_refusal}
 use Rattle.program.specs.Serving.{failing_line, pause_after, IsFailure, AreFailures, IsGivenUp, IsLoggedOver, IsServedOver}
 use Rattle.program.specs.Serving.{Serving, IsNextServed, AreServed, AreCutShort, AreAllServed}
-use Rattle.program.specs.inner.Begun.{TakesState}
+use Rattle.program.specs.inner.InitialUpdates.{TakesState}
 use Rattle.program.specs.inner.Served.{IsFailureNoted, IsTried, IsAwaited, AreServedOrFewer}
 
 -- ---- connections

@@ -7,12 +7,12 @@ use Rattle.std.specs.Prelude.{◌⊎◌, ℕ, List, Option, None, Some, option_m
 use Rattle.site_loading.specs.site_steps.SiteViews.{SiteView, schema_of, store_in}
 use Rattle.site_loading.specs.Loads as loads
 use Rattle.program_lines.specs.declared.line.LoadOptions.{LoadOptions}
-use Rattle.program.specs.Beginning.{IsInitialSite, IsInitialSiteRefused}
+use Rattle.program.specs.InitialSites.{IsInitialSite, IsInitialSiteRefused}
 use Rattle.explanations.specs.Files.{Files}
 use Rattle.program.specs.Courses.{Course, Reads, ReadsIfNamed}
-use Rattle.program.specs.Explained.{file_with_content, policies_of, schema_files, IsErrorExplained}
-use Rattle.program.specs.Explained.{IsLineOrErrorExplained}
-use Rattle.program.specs.Explaining.{file_named}
+use Rattle.program.specs.ExplainOption.{file_with_content, policies_of, schema_files, IsErrorExplained}
+use Rattle.program.specs.ExplainOption.{IsLineOrErrorExplained}
+use Rattle.program.specs.ExplainCommand.{file_named}
 
 -- `load_files options schema policies entities` are the files that a run explains if a file or a put is rejected after
 -- the initial site was created: those that `options` name, with these contents.

@@ -8,8 +8,8 @@ use Rattle.program_drills.specs.http_service.answer_lines.declared.refusal.Refus
 use Rattle.program_lines.specs.declared.line.MergeOptions.{MergeOptions}
 use Rattle.explanations.specs.Files.{Files}
 use Rattle.explanations.specs.Parts.{IsMessageExplained}
-use Rattle.explanations.specs.Explained.{IsExplained}
-use Rattle.program.specs.Explained.{IsThatOr}
+use Rattle.explanations.specs.FileExplanations.{IsExplained}
+use Rattle.program.specs.ExplainOption.{IsThatOr}
 
 -- `IsAtFault options schema first name` holds if the message `first` merges with itself and `name` is the file of the
 -- second message, or `first` does not and `name` is its file.

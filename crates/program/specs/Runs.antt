@@ -27,11 +27,11 @@ use Rattle.program.specs.declared.device.Link.{Link}
 use Rattle.program.specs.Reports.{AreLinesReported, IsFaultReported}
 use Rattle.program.specs.Courses.{Course, Reads, ReadsIfNamed, IsLineOrRefusal}
 use Rattle.explanations.specs.Files.{Files}
-use Rattle.explanations.specs.Explained.{IsExplained}
-use Rattle.program.specs.Explained.{file_with_content, schema_files, Explains, IsErrorExplained}
-use Rattle.program.specs.Explained.{IsLineOrErrorThenText, IsLineOrErrorExplained}
+use Rattle.explanations.specs.FileExplanations.{IsExplained}
+use Rattle.program.specs.ExplainOption.{file_with_content, schema_files, Explains, IsErrorExplained}
+use Rattle.program.specs.ExplainOption.{IsLineOrErrorThenText, IsLineOrErrorExplained}
 use Rattle.program.specs.Exchanging.{IsExchangeRun}
-use Rattle.program.specs.Explaining.{file_named, IsExplainRun}
+use Rattle.program.specs.ExplainCommand.{file_named, IsExplainRun}
 use Rattle.program.specs.Loading.{IsLoadRun}
 use Rattle.program.specs.Merging.{IsMergeText}
 use Rattle.program.specs.Pulling.{IsPullRun}

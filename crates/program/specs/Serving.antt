@@ -21,8 +21,8 @@ use Rattle.program.specs.declared.device.Stream.TheVariants.{Faults}
 use Rattle.program.specs.Events.{Event, accepted, closed, paused, served, wrote}
 use Rattle.program.specs.Reports.{ended, IsFailureReported}
 use Rattle.program.specs.Courses.{Course, Reads, ReadsIfNamed, Listens, Announces, OpensIfNamed, WarnsIf}
-use Rattle.program.specs.Explained.{schema_files, IsErrorExplained}
-use Rattle.program.specs.Beginning.{IsInitialSite, IsInitialSiteRefused}
+use Rattle.program.specs.ExplainOption.{schema_files, IsErrorExplained}
+use Rattle.program.specs.InitialSites.{IsInitialSite, IsInitialSiteRefused}
 
 -- `most_of o` is the given number of connections; without one, more than any run can reach.
 abbrev pub most_of : Option ℕ → ℕ

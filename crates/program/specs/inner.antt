@@ -1,5 +1,5 @@
-pub mod Begun
-pub mod Exchanged
+pub mod InitialUpdates
+pub mod ExchangeEvents
 pub mod Served
 pub mod WrittenTexts
 pub mod FileReads

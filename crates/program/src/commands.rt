@@ -1,7 +1,7 @@
 //! The commands `check` and `decide`.
 ghost use Rattle.std.specs.Prelude.{◌≡◌, IfOk, IfErr, option_map};
 ghost use Rattle.std.specs.Process.{exit_status};
-ghost use Rattle.plain.specs.Refused.{OrNoMemory};
+ghost use Rattle.plain.specs.AllocationErrors.{OrNoMemory};
 ghost use Rattle.program_drills.specs.http_service.answer_lines.Refusals.{no_memory};
 ghost use Rattle.program.specs.Events.{Runs};
 ghost use Rattle.explanations.specs.Files.{files_of};

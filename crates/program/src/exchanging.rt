@@ -10,7 +10,7 @@ ghost use Rattle.program.specs.Exchanging.{IsExchanged, IsExchangeRun, IsRound, 
 ghost use Rattle.program.specs.Exchanging.{fault_text};
 ghost use Rattle.program.specs.Exchanging.{status_text};
 ghost use Rattle.program.specs.Reports.{ended};
-ghost use Rattle.program.specs.inner.Exchanged.{IsReplied, IsRepliedOver, Never, NoCourse, WasExchanged};
+ghost use Rattle.program.specs.inner.ExchangeEvents.{IsReplied, IsRepliedOver, Never, NoCourse, WasExchanged};
 
 use crate::device::{Link, NetworkFailed, Stream, StreamFailed};
 use crate::host::Host;

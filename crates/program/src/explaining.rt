@@ -5,10 +5,10 @@ ghost use Rattle.std.specs.Process.{exit_status};
 ghost use Rattle.explanations.specs.explanation_texts.CodeText.{texts_of};
 ghost use Rattle.explanations.specs.Files.{file_of, files_of};
 ghost use Rattle.program.specs.Events.{Runs};
-ghost use Rattle.program.specs.Explaining.{is_some_text, is_decimal, is_number, file_named, files_named};
-ghost use Rattle.program.specs.Explaining.{AreWordsOn, IsNoCode};
-ghost use Rattle.program.specs.Explaining.{IsCodeExplained, AreTextsExplained, AreFilesExplained};
-ghost use Rattle.program.specs.Explaining.{IsExplainRun};
+ghost use Rattle.program.specs.ExplainCommand.{is_some_text, is_decimal, is_number, file_named, files_named};
+ghost use Rattle.program.specs.ExplainCommand.{AreWordsOn, IsNoCode};
+ghost use Rattle.program.specs.ExplainCommand.{IsCodeExplained, AreTextsExplained, AreFilesExplained};
+ghost use Rattle.program.specs.ExplainCommand.{IsExplainRun};
 
 use crate::host::Host;
 use crate::reading::{lent, read_file, read_if_named};

@@ -2,8 +2,8 @@
 ghost use Rattle.std.specs.Prelude.{◌≡◌, IfOk, IfErr, Some, option_map};
 ghost use Rattle.program_drills.specs.http_service.answer_lines.Refusals.{no_memory};
 ghost use Rattle.site_loading.specs.site_steps.SiteViews.{schema_of};
-ghost use Rattle.program.specs.Beginning.{IsInitialSite, IsInitialSiteRefused, IsStateRefused, site_refusal};
-ghost use Rattle.program.specs.inner.Begun.{TakesState};
+ghost use Rattle.program.specs.InitialSites.{IsInitialSite, IsInitialSiteRefused, IsStateRefused, site_refusal};
+ghost use Rattle.program.specs.inner.InitialUpdates.{TakesState};
 
 use plain::{NoMemory, Shared};
 use program_drills::{Refusal, Site, SiteFault, Taken, take_bytes};

@@ -1,11 +1,11 @@
 //! Reports on errors, each followed by an explanation if that is requested.
 ghost use Rattle.std.specs.Prelude.{◌≡◌, ◌&&◌, IfOk, option_map, string_bytes};
 ghost use Rattle.std.specs.Process.{exit_status};
-ghost use Rattle.explanations.specs.Explained.{IsExplained};
+ghost use Rattle.explanations.specs.FileExplanations.{IsExplained};
 ghost use Rattle.explanations.specs.Files.{file_of, files_of};
 ghost use Rattle.program.specs.Events.{Runs};
-ghost use Rattle.program.specs.Explained.{IsCodeText, IsRefusalText, IsTextWritten, IsErrorReported, Explains};
-ghost use Rattle.program.specs.Explained.{IsExplanationWritten, policies_of, schema_files};
+ghost use Rattle.program.specs.ExplainOption.{IsCodeText, IsRefusalText, IsTextWritten, IsErrorReported, Explains};
+ghost use Rattle.program.specs.ExplainOption.{IsExplanationWritten, policies_of, schema_files};
 ghost use Rattle.program.specs.inner.WrittenTexts.{IsMadeWritten};
 ghost use Rattle.program.specs.Reports.{AreLinesReported};
 

@@ -4,7 +4,7 @@ ghost use Rattle.std.specs.Process.{exit_status};
 ghost use Rattle.program_drills.specs.http_service.answer_lines.Refusals.{error_line};
 ghost use Rattle.program.specs.declared.device.Stream.TheVariants.{Faults};
 ghost use Rattle.program.specs.Events.{Runs};
-ghost use Rattle.program.specs.Explaining.{IsWithoutEnd, is_some_text};
+ghost use Rattle.program.specs.ExplainCommand.{IsWithoutEnd, is_some_text};
 ghost use Rattle.program.specs.Reports.{IsReported, IsAnswerReported, IsRefusalReported, IsMemoryReported};
 ghost use Rattle.program.specs.Reports.{IsFileReported};
 ghost use Rattle.program.specs.Reports.{IsFailureReported, IsFaultReported, IsPrinted, AreLinesReported};

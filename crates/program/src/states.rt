@@ -4,7 +4,7 @@ ghost use Rattle.std.specs.Process.{exit_status};
 ghost use Rattle.explanations.specs.Files.{files_of};
 ghost use Rattle.program_drills.specs.http_service.answer_lines.Refusals.{no_memory};
 ghost use Rattle.program.specs.Events.{Runs};
-ghost use Rattle.program.specs.Explained.{IsErrorReported, Explains, IsExplanationWritten};
+ghost use Rattle.program.specs.ExplainOption.{IsErrorReported, Explains, IsExplanationWritten};
 ghost use Rattle.program.specs.Merging.{IsAtFault, IsMessageText, IsMergeText};
 ghost use Rattle.program.specs.Reports.{taken_report_line, IsAnswerReported, IsMemoryReported};
 ghost use Rattle.program.specs.Runs.{AreMerged, IsMergeRun};

@@ -10,7 +10,7 @@ use Rattle.http_service.specs.site.declared.event.EventReply.{EventReply}
 use Rattle.program_drills.specs.Lines.{line_end}
 use Rattle.program_drills.specs.EventReports.{message_json, summary_json, state_line}
 use Rattle.program_drills.specs.Drills.{IsEventLine}
-use Rattle.program_drills.specs.inner.Ended.{ended, AppendsEventLines, AppendsEventLine}
+use Rattle.program_drills.specs.inner.LineFeeds.{ended, AppendsEventLines, AppendsEventLine}
 use Rattle.program_drills.proofs.ScriptSteps.{zip_more}
 
 pub no_float_message : (k : ℕ) → has_float (message_json k) ≡ false

@@ -9,7 +9,7 @@ use Rattle.schema_decisions.specs.Checks.{IsSchemaRefused}
 use Rattle.schema_decisions.specs.schema.Schemas.{StatedSchema, IsSchemaOf}
 use Rattle.http_service.specs.site_calls.site_steps.SiteViews.{SiteView}
 use Rattle.http_service.specs.site.Sites.{first_sites}
-use Rattle.http_service.specs.site.Played.{IsRunTo}
+use Rattle.http_service.specs.site.SystemViews.{IsRunTo}
 use Rattle.http_service.specs.site.declared.event.Event.{Event}
 use Rattle.http_service.specs.site.declared.event.EventReply.{EventReply}
 use Rattle.program_drills.specs.Lines.{line_end}

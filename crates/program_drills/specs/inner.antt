@@ -1,3 +1,3 @@
-pub mod Ended
+pub mod LineFeeds
 pub mod Reading
-pub mod Under
+pub mod ScriptRuns

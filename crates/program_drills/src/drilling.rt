@@ -4,7 +4,7 @@ ghost use Rattle.schema_decisions.specs.answer_lines.Refusals.{no_memory};
 ghost use Rattle.schema_decisions.specs.schema.Views.{schema_view};
 ghost use Rattle.program_drills.specs.Drills.{IsDrilled, IsOutputOf, IsDrillRefused};
 ghost use Rattle.program_drills.specs.Scripts.{IsScriptRefused};
-ghost use Rattle.program_drills.specs.inner.Under.{IsDrilledUnder};
+ghost use Rattle.program_drills.specs.inner.ScriptRuns.{IsDrilledUnder};
 
 use crate::reporting::world_lines;
 use crate::whole::read_script;

@@ -9,7 +9,7 @@ ghost use Rattle.program_drills.specs.Drills.{IsEventLine};
 ghost use Rattle.program_drills.specs.Lines.{line_end};
 ghost use Rattle.program_drills.specs.EventReports.{reply_line, message_json, message_line, state_line};
 ghost use Rattle.program_drills.specs.EventReports.{summary_json, summary_line};
-ghost use Rattle.program_drills.specs.inner.Ended.{AppendsEventLines, AppendsEventLine, ended};
+ghost use Rattle.program_drills.specs.inner.LineFeeds.{AppendsEventLines, AppendsEventLine, ended};
 
 use http_service::{
     EventReply, LINE_ROOM, Put, Reply, Site, SiteFault, Stamp, Taken, World, report_fault,

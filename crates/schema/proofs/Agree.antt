@@ -8,11 +8,11 @@ use Rattle.schema.specs.Agreement.{Gives, HasOneOutcome}
 use Rattle.schema.proofs.Steps.{done, failed}
 use Rattle.schema.proofs.OneOutcome.{gives, one_outcome}
 
--- `Agrees w r States IsNone` holds if `r` is what `States` holds of, or `w` if `IsNone` holds, and one of them does
-pub record Agrees {A F : Type 0} (w : F) (r : Result A F) (States : A → Type 0) (IsNone : Type 0) : Type 0 where
-  pub states : (a : A) → States a → r ≡ done a
+-- `Agrees w r Describes IsNone` holds if `r` is what `Describes` holds of, or `w` if `IsNone` holds, and one of them does
+pub record Agrees {A F : Type 0} (w : F) (r : Result A F) (Describes : A → Type 0) (IsNone : Type 0) : Type 0 where
+  pub states : (a : A) → Describes a → r ≡ done a
   pub fails : IsNone → r ≡ failed w
-  pub known : ((a : A) × States a) ⊎ IsNone
+  pub known : ((a : A) × Describes a) ⊎ IsNone
 
 bind_done : {A B F : Type 0} (r : Result A F) (k : A → Result B F) (x : A) (y : B) → r ≡ done x → k x ≡ done y → (r >>= k) ≡ done y
 bind_done {A = A} {F = F} r k x y e g = ap (λ (s : Result A F). s >>= k) e ∙ g
@@ -104,17 +104,17 @@ five_steps {B = B} {C = C} {D = D} {E = E} {w = w} {r = r} {s = s} {t = t} {u = 
 
 -- ---- each of a list
 
-module _ {A B F : Type 0} (w : F) (f : ℕ → A → Result B F) (States : A → B → Type 0) (IsNone : A → Type 0) (one : (i : ℕ) (x : A) → Agrees w (f i x) (States x) (IsNone x)) where
+module _ {A B F : Type 0} (w : F) (f : ℕ → A → Result B F) (Describes : A → B → Type 0) (IsNone : A → Type 0) (one : (i : ℕ) (x : A) → Agrees w (f i x) (Describes x) (IsNone x)) where
   abbrev SomeIsNone : List A → Type 0
   SomeIsNone xs = (x : A) × Contains xs x × IsNone x
 
   abbrev Both : A → List A → List B → Type 0
-  Both x xs zs = (y : B) × States x y × ((ys : List B) × AllZip States xs ys × (y ∷ ys ≡ zs))
+  Both x xs zs = (y : B) × Describes x y × ((ys : List B) × AllZip Describes xs ys × (y ∷ ys ≡ zs))
 
-  both_to : (x : A) (xs : List A) (zs : List B) → Both x xs zs → AllZip States (x ∷ xs) zs
-  both_to x xs zs (y, h, rest) = subst (AllZip States (x ∷ xs)) rest.2 (h, rest.1)
+  both_to : (x : A) (xs : List A) (zs : List B) → Both x xs zs → AllZip Describes (x ∷ xs) zs
+  both_to x xs zs (y, h, rest) = subst (AllZip Describes (x ∷ xs)) rest.2 (h, rest.1)
 
-  both_from : (x : A) (xs : List A) (zs : List B) → AllZip States (x ∷ xs) zs → Both x xs zs
+  both_from : (x : A) (xs : List A) (zs : List B) → AllZip Describes (x ∷ xs) zs → Both x xs zs
   both_from x xs [] h = absurd h
   both_from x xs (y ∷ ys) h = (y, h.0, (ys, h.1, refl))
 
@@ -130,33 +130,33 @@ module _ {A B F : Type 0} (w : F) (f : ℕ → A → Result B F) (States : A →
   none_contained : (x : A) → Contains [] x → ⊥
   none_contained x (k, lt, e) = omega arith
 
-  empty_states : (ys : List B) → AllZip States [] ys → done {F = F} [] ≡ done ys
+  empty_states : (ys : List B) → AllZip Describes [] ys → done {F = F} [] ≡ done ys
   empty_states [] h = refl
   empty_states (y ∷ ys) h = absurd h
 
-  pub each_agrees : (i : ℕ) (xs : List A) → Agrees w (each f i xs) (AllZip States xs) (SomeIsNone xs)
+  pub each_agrees : (i : ℕ) (xs : List A) → Agrees w (each f i xs) (AllZip Describes xs) (SomeIsNone xs)
   unfolding each
   each_agrees i [] = record { states = empty_states; fails = λ h. absurd (none_contained h.0 h.1); known = inl ([], tt) }
   each_agrees i (x ∷ xs) =
-      said_as (AllZip States (x ∷ xs)) (SomeIsNone (x ∷ xs))
+      said_as (AllZip Describes (x ∷ xs)) (SomeIsNone (x ∷ xs))
       (two_steps (λ (y : B) (ys : List B). y ∷ ys) (one i x) (each_agrees (suc i) xs))
       (both_to x xs) (both_from x xs) (cause_to x xs) (cause_from_list x xs)
 
 -- ---- the laws
 
-module _ {A F : Type 0} (w : F) (r : Result A F) (States : A → Type 0) (IsNone : Type 0) (agrees : Agrees w r States IsNone) where
+module _ {A F : Type 0} (w : F) (r : Result A F) (Describes : A → Type 0) (IsNone : Type 0) (agrees : Agrees w r Describes IsNone) where
   abbrev Refuses : F → Type 0
   Refuses f = (f ≡ w) × IsNone
 
   refused : (f : F) → Refuses f → r ≡ failed f
   refused f h = agrees.fails h.1 ∙ ap failed (sym h.0)
 
-  some_by : ((a : A) × States a) ⊎ IsNone → ((a : A) × States a) ⊎ ((f : F) × Refuses f)
+  some_by : ((a : A) × Describes a) ⊎ IsNone → ((a : A) × Describes a) ⊎ ((f : F) × Refuses f)
   some_by (inl h) = inl h
   some_by (inr n) = inr (w, (refl, n))
 
-  pub agreeing_gives : Gives r States (λ f. (f ≡ w) × IsNone)
-  agreeing_gives = gives r States Refuses agrees.states refused (some_by agrees.known)
+  pub agreeing_gives : Gives r Describes (λ f. (f ≡ w) × IsNone)
+  agreeing_gives = gives r Describes Refuses agrees.states refused (some_by agrees.known)
 
-  pub agreeing_has_one : HasOneOutcome States (λ f. (f ≡ w) × IsNone)
-  agreeing_has_one = one_outcome r States Refuses agrees.states refused (some_by agrees.known)
+  pub agreeing_has_one : HasOneOutcome Describes (λ f. (f ≡ w) × IsNone)
+  agreeing_has_one = one_outcome r Describes Refuses agrees.states refused (some_by agrees.known)

@@ -21,7 +21,7 @@ use Rattle.schema_types.specs.Qualified.{Qualified}
 use Rattle.schema_types.specs.Cedar.{Cedar, record_of, no_fields}
 use Rattle.schema_types.specs.Law.{TypesExpandOrSomeCommonDoesNot}
 use Rattle.schema_types.specs.declared.fault.SchemaFault.{SchemaFault}
-use Rattle.schema_names.specs.Qualifying.{ResolvedEntityType, ResolvedUse, ResolvedAction, ResolvedSchema}
+use Rattle.schema_names.specs.Qualifying.{ResolvedEntityType, ResolvedAppliesTo, ResolvedAction, ResolvedSchema}
 use Rattle.schema_names.specs.Naming.{DescribesFile}
 use Rattle.schema_names.specs.Laws as names
 use Rattle.schema.specs.declared.parts.EnvironmentKey.{EnvironmentKey}
@@ -89,23 +89,23 @@ module _ (s : ResolvedSchema) (sound : IsSound s) where
   abbrev Environments : List ResolvedAction → Type 0
   Environments us =
       (es : List EnvironmentOf) × ((e : EnvironmentOf) → Contains es e → IsEnvironment s e)
-      × ((a : ResolvedAction) → Contains us a → (u : ResolvedUse) → a.applies_to ≡ Some u → (p r : List ℕ) → Contains u.principals p → Contains u.resources r
+      × ((a : ResolvedAction) → Contains us a → (u : ResolvedAppliesTo) → a.applies_to ≡ Some u → (p r : List ℕ) → Contains u.principals p → Contains u.resources r
       → (e : EnvironmentOf) × Contains es e × (e.place ≡ place_of a.uid p r))
 
   -- those of one action
   abbrev OfAction : ResolvedAction → Type 0
   OfAction a =
       (es : List EnvironmentOf) × ((e : EnvironmentOf) → Contains es e → IsEnvironment s e)
-      × ((u : ResolvedUse) → a.applies_to ≡ Some u → (p r : List ℕ) → Contains u.principals p → Contains u.resources r
+      × ((u : ResolvedAppliesTo) → a.applies_to ≡ Some u → (p r : List ℕ) → Contains u.principals p → Contains u.resources r
       → (e : EnvironmentOf) × Contains es e × (e.place ≡ place_of a.uid p r))
 
-  no_use : (u : ResolvedUse) {G : Type 0} → None ≡ Some u → G
+  no_use : (u : ResolvedAppliesTo) {G : Type 0} → None ≡ Some u → G
   no_use u e = absurd cc
 
-  use_same : (u v : ResolvedUse) → Some u ≡ Some v → u ≡ v
+  use_same : (u v : ResolvedAppliesTo) → Some u ≡ Some v → u ≡ v
   use_same u v e = cc
 
-  of_action : (a : ResolvedAction) → Contains s.actions a → (o : Option ResolvedUse) → a.applies_to ≡ o → OfAction a
+  of_action : (a : ResolvedAction) → Contains s.actions a → (o : Option ResolvedAppliesTo) → a.applies_to ≡ o → OfAction a
   unfolding environment
   of_action a here None is = ([], (λ e h. Contains-none e h), (λ u e p r h i. no_use u (sym is ∙ e)))
   of_action a here (Some u) is =
@@ -118,8 +118,8 @@ module _ (s : ResolvedSchema) (sound : IsSound s) where
         (λ v e p r h i.
             let same = use_same u v (sym is ∙ e) in
             at made.0 p r
-            (subst (λ (x : ResolvedUse). Contains x.principals p) (sym same) h)
-            (subst (λ (x : ResolvedUse). Contains x.resources r) (sym same) i)),
+            (subst (λ (x : ResolvedAppliesTo). Contains x.principals p) (sym same) h)
+            (subst (λ (x : ResolvedAppliesTo). Contains x.resources r) (sym same) i)),
       )
     where
       at : (t : Cedar) (p r : List ℕ) → Contains u.principals p → Contains u.resources r → (e : EnvironmentOf) × Contains (grid a.uid t u.principals u.resources) e × (e.place ≡ place_of a.uid p r)

@@ -19,14 +19,14 @@ use Rattle.schema_types.specs.Optional.{present, optional, required_text}
 use Rattle.schema_types.specs.TypeShape.{type_of}
 use Rattle.schema_types.specs.declared.fault.SchemaFault.TheVariants.{BadShape}
 use Rattle.schema_types.proofs.NameLemmas.{is_unnamed}
-use Rattle.schema_names.specs.schema_file.FileForm.{EntityTypeOf, UseOf, ActionOf, NamespaceOf, ident, name_of, names_of, names_in, names_at, type_in, optional_name, is_common, common_of, entity_type_name, entity_type_of, parent_of, parents_of, parents_in, use_of, use_in, is_empty_in, action_of, namespace_name, commons_of, entity_types_of, actions_of, commons_in, entity_types_in, actions_in, namespace_of, namespaces_of, stated}
+use Rattle.schema_names.specs.schema_file.FileForm.{EntityTypeOf, AppliesToOf, ActionOf, NamespaceOf, ident, name_of, names_of, names_in, names_at, type_in, optional_name, is_common, common_of, entity_type_name, entity_type_of, parent_of, parents_of, parents_in, applies_to_of, applies_to_in, is_empty_in, action_of, namespace_name, commons_of, entity_types_of, actions_of, commons_in, entity_types_in, actions_in, namespace_of, namespaces_of, stated}
 use Rattle.schema_names.specs.schema_file.declared.stated.StatedParent.{StatedParent}
 use Rattle.schema.specs.ObjectKeys.{HasOnly, HasOther, IsAbsent}
 use Rattle.schema.specs.ObjectKeys as keys
 use Rattle.schema.specs.ObjectParts.{GivenAt, NotGivenAt, MaybeAt, ListAt, WrongAt, IsArrayOf, IsNoArrayOf, IsObjectOf, IsNoObjectOf}
 use Rattle.schema.specs.StatedTypes.{form_words, HasKeys, StatesType, IsNoType}
 use Rattle.schema.specs.StatedTypes as types
-use Rattle.schema.specs.StatedFiles.{IsName, IsNoName, IsNamespace, entity_type_keys, parent_keys, use_keys, action_keys, namespace_keys, StatesCommon, StatesEntityType, StatesParent, StatesUse, HasNoAttributes, StatesAction, StatesNamespace, StatesFile, IsNoCommon, IsNoEntityType, IsNoParent, IsNoUse, IsNoAction, IsNoNamespace, IsNoFile}
+use Rattle.schema.specs.StatedFiles.{IsName, IsNoName, IsNamespace, entity_type_keys, parent_keys, applies_to_keys, action_keys, namespace_keys, DescribesCommonType, DescribesEntityType, DescribesParent, DescribesAppliesTo, HasNoAttributes, DescribesAction, DescribesNamespace, DescribesNamespaces, IsNoCommon, IsNoEntityType, IsNoParent, IsNoAppliesTo, IsNoAction, IsNoNamespace, IsNoFile}
 use Rattle.schema.specs.StatedFiles as says
 use Rattle.schema.specs.Laws.{FilesAreRead, FilesHaveOneOutcome}
 use Rattle.schema.proofs.Steps.{done, failed, true_false, same_bytes, bytes_same, apart}
@@ -223,10 +223,10 @@ module _ (told : Told) where
   abbrev CommonSteps : List ℕ → Data → List ℕ × Raw → Type 0
   CommonSteps k d c = (n : List ℕ) × Ident k n × ((u : ⊤) × (Contains form_words k → ⊥) × ((t : Raw) × StatesType false d t × (common_made n u t ≡ c)))
 
-  common_to : (k : List ℕ) (d : Data) (c : List ℕ × Raw) → CommonSteps k d c → StatesCommon k d c
-  common_to k d c (n, h, (u, free, (t, is, e))) = subst (StatesCommon k d) e (record { name = h.0; ident = h.1; no_form = free; type = is })
+  common_to : (k : List ℕ) (d : Data) (c : List ℕ × Raw) → CommonSteps k d c → DescribesCommonType k d c
+  common_to k d c (n, h, (u, free, (t, is, e))) = subst (DescribesCommonType k d) e (record { name = h.0; ident = h.1; no_form = free; type = is })
 
-  common_from : (k : List ℕ) (d : Data) (c : List ℕ × Raw) → StatesCommon k d c → CommonSteps k d c
+  common_from : (k : List ℕ) (d : Data) (c : List ℕ × Raw) → DescribesCommonType k d c → CommonSteps k d c
   common_from k d c h = (c.0, (h.name, h.ident), (tt, h.no_form, (c.1, h.type, refl)))
 
   common_cause : (k : List ℕ) (d : Data) → (IsIdent k → ⊥) ⊎ (Contains form_words k ⊎ (IsNoType false d ⊎ ⊥)) → IsNoCommon k d
@@ -240,10 +240,10 @@ module _ (told : Told) where
   cause_common k d (says.form_word n) = inr (inl n)
   cause_common k d (says.no_type n) = inr (inr (inl n))
 
-  common_agrees : (k : List ℕ) (d : Data) → Agrees BadShape (common_of k d) (StatesCommon k d) (IsNoCommon k d)
+  common_agrees : (k : List ℕ) (d : Data) → Agrees BadShape (common_of k d) (DescribesCommonType k d) (IsNoCommon k d)
   unfolding common_of
   common_agrees k d =
-      said_as (StatesCommon k d) (IsNoCommon k d)
+      said_as (DescribesCommonType k d) (IsNoCommon k d)
       (three_steps common_made (ident_agrees k) (form_agrees k) (type_agrees told.paths false d))
       (common_to k d) (common_from k d) (common_cause k d) (cause_common k d)
 
@@ -314,11 +314,11 @@ module _ (told : Told) where
   abbrev EntitySteps : List ℕ → Data → EntityTypeOf → Type 0
   EntitySteps k d e = (n : List ℕ) × TypeName k n × ((u : ⊤) × HasOnly entity_type_keys d × ((ps : List (List ℕ)) × Parents d ps × ((o : Option Raw) × Shape d o × (entity_type_made n u ps o ≡ e))))
 
-  entity_to : (k : List ℕ) (d : Data) (e : EntityTypeOf) → EntitySteps k d e → StatesEntityType k d e
+  entity_to : (k : List ℕ) (d : Data) (e : EntityTypeOf) → EntitySteps k d e → DescribesEntityType k d e
   entity_to k d e (n, h, (u, only, (ps, parents, (o, shape, same)))) =
-      subst (StatesEntityType k d) same (record { name = h.0; ident = h.1; no_action = h.2; only = only; parents = parents; shape = shape })
+      subst (DescribesEntityType k d) same (record { name = h.0; ident = h.1; no_action = h.2; only = only; parents = parents; shape = shape })
 
-  entity_from : (k : List ℕ) (d : Data) (e : EntityTypeOf) → StatesEntityType k d e → EntitySteps k d e
+  entity_from : (k : List ℕ) (d : Data) (e : EntityTypeOf) → DescribesEntityType k d e → EntitySteps k d e
   entity_from k d e h = (e.name, (h.name, h.ident, h.no_action), (tt, h.only, (e.parents, h.parents, (e.shape, h.shape, refl))))
 
   abbrev EntityCauses : List ℕ → Data → Type 0
@@ -339,10 +339,10 @@ module _ (told : Told) where
   cause_entity k d (says.wrong_parents n) = inr (inr (inl n))
   cause_entity k d (says.wrong_shape n) = inr (inr (inr (inl n)))
 
-  entity_agrees : (k : List ℕ) (d : Data) → Agrees BadShape (entity_type_of k d) (StatesEntityType k d) (IsNoEntityType k d)
+  entity_agrees : (k : List ℕ) (d : Data) → Agrees BadShape (entity_type_of k d) (DescribesEntityType k d) (IsNoEntityType k d)
   unfolding entity_type_of
   entity_agrees k d =
-      said_as (StatesEntityType k d) (IsNoEntityType k d)
+      said_as (DescribesEntityType k d) (IsNoEntityType k d)
       (four_steps entity_type_made (type_name_agrees k) (keys_agree entity_type_keys d) (names_in_agree (codes "memberOfTypes") d) (type_in_agrees (codes "shape") d))
       (entity_to k d) (entity_from k d) (entity_cause k d) (cause_entity k d)
 
@@ -364,10 +364,10 @@ module _ (told : Told) where
   abbrev ParentSteps : Data → StatedParent → Type 0
   ParentSteps d p = (u : ⊤) × HasOnly parent_keys d × ((s : List ℕ) × (text_at (codes "id") d ≡ Some s) × ((o : Option (List ℕ)) × MaybeAt IsName (codes "type") d o × (parent_made u s o ≡ p)))
 
-  parent_to : (d : Data) (p : StatedParent) → ParentSteps d p → StatesParent d p
-  parent_to d p (u, only, (s, at, (o, name, same))) = subst (StatesParent d) same (record { only = only; id = at; type_name = name })
+  parent_to : (d : Data) (p : StatedParent) → ParentSteps d p → DescribesParent d p
+  parent_to d p (u, only, (s, at, (o, name, same))) = subst (DescribesParent d) same (record { only = only; id = at; type_name = name })
 
-  parent_from : (d : Data) (p : StatedParent) → StatesParent d p → ParentSteps d p
+  parent_from : (d : Data) (p : StatedParent) → DescribesParent d p → ParentSteps d p
   parent_from d p h = (tt, h.only, (p.id, h.id, (p.type_name, h.type_name, refl)))
 
   abbrev ParentCauses : Data → Type 0
@@ -384,21 +384,21 @@ module _ (told : Told) where
   cause_parent d (says.no_id n) = inr (inl n)
   cause_parent d (says.wrong_type n) = inr (inr (inl n))
 
-  parent_agrees : (d : Data) → Agrees BadShape (parent_of d) (StatesParent d) (IsNoParent d)
+  parent_agrees : (d : Data) → Agrees BadShape (parent_of d) (DescribesParent d) (IsNoParent d)
   unfolding parent_of
   parent_agrees d =
-      said_as (StatesParent d) (IsNoParent d) (three_steps parent_made (keys_agree parent_keys d) (id_agrees d) (name_in_agrees (codes "type") d))
+      said_as (DescribesParent d) (IsNoParent d) (three_steps parent_made (keys_agree parent_keys d) (id_agrees d) (name_in_agrees (codes "type") d))
       (parent_to d) (parent_from d) (parent_cause d) (cause_parent d)
 
-  parents_agree : (d : Data) → Agrees BadShape (or_fault BadShape (as_array d) >>= parents_of) (IsArrayOf StatesParent d) (IsNoArrayOf IsNoParent d)
+  parents_agree : (d : Data) → Agrees BadShape (or_fault BadShape (as_array d) >>= parents_of) (IsArrayOf DescribesParent d) (IsNoArrayOf IsNoParent d)
   unfolding parents_of
-  parents_agree d = array_agrees (λ i x. parent_of x) StatesParent IsNoParent (λ i x. parent_agrees x) d
+  parents_agree d = array_agrees (λ i x. parent_of x) DescribesParent IsNoParent (λ i x. parent_agrees x) d
 
-  parents_in_agree : (k : List ℕ) (d : Data) → Agrees BadShape (parents_in (optional k d)) (ListAt (IsArrayOf StatesParent) k d) (WrongAt (IsNoArrayOf IsNoParent) k d)
-  parents_in_agree k d = list_agrees parents_in (IsArrayOf StatesParent) (IsNoArrayOf IsNoParent) refl k d parents_agree
+  parents_in_agree : (k : List ℕ) (d : Data) → Agrees BadShape (parents_in (optional k d)) (ListAt (IsArrayOf DescribesParent) k d) (WrongAt (IsNoArrayOf IsNoParent) k d)
+  parents_in_agree k d = list_agrees parents_in (IsArrayOf DescribesParent) (IsNoArrayOf IsNoParent) refl k d parents_agree
 
   -- what an action applies to
-  abbrev use_made : ⊤ → List (List ℕ) → List (List ℕ) → Option Raw → UseOf
+  abbrev use_made : ⊤ → List (List ℕ) → List (List ℕ) → Option Raw → AppliesToOf
   use_made u ps rs o = record { principals = ps; resources = rs; context = o }
 
   abbrev Names : List ℕ → Data → List (List ℕ) → Type 0
@@ -407,43 +407,43 @@ module _ (told : Told) where
   abbrev NoNames : List ℕ → Data → Type 0
   NoNames k d = NotGivenAt (IsNoArrayOf IsNoName) k d
 
-  abbrev UseSteps : Data → UseOf → Type 0
+  abbrev UseSteps : Data → AppliesToOf → Type 0
   UseSteps d x =
-      (u : ⊤) × HasOnly use_keys d × ((ps : List (List ℕ)) × Names (codes "principalTypes") d ps × ((rs : List (List ℕ)) × Names (codes "resourceTypes") d rs
+      (u : ⊤) × HasOnly applies_to_keys d × ((ps : List (List ℕ)) × Names (codes "principalTypes") d ps × ((rs : List (List ℕ)) × Names (codes "resourceTypes") d rs
       × ((o : Option Raw) × MaybeAt (StatesType false) (codes "context") d o × (use_made u ps rs o ≡ x))))
 
-  use_to : (d : Data) (x : UseOf) → UseSteps d x → StatesUse d x
+  use_to : (d : Data) (x : AppliesToOf) → UseSteps d x → DescribesAppliesTo d x
   use_to d x (u, only, (ps, principals, (rs, resources, (o, context, same)))) =
-      subst (StatesUse d) same (record { only = only; principals = principals; resources = resources; context = context })
+      subst (DescribesAppliesTo d) same (record { only = only; principals = principals; resources = resources; context = context })
 
-  use_from : (d : Data) (x : UseOf) → StatesUse d x → UseSteps d x
+  use_from : (d : Data) (x : AppliesToOf) → DescribesAppliesTo d x → UseSteps d x
   use_from d x h = (tt, h.only, (x.principals, h.principals, (x.resources, h.resources, (x.context, h.context, refl))))
 
   abbrev UseCauses : Data → Type 0
-  UseCauses d = HasOther use_keys d ⊎ (NoNames (codes "principalTypes") d ⊎ (NoNames (codes "resourceTypes") d ⊎ (WrongAt (IsNoType false) (codes "context") d ⊎ ⊥)))
+  UseCauses d = HasOther applies_to_keys d ⊎ (NoNames (codes "principalTypes") d ⊎ (NoNames (codes "resourceTypes") d ⊎ (WrongAt (IsNoType false) (codes "context") d ⊎ ⊥)))
 
-  use_cause : (d : Data) → UseCauses d → IsNoUse d
+  use_cause : (d : Data) → UseCauses d → IsNoAppliesTo d
   use_cause d (inl n) = says.other_key n
   use_cause d (inr (inl n)) = says.wrong_principals n
   use_cause d (inr (inr (inl n))) = says.wrong_resources n
   use_cause d (inr (inr (inr (inl n)))) = says.wrong_context n
   use_cause d (inr (inr (inr (inr h)))) = absurd h
 
-  cause_use : (d : Data) → IsNoUse d → UseCauses d
+  cause_use : (d : Data) → IsNoAppliesTo d → UseCauses d
   cause_use d (says.other_key n) = inl n
   cause_use d (says.wrong_principals n) = inr (inl n)
   cause_use d (says.wrong_resources n) = inr (inr (inl n))
   cause_use d (says.wrong_context n) = inr (inr (inr (inl n)))
 
-  use_agrees : (d : Data) → Agrees BadShape (use_of d) (StatesUse d) (IsNoUse d)
-  unfolding use_of
+  use_agrees : (d : Data) → Agrees BadShape (applies_to_of d) (DescribesAppliesTo d) (IsNoAppliesTo d)
+  unfolding applies_to_of
   use_agrees d =
-      said_as (StatesUse d) (IsNoUse d)
-      (four_steps use_made (keys_agree use_keys d) (names_at_agree (codes "principalTypes") d) (names_at_agree (codes "resourceTypes") d) (type_in_agrees (codes "context") d))
+      said_as (DescribesAppliesTo d) (IsNoAppliesTo d)
+      (four_steps use_made (keys_agree applies_to_keys d) (names_at_agree (codes "principalTypes") d) (names_at_agree (codes "resourceTypes") d) (type_in_agrees (codes "context") d))
       (use_to d) (use_from d) (use_cause d) (cause_use d)
 
-  use_in_agrees : (k : List ℕ) (d : Data) → Agrees BadShape (use_in (optional k d)) (MaybeAt StatesUse k d) (WrongAt IsNoUse k d)
-  use_in_agrees k d = maybe_agrees use_in use_of StatesUse IsNoUse refl (λ e. refl) k d use_agrees
+  use_in_agrees : (k : List ℕ) (d : Data) → Agrees BadShape (applies_to_in (optional k d)) (MaybeAt DescribesAppliesTo k d) (WrongAt IsNoAppliesTo k d)
+  use_in_agrees k d = maybe_agrees applies_to_in applies_to_of DescribesAppliesTo IsNoAppliesTo refl (λ e. refl) k d use_agrees
 
   -- no attributes
   empty_at : (d : Data) → HasNoAttributes d → is_empty_in (optional (codes "attributes") d) ≡ true
@@ -481,26 +481,26 @@ module _ (told : Told) where
   empty_agrees : (d : Data) → Agrees BadShape (demand BadShape (is_empty_in (optional (codes "attributes") d))) (λ u. HasNoAttributes d) (HasNoAttributes d → ⊥)
   empty_agrees d = record { states = empty_read d; fails = some_attribute d (empty_known d); known = empty_some d (empty_known d) }
 
-  abbrev action_made : List ℕ → ⊤ → ⊤ → List StatedParent → Option UseOf → ActionOf
+  abbrev action_made : List ℕ → ⊤ → ⊤ → List StatedParent → Option AppliesToOf → ActionOf
   action_made k u v ps o = record { id = k; parents = ps; applies_to = o }
 
   abbrev ActionSteps : List ℕ → Data → ActionOf → Type 0
   ActionSteps k d a =
-      (u : ⊤) × HasOnly action_keys d × ((v : ⊤) × HasNoAttributes d × ((ps : List StatedParent) × ListAt (IsArrayOf StatesParent) (codes "memberOf") d ps
-      × ((o : Option UseOf) × MaybeAt StatesUse (codes "appliesTo") d o × (action_made k u v ps o ≡ a))))
+      (u : ⊤) × HasOnly action_keys d × ((v : ⊤) × HasNoAttributes d × ((ps : List StatedParent) × ListAt (IsArrayOf DescribesParent) (codes "memberOf") d ps
+      × ((o : Option AppliesToOf) × MaybeAt DescribesAppliesTo (codes "appliesTo") d o × (action_made k u v ps o ≡ a))))
 
-  action_to : (k : List ℕ) (d : Data) (a : ActionOf) → ActionSteps k d a → StatesAction k d a
+  action_to : (k : List ℕ) (d : Data) (a : ActionOf) → ActionSteps k d a → DescribesAction k d a
   action_to k d a (u, only, (v, empty, (ps, parents, (o, applied, same)))) =
-      subst (StatesAction k d) same (record { id = refl; only = only; no_attributes = empty; parents = parents; applies_to = applied })
+      subst (DescribesAction k d) same (record { id = refl; only = only; no_attributes = empty; parents = parents; applies_to = applied })
 
   id_same : (k : List ℕ) (a : ActionOf) → a.id ≡ k → action_made k tt tt a.parents a.applies_to ≡ a
   id_same k a e = ap (λ (l : List ℕ). action_made l tt tt a.parents a.applies_to) (sym e)
 
-  action_from : (k : List ℕ) (d : Data) (a : ActionOf) → StatesAction k d a → ActionSteps k d a
+  action_from : (k : List ℕ) (d : Data) (a : ActionOf) → DescribesAction k d a → ActionSteps k d a
   action_from k d a h = (tt, h.only, (tt, h.no_attributes, (a.parents, h.parents, (a.applies_to, h.applies_to, id_same k a h.id))))
 
   abbrev ActionCauses : Data → Type 0
-  ActionCauses d = HasOther action_keys d ⊎ ((HasNoAttributes d → ⊥) ⊎ (WrongAt (IsNoArrayOf IsNoParent) (codes "memberOf") d ⊎ (WrongAt IsNoUse (codes "appliesTo") d ⊎ ⊥)))
+  ActionCauses d = HasOther action_keys d ⊎ ((HasNoAttributes d → ⊥) ⊎ (WrongAt (IsNoArrayOf IsNoParent) (codes "memberOf") d ⊎ (WrongAt IsNoAppliesTo (codes "appliesTo") d ⊎ ⊥)))
 
   action_cause : (d : Data) → ActionCauses d → IsNoAction d
   action_cause d (inl n) = says.other_key n
@@ -515,10 +515,10 @@ module _ (told : Told) where
   cause_action d (says.wrong_parents n) = inr (inr (inl n))
   cause_action d (says.wrong_use n) = inr (inr (inr (inl n)))
 
-  action_agrees : (k : List ℕ) (d : Data) → Agrees BadShape (action_of k d) (StatesAction k d) (IsNoAction d)
+  action_agrees : (k : List ℕ) (d : Data) → Agrees BadShape (action_of k d) (DescribesAction k d) (IsNoAction d)
   unfolding action_of
   action_agrees k d =
-      said_as (StatesAction k d) (IsNoAction d)
+      said_as (DescribesAction k d) (IsNoAction d)
       (four_steps (action_made k) (keys_agree action_keys d) (empty_agrees d) (parents_in_agree (codes "memberOf") d) (use_in_agrees (codes "appliesTo") d))
       (action_to k d) (action_from k d) (action_cause d) (cause_action d)
 
@@ -558,21 +558,21 @@ module _ (told : Told) where
     known = namespace_name_known k (path_known told.paths k);
   }
 
-  commons_agree : (k : List ℕ) (d : Data) → Agrees BadShape (commons_in (optional k d)) (ListAt (IsObjectOf StatesCommon) k d) (WrongAt (IsNoObjectOf IsNoCommon) k d)
+  commons_agree : (k : List ℕ) (d : Data) → Agrees BadShape (commons_in (optional k d)) (ListAt (IsObjectOf DescribesCommonType) k d) (WrongAt (IsNoObjectOf IsNoCommon) k d)
   unfolding commons_of each_member
-  commons_agree k d = list_agrees commons_in (IsObjectOf StatesCommon) (IsNoObjectOf IsNoCommon) refl k d (object_agrees common_of StatesCommon IsNoCommon common_agrees)
+  commons_agree k d = list_agrees commons_in (IsObjectOf DescribesCommonType) (IsNoObjectOf IsNoCommon) refl k d (object_agrees common_of DescribesCommonType IsNoCommon common_agrees)
 
-  entity_types_agree : (k : List ℕ) (d : Data) → Agrees BadShape (entity_types_in (optional k d)) (ListAt (IsObjectOf StatesEntityType) k d) (WrongAt (IsNoObjectOf IsNoEntityType) k d)
+  entity_types_agree : (k : List ℕ) (d : Data) → Agrees BadShape (entity_types_in (optional k d)) (ListAt (IsObjectOf DescribesEntityType) k d) (WrongAt (IsNoObjectOf IsNoEntityType) k d)
   unfolding entity_types_of each_member
   entity_types_agree k d =
-      list_agrees entity_types_in (IsObjectOf StatesEntityType) (IsNoObjectOf IsNoEntityType) refl k d (object_agrees entity_type_of StatesEntityType IsNoEntityType entity_agrees)
+      list_agrees entity_types_in (IsObjectOf DescribesEntityType) (IsNoObjectOf IsNoEntityType) refl k d (object_agrees entity_type_of DescribesEntityType IsNoEntityType entity_agrees)
 
   abbrev IsNoActionAt : List ℕ → Data → Type 0
   IsNoActionAt k = IsNoAction
 
-  actions_agree : (k : List ℕ) (d : Data) → Agrees BadShape (actions_in (optional k d)) (ListAt (IsObjectOf StatesAction) k d) (WrongAt (IsNoObjectOf IsNoActionAt) k d)
+  actions_agree : (k : List ℕ) (d : Data) → Agrees BadShape (actions_in (optional k d)) (ListAt (IsObjectOf DescribesAction) k d) (WrongAt (IsNoObjectOf IsNoActionAt) k d)
   unfolding actions_of each_member
-  actions_agree k d = list_agrees actions_in (IsObjectOf StatesAction) (IsNoObjectOf IsNoActionAt) refl k d (object_agrees action_of StatesAction IsNoActionAt action_agrees)
+  actions_agree k d = list_agrees actions_in (IsObjectOf DescribesAction) (IsNoObjectOf IsNoActionAt) refl k d (object_agrees action_of DescribesAction IsNoActionAt action_agrees)
 
   abbrev namespace_made : Option (List ℕ) → ⊤ → List (List ℕ × Raw) → List EntityTypeOf → List ActionOf → NamespaceOf
   namespace_made n u cs es us = record { name = n; commons = cs; entity_types = es; actions = us }
@@ -580,15 +580,15 @@ module _ (told : Told) where
   abbrev NamespaceSteps : List ℕ → Data → NamespaceOf → Type 0
   NamespaceSteps k d x =
       (n : Option (List ℕ)) × IsNamespace k n × ((u : ⊤) × HasOnly namespace_keys d
-      × ((cs : List (List ℕ × Raw)) × ListAt (IsObjectOf StatesCommon) (codes "commonTypes") d cs
-      × ((es : List EntityTypeOf) × ListAt (IsObjectOf StatesEntityType) (codes "entityTypes") d es
-      × ((us : List ActionOf) × ListAt (IsObjectOf StatesAction) (codes "actions") d us × (namespace_made n u cs es us ≡ x)))))
+      × ((cs : List (List ℕ × Raw)) × ListAt (IsObjectOf DescribesCommonType) (codes "commonTypes") d cs
+      × ((es : List EntityTypeOf) × ListAt (IsObjectOf DescribesEntityType) (codes "entityTypes") d es
+      × ((us : List ActionOf) × ListAt (IsObjectOf DescribesAction) (codes "actions") d us × (namespace_made n u cs es us ≡ x)))))
 
-  namespace_to : (k : List ℕ) (d : Data) (x : NamespaceOf) → NamespaceSteps k d x → StatesNamespace k d x
+  namespace_to : (k : List ℕ) (d : Data) (x : NamespaceOf) → NamespaceSteps k d x → DescribesNamespace k d x
   namespace_to k d x (n, name, (u, only, (cs, commons, (es, entity_types, (us, actions, same))))) =
-      subst (StatesNamespace k d) same (record { name = name; only = only; commons = commons; entity_types = entity_types; actions = actions })
+      subst (DescribesNamespace k d) same (record { name = name; only = only; commons = commons; entity_types = entity_types; actions = actions })
 
-  namespace_from : (k : List ℕ) (d : Data) (x : NamespaceOf) → StatesNamespace k d x → NamespaceSteps k d x
+  namespace_from : (k : List ℕ) (d : Data) (x : NamespaceOf) → DescribesNamespace k d x → NamespaceSteps k d x
   namespace_from k d x h = (x.name, h.name, (tt, h.only, (x.commons, h.commons, (x.entity_types, h.entity_types, (x.actions, h.actions, refl)))))
 
   abbrev NamespaceCauses : List ℕ → Data → Type 0
@@ -611,23 +611,23 @@ module _ (told : Told) where
   cause_namespace k d (says.wrong_entity_types n) = inr (inr (inr (inl n)))
   cause_namespace k d (says.wrong_actions n) = inr (inr (inr (inr (inl n))))
 
-  namespace_agrees : (k : List ℕ) (d : Data) → Agrees BadShape (namespace_of k d) (StatesNamespace k d) (IsNoNamespace k d)
+  namespace_agrees : (k : List ℕ) (d : Data) → Agrees BadShape (namespace_of k d) (DescribesNamespace k d) (IsNoNamespace k d)
   unfolding namespace_of
   namespace_agrees k d =
-      said_as (StatesNamespace k d) (IsNoNamespace k d)
+      said_as (DescribesNamespace k d) (IsNoNamespace k d)
       (five_steps namespace_made (namespace_name_agrees k) (keys_agree namespace_keys d) (commons_agree (codes "commonTypes") d) (entity_types_agree (codes "entityTypes") d) (actions_agree (codes "actions") d))
       (namespace_to k d) (namespace_from k d) (namespace_cause k d) (cause_namespace k d)
 
   -- ---- files
 
-  pub file_agrees : (d : Data) → Agrees BadShape (stated d) (StatesFile d) (IsNoFile d)
+  pub file_agrees : (d : Data) → Agrees BadShape (stated d) (DescribesNamespaces d) (IsNoFile d)
   unfolding stated namespaces_of
-  file_agrees d = object_agrees namespace_of StatesNamespace IsNoNamespace namespace_agrees d
+  file_agrees d = object_agrees namespace_of DescribesNamespace IsNoNamespace namespace_agrees d
 
   -- ---- the laws
 
   pub files_are_read : FilesAreRead
-  files_are_read d = agreeing_gives BadShape (stated d) (StatesFile d) (IsNoFile d) (file_agrees d)
+  files_are_read d = agreeing_gives BadShape (stated d) (DescribesNamespaces d) (IsNoFile d) (file_agrees d)
 
   pub one_file : FilesHaveOneOutcome
-  one_file d = agreeing_has_one BadShape (stated d) (StatesFile d) (IsNoFile d) (file_agrees d)
+  one_file d = agreeing_has_one BadShape (stated d) (DescribesNamespaces d) (IsNoFile d) (file_agrees d)

@@ -10,7 +10,7 @@ use Rattle.std.proofs.lemmas.List.{drop_all}
 use Rattle.std.proofs.lemmas.Map.Views.{tells_apart}
 use Rattle.json_words.proofs.EachSame.{cut}
 use Rattle.ancestor_search.specs.Deciding.{Contains-here, Contains-there, Contains-cases, Contains-none}
-use Rattle.schema.specs.inner.Filling.{Adds, AddsEach}
+use Rattle.schema.specs.inner.Filling.{AddsEntries, AddsEach}
 
 module _ {X K V : Type 0} (may : X → K → V → Type 0) (must : X → K → Type 0) (told : X → Type 0) where
   pub adds_none : (old : K → Option V) → AddsEach may must told [] old old
@@ -22,7 +22,7 @@ module _ {X K V : Type 0} (may : X → K → V → Type 0) (must : X → K → T
   }
 
   pub adds_both : (x : X) (xs : List X) (old mid new : K → Option V)
-      → Adds (may x) (must x) (told x) old mid → AddsEach may must told xs mid new → AddsEach may must told (x ∷ xs) old new
+      → AddsEntries (may x) (must x) (told x) old mid → AddsEach may must told xs mid new → AddsEach may must told (x ∷ xs) old new
   adds_both x xs old mid new one rest = record {
     sound = λ k v e. elim (rest.sound k v e) [
       | inl m ↦ inl (m.0, Contains-there x xs m.0 m.1, m.2)
@@ -57,7 +57,7 @@ module _ {X K V : Type 0} (may : X → K → V → Type 0) (must : X → K → T
 
   -- a loop over a list
   pub plain_step : (xs : List X) (i : ℕ) (x : X) (old mid new : K → Option V) → i < length xs → x ≡ get_or xs i x
-      → Adds (may x) (must x) (told x) old mid → AddsEach may must told (drop (i + 1) xs) mid new
+      → AddsEntries (may x) (must x) (told x) old mid → AddsEach may must told (drop (i + 1) xs) mid new
       → AddsEach may must told (drop i xs) old new
   plain_step xs i x old mid new lt at one rest =
       subst (λ (zs : List X). AddsEach may must told zs old new) (sym (cut xs i x lt at)) (adds_both x (drop (i + 1) xs) old mid new one rest)
@@ -68,7 +68,7 @@ module _ {X K V : Type 0} (may : X → K → V → Type 0) (must : X → K → T
   -- a loop over a list that is seen through a view
   module _ {Y : Type 0} (view : Y → X) (ys : List Y) where
     pub each_step : (i : ℕ) (y : Y) (old mid new : K → Option V) → i < length ys → y ≡ get_or ys i y
-        → Adds (may (view y)) (must (view y)) (told (view y)) old mid → AddsEach may must told (map view (drop (i + 1) ys)) mid new
+        → AddsEntries (may (view y)) (must (view y)) (told (view y)) old mid → AddsEach may must told (map view (drop (i + 1) ys)) mid new
         → AddsEach may must told (map view (drop i ys)) old new
     each_step i y old mid new lt at one rest =
         subst (λ (zs : List Y). AddsEach may must told (map view zs) old new) (sym (cut ys i y lt at))
@@ -100,7 +100,7 @@ module _ {K V : Type 0} {R : K → K → Ordering} (exact : IsAntisymmetric R) (
   stays k false e = e
 
   pub adds_entry : (May : K → V → Type 0) (Must : K → Type 0) (Also : Type 0) → May key value → ((k : K) → Must k → key ≡ k) → Also
-      → Adds May Must Also (get R m) (get R n)
+      → AddsEntries May Must Also (get R m) (get R n)
   adds_entry May Must Also may must told = record {
     sound = λ k v e. found May may k v (is_eq (R key k)) refl (sym (updates.0 k) ∙ e);
     all = λ k m. subst (λ (q : K). IsSome (get R n q)) (must k m) (rw updates.1 refl);
@@ -111,7 +111,7 @@ module _ {K V : Type 0} {R : K → K → Ordering} (exact : IsAntisymmetric R) (
 -- the same map change, said in other words
 pub adds_as : {K V : Type 0} (May May' : K → V → Type 0) (Must Must' : K → Type 0) (Also Also' : Type 0) (old new : K → Option V)
     → ((k : K) (v : V) → May k v → May' k v) → ((k : K) → Must' k → Must k) → (Also → Also')
-    → Adds May Must Also old new → Adds May' Must' Also' old new
+    → AddsEntries May Must Also old new → AddsEntries May' Must' Also' old new
 adds_as May May' Must Must' Also Also' old new may must told h = record {
   sound = λ k v e. elim (h.sound k v e) [
     | inl m ↦ inl (may k v m)

@@ -27,8 +27,8 @@ use Rattle.schema_names.specs.schema_file.FileForm.{EntityTypeOf, ActionOf, Name
 use Rattle.schema_names.specs.schema_file.FileForm.{entity_type_name, entity_type_of, names_in, type_in, namespace_name}
 use Rattle.schema_names.specs.schema_file.FileForm.{namespace_of, commons_in, entity_types_in, actions_in}
 use Rattle.schema_names.specs.schema_file.FileForm.{entity_types_of, namespaces_of, stated}
-use Rattle.schema_names.specs.Qualifying.{ResolvedUse, ResolvedAction, ResolvedEntityType, ResolvedSchema, all_of, scope_in}
-use Rattle.schema_names.specs.Qualifying.{is_action_in, actions_declared, type_named, entity_types_named, use_named}
+use Rattle.schema_names.specs.Qualifying.{ResolvedAppliesTo, ResolvedAction, ResolvedEntityType, ResolvedSchema, all_of, scope_in}
+use Rattle.schema_names.specs.Qualifying.{is_action_in, actions_declared, type_named, entity_types_named, applies_to_named}
 use Rattle.schema_names.specs.Qualifying.{action_meant, action_meant_at, parent_named, parents_named}
 use Rattle.schema_names.specs.Qualifying.{qualified_entity_type, qualified_action, qualified_commons}
 use Rattle.schema_names.specs.Qualifying.{qualified_entity_types, qualified_actions, qualified_namespace}
@@ -262,8 +262,8 @@ record IsStated (is_action : EntityUid → Bool) (own : Option (List ℕ)) (a : 
 action_found : (s : Scope) (is_action : EntityUid → Bool) (own : Option (List ℕ)) (a : ActionOf) (f : ResolvedAction) → qualified_action s is_action own a ≡ Ok f → IsStated is_action own a f
 unfolding qualified_action
 action_found s is_action own a f h =
-    let one = bound (parents_named is_action own a.parents) (λ (parents : List EntityUid). use_named s own a.applies_to >>= λ (applies_to : Option ResolvedUse). Ok (record { uid = action_uid (action_type own) a.id; parents = parents; applies_to = applies_to })) f h in
-    let two = bound (use_named s own a.applies_to) (λ (applies_to : Option ResolvedUse). Ok (record { uid = action_uid (action_type own) a.id; parents = one.0; applies_to = applies_to })) f one.2 in
+    let one = bound (parents_named is_action own a.parents) (λ (parents : List EntityUid). applies_to_named s own a.applies_to >>= λ (applies_to : Option ResolvedAppliesTo). Ok (record { uid = action_uid (action_type own) a.id; parents = parents; applies_to = applies_to })) f h in
+    let two = bound (applies_to_named s own a.applies_to) (λ (applies_to : Option ResolvedAppliesTo). Ok (record { uid = action_uid (action_type own) a.id; parents = one.0; applies_to = applies_to })) f one.2 in
     let made : ResolvedAction = record { uid = action_uid (action_type own) a.id; parents = one.0; applies_to = two.0 } in
     let same : made ≡ f = cc (two.2) in
     subst (λ (x : ResolvedAction). IsStated is_action own a x) same (record { uid = refl; parents = one.1 })

@@ -19,10 +19,10 @@ use Rattle.schema_types.specs.Names.{Scope, is_qualified, full_name, as_declared
 use Rattle.schema_types.specs.Actions.{action_type, action_uid, declared_action, first_of, action_of_type}
 use Rattle.schema_types.specs.declared.fault.SchemaFault.{SchemaFault}
 use Rattle.schema_types.specs.declared.fault.SchemaFault.TheVariants.{UnknownName}
-use Rattle.schema_names.specs.schema_file.FileForm.{EntityTypeOf, UseOf, ActionOf, NamespaceOf}
+use Rattle.schema_names.specs.schema_file.FileForm.{EntityTypeOf, AppliesToOf, ActionOf, NamespaceOf}
 use Rattle.schema_names.specs.schema_file.declared.stated.StatedParent.{StatedParent}
-use Rattle.schema_names.specs.Qualifying.{all_of, CommonOf, common_in, scope_in, is_action_in, ResolvedEntityType, ResolvedUse, ResolvedAction, ResolvedSchema, entity_type_named, entity_types_named, type_named, action_meant_at, action_meant, parent_named, parents_named, qualified_common, qualified_entity_type, qualified_use, use_named, qualified_action, qualified_commons, qualified_entity_types, qualified_actions, qualified_namespace, qualified_namespaces, together, qualified}
-use Rattle.schema.specs.NamesResolved.{IsCommon, IsEntityType, IsAction, HasNamespace, Means, MeansNone, MeansAction, IsPrimitive, MeansEither, ResolvesType, ResolvesFields, HasUnknown, SomeFieldHasUnknown, BothOrNeither, ResolvesCommon, ResolvesEntityType, ResolvesUse, ResolvesAction, ResolvesNamespace, ResolvesFile, UseHasUnknown, EntityTypeHasUnknown, ActionHasUnknown, NamespaceHasUnknown, FileHasUnknown}
+use Rattle.schema_names.specs.Qualifying.{all_of, CommonOf, common_in, scope_in, is_action_in, ResolvedEntityType, ResolvedAppliesTo, ResolvedAction, ResolvedSchema, entity_type_named, entity_types_named, type_named, action_meant_at, action_meant, parent_named, parents_named, qualified_common, qualified_entity_type, qualified_use, applies_to_named, qualified_action, qualified_commons, qualified_entity_types, qualified_actions, qualified_namespace, qualified_namespaces, together, qualified}
+use Rattle.schema.specs.NamesResolved.{IsCommon, IsEntityType, IsAction, HasNamespace, Means, MeansNone, MeansAction, IsPrimitive, MeansEither, ResolvesType, ResolvesFields, HasUnknown, SomeFieldHasUnknown, BothOrNeither, ResolvesCommon, ResolvesEntityType, ResolvesAppliesTo, ResolvesAction, ResolvesNamespace, ResolvesFile, AppliesToHasUnknown, EntityTypeHasUnknown, ActionHasUnknown, NamespaceHasUnknown, FileHasUnknown}
 use Rattle.schema.specs.NamesResolved as says
 use Rattle.schema.specs.Laws.{NamesAreResolved, NamesHaveOneOutcome}
 use Rattle.schema.proofs.Steps.{done, failed, some_is, none_some, true_false, untrue, same_bytes, bytes_same}
@@ -744,49 +744,49 @@ module _ (ns : List NamespaceOf) where
           resolved_to resolved_from resolved_cause cause_resolved
 
     -- what an action applies to
-    module _ (u : UseOf) where
-      abbrev use_made : List (List ℕ) → List (List ℕ) → Option Qualified → ResolvedUse
+    module _ (u : AppliesToOf) where
+      abbrev use_made : List (List ℕ) → List (List ℕ) → Option Qualified → ResolvedAppliesTo
       use_made ps rs o = record { principals = ps; resources = rs; context = o }
 
-      abbrev UseSteps : ResolvedUse → Type 0
+      abbrev UseSteps : ResolvedAppliesTo → Type 0
       UseSteps v =
           (ps : List (List ℕ)) × AllZip Name u.principals ps × ((rs : List (List ℕ)) × AllZip Name u.resources rs
           × ((o : Option Qualified) × BothOrNeither (ResolvesType ns own) u.context o × (use_made ps rs o ≡ v)))
 
-      applied_to : (v : ResolvedUse) → UseSteps v → ResolvesUse ns own u v
+      applied_to : (v : ResolvedAppliesTo) → UseSteps v → ResolvesAppliesTo ns own u v
       applied_to v (ps, principals, (rs, resources, (o, context, same))) =
-          subst (ResolvesUse ns own u) same (record { principals = principals; resources = resources; context = context })
+          subst (ResolvesAppliesTo ns own u) same (record { principals = principals; resources = resources; context = context })
 
-      applied_from : (v : ResolvedUse) → ResolvesUse ns own u v → UseSteps v
+      applied_from : (v : ResolvedAppliesTo) → ResolvesAppliesTo ns own u v → UseSteps v
       applied_from v h = (v.principals, h.principals, (v.resources, h.resources, (v.context, h.context, refl)))
 
       abbrev UseCauses : Type 0
       UseCauses = SomeName u.principals ⊎ (SomeName u.resources ⊎ (SomeType u.context ⊎ ⊥))
 
-      applied_cause : UseCauses → UseHasUnknown ns own u
+      applied_cause : UseCauses → AppliesToHasUnknown ns own u
       applied_cause (inl (w, stands, n)) = says.in_principals w stands n
       applied_cause (inr (inl (w, stands, n))) = says.in_resources w stands n
       applied_cause (inr (inr (inl (r, same, n)))) = says.in_context r same n
       applied_cause (inr (inr (inr h))) = absurd h
 
-      cause_applied : UseHasUnknown ns own u → UseCauses
+      cause_applied : AppliesToHasUnknown ns own u → UseCauses
       cause_applied (says.in_principals w stands n) = inl (w, stands, n)
       cause_applied (says.in_resources w stands n) = inr (inl (w, stands, n))
       cause_applied (says.in_context r same n) = inr (inr (inl (r, same, n)))
 
-      use_agrees : Agrees UnknownName (qualified_use scope own u) (ResolvesUse ns own u) (UseHasUnknown ns own u)
+      use_agrees : Agrees UnknownName (qualified_use scope own u) (ResolvesAppliesTo ns own u) (AppliesToHasUnknown ns own u)
       unfolding qualified_use
       use_agrees =
-          said_as (ResolvesUse ns own u) (UseHasUnknown ns own u)
+          said_as (ResolvesAppliesTo ns own u) (AppliesToHasUnknown ns own u)
           (three_steps use_made (names_agree u.principals) (names_agree u.resources) (maybe_type_agrees u.context))
           applied_to applied_from applied_cause cause_applied
 
-    abbrev SomeUse : Option UseOf → Type 0
-    SomeUse o = (u : UseOf) × (o ≡ Some u) × UseHasUnknown ns own u
+    abbrev SomeUse : Option AppliesToOf → Type 0
+    SomeUse o = (u : AppliesToOf) × (o ≡ Some u) × AppliesToHasUnknown ns own u
 
-    maybe_use_agrees : (o : Option UseOf) → Agrees UnknownName (use_named scope own o) (BothOrNeither (ResolvesUse ns own) o) (SomeUse o)
+    maybe_use_agrees : (o : Option AppliesToOf) → Agrees UnknownName (applies_to_named scope own o) (BothOrNeither (ResolvesAppliesTo ns own) o) (SomeUse o)
     maybe_use_agrees o =
-        option_agrees UnknownName (λ x. use_named scope own x) (qualified_use scope own) (ResolvesUse ns own) (UseHasUnknown ns own) refl (λ u. refl) use_agrees o
+        option_agrees UnknownName (λ x. applies_to_named scope own x) (qualified_use scope own) (ResolvesAppliesTo ns own) (AppliesToHasUnknown ns own) refl (λ u. refl) use_agrees o
 
     -- actions
     abbrev SomeParent : List StatedParent → Type 0
@@ -798,11 +798,11 @@ module _ (ns : List NamespaceOf) where
         each_agrees UnknownName (λ i p. parent_named is_action own p) (MeansAction ns own) (λ (p : StatedParent). (u : EntityUid) → MeansAction ns own p u → ⊥) (λ i p. parent_agrees ns own p) 0 ps
 
     module _ (a : ActionOf) where
-      abbrev action_made : List EntityUid → Option ResolvedUse → ResolvedAction
+      abbrev action_made : List EntityUid → Option ResolvedAppliesTo → ResolvedAction
       action_made ps o = record { uid = action_uid (action_type own) a.id; parents = ps; applies_to = o }
 
       abbrev ActionSteps : ResolvedAction → Type 0
-      ActionSteps b = (ps : List EntityUid) × AllZip (MeansAction ns own) a.parents ps × ((o : Option ResolvedUse) × BothOrNeither (ResolvesUse ns own) a.applies_to o × (action_made ps o ≡ b))
+      ActionSteps b = (ps : List EntityUid) × AllZip (MeansAction ns own) a.parents ps × ((o : Option ResolvedAppliesTo) × BothOrNeither (ResolvesAppliesTo ns own) a.applies_to o × (action_made ps o ≡ b))
 
       acting_to : (b : ResolvedAction) → ActionSteps b → ResolvesAction ns own a b
       acting_to b (ps, parents, (o, applied, same)) = subst (ResolvesAction ns own a) same (record { uid = refl; parents = parents; applies_to = applied })

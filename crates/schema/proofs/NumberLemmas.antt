@@ -139,7 +139,7 @@ abbrev pub Gives : List EntityUid → Numbers → Numbers → Type 0
 Gives us old new = filling.AddsEach (λ u q i. ⊤) (λ u q. u ≡ q) (λ u. ⊤) us old new
 
 pub given : (u : EntityUid) (old new : Numbered) → AddsNumber u old new
-    → filling.Adds (λ (q : EntityUid) (i : ℕ). ⊤) (λ q. u ≡ q) ⊤ (get uid_cmp old.numbers) (get uid_cmp new.numbers)
+    → filling.AddsEntries (λ (q : EntityUid) (i : ℕ). ⊤) (λ q. u ≡ q) ⊤ (get uid_cmp old.numbers) (get uid_cmp new.numbers)
 given u old new a = record {
   sound = λ q i e. inl tt;
   all = λ q e. subst (λ (x : EntityUid). IsSome (get uid_cmp new.numbers x)) e a.there;

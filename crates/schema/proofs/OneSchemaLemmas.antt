@@ -14,8 +14,8 @@ use Rattle.ancestor_search.specs.Deciding.{Contains-here, Contains-there, Contai
 use Rattle.schema_types.specs.Qualified.{Qualified}
 use Rattle.schema_types.specs.Cedar.{Cedar}
 use Rattle.schema_types.specs.Law.{OneWritten}
-use Rattle.schema_names.specs.schema_file.Once.{AreApart}
-use Rattle.schema_names.specs.Qualifying.{ResolvedEntityType, ResolvedUse, ResolvedAction, ResolvedSchema}
+use Rattle.schema_names.specs.schema_file.DistinctNames.{AreApart}
+use Rattle.schema_names.specs.Qualifying.{ResolvedEntityType, ResolvedAppliesTo, ResolvedAction, ResolvedSchema}
 use Rattle.schema_names.specs.Laws as names
 use Rattle.schema_names.specs.Laws.{DeclaresOnce}
 use Rattle.schema.specs.declared.parts.EnvironmentKey.{EnvironmentKey}
@@ -135,7 +135,7 @@ module _ (one : OneWritten) (lists : AscendingListsAreOne) (s : ResolvedSchema) 
   record_same None t u a b = a ∙ sym b
   record_same (Some r) t u a b = one s.commons once.commons r t u a b
 
-  use_same : (p : EnvironmentKey) (x y : ResolvedUse) → Applies s p x → Applies s p y → x ≡ y
+  use_same : (p : EnvironmentKey) (x y : ResolvedAppliesTo) → Applies s p x → Applies s p y → x ≡ y
   use_same p x y a b =
       let action = apart_same (λ (z : ResolvedAction). z.uid) s.actions once.actions a.action b.action a.declared b.declared (a.is ∙ sym b.is) in
       some_same x y (sym a.applies ∙ ap (λ (z : ResolvedAction). z.applies_to) action ∙ b.applies)
@@ -143,7 +143,7 @@ module _ (one : OneWritten) (lists : AscendingListsAreOne) (s : ResolvedSchema) 
   environment_same : (e f : EnvironmentOf) → e.place ≡ f.place → IsEnvironment s e → IsEnvironment s f → e ≡ f
   environment_same e f at (x, a, is) (y, b, is') =
       let uses = use_same f.place x y (subst (λ (p : EnvironmentKey). Applies s p x) at a) b in
-      let contexts = record_same y.context e.context f.context (subst (λ (z : ResolvedUse). IsRecordOf s.commons z.context e.context) uses is) is' in
+      let contexts = record_same y.context e.context f.context (subst (λ (z : ResolvedAppliesTo). IsRecordOf s.commons z.context e.context) uses is) is' in
       λ i. record { place = at i; context = contexts i }
 
   there : (fs : List EnvironmentOf) → ((e : EnvironmentOf) → Contains fs e → IsEnvironment s e) → ((p : EnvironmentKey) → IsEnvironmentKey s p → Contains (map (λ e. e.place) fs) p)

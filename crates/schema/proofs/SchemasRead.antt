@@ -20,7 +20,7 @@ use Rattle.schema.specs.inner.ByNaming as parsed
 use Rattle.schema.specs.Outcomes.{SchemaOrRefusal, SomeOutcome, OneSchema, NotBoth, OneRefusal}
 use Rattle.schema.specs.Outcomes as outcomes
 use Rattle.schema.specs.WellFormed.{StatedSchemasAreWellFormed}
-use Rattle.schema.specs.StatedFiles.{StatesFile, IsNoFile}
+use Rattle.schema.specs.StatedFiles.{DescribesNamespaces, IsNoFile}
 use Rattle.schema.specs.NamesResolved.{ResolvesFile, FileHasUnknown}
 use Rattle.schema.specs.Schemas.{StatedSchema, HasContent, HasDeclarations, IsSchemaOf, SomeCommonLeadsBack, RefusedFor}
 use Rattle.schema.specs.Schemas as says
@@ -65,7 +65,7 @@ module _ (laws : Cyclic) (bytes : List ℕ) (s : ResolvedSchema) (h : DescribesF
 
 module _ (told : Told) (laws : Cyclic) (bytes : List ℕ) where
   content_is : (d : Data) (ns : List NamespaceOf) → json_of bytes ≡ Some d → stated d ≡ done ns → HasContent bytes ns
-  content_is d ns json e = record { value = d; json = json; states = value_is BadShape (stated d) (StatesFile d) (IsNoFile d) (file_agrees told d) ns e }
+  content_is d ns json e = record { value = d; json = json; states = value_is BadShape (stated d) (DescribesNamespaces d) (IsNoFile d) (file_agrees told d) ns e }
 
   is_content : (ns : List NamespaceOf) (h : HasContent bytes ns) → stated h.value ≡ done ns
   is_content ns h = (file_agrees told h.value).states ns h.states
@@ -111,7 +111,7 @@ module _ (told : Told) (laws : Cyclic) (bytes : List ℕ) where
 
   naming_refused : (f : SchemaFault) → IsNamingError bytes f → RefusedFor bytes f
   naming_refused f (naming.not_json e) = says.not_json e
-  naming_refused f (naming.bad_shape d g json e) = shape_refused d g json (fault_is BadShape (stated d) (StatesFile d) (IsNoFile d) (file_agrees told d) g e)
+  naming_refused f (naming.bad_shape d g json e) = shape_refused d g json (fault_is BadShape (stated d) (DescribesNamespaces d) (IsNoFile d) (file_agrees told d) g e)
   naming_refused f (naming.bad_names d ns g json e n) = names_refused ns g (content_is d ns json e) n
 
   unsound_refused : (s : ResolvedSchema) (f : SchemaFault) → DescribesFile bytes s → IsUnsound s f → RefusedFor bytes f

@@ -19,7 +19,7 @@ use Rattle.schema_types.specs.Law.{TypesExpandOrSomeCommonDoesNot}
 use Rattle.schema_types.specs.Outcome.{SomeHasNoExpansion}
 use Rattle.schema_types.specs.declared.fault.SchemaFault.{SchemaFault}
 use Rattle.schema_types.specs.declared.fault.SchemaFault.TheVariants.{TypeCycle, ActionCycle, TypeTooLarge}
-use Rattle.schema_names.specs.Qualifying.{ResolvedEntityType, ResolvedUse, ResolvedAction, ResolvedSchema}
+use Rattle.schema_names.specs.Qualifying.{ResolvedEntityType, ResolvedAppliesTo, ResolvedAction, ResolvedSchema}
 use Rattle.schema_names.specs.Laws as names
 use Rattle.schema_names.specs.Laws.{DeclaresOnce, DeclaresItsCommonTypes}
 use Rattle.schema.specs.Schemas as schemas
@@ -264,19 +264,19 @@ module _ (s : ResolvedSchema) (ends : TypesExpandOrSomeCommonDoesNot) (once : De
         by (inl large) = inl large
         by (inr w) = inr (λ q e. subst (λ (x : Qualified). IsWritten s.commons x) (some_same r q e) w)
 
-    use_fits : (a : ResolvedAction) → Contains s.actions a → (o : Option ResolvedUse) → a.applies_to ≡ o → SomeTypeIsTooLarge s ⊎ ((u : ResolvedUse) → a.applies_to ≡ Some u → (r : Qualified) → u.context ≡ Some r → IsWritten s.commons r)
+    use_fits : (a : ResolvedAction) → Contains s.actions a → (o : Option ResolvedAppliesTo) → a.applies_to ≡ o → SomeTypeIsTooLarge s ⊎ ((u : ResolvedAppliesTo) → a.applies_to ≡ Some u → (r : Qualified) → u.context ≡ Some r → IsWritten s.commons r)
     use_fits a h None is = inr (λ u e r c. absurd (none_is u (sym is ∙ e)))
       where
-        none_is : (u : ResolvedUse) → None ≡ Some u → ⊥
+        none_is : (u : ResolvedAppliesTo) → None ≡ Some u → ⊥
         none_is u e = cc
     use_fits a h (Some v) is = by (record_fits v.context (λ r c. inr (a, h, (v, is, c))))
       where
-        some_same : (x y : ResolvedUse) → Some x ≡ Some y → x ≡ y
+        some_same : (x y : ResolvedAppliesTo) → Some x ≡ Some y → x ≡ y
         some_same x y e = cc
 
-        by : SomeTypeIsTooLarge s ⊎ ((r : Qualified) → v.context ≡ Some r → IsWritten s.commons r) → SomeTypeIsTooLarge s ⊎ ((u : ResolvedUse) → a.applies_to ≡ Some u → (r : Qualified) → u.context ≡ Some r → IsWritten s.commons r)
+        by : SomeTypeIsTooLarge s ⊎ ((r : Qualified) → v.context ≡ Some r → IsWritten s.commons r) → SomeTypeIsTooLarge s ⊎ ((u : ResolvedAppliesTo) → a.applies_to ≡ Some u → (r : Qualified) → u.context ≡ Some r → IsWritten s.commons r)
         by (inl large) = inl large
-        by (inr w) = inr (λ u e r c. w r (ap (λ (x : ResolvedUse). x.context) (some_same v u (sym is ∙ e)) ∙ c))
+        by (inr w) = inr (λ u e r c. w r (ap (λ (x : ResolvedAppliesTo). x.context) (some_same v u (sym is ∙ e)) ∙ c))
 
     commons_fit : SomeTypeIsTooLarge s ⊎ ((d : List ℕ × Qualified) → Contains s.commons d → IsWritten s.commons (qualified.common d.0))
     commons_fit = first s.commons (some_or_all (λ d. SomeTypeIsTooLarge s) (λ d. IsWritten s.commons (qualified.common d.0)) s.commons
@@ -286,13 +286,13 @@ module _ (s : ResolvedSchema) (ends : TypesExpandOrSomeCommonDoesNot) (once : De
     shapes_fit = first s.entity_types (some_or_all (λ e. SomeTypeIsTooLarge s) (λ e. (r : Qualified) → e.shape ≡ Some r → IsWritten s.commons r) s.entity_types
         (λ e h. record_fits e.shape (λ r is. inl (e, h, is))))
 
-    contexts_fit : SomeTypeIsTooLarge s ⊎ ((a : ResolvedAction) → Contains s.actions a → (u : ResolvedUse) → a.applies_to ≡ Some u → (r : Qualified) → u.context ≡ Some r → IsWritten s.commons r)
-    contexts_fit = first s.actions (some_or_all (λ a. SomeTypeIsTooLarge s) (λ a. (u : ResolvedUse) → a.applies_to ≡ Some u → (r : Qualified) → u.context ≡ Some r → IsWritten s.commons r) s.actions
+    contexts_fit : SomeTypeIsTooLarge s ⊎ ((a : ResolvedAction) → Contains s.actions a → (u : ResolvedAppliesTo) → a.applies_to ≡ Some u → (r : Qualified) → u.context ≡ Some r → IsWritten s.commons r)
+    contexts_fit = first s.actions (some_or_all (λ a. SomeTypeIsTooLarge s) (λ a. (u : ResolvedAppliesTo) → a.applies_to ≡ Some u → (r : Qualified) → u.context ≡ Some r → IsWritten s.commons r) s.actions
         (λ a h. use_fits a h a.applies_to refl))
 
     module _ (commons : (d : List ℕ × Qualified) → Contains s.commons d → IsWritten s.commons (qualified.common d.0))
         (shapes : (e : ResolvedEntityType) → Contains s.entity_types e → (r : Qualified) → e.shape ≡ Some r → IsWritten s.commons r)
-        (contexts : (a : ResolvedAction) → Contains s.actions a → (u : ResolvedUse) → a.applies_to ≡ Some u → (r : Qualified) → u.context ≡ Some r → IsWritten s.commons r) where
+        (contexts : (a : ResolvedAction) → Contains s.actions a → (u : ResolvedAppliesTo) → a.applies_to ≡ Some u → (r : Qualified) → u.context ≡ Some r → IsWritten s.commons r) where
       all_fit : (r : Qualified) → IsSchemaType s r → IsWritten s.commons r
       all_fit _ (schemas.common q r d) = commons (q, r) (declared_inside s.commons q r d)
       all_fit _ (schemas.shape_or_context r (inl (e, h, is))) = shapes e h r is
@@ -303,7 +303,7 @@ module _ (s : ResolvedSchema) (ends : TypesExpandOrSomeCommonDoesNot) (once : De
       where
         by : SomeTypeIsTooLarge s ⊎ ((d : List ℕ × Qualified) → Contains s.commons d → IsWritten s.commons (qualified.common d.0))
             → SomeTypeIsTooLarge s ⊎ ((e : ResolvedEntityType) → Contains s.entity_types e → (r : Qualified) → e.shape ≡ Some r → IsWritten s.commons r)
-            → SomeTypeIsTooLarge s ⊎ ((a : ResolvedAction) → Contains s.actions a → (u : ResolvedUse) → a.applies_to ≡ Some u → (r : Qualified) → u.context ≡ Some r → IsWritten s.commons r)
+            → SomeTypeIsTooLarge s ⊎ ((a : ResolvedAction) → Contains s.actions a → (u : ResolvedAppliesTo) → a.applies_to ≡ Some u → (r : Qualified) → u.context ≡ Some r → IsWritten s.commons r)
             → SomeTypeIsTooLarge s ⊎ ((r : Qualified) → IsSchemaType s r → IsWritten s.commons r)
         by (inl large) b c = inl large
         by (inr a) (inl large) c = inl large

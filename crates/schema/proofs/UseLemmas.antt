@@ -6,7 +6,7 @@ use Rattle.values.specs.declared.entity_uid.EntityUid.{EntityUid}
 use Rattle.schema_types.specs.CedarViews.{cedar_view}
 use Rattle.schema_types.specs.Expansions.{Declarations}
 use Rattle.schema_types.specs.declared.cedar.CedarType.{CedarType}
-use Rattle.schema_names.specs.Qualifying.{ResolvedUse, ResolvedAction}
+use Rattle.schema_names.specs.Qualifying.{ResolvedAppliesTo, ResolvedAction}
 use Rattle.schema.specs.declared.parts.EnvironmentKey.{EnvironmentKey}
 use Rattle.schema.specs.Schemas.{place_cmp, IsRecordOf}
 use Rattle.schema.specs.inner.Filling.{SomeMay, SomeMust, HoldsForEach}
@@ -17,16 +17,16 @@ use Rattle.schema.proofs.FillingLemmas.{adds_as}
 some_same : {A : Type 0} (x y : A) → Some x ≡ Some y → x ≡ y
 some_same x y e = cc
 
-pub uses_as : (commons : Declarations) (a : ResolvedAction) (u : ResolvedUse) → a.applies_to ≡ Some u → (old new : Places)
+pub uses_as : (commons : Declarations) (a : ResolvedAction) (u : ResolvedAppliesTo) → a.applies_to ≡ Some u → (old new : Places)
     → AddsUse commons a.uid u old new → AddsAction commons a old new
 uses_as commons a u is old new h =
     adds_as (UseMay commons a.uid u) (ActionMay commons a) (UseMust a.uid u) (ActionMust a) (IsWrittenAt commons u.context) (IsContextWritten commons a) (get place_cmp old) (get place_cmp new)
     (λ p c m. (u, is, m))
-    (λ p m. subst (λ (v : ResolvedUse). UseMust a.uid v p) (some_same m.0 u (sym m.1 ∙ is)) m.2)
-    (λ told v e. subst (λ (x : ResolvedUse). IsWrittenAt commons x.context) (some_same u v (sym is ∙ e)) told)
+    (λ p m. subst (λ (v : ResolvedAppliesTo). UseMust a.uid v p) (some_same m.0 u (sym m.1 ∙ is)) m.2)
+    (λ told v e. subst (λ (x : ResolvedAppliesTo). IsWrittenAt commons x.context) (some_same u v (sym is ∙ e)) told)
     h
 
-module _ (commons : Declarations) (action : EntityUid) (u : ResolvedUse) (context : CedarType) (is : IsRecordOf commons u.context (cedar_view context)) where
+module _ (commons : Declarations) (action : EntityUid) (u : ResolvedAppliesTo) (context : CedarType) (is : IsRecordOf commons u.context (cedar_view context)) where
   may_use : (p : EnvironmentKey) (c : CedarType) → SomeMay (λ q. SomeMay (PlaceMay action context q) u.resources) u.principals p c → UseMay commons action u p c
   may_use p c (q, in_principals, rest) =
       let at = rest.2.0 in (

@@ -8,7 +8,7 @@ use Rattle.schema_names.specs.Qualifying.{ResolvedSchema, qualified}
 use Rattle.schema_names.specs.Naming.{DescribesFile}
 use Rattle.schema.specs.Agreement.{Gives, HasOneOutcome}
 use Rattle.schema.specs.StatedTypes.{StatesType, RefusesType}
-use Rattle.schema.specs.StatedFiles.{StatesFile, RefusesFile}
+use Rattle.schema.specs.StatedFiles.{DescribesNamespaces, RefusesFile}
 use Rattle.schema.specs.NamesResolved.{ResolvesFile, RefusesNames}
 use Rattle.schema.specs.Schemas.{HasDeclarations}
 
@@ -28,11 +28,11 @@ TypesHaveOneOutcome = (is_attribute : Bool) (d : Data)
 
 -- `FilesAreRead`: the function `stated` gives the namespaces that `d` states, or the error if it states no file.
 abbrev pub FilesAreRead : Type 0
-FilesAreRead = (d : Data) → Gives (stated d) (StatesFile d) (RefusesFile d)
+FilesAreRead = (d : Data) → Gives (stated d) (DescribesNamespaces d) (RefusesFile d)
 
 -- `FilesHaveOneOutcome`: JSON states exactly one file, or is rejected with exactly one error, and never both.
 abbrev pub FilesHaveOneOutcome : Type 0
-FilesHaveOneOutcome = (d : Data) → HasOneOutcome (StatesFile d) (RefusesFile d)
+FilesHaveOneOutcome = (d : Data) → HasOneOutcome (DescribesNamespaces d) (RefusesFile d)
 
 -- ---- names
 

@@ -19,9 +19,10 @@ use Rattle.schema_types.specs.Names.{full_name}
 use Rattle.schema_types.specs.Actions.{action_type, action_uid}
 use Rattle.schema_types.specs.declared.fault.SchemaFault.{SchemaFault}
 use Rattle.schema_types.specs.declared.fault.SchemaFault.TheVariants.{UnknownName}
-use Rattle.schema_names.specs.schema_file.FileForm.{EntityTypeOf, UseOf, ActionOf, NamespaceOf}
+use Rattle.schema_names.specs.schema_file.FileForm.{EntityTypeOf, AppliesToOf, ActionOf, NamespaceOf}
 use Rattle.schema_names.specs.schema_file.declared.stated.StatedParent.{StatedParent}
-use Rattle.schema_names.specs.Qualifying.{ResolvedEntityType, ResolvedUse, ResolvedAction, ResolvedSchema, together}
+use Rattle.schema_names.specs.Qualifying.{ResolvedEntityType, ResolvedAppliesTo, ResolvedAction, ResolvedSchema}
+use Rattle.schema_names.specs.Qualifying.{together}
 
 -- ---- declarations
 
@@ -141,8 +142,9 @@ pub record ResolvesCommon (ns : List NamespaceOf) (own : Option (List ℕ)) (c :
   pub name : d.0 ≡ full_name own c.0
   pub type : ResolvesType ns own c.1 d.1
 
--- `ResolvesEntityType ns own e f`, `ResolvesUse ns own u v` and `ResolvesAction ns own a b` state the same of an entity
--- type, of what an action applies to, and of an action: the last argument is the one before it with its names resolved.
+-- `ResolvesEntityType ns own e f`, `ResolvesAppliesTo ns own u v` and `ResolvesAction ns own a b` state the same of an
+-- entity type, of what an action applies to, and of an action: the last argument is the one before it with its names
+-- resolved.
 pub record ResolvesEntityType (ns : List NamespaceOf) (own : Option (List ℕ)) (e : EntityTypeOf)
     (f : ResolvedEntityType) : Type 0 where
   pub name : f.name ≡ full_name own e.name
@@ -150,7 +152,8 @@ pub record ResolvesEntityType (ns : List NamespaceOf) (own : Option (List ℕ)) 
   pub shape : BothOrNeither (ResolvesType ns own) e.shape f.shape
 
 -- what an action applies to
-pub record ResolvesUse (ns : List NamespaceOf) (own : Option (List ℕ)) (u : UseOf) (v : ResolvedUse) : Type 0 where
+pub record ResolvesAppliesTo (ns : List NamespaceOf) (own : Option (List ℕ)) (u : AppliesToOf) (v : ResolvedAppliesTo)
+    : Type 0 where
   pub principals : AllZip (Means (IsEntityType ns) own) u.principals v.principals
   pub resources : AllZip (Means (IsEntityType ns) own) u.resources v.resources
   pub context : BothOrNeither (ResolvesType ns own) u.context v.context
@@ -160,7 +163,7 @@ pub record ResolvesAction (ns : List NamespaceOf) (own : Option (List ℕ)) (a :
   where
     pub uid : b.uid ≡ action_uid (action_type own) a.id
     pub parents : AllZip (MeansAction ns own) a.parents b.parents
-    pub applies_to : BothOrNeither (ResolvesUse ns own) a.applies_to b.applies_to
+    pub applies_to : BothOrNeither (ResolvesAppliesTo ns own) a.applies_to b.applies_to
 
 -- `ResolvesNamespace ns n s` holds if `s` has the declarations of the namespace `n`, one of `ns`, with their names
 -- resolved.
@@ -177,11 +180,14 @@ pub record ResolvesFile (ns : List NamespaceOf) (s : ResolvedSchema) : Type 0 wh
 
 -- ---- names that mean nothing
 
--- `UseHasUnknown ns own u` holds if a name in `u`, what an action of the namespace `own` applies to, means nothing.
-pub data UseHasUnknown (ns : List NamespaceOf) (own : Option (List ℕ)) (u : UseOf) : Type 0 where
-  in_principals : (w : List ℕ) → Contains u.principals w → MeansNone (IsEntityType ns) own w → UseHasUnknown ns own u
-  in_resources : (w : List ℕ) → Contains u.resources w → MeansNone (IsEntityType ns) own w → UseHasUnknown ns own u
-  in_context : (r : Raw) → u.context ≡ Some r → HasUnknown ns own r → UseHasUnknown ns own u
+-- `AppliesToHasUnknown ns own u` holds if a name in `u`, what an action of the namespace `own` applies to, means
+-- nothing.
+pub data AppliesToHasUnknown (ns : List NamespaceOf) (own : Option (List ℕ)) (u : AppliesToOf) : Type 0 where
+  in_principals : (w : List ℕ) → Contains u.principals w → MeansNone (IsEntityType ns) own w
+      → AppliesToHasUnknown ns own u
+  in_resources : (w : List ℕ) → Contains u.resources w → MeansNone (IsEntityType ns) own w
+      → AppliesToHasUnknown ns own u
+  in_context : (r : Raw) → u.context ≡ Some r → HasUnknown ns own r → AppliesToHasUnknown ns own u
 
 -- `EntityTypeHasUnknown ns own e` holds if a name in the entity type `e`, of the namespace `own`, means nothing.
 pub data EntityTypeHasUnknown (ns : List NamespaceOf) (own : Option (List ℕ)) (e : EntityTypeOf) : Type 0 where
@@ -192,7 +198,7 @@ pub data EntityTypeHasUnknown (ns : List NamespaceOf) (own : Option (List ℕ)) 
 pub data ActionHasUnknown (ns : List NamespaceOf) (own : Option (List ℕ)) (a : ActionOf) : Type 0 where
   in_parents : (p : StatedParent) → Contains a.parents p → ((u : EntityUid) → MeansAction ns own p u → ⊥)
       → ActionHasUnknown ns own a
-  in_use : (u : UseOf) → a.applies_to ≡ Some u → UseHasUnknown ns own u → ActionHasUnknown ns own a
+  in_use : (u : AppliesToOf) → a.applies_to ≡ Some u → AppliesToHasUnknown ns own u → ActionHasUnknown ns own a
 
 -- `NamespaceHasUnknown ns n` holds if a name in the namespace `n` means nothing that the namespaces `ns` declare.
 pub data NamespaceHasUnknown (ns : List NamespaceOf) (n : NamespaceOf) : Type 0 where

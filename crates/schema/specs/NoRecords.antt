@@ -6,7 +6,7 @@ use Rattle.schema_types.specs.Raw as raw
 use Rattle.schema_types.specs.Raw.{Raw}
 use Rattle.schema_types.specs.Qualified.{Qualified}
 use Rattle.schema_types.specs.Names.{full_name}
-use Rattle.schema_names.specs.schema_file.FileForm.{EntityTypeOf, UseOf, ActionOf, NamespaceOf}
+use Rattle.schema_names.specs.schema_file.FileForm.{EntityTypeOf, AppliesToOf, ActionOf, NamespaceOf}
 use Rattle.schema.specs.NamesResolved.{IsCommon, IsEntityType, Means, MeansNone, IsPrimitive}
 
 -- `IsNoRecord ns own r` holds if the type `r`, of the namespace `own`, is not a record: it has another form, or it is a
@@ -36,5 +36,5 @@ pub data IsNoRecord (ns : List NamespaceOf) : Option (List ℕ) → Raw → Type
 pub data SomeIsNotRecord (ns : List NamespaceOf) : Type 0 where
   shape : (n : NamespaceOf) (e : EntityTypeOf) (r : Raw) → Contains ns n → Contains n.entity_types e
       → e.shape ≡ Some r → IsNoRecord ns n.name r → SomeIsNotRecord ns
-  context : (n : NamespaceOf) (a : ActionOf) (u : UseOf) (r : Raw) → Contains ns n → Contains n.actions a
+  context : (n : NamespaceOf) (a : ActionOf) (u : AppliesToOf) (r : Raw) → Contains ns n → Contains n.actions a
       → a.applies_to ≡ Some u → u.context ≡ Some r → IsNoRecord ns n.name r → SomeIsNotRecord ns

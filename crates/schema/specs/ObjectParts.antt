@@ -1,5 +1,5 @@
 -- Defines what the value at a key, the items of an array and the members of an object state, and when they state
--- nothing. For a single value, `States` holds of the value and what it states, and `IsNone` if it states nothing.
+-- nothing. For a single value, `Describes` holds of the value and what it states, and `IsNone` if it states nothing.
 -- Source: RFC 8259, sections 4 and 5.
 -- Rules of this product: null at an optional key counts as missing.
 use Rattle.std.specs.Prelude.{◌≡◌, ℕ, List, [], ◌∷◌, Option, Some, None, Contains}
@@ -16,27 +16,27 @@ pub record HasAt (key : List ℕ) (d found : Data) : Type 0 where
   pub stands : get key d ≡ Some found
   pub counts : found ≡ null → ⊥
 
--- `GivenAt States key d x` holds if `d` has a value that states `x` at the required key `key`.
-pub record GivenAt {A : Type 0} (States : Data → A → Type 0) (key : List ℕ) (d : Data) (x : A) : Type 0 where
+-- `GivenAt Describes key d x` holds if `d` has a value that states `x` at the required key `key`.
+pub record GivenAt {A : Type 0} (Describes : Data → A → Type 0) (key : List ℕ) (d : Data) (x : A) : Type 0 where
   pub found : Data
   pub stands : get key d ≡ Some found
-  pub states : States found x
+  pub states : Describes found x
 
 -- `NotGivenAt IsNone key d` holds if `d` has no value at the required key `key`, or one that states nothing.
 pub data NotGivenAt (IsNone : Data → Type 0) (key : List ℕ) (d : Data) : Type 0 where
   nothing : get key d ≡ None → NotGivenAt IsNone key d
   wrong : (found : Data) → get key d ≡ Some found → IsNone found → NotGivenAt IsNone key d
 
--- `MaybeAt States key d o` holds if `o` is what `d` states at the optional key `key`; `None` if the key is absent.
-pub data MaybeAt {A : Type 0} (States : Data → A → Type 0) (key : List ℕ) (d : Data) : Option A → Type 0 where
-  stands : (found : Data) (x : A) → HasAt key d found → States found x → MaybeAt States key d (Some x)
-  absent : IsAbsent key d → MaybeAt States key d None
+-- `MaybeAt Describes key d o` holds if `o` is what `d` states at the optional key `key`; `None` if the key is absent.
+pub data MaybeAt {A : Type 0} (Describes : Data → A → Type 0) (key : List ℕ) (d : Data) : Option A → Type 0 where
+  stands : (found : Data) (x : A) → HasAt key d found → Describes found x → MaybeAt Describes key d (Some x)
+  absent : IsAbsent key d → MaybeAt Describes key d None
 
--- `ListAt States key d xs` holds if `xs` is the list that `d` states at the optional key `key`; empty if the key is
+-- `ListAt Describes key d xs` holds if `xs` is the list that `d` states at the optional key `key`; empty if the key is
 -- absent.
-pub data ListAt {A : Type 0} (States : Data → List A → Type 0) (key : List ℕ) (d : Data) : List A → Type 0 where
-  stands : (found : Data) (xs : List A) → HasAt key d found → States found xs → ListAt States key d xs
-  absent : IsAbsent key d → ListAt States key d []
+pub data ListAt {A : Type 0} (Describes : Data → List A → Type 0) (key : List ℕ) (d : Data) : List A → Type 0 where
+  stands : (found : Data) (xs : List A) → HasAt key d found → Describes found xs → ListAt Describes key d xs
+  absent : IsAbsent key d → ListAt Describes key d []
 
 -- `WrongAt IsNone key d` holds if `d` has, at the optional key `key`, a value other than null that states nothing.
 pub record WrongAt (IsNone : Data → Type 0) (key : List ℕ) (d : Data) : Type 0 where
@@ -46,11 +46,11 @@ pub record WrongAt (IsNone : Data → Type 0) (key : List ℕ) (d : Data) : Type
 
 -- ---- arrays
 
--- `IsArrayOf States d xs` holds if `d` is an array whose items state `xs`, index by index.
-pub record IsArrayOf {A : Type 0} (States : Data → A → Type 0) (d : Data) (xs : List A) : Type 0 where
+-- `IsArrayOf Describes d xs` holds if `d` is an array whose items state `xs`, index by index.
+pub record IsArrayOf {A : Type 0} (Describes : Data → A → Type 0) (d : Data) (xs : List A) : Type 0 where
   pub items : Items
   pub is_array : d ≡ array items
-  pub state : AllZip States (list_of items) xs
+  pub state : AllZip Describes (list_of items) xs
 
 -- `IsNoArrayOf IsNone d` holds if `d` is not an array, or one of its items states nothing.
 pub data IsNoArrayOf (IsNone : Data → Type 0) (d : Data) : Type 0 where
@@ -60,11 +60,12 @@ pub data IsNoArrayOf (IsNone : Data → Type 0) (d : Data) : Type 0 where
 
 -- ---- objects
 
--- `StateEach States ms xs` holds if the members `ms` state `xs`, each under its key.
-pub data StateEach {A : Type 0} (States : List ℕ → Data → A → Type 0) : Members → List A → Type 0 where
-  no_member : StateEach States no_members []
-  next_member : (key : List ℕ) (d : Data) (ms : Members) (x : A) (xs : List A) → States key d x → StateEach States ms xs
-      → StateEach States (member key d ms) (x ∷ xs)
+-- `DescribeEach Describes ms xs` holds if the members `ms` state `xs`, each under its key.
+pub data DescribeEach {A : Type 0} (Describes : List ℕ → Data → A → Type 0) : Members → List A → Type 0 where
+  no_member : DescribeEach Describes no_members []
+  next_member : (key : List ℕ) (d : Data) (ms : Members) (x : A) (xs : List A) → Describes key d x
+      → DescribeEach Describes ms xs
+      → DescribeEach Describes (member key d ms) (x ∷ xs)
 
 -- `HasMember ms key d` holds if one of the members `ms` has the key `key` and the value `d`.
 pub data HasMember : Members → List ℕ → Data → Type 0 where
@@ -72,11 +73,11 @@ pub data HasMember : Members → List ℕ → Data → Type 0 where
   later_member : (other : List ℕ) (e : Data) (ms : Members) (key : List ℕ) (d : Data) → HasMember ms key d
       → HasMember (member other e ms) key d
 
--- `IsObjectOf States d xs` holds if `d` is an object whose members state `xs`.
-pub record IsObjectOf {A : Type 0} (States : List ℕ → Data → A → Type 0) (d : Data) (xs : List A) : Type 0 where
+-- `IsObjectOf Describes d xs` holds if `d` is an object whose members state `xs`.
+pub record IsObjectOf {A : Type 0} (Describes : List ℕ → Data → A → Type 0) (d : Data) (xs : List A) : Type 0 where
   pub members : Members
   pub is_object : d ≡ object members
-  pub state : StateEach States members xs
+  pub state : DescribeEach Describes members xs
 
 -- `IsNoObjectOf IsNone d` holds if `d` is not an object, or one of its members states nothing.
 pub data IsNoObjectOf (IsNone : List ℕ → Data → Type 0) (d : Data) : Type 0 where

@@ -21,10 +21,10 @@ use Rattle.schema_types.specs.declared.fault.SchemaFault.{SchemaFault}
 use Rattle.schema_types.specs.declared.fault.SchemaFault.TheVariants.{NotJson, BadShape, UnknownName, TypeCycle}
 use Rattle.schema_types.specs.declared.fault.SchemaFault.TheVariants.{ActionCycle, TypeTooLarge}
 use Rattle.schema_names.specs.schema_file.FileForm.{NamespaceOf}
-use Rattle.schema_names.specs.Qualifying.{ResolvedEntityType, ResolvedUse, ResolvedAction, ResolvedSchema}
+use Rattle.schema_names.specs.Qualifying.{ResolvedEntityType, ResolvedAppliesTo, ResolvedAction, ResolvedSchema}
 use Rattle.schema_names.specs.Laws.{IsShapeOrContext}
 use Rattle.schema.specs.declared.parts.EnvironmentKey.{EnvironmentKey}
-use Rattle.schema.specs.StatedFiles.{StatesFile, IsNoFile}
+use Rattle.schema.specs.StatedFiles.{DescribesNamespaces, IsNoFile}
 use Rattle.schema.specs.NamesResolved.{ResolvesFile, FileHasUnknown}
 use Rattle.schema.specs.NoRecords.{SomeIsNotRecord}
 pub use Rattle.schema.specs.Places.{place_cmp}
@@ -123,7 +123,7 @@ IsShape s n t = (e : ResolvedEntityType) × Contains s.entity_types e × (e.name
 
 -- `Applies s p applied` holds if `applied` is the `appliesTo` of the action of `p`, which is declared in `s`, and lists
 -- the types of `p`.
-pub record Applies (s : ResolvedSchema) (p : EnvironmentKey) (applied : ResolvedUse) : Type 0 where
+pub record Applies (s : ResolvedSchema) (p : EnvironmentKey) (applied : ResolvedAppliesTo) : Type 0 where
   pub action : ResolvedAction
   pub declared : Contains s.actions action
   pub is : action.uid ≡ p.action
@@ -134,11 +134,12 @@ pub record Applies (s : ResolvedSchema) (p : EnvironmentKey) (applied : Resolved
 -- `IsEnvironment s e` holds if `e` is an environment of `s`: the action of `e` applies to the types of `e`, and has the
 -- context of `e`.
 abbrev pub IsEnvironment : ResolvedSchema → EnvironmentOf → Type 0
-IsEnvironment s e = (applied : ResolvedUse) × Applies s e.place applied × IsRecordOf s.commons applied.context e.context
+IsEnvironment s e = (applied : ResolvedAppliesTo) × Applies s e.place applied
+    × IsRecordOf s.commons applied.context e.context
 
 -- `IsEnvironmentKey s p` holds if, in `s`, the action of `p` applies to the types of `p`.
 abbrev pub IsEnvironmentKey : ResolvedSchema → EnvironmentKey → Type 0
-IsEnvironmentKey s p = (applied : ResolvedUse) × Applies s p applied
+IsEnvironmentKey s p = (applied : ResolvedAppliesTo) × Applies s p applied
 
 -- `Answers s v` holds if each look-up of `v` finds exactly what `s` declares. The actions, the ancestors of each action
 -- and the environments ascend, without duplicates; the parents of an action are in the order of its `memberOf`.
@@ -170,7 +171,7 @@ pub record IsSound (s : ResolvedSchema) : Type 0 where
 pub record HasContent (bytes : List ℕ) (ns : List NamespaceOf) : Type 0 where
   pub value : Data
   pub json : json_of bytes ≡ Some value
-  pub states : StatesFile value ns
+  pub states : DescribesNamespaces value ns
 
 -- `HasDeclarations bytes s` holds if `bytes` state a file whose shapes and contexts are records, and `s` are its
 -- declarations with their names resolved.

@@ -11,7 +11,7 @@ use Rattle.values.specs.extensions.plain.Words.{IsIdent, IsPath}
 use Rattle.schema_types.specs.Raw.{Raw}
 use Rattle.schema_types.specs.declared.fault.SchemaFault.{SchemaFault}
 use Rattle.schema_types.specs.declared.fault.SchemaFault.TheVariants.{BadShape}
-use Rattle.schema_names.specs.schema_file.FileForm.{EntityTypeOf, UseOf, ActionOf, NamespaceOf}
+use Rattle.schema_names.specs.schema_file.FileForm.{EntityTypeOf, AppliesToOf, ActionOf, NamespaceOf}
 use Rattle.schema_names.specs.schema_file.declared.stated.StatedParent.{StatedParent}
 use Rattle.schema.specs.ObjectKeys.{HasOnly, HasOther, IsAbsent}
 use Rattle.schema.specs.ObjectParts.{GivenAt, NotGivenAt, MaybeAt, ListAt, WrongAt, IsArrayOf, IsNoArrayOf}
@@ -37,16 +37,16 @@ pub data IsNamespace : List ℕ → Option (List ℕ) → Type 0 where
 
 -- ---- keys
 
--- `entity_type_keys`, `parent_keys`, `use_keys`, `action_keys` and `namespace_keys` are the keys that an entity type, a
--- member of `memberOf`, `appliesTo`, an action and a namespace may have.
+-- `entity_type_keys`, `parent_keys`, `applies_to_keys`, `action_keys` and `namespace_keys` are the keys that an entity
+-- type, a member of `memberOf`, `appliesTo`, an action and a namespace may have.
 abbrev pub entity_type_keys : List (List ℕ)
 entity_type_keys = codes "memberOfTypes" ∷ codes "shape" ∷ codes "annotations" ∷ []
 
 abbrev pub parent_keys : List (List ℕ)
 parent_keys = codes "id" ∷ codes "type" ∷ codes "annotations" ∷ []
 
-abbrev pub use_keys : List (List ℕ)
-use_keys = codes "principalTypes" ∷ codes "resourceTypes" ∷ codes "context" ∷ codes "annotations" ∷ []
+abbrev pub applies_to_keys : List (List ℕ)
+applies_to_keys = codes "principalTypes" ∷ codes "resourceTypes" ∷ codes "context" ∷ codes "annotations" ∷ []
 
 abbrev pub action_keys : List (List ℕ)
 action_keys = codes "memberOf" ∷ codes "appliesTo" ∷ codes "attributes" ∷ codes "annotations" ∷ []
@@ -56,15 +56,15 @@ namespace_keys = codes "commonTypes" ∷ codes "entityTypes" ∷ codes "actions"
 
 -- ---- declarations
 
--- `StatesCommon key d c` holds if `d` states under `key` the common type `c`, a name with its type.
-pub record StatesCommon (key : List ℕ) (d : Data) (c : List ℕ × Raw) : Type 0 where
+-- `DescribesCommonType key d c` holds if `d` states under `key` the common type `c`, a name with its type.
+pub record DescribesCommonType (key : List ℕ) (d : Data) (c : List ℕ × Raw) : Type 0 where
   pub name : c.0 ≡ key
   pub ident : IsIdent key
   pub no_form : Contains form_words key → ⊥
   pub type : StatesType false d c.1
 
--- `StatesEntityType key d e` holds if `d` states under `key` the entity type `e`.
-pub record StatesEntityType (key : List ℕ) (d : Data) (e : EntityTypeOf) : Type 0 where
+-- `DescribesEntityType key d e` holds if `d` states under `key` the entity type `e`.
+pub record DescribesEntityType (key : List ℕ) (d : Data) (e : EntityTypeOf) : Type 0 where
   pub name : e.name ≡ key
   pub ident : IsIdent key
   pub no_action : key ≡ codes "Action" → ⊥
@@ -72,15 +72,15 @@ pub record StatesEntityType (key : List ℕ) (d : Data) (e : EntityTypeOf) : Typ
   pub parents : ListAt (IsArrayOf IsName) (codes "memberOfTypes") d e.parents
   pub shape : MaybeAt (StatesType false) (codes "shape") d e.shape
 
--- `StatesParent d p` holds if `d`, in `memberOf`, states the parent `p` of an action.
-pub record StatesParent (d : Data) (p : StatedParent) : Type 0 where
+-- `DescribesParent d p` holds if `d`, in `memberOf`, states the parent `p` of an action.
+pub record DescribesParent (d : Data) (p : StatedParent) : Type 0 where
   pub only : HasOnly parent_keys d
   pub id : text_at (codes "id") d ≡ Some p.id
   pub type_name : MaybeAt IsName (codes "type") d p.type_name
 
--- `StatesUse d u` holds if `d`, at `appliesTo`, states `u`, what an action applies to.
-pub record StatesUse (d : Data) (u : UseOf) : Type 0 where
-  pub only : HasOnly use_keys d
+-- `DescribesAppliesTo d u` holds if `d`, at `appliesTo`, states `u`, what an action applies to.
+pub record DescribesAppliesTo (d : Data) (u : AppliesToOf) : Type 0 where
+  pub only : HasOnly applies_to_keys d
   pub principals : GivenAt (IsArrayOf IsName) (codes "principalTypes") d u.principals
   pub resources : GivenAt (IsArrayOf IsName) (codes "resourceTypes") d u.resources
   pub context : MaybeAt (StatesType false) (codes "context") d u.context
@@ -90,25 +90,25 @@ pub data HasNoAttributes (d : Data) : Type 0 where
   key_absent : IsAbsent (codes "attributes") d → HasNoAttributes d
   key_given_empty : get (codes "attributes") d ≡ Some (object no_members) → HasNoAttributes d
 
--- `StatesAction key d a` holds if `d` states the action `a` under `key`, which is the action's id.
-pub record StatesAction (key : List ℕ) (d : Data) (a : ActionOf) : Type 0 where
+-- `DescribesAction key d a` holds if `d` states the action `a` under `key`, which is the action's id.
+pub record DescribesAction (key : List ℕ) (d : Data) (a : ActionOf) : Type 0 where
   pub id : a.id ≡ key
   pub only : HasOnly action_keys d
   pub no_attributes : HasNoAttributes d
-  pub parents : ListAt (IsArrayOf StatesParent) (codes "memberOf") d a.parents
-  pub applies_to : MaybeAt StatesUse (codes "appliesTo") d a.applies_to
+  pub parents : ListAt (IsArrayOf DescribesParent) (codes "memberOf") d a.parents
+  pub applies_to : MaybeAt DescribesAppliesTo (codes "appliesTo") d a.applies_to
 
--- `StatesNamespace key d n` holds if `d` states under `key` the namespace `n`.
-pub record StatesNamespace (key : List ℕ) (d : Data) (n : NamespaceOf) : Type 0 where
+-- `DescribesNamespace key d n` holds if `d` states under `key` the namespace `n`.
+pub record DescribesNamespace (key : List ℕ) (d : Data) (n : NamespaceOf) : Type 0 where
   pub name : IsNamespace key n.name
   pub only : HasOnly namespace_keys d
-  pub commons : ListAt (IsObjectOf StatesCommon) (codes "commonTypes") d n.commons
-  pub entity_types : ListAt (IsObjectOf StatesEntityType) (codes "entityTypes") d n.entity_types
-  pub actions : ListAt (IsObjectOf StatesAction) (codes "actions") d n.actions
+  pub commons : ListAt (IsObjectOf DescribesCommonType) (codes "commonTypes") d n.commons
+  pub entity_types : ListAt (IsObjectOf DescribesEntityType) (codes "entityTypes") d n.entity_types
+  pub actions : ListAt (IsObjectOf DescribesAction) (codes "actions") d n.actions
 
--- `StatesFile d ns` holds if `d` is an object whose members state the namespaces `ns`.
-abbrev pub StatesFile : Data → List NamespaceOf → Type 0
-StatesFile d ns = IsObjectOf StatesNamespace d ns
+-- `DescribesNamespaces d ns` holds if `d` is an object whose members state the namespaces `ns`.
+abbrev pub DescribesNamespaces : Data → List NamespaceOf → Type 0
+DescribesNamespaces d ns = IsObjectOf DescribesNamespace d ns
 
 -- ---- JSON that states no file, by the cause
 
@@ -132,19 +132,19 @@ pub data IsNoParent (d : Data) : Type 0 where
   no_id : text_at (codes "id") d ≡ None → IsNoParent d
   wrong_type : WrongAt IsNoName (codes "type") d → IsNoParent d
 
--- `IsNoUse d` holds if `d` does not state what an action applies to.
-pub data IsNoUse (d : Data) : Type 0 where
-  other_key : HasOther use_keys d → IsNoUse d
-  wrong_principals : NotGivenAt (IsNoArrayOf IsNoName) (codes "principalTypes") d → IsNoUse d
-  wrong_resources : NotGivenAt (IsNoArrayOf IsNoName) (codes "resourceTypes") d → IsNoUse d
-  wrong_context : WrongAt (IsNoType false) (codes "context") d → IsNoUse d
+-- `IsNoAppliesTo d` holds if `d` does not state what an action applies to.
+pub data IsNoAppliesTo (d : Data) : Type 0 where
+  other_key : HasOther applies_to_keys d → IsNoAppliesTo d
+  wrong_principals : NotGivenAt (IsNoArrayOf IsNoName) (codes "principalTypes") d → IsNoAppliesTo d
+  wrong_resources : NotGivenAt (IsNoArrayOf IsNoName) (codes "resourceTypes") d → IsNoAppliesTo d
+  wrong_context : WrongAt (IsNoType false) (codes "context") d → IsNoAppliesTo d
 
 -- `IsNoAction d` holds if `d` states no action.
 pub data IsNoAction (d : Data) : Type 0 where
   other_key : HasOther action_keys d → IsNoAction d
   has_attributes : (HasNoAttributes d → ⊥) → IsNoAction d
   wrong_parents : WrongAt (IsNoArrayOf IsNoParent) (codes "memberOf") d → IsNoAction d
-  wrong_use : WrongAt IsNoUse (codes "appliesTo") d → IsNoAction d
+  wrong_use : WrongAt IsNoAppliesTo (codes "appliesTo") d → IsNoAction d
 
 -- `IsNoNamespace key d` holds if `d` states no namespace under `key`.
 pub data IsNoNamespace (key : List ℕ) (d : Data) : Type 0 where

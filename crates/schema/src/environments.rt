@@ -6,7 +6,7 @@ ghost use Rattle.schema_types.specs.Expansions.{Declarations};
 ghost use Rattle.schema_written_types.specs.TypeTables.{AreWritten};
 ghost use Rattle.schema_written_types.specs.TableViews.{type_table};
 ghost use Rattle.schema_types.specs.declared.fault.SchemaFault.TheVariants as SchemaFault;
-ghost use Rattle.schema_names.specs.ResolvedViews.{found_use_view, found_action_view};
+ghost use Rattle.schema_names.specs.ResolvedViews.{resolved_applies_to_view, resolved_action_view};
 ghost use Rattle.schema.specs.inner.Making.{IsClosedAt, IsRefusedAt, AddsPlace, AddsResources};
 ghost use Rattle.schema.specs.inner.Making.{AddsPrincipals, AddsUse, AddsAction, IsContextClosed, IsContextRefused};
 ghost use Rattle.schema.specs.inner.Making.{AreContextsClosed, SomeContextIsRefused, ArePlaces};
@@ -16,7 +16,7 @@ use crate::maps::put;
 use crate::parts::EnvironmentKey;
 use crate::shapes::make_record;
 use plain::{NoMemory, Shared};
-use schema_names::{ResolvedAction, ResolvedUse};
+use schema_names::{ResolvedAction, ResolvedAppliesTo};
 use schema_types::{CedarType, SchemaFault};
 use schema_written_types::Table;
 use std::alloc::Global;
@@ -80,14 +80,15 @@ fn add_principals(
 fn add_use(
     alloc: Global,
     action: &EntityUid,
-    applied: &ResolvedUse,
+    applied: &ResolvedAppliesTo,
     table: &Table,
     places: &mut BTreeMap<EnvironmentKey, Shared<CedarType>>,
 ) -> Result<(), SchemaFault>
     ghost commons: { Declarations }
     requires table { AreWritten commons (type_table table.now) }
     requires closed { IsClosedAt commons (option_map qualified_view applied.now.context) }
-    ensures { MatchResult result (λ u. AddsUse commons action.now (found_use_view applied.now) places.old places.new)
+    ensures { MatchResult result
+        (λ u. AddsUse commons action.now (resolved_applies_to_view applied.now) places.old places.new)
         (λ f. f ≢ SchemaFault.NoMemory → IsRefusedAt commons (option_map qualified_view applied.now.context) f) }
 {
     let context = make_record(alloc, &applied.context, table)?;
@@ -107,9 +108,9 @@ fn add_action(
 ) -> Result<(), SchemaFault>
     ghost commons: { Declarations }
     requires table { AreWritten commons (type_table table.now) }
-    requires closed { IsContextClosed commons (found_action_view action.now) }
-    ensures { MatchResult result (λ u. AddsAction commons (found_action_view action.now) places.old places.new)
-        (λ f. f ≢ SchemaFault.NoMemory → IsContextRefused commons (found_action_view action.now) f) }
+    requires closed { IsContextClosed commons (resolved_action_view action.now) }
+    ensures { MatchResult result (λ u. AddsAction commons (resolved_action_view action.now) places.old places.new)
+        (λ f. f ≢ SchemaFault.NoMemory → IsContextRefused commons (resolved_action_view action.now) f) }
 {
     match &action.applies_to {
         Some(applied) => add_use(alloc, &action.uid, applied, table, places),
@@ -130,9 +131,9 @@ pub(crate) fn make_places(
 ) -> Result<BTreeMap<EnvironmentKey, Shared<CedarType>>, SchemaFault>
     ghost commons: { Declarations }
     requires table { AreWritten commons (type_table table.now) }
-    requires closed { AreContextsClosed commons (map found_action_view actions.now) }
-    ensures { MatchResult result (λ places. ArePlaces commons (map found_action_view actions.now) places)
-        (λ f. f ≢ SchemaFault.NoMemory → SomeContextIsRefused commons (map found_action_view actions.now) f) }
+    requires closed { AreContextsClosed commons (map resolved_action_view actions.now) }
+    ensures { MatchResult result (λ places. ArePlaces commons (map resolved_action_view actions.now) places)
+        (λ f. f ≢ SchemaFault.NoMemory → SomeContextIsRefused commons (map resolved_action_view actions.now) f) }
 {
     let mut places = BTreeMap::new(alloc);
     for action in actions {

@@ -3,7 +3,7 @@ ghost use Rattle.std.specs.Prelude.{◌≡◌, IfOk, OnOk, map};
 ghost use Rattle.std.specs.BTreeMap.{keys};
 ghost use Rattle.ancestor_search.specs.Hierarchy.{IsAscending, names, no_parents, with_parents};
 ghost use Rattle.ancestor_search.specs.contracts.searched.SearchedAncestry.TheImpl as searched;
-ghost use Rattle.schema_names.specs.ResolvedViews.{found_action_view, found_entity_type_view};
+ghost use Rattle.schema_names.specs.ResolvedViews.{resolved_action_view, resolved_entity_type_view};
 ghost use Rattle.schema.specs.Schemas.{with_actions, with_types, type_uid};
 ghost use Rattle.schema.specs.inner.Making.{AddsMember, AreMembers};
 
@@ -71,7 +71,7 @@ fn set_action(alloc: Global, edges: &mut Searched, action: &ResolvedAction) -> R
 /// Returns the hierarchy of actions.
 pub(crate) fn action_edges(alloc: Global, actions: &[ResolvedAction]) -> Result<Searched, NoMemory>
     ensures { IfOk result (λ s. searched.parents-value.it s
-        ≡ with_actions no_parents (map found_action_view actions.now)) }
+        ≡ with_actions no_parents (map resolved_action_view actions.now)) }
 {
     let mut edges = Searched::new(alloc);
     for action in actions {
@@ -102,7 +102,7 @@ pub(crate) fn type_edges(
     entity_types: &[ResolvedEntityType],
 ) -> Result<Searched, NoMemory>
     ensures { IfOk result (λ s. searched.parents-value.it s
-        ≡ with_types no_parents (map found_entity_type_view entity_types.now)) }
+        ≡ with_types no_parents (map resolved_entity_type_view entity_types.now)) }
 {
     let mut edges = Searched::new(alloc);
     for entity_type in entity_types {
@@ -118,7 +118,7 @@ fn add_member(
     action: &ResolvedAction,
     members: &mut BTreeMap<EntityUid, Items<EntityUid>>,
 ) -> Result<(), NoMemory>
-    ensures { OnOk result (AddsMember (searched.parents-value.it edges.now) (found_action_view action.now)
+    ensures { OnOk result (AddsMember (searched.parents-value.it edges.now) (resolved_action_view action.now)
         members.old members.new) }
 {
     let parents = copy_uids(alloc, edges.parents_of(&action.uid))?;
@@ -134,7 +134,7 @@ pub(crate) fn make_members(
     actions: &[ResolvedAction],
 ) -> Result<BTreeMap<EntityUid, Items<EntityUid>>, NoMemory>
     ensures { IfOk result (λ members. AreMembers (searched.parents-value.it edges.now)
-        (map found_action_view actions.now) members) }
+        (map resolved_action_view actions.now) members) }
 {
     let mut members = BTreeMap::new(alloc);
     for action in actions {

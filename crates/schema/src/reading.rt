@@ -5,7 +5,7 @@ ghost use Rattle.schema_types.specs.Expansions.{Declarations};
 ghost use Rattle.schema_written_types.specs.TypeTables.{AreWritten, AreWhole};
 ghost use Rattle.schema_written_types.specs.TableViews.{type_table};
 ghost use Rattle.schema_types.specs.declared.fault.SchemaFault.TheVariants as SchemaFault;
-ghost use Rattle.schema_names.specs.ResolvedViews.{found_view};
+ghost use Rattle.schema_names.specs.ResolvedViews.{resolved_view};
 ghost use Rattle.schema_names.specs.Laws.{DeclaresItsCommonTypes};
 ghost use Rattle.schema_names.specs.Naming.{DescribesFile};
 ghost use Rattle.schema.specs.Schemas.{IsSchemaOf, RefusedFor};
@@ -53,8 +53,8 @@ struct Hierarchies {
 /// Returns the hierarchy of actions, if no action is its own ancestor. The only errors are `ActionCycle` (24), and
 /// `NoMemory`.
 fn demand_edges(alloc: Global, found: &ResolvedFile) -> Result<Searched, SchemaFault>
-    ensures { MatchResult result (λ s. AreEdges (found_view found.now) (searched.parents-value.it s))
-        (λ f. f ≢ SchemaFault.NoMemory → EdgesRefused (found_view found.now) f) }
+    ensures { MatchResult result (λ s. AreEdges (resolved_view found.now) (searched.parents-value.it s))
+        (λ f. f ≢ SchemaFault.NoMemory → EdgesRefused (resolved_view found.now) f) }
 {
     let actions = found.actions.as_slice();
     let edges = action_edges(alloc, actions)?;
@@ -67,9 +67,9 @@ fn demand_edges(alloc: Global, found: &ResolvedFile) -> Result<Searched, SchemaF
 fn make_types(alloc: Global, found: &ResolvedFile, table: &Table) -> Result<Types, SchemaFault>
     ghost commons: { Declarations }
     requires written { AreWritten commons (type_table table.now) }
-    requires closed { AreTypesClosed commons (found_view found.now) }
-    ensures { MatchResult result (λ t. AreTypesOf commons (found_view found.now) t)
-        (λ f. f ≢ SchemaFault.NoMemory → TypesRefused commons (found_view found.now) f) }
+    requires closed { AreTypesClosed commons (resolved_view found.now) }
+    ensures { MatchResult result (λ t. AreTypesOf commons (resolved_view found.now) t)
+        (λ f. f ≢ SchemaFault.NoMemory → TypesRefused commons (resolved_view found.now) f) }
 {
     let entity_types = found.entity_types.as_slice();
     let actions = found.actions.as_slice();
@@ -88,8 +88,8 @@ fn make_hierarchies(
     found: &ResolvedFile,
     edges: &Searched,
 ) -> Result<Hierarchies, NoMemory>
-    requires { AreEdges (found_view found.now) (searched.parents-value.it edges.now) }
-    ensures { IfOk result (λ h. AreHierarchiesOf (found_view found.now) h) }
+    requires { AreEdges (resolved_view found.now) (searched.parents-value.it edges.now) }
+    ensures { IfOk result (λ h. AreHierarchiesOf (resolved_view found.now) h) }
 {
     let actions = found.actions.as_slice();
     let entity_types = found.entity_types.as_slice();
@@ -115,14 +115,14 @@ fn make_schema(
     edges: &Searched,
     table: &Table,
 ) -> Result<Schema, SchemaFault>
-    requires states { DescribesFile bytes.now (found_view found.now) }
-    requires written { AreWritten (found_view found.now).commons (type_table table.now) }
-    requires whole { AreWhole (found_view found.now).commons (type_table table.now) }
-    requires own { DeclaresItsCommonTypes (found_view found.now) }
-    requires edges { AreEdges (found_view found.now) (searched.parents-value.it edges.now) }
+    requires states { DescribesFile bytes.now (resolved_view found.now) }
+    requires written { AreWritten (resolved_view found.now).commons (type_table table.now) }
+    requires whole { AreWhole (resolved_view found.now).commons (type_table table.now) }
+    requires own { DeclaresItsCommonTypes (resolved_view found.now) }
+    requires edges { AreEdges (resolved_view found.now) (searched.parents-value.it edges.now) }
     ensures { MatchResult result (λ s. IsSchemaOf bytes.now (schema_view s))
         (λ f. f ≢ SchemaFault.NoMemory
-        → TypesRefused (found_view found.now).commons (found_view found.now) f) }
+        → TypesRefused (resolved_view found.now).commons (resolved_view found.now) f) }
 {
     files_name_their_entity_types();
     schemas_are_read_as_stated();
@@ -153,10 +153,10 @@ fn make_schema(
 /// - `TypeTooLarge` (25): a type, expanded, has over 10,000 nodes or is over 64 deep.
 /// - `NoMemory` (1): an allocation failed; possible at any point.
 fn sound_schema(alloc: Global, bytes: &[u8], found: &ResolvedFile) -> Result<Schema, SchemaFault>
-    requires states { DescribesFile bytes.now (found_view found.now) }
-    requires own { DeclaresItsCommonTypes (found_view found.now) }
+    requires states { DescribesFile bytes.now (resolved_view found.now) }
+    requires own { DeclaresItsCommonTypes (resolved_view found.now) }
     ensures { MatchResult result (λ s. IsSchemaOf bytes.now (schema_view s))
-        (λ f. f ≢ SchemaFault.NoMemory → IsUnsound (found_view found.now) f) }
+        (λ f. f ≢ SchemaFault.NoMemory → IsUnsound (resolved_view found.now) f) }
 {
     let commons = found.commons.as_slice();
     let table = write_commons(alloc, commons)?;

@@ -7,7 +7,7 @@ ghost use Rattle.schema_types.specs.Expansions.{Declarations};
 ghost use Rattle.schema_written_types.specs.TypeTables.{AreWritten};
 ghost use Rattle.schema_written_types.specs.TableViews.{type_table};
 ghost use Rattle.schema_types.specs.declared.fault.SchemaFault.TheVariants as SchemaFault;
-ghost use Rattle.schema_names.specs.ResolvedViews.{found_entity_type_view};
+ghost use Rattle.schema_names.specs.ResolvedViews.{resolved_entity_type_view};
 ghost use Rattle.schema.specs.inner.Making.{IsClosedAt, IsMade, IsRefusedAt, AddsShape, AreShapesClosed};
 ghost use Rattle.schema.specs.inner.Making.{SomeShapeIsRefused, AreShapes};
 
@@ -58,7 +58,8 @@ fn add_shape(
     ghost commons: { Declarations }
     requires table { AreWritten commons (type_table table.now) }
     requires closed { IsClosedAt commons (option_map qualified_view entity_type.now.shape) }
-    ensures { MatchResult result (λ u. AddsShape commons (found_entity_type_view entity_type.now) shapes.old shapes.new)
+    ensures { MatchResult result
+        (λ u. AddsShape commons (resolved_entity_type_view entity_type.now) shapes.old shapes.new)
         (λ f. f ≢ SchemaFault.NoMemory → IsRefusedAt commons (option_map qualified_view entity_type.now.shape) f) }
 {
     let name = entity_type.name.copy()?;
@@ -75,9 +76,10 @@ pub(crate) fn make_shapes(
 ) -> Result<BTreeMap<TypeName, EntityDecl>, SchemaFault>
     ghost commons: { Declarations }
     requires table { AreWritten commons (type_table table.now) }
-    requires closed { AreShapesClosed commons (map found_entity_type_view entity_types.now) }
-    ensures { MatchResult result (λ shapes. AreShapes commons (map found_entity_type_view entity_types.now) shapes)
-        (λ f. f ≢ SchemaFault.NoMemory → SomeShapeIsRefused commons (map found_entity_type_view entity_types.now) f) }
+    requires closed { AreShapesClosed commons (map resolved_entity_type_view entity_types.now) }
+    ensures { MatchResult result (λ shapes. AreShapes commons (map resolved_entity_type_view entity_types.now) shapes)
+        (λ f. f ≢ SchemaFault.NoMemory
+        → SomeShapeIsRefused commons (map resolved_entity_type_view entity_types.now) f) }
 {
     let mut shapes = BTreeMap::new(alloc);
     for entity_type in entity_types {

@@ -3,7 +3,7 @@ ghost use Rattle.std.specs.Prelude.{◌≡◌, Some, IfOk, OnOk, map};
 ghost use Rattle.std.specs.BTreeMap.{get, Updates};
 ghost use Rattle.values.specs.Names.{uid_cmp, text_cmp};
 ghost use Rattle.ancestor_search.specs.contracts.searched.SearchedAncestry.TheImpl as searched;
-ghost use Rattle.schema_names.specs.ResolvedViews.{found_entity_type_view};
+ghost use Rattle.schema_names.specs.ResolvedViews.{resolved_entity_type_view};
 ghost use Rattle.schema.specs.inner.Numbering.{AddsName, AreNames, type_points, AreNumbers};
 
 use crate::hierarchies::type_uid;
@@ -68,7 +68,7 @@ fn numbers_by_name(
 
 /// Returns the uids that represent entity types.
 fn points_of(alloc: Global, entity_types: &[ResolvedEntityType]) -> Result<Vec<EntityUid>, NoMemory>
-    ensures { IfOk result (λ uids. uids.items ≡ type_points (map found_entity_type_view entity_types.now)) }
+    ensures { IfOk result (λ uids. uids.items ≡ type_points (map resolved_entity_type_view entity_types.now)) }
 {
     let mut uids = Vec::new(alloc);
     for entity_type in entity_types {
@@ -84,7 +84,7 @@ pub(crate) fn number_types(
     entity_types: &[ResolvedEntityType],
 ) -> Result<TypeNumbers, NoMemory>
     ensures { IfOk result (λ t. AreNumbers (searched.parents-value.it edges.now)
-        (map found_entity_type_view entity_types.now) t) }
+        (map resolved_entity_type_view entity_types.now) t) }
 {
     let uids = points_of(alloc, entity_types)?;
     let above = above_each(alloc, edges, uids.as_slice())?;

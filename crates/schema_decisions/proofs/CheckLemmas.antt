@@ -9,7 +9,7 @@ use Rattle.entity_hierarchy.specs.policy_grammar.declared.policy.Policy.{Policy}
 use Rattle.entity_hierarchy.specs.schema.Schemas.{StatedSchema}
 use Rattle.validator.specs.Passing.{Passes}
 use Rattle.decision_texts.specs.answer_lines.declared.refusal.Refusal.{Refusal}
-use Rattle.plain.specs.Refused.{OrNoMemory}
+use Rattle.plain.specs.AllocationErrors.{OrNoMemory}
 use Rattle.decision_texts.specs.answer_lines.Refusals.{no_memory}
 use Rattle.schema_decisions.specs.Policies.{IsUnpassed, FirstUnpassed, unpassed_here, unpassed_later}
 
@@ -39,8 +39,8 @@ module _ (s : StatedSchema) where
 
   pub stops : (ps : Files) (i : ℕ) (p : String Global × Policy) → i < length ps → p ≡ get_or ps i p → (refusal : Refusal)
       → OrNoMemory no_memory (IsUnpassed s i p.1) refusal → AreChecked s i (cores (drop i ps)) (Err refusal)
-  stops ps i p lt is refusal due =
-      subst (λ (qs : Files). AreChecked s i (cores qs) (Err refusal)) (sym (turn ps i p lt is)) (λ other. unpassed_here (due other))
+  stops ps i p lt is refusal is_fault =
+      subst (λ (qs : Files). AreChecked s i (cores qs) (Err refusal)) (sym (turn ps i p lt is)) (λ other. unpassed_here (is_fault other))
 
   pub ends : (ps : Files) (i : ℕ) → length ps ≤ i → AreChecked s i (cores (drop i ps)) (Ok tt)
   ends ps i h = subst (λ (qs : Files). AreChecked s i (cores qs) (Ok tt)) (sym (drop_all i ps h)) (All-nil (Passes s))

@@ -62,9 +62,9 @@ some_refused_of ts = list_any (λ t. is_refusal t.outcome) ts
 are_told_same : Laws → (s : StatedSchema) (ps : List NamedPolicy) (text other : List ℕ) (some_refused some_other : Bool) → AreReportsOf s ps text some_refused
     → AreReportsOf s ps other some_other → checked text some_refused ≡ checked other some_other
 are_told_same laws s ps text other some_refused some_other a b =
-    let told = all_told_same laws s ps a.told b.told a.each b.each in
-    let texts : text ≡ other = a.text_is ∙ ap text_of told ∙ sym b.text_is in
-    let flags : some_refused ≡ some_other = a.some_refused_is ∙ ap some_refused_of told ∙ sym b.some_refused_is in
+    let report = all_told_same laws s ps a.report b.report a.each b.each in
+    let texts : text ≡ other = a.text_is ∙ ap text_of report ∙ sym b.text_is in
+    let flags : some_refused ≡ some_other = a.some_refused_is ∙ ap some_refused_of report ∙ sym b.some_refused_is in
     λ i. checked (texts i) (flags i)
 
 file_told_same : Laws → (s : StatedSchema) (policies text other : List ℕ) (some_refused some_other : Bool) → AreReportsOnFile s policies text some_refused
@@ -72,7 +72,7 @@ file_told_same : Laws → (s : StatedSchema) (policies text other : List ℕ) (s
 file_told_same laws s policies text other some_refused some_other a b =
     let file = laws.files.one_value policies (a.names, a.cores) (b.names, b.cores) a.file.file b.file.file in
     are_told_same laws s (named_policies b.names b.cores) text other some_refused some_other
-    (subst (λ (f : List (List ℕ) × List Policy). AreReportsOf s (named_policies f.0 f.1) text some_refused) file a.are_told) b.are_told
+    (subst (λ (f : List (List ℕ) × List Policy). AreReportsOf s (named_policies f.0 f.1) text some_refused) file a.has_reports) b.has_reports
 
 -- ---- two things that texts come to
 
@@ -82,19 +82,19 @@ module _ (laws : Laws) (schema policies : List ℕ) where
   checked_same text other some_refused some_other a b =
       let stated = laws.schema_one schema a.stated b.stated a.schema_is b.schema_is in
       file_told_same laws b.stated policies text other some_refused some_other
-      (subst (λ (s : StatedSchema). AreReportsOnFile s policies text some_refused) stated a.file_told) b.file_told
+      (subst (λ (s : StatedSchema). AreReportsOnFile s policies text some_refused) stated a.has_file_reports) b.has_file_reports
 
   not_both : (text : List ℕ) (some_refused : Bool) (refusal : Refusal) → IsChecked schema policies text some_refused → AreChecksRefused schema policies refusal → ⊥
-  not_both text some_refused refusal a (inl none) = laws.schema_not_both schema a.stated none.fault a.schema_is none.due
+  not_both text some_refused refusal a (inl none) = laws.schema_not_both schema a.stated none.fault a.schema_is none.is_fault
   not_both text some_refused refusal a (inr none) =
-      file_or_fault laws.files policies a.file_told.names a.file_told.cores none.refused.fault a.file_told.file none.refused.due
+      file_or_fault laws.files policies a.has_file_reports.names a.has_file_reports.cores none.refused.fault a.has_file_reports.file none.refused.is_fault
 
   refused_same : (refusal other : Refusal) → AreChecksRefused schema policies refusal → AreChecksRefused schema policies other → refusal ≡ other
-  refused_same refusal other (inl a) (inl b) = a.is ∙ ap schema_refusal (laws.schema_one_refusal schema a.fault b.fault a.due b.due) ∙ sym b.is
-  refused_same refusal other (inl a) (inr b) = absurd (laws.schema_not_both schema b.stated a.fault b.schema_is a.due)
-  refused_same refusal other (inr a) (inl b) = absurd (laws.schema_not_both schema a.stated b.fault a.schema_is b.due)
+  refused_same refusal other (inl a) (inl b) = a.is ∙ ap schema_refusal (laws.schema_one_refusal schema a.fault b.fault a.is_fault b.is_fault) ∙ sym b.is
+  refused_same refusal other (inl a) (inr b) = absurd (laws.schema_not_both schema b.stated a.fault b.schema_is a.is_fault)
+  refused_same refusal other (inr a) (inl b) = absurd (laws.schema_not_both schema a.stated b.fault a.schema_is b.is_fault)
   refused_same refusal other (inr a) (inr b) =
-      a.refused.is ∙ ap refusal_by (fault_same laws.files policies a.refused.fault b.refused.fault a.refused.due b.refused.due) ∙ sym b.refused.is
+      a.refused.is ∙ ap refusal_by (fault_same laws.files policies a.refused.fault b.refused.fault a.refused.is_fault b.refused.is_fault) ∙ sym b.refused.is
 
   one_come : (come other : CheckOutcome) → IsOutcomeOfTexts schema policies come → IsOutcomeOfTexts schema policies other → come ≡ other
   one_come (checked text some_refused) (checked other some_other) a b = checked_same text other some_refused some_other a b
@@ -114,11 +114,11 @@ module _ (laws : Laws) (schema policies : List ℕ) where
         record {
           stated = s;
           schema_is = is;
-          file_told = record {
+          has_file_reports = record {
             names = file.0.0;
             cores = file.0.1;
             file = file.1;
-            are_told = record { told = ts.0; each = ts.1; text_is = refl; some_refused_is = refl };
+            has_reports = record { report = ts.0; each = ts.1; text_is = refl; some_refused_is = refl };
           };
         },
       )
@@ -126,11 +126,11 @@ module _ (laws : Laws) (schema policies : List ℕ) where
 
   by_schema : schemas.SchemaOrRefusal schema → SomeCome
   by_schema (schemas.states s is) = by_policies s is (policies_or_none laws.files policies)
-  by_schema (schemas.refused f due) = (refused (schema_refusal f), inl (record { fault = f; due = due; is = refl }))
+  by_schema (schemas.refused f is_fault) = (refused (schema_refusal f), inl (record { fault = f; is_fault = is_fault; is = refl }))
 
   come_of : SomeCome
   come_of = by_schema (laws.schema_some schema)
 
 pub one_outcome : Laws → TextsHaveOneOutcome
 one_outcome laws schema policies =
-    let some = come_of laws schema policies in (some.0, some.1, λ other due. one_come laws schema policies other some.0 due some.1)
+    let some = come_of laws schema policies in (some.0, some.1, λ other is_fault. one_come laws schema policies other some.0 is_fault some.1)

@@ -35,7 +35,7 @@ module _ (laws : Laws) where
       (subst (λ (s : StatedSchema). under.IsDecided (reading_under s) policies entities request line) same x.decided) y.decided
 
   pub not_both : NotBoth
-  not_both schema policies entities request line refusal x (by_schema none) = laws.no_schema schema x.stated none.fault x.states none.due
+  not_both schema policies entities request line refusal x (by_schema none) = laws.no_schema schema x.stated none.fault x.states none.is_fault
   not_both schema policies entities request line refusal x (under_schema s states none) =
       let same = laws.one_schema schema x.stated s x.states states in
       texts.not_both laws.text_laws (reading_under s) (settings.definite laws.setting_laws s schema states) policies entities request line refusal
@@ -43,9 +43,9 @@ module _ (laws : Laws) where
 
   pub one_refusal : OneRefusal
   one_refusal schema policies entities request refusal other (by_schema a) (by_schema b) =
-      a.is ∙ ap schema_refusal (laws.schema_refusals schema a.fault b.fault a.due b.due) ∙ sym b.is
-  one_refusal schema policies entities request refusal other (by_schema a) (under_schema s states b) = absurd (laws.no_schema schema s a.fault states a.due)
-  one_refusal schema policies entities request refusal other (under_schema s states a) (by_schema b) = absurd (laws.no_schema schema s b.fault states b.due)
+      a.is ∙ ap schema_refusal (laws.schema_refusals schema a.fault b.fault a.is_fault b.is_fault) ∙ sym b.is
+  one_refusal schema policies entities request refusal other (by_schema a) (under_schema s states b) = absurd (laws.no_schema schema s a.fault states a.is_fault)
+  one_refusal schema policies entities request refusal other (under_schema s states a) (by_schema b) = absurd (laws.no_schema schema s b.fault states b.is_fault)
   one_refusal schema policies entities request refusal other (under_schema s states a) (under_schema v stated b) =
       let same = laws.one_schema schema s v states stated in
       texts.one_refusal laws.text_laws (reading_under v) (settings.definite laws.setting_laws v schema stated) policies entities request refusal other
@@ -59,14 +59,14 @@ module _ (laws : Laws) where
       → ((line : List ℕ) × under.IsDecided (reading_under s) policies entities request line)
       ⊎ ((refusal : Refusal) × under.IsDecisionRefused (reading_under s) policies entities request refusal)
       → Outcome schema policies entities request
-  joined schema s states policies entities request (inl told) = inl (told.0, record { stated = s; states = states; decided = told.1 })
+  joined schema s states policies entities request (inl report) = inl (report.0, record { stated = s; states = states; decided = report.1 })
   joined schema s states policies entities request (inr none) = inr (none.0, under_schema s states none.1)
 
   outcome : (schema policies entities request : List ℕ) → schemas.SchemaOrRefusal schema → Outcome schema policies entities request
   outcome schema policies entities request (schemas.states s states) =
       joined schema s states policies entities request
       (either.line_or_refusal laws.text_laws (reading_under s) (settings.definite laws.setting_laws s schema states) policies entities request)
-  outcome schema policies entities request (schemas.refused f due) = inr (schema_refusal f, by_schema (record { fault = f; due = due; is = refl }))
+  outcome schema policies entities request (schemas.refused f is_fault) = inr (schema_refusal f, by_schema (record { fault = f; is_fault = is_fault; is = refl }))
 
   pub line_or_refusal : LineOrRefusal
   line_or_refusal schema policies entities request = outcome schema policies entities request (laws.some_schema schema)
@@ -77,9 +77,9 @@ module _ (laws : Laws) where
 
 pub alike : MemberOfIsKept → MemberOfDecidesAlike
 alike law schema policies entities request line x =
-    let told = x.decided.answered in
+    let report = x.decided.answered in
     record {
-      ordered = told.answers.ordered;
-      order = told.answers.order;
-      is = subst (λ (W : Entities). IsAnswer W told.asked told.answers.ordered told.answer) (law schema x.stated x.states (under.stated told.stored)) told.answers.is;
+      ordered = report.answers.ordered;
+      order = report.answers.order;
+      is = subst (λ (W : Entities). IsAnswer W report.asked report.answers.ordered report.answer) (law schema x.stated x.states (under.stated report.stored)) report.answers.is;
     }

@@ -70,22 +70,22 @@ none_as (p ∷ ps) (t ∷ ts) s all = refl
 
 -- no policies have no lines
 pub none_told : (s : StatedSchema) → AreReportsOf s [] [] false
-none_told s = record { told = []; each = tt; text_is = refl; some_refused_is = refl }
+none_told s = record { report = []; each = tt; text_is = refl; some_refused_is = refl }
 
 -- one policy more
-told-more : (s : StatedSchema) (ps : List NamedPolicy) (p : NamedPolicy) (text : List ℕ) (refused : Bool) (o : CheckResult) → AreReportsOf s ps text refused → IsCheckResult s p.policy o
+report-more : (s : StatedSchema) (ps : List NamedPolicy) (p : NamedPolicy) (text : List ℕ) (refused : Bool) (o : CheckResult) → AreReportsOf s ps text refused → IsCheckResult s p.policy o
     → AreReportsOf s (ps ++ p ∷ []) (text ++ set_apart (is_none ps) (verdict_line p.id o)) (refused || is_refusal o)
-told-more s ps p text refused o was comes =
+report-more s ps p text refused o was comes =
     let t : PolicyReport = record { id = p.id; outcome = o } in
-    let none : is_none (map line_of was.told) ≡ is_none ps = map-none was.told ∙ none_as ps was.told s was.each in
+    let none : is_none (map line_of was.report) ≡ is_none ps = map-none was.report ∙ none_as ps was.report s was.each in
     record {
-      told = was.told ++ t ∷ [];
-      each = all_zip-more (IsReportOf s) ps was.told p t was.each (refl, comes);
+      report = was.report ++ t ∷ [];
+      each = all_zip-more (IsReportOf s) ps was.report p t was.each (refl, comes);
       text_is =
           ap (λ (l : List ℕ). l ++ set_apart (is_none ps) (line_of t)) was.text_is
-          ∙ ap (λ (b : Bool). join_with_byte line_end (map line_of was.told) ++ set_apart b (line_of t)) (sym none)
-          ∙ sym (joined (map line_of was.told) (line_of t)) ∙ ap (join_with_byte line_end) (sym (map-more line_of was.told t));
-      some_refused_is = ap (λ (b : Bool). b || is_refusal o) was.some_refused_is ∙ sym (list_any-more refuses was.told t);
+          ∙ ap (λ (b : Bool). join_with_byte line_end (map line_of was.report) ++ set_apart b (line_of t)) (sym none)
+          ∙ sym (joined (map line_of was.report) (line_of t)) ∙ ap (join_with_byte line_end) (sym (map-more line_of was.report t));
+      some_refused_is = ap (λ (b : Bool). b || is_refusal o) was.some_refused_is ∙ sym (list_any-more refuses was.report t);
     }
 
 not_first : (i : ℕ) (b : Bool) → (suc i == 0) ≡ b → b ≡ false
@@ -108,11 +108,11 @@ none_in [] = refl
 none_in (p ∷ ps) = refl
 
 -- the loop's step
-pub told-step : (s : StatedSchema) (ps : List (String Global × Policy)) (i : ℕ) (p : String Global × Policy) (text new : List ℕ) (refused flag : Bool) (o : CheckResult)
+pub report-step : (s : StatedSchema) (ps : List (String Global × Policy)) (i : ℕ) (p : String Global × Policy) (text new : List ℕ) (refused flag : Bool) (o : CheckResult)
     → AreReportsOf s (named_in (take i ps)) text refused → i < length ps → p ≡ get_or ps i p → IsCheckResult s p.1 o
     → new ≡ text ++ set_apart (i == 0) (verdict_line (string_bytes p.0) o) → flag ≡ (refused || is_refusal o)
     → AreReportsOf s (named_in (take (i + 1) ps)) new flag
-told-step s ps i p text new refused flag o was below here comes is flag_is =
+report-step s ps i p text new refused flag o was below here comes is flag_is =
     let first : is_none (named_in (take i ps)) ≡ (i == 0) = none_in (take i ps) ∙ none_at ps i below in
     let more : named_in (take (i + 1) ps) ≡ named_in (take i ps) ++ own_name p ∷ [] =
     ap named_in (take_more ps i p below) ∙ map-more own_name (take i ps) (get_or ps i p)
@@ -122,20 +122,20 @@ told-step s ps i p text new refused flag o was below here comes is flag_is =
     subst (λ (b : Bool). AreReportsOf s (named_in (take (i + 1) ps)) new b) (sym flag_is)
     (subst (λ (l : List ℕ). AreReportsOf s (named_in (take (i + 1) ps)) l (refused || is_refusal o)) (sym text_is)
     (subst (λ (l : List NamedPolicy). AreReportsOf s l (text ++ set_apart (is_none (named_in (take i ps))) (verdict_line (string_bytes p.0) o)) (refused || is_refusal o)) (sym more)
-    (told-more s (named_in (take i ps)) (own_name p) text refused o was comes)))
+    (report-more s (named_in (take i ps)) (own_name p) text refused o was comes)))
 
 -- the lines of a file's policies
-pub file_told : (s : StatedSchema) (policies : List ℕ) (ps held : List (String Global × Policy)) (text : List ℕ) (refused : Bool)
+pub has_file_reports : (s : StatedSchema) (policies : List ℕ) (ps held : List (String Global × Policy)) (text : List ℕ) (refused : Bool)
     → ArePoliciesOf policies (map (λ p. string_bytes p.0) ps) (map (λ p. p.1) ps) → held ≡ ps → AreReportsOf s (named_in held) text refused
     → AreReportsOnFile s policies text refused
-file_told s policies ps held text refused file same told = record {
+has_file_reports s policies ps held text refused file same report = record {
   names = map (λ p. string_bytes p.0) ps;
   cores = map (λ p. p.1) ps;
   file = file;
-  are_told = subst (λ (l : List NamedPolicy). AreReportsOf s l text refused) (ap named_in same ∙ sym (named_policies-map ps)) told;
+  has_reports = subst (λ (l : List NamedPolicy). AreReportsOf s l text refused) (ap named_in same ∙ sym (named_policies-map ps)) report;
 }
 
 -- the lines for both texts
 pub are_checked : (schema policies text : List ℕ) (refused : Bool) (s : StatedSchema) → IsSchemaOf schema s → AreReportsOnFile s policies text refused
     → IsChecked schema policies text refused
-are_checked schema policies text refused s is told = record { stated = s; schema_is = is; file_told = told }
+are_checked schema policies text refused s is report = record { stated = s; schema_is = is; has_file_reports = report }

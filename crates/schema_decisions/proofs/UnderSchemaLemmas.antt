@@ -7,7 +7,7 @@ use Rattle.values.specs.declared.request.Request.{Request}
 use Rattle.entity_hierarchy.specs.policy_grammar.declared.policy.Policy.{Policy}
 use Rattle.entity_hierarchy.specs.schema.Schemas.{StatedSchema, IsSchemaOf}
 use Rattle.entity_hierarchy.specs.entities.declared.fault.EntityFault.{EntityFault}
-use Rattle.entity_hierarchy.specs.entities.Requests.{StatesRequest, RequestRefused}
+use Rattle.entity_hierarchy.specs.entities.Requests.{ParsesRequest, RequestRefused}
 use Rattle.entity_hierarchy.specs.entities.Laws as requests
 use Rattle.validator.specs.declared.fault.TypeFault.{TypeFault}
 use Rattle.validator.specs.Passing.{Passes, IsCheckRefused}
@@ -41,7 +41,7 @@ module _ (laws : Laws) (s : StatedSchema) where
   by_check : (place : ℕ) (p : Policy) (ps : List Policy) (o : checks.CheckResult) → checks.IsCheckResult s p o → AllOrFirst (suc place) ps
       → AllOrFirst place (p ∷ ps)
   by_check place p ps (checks.passes b) is rest = later place p ps is.passes rest
-  by_check place p ps (checks.refused f) is rest = inr (check_refusal place f, unpassed_here (record { fault = f; due = is; is = refl }))
+  by_check place p ps (checks.refused f) is rest = inr (check_refusal place f, unpassed_here (record { fault = f; is_fault = is; is = refl }))
 
   all_or_first : (place : ℕ) (ps : List Policy) → AllOrFirst place ps
   all_or_first place [] = inl (All-nil (Passes s))
@@ -55,29 +55,29 @@ module _ (laws : Laws) (s : StatedSchema) where
 
   not_first : (place : ℕ) (ps : List Policy) (refusal : Refusal) → All (Passes s) ps → FirstUnpassed s place ps refusal → ⊥
   not_first place [] refusal all first = elim first [ ]
-  not_first place (p ∷ ps) refusal all (unpassed_here due) = laws.apart s p due.fault (All-head (Passes s) p ps all) due.due
+  not_first place (p ∷ ps) refusal all (unpassed_here is_fault) = laws.apart s p is_fault.fault (All-head (Passes s) p ps all) is_fault.is_fault
   not_first place (p ∷ ps) refusal all (unpassed_later passes first) = not_first (suc place) ps refusal (All-tail (Passes s) p ps all) first
 
   one_first : (place : ℕ) (ps : List Policy) (refusal other : Refusal) → FirstUnpassed s place ps refusal → FirstUnpassed s place ps other
       → refusal ≡ other
   one_first place [] refusal other a b = elim a [ ]
   one_first place (p ∷ ps) refusal other (unpassed_here a) (unpassed_here b) =
-      a.is ∙ ap (check_refusal place) (one_check p a.fault b.fault a.due b.due) ∙ sym b.is
-  one_first place (p ∷ ps) refusal other (unpassed_here a) (unpassed_later passes b) = absurd (laws.apart s p a.fault passes a.due)
-  one_first place (p ∷ ps) refusal other (unpassed_later passes a) (unpassed_here b) = absurd (laws.apart s p b.fault passes b.due)
+      a.is ∙ ap (check_refusal place) (one_check p a.fault b.fault a.is_fault b.is_fault) ∙ sym b.is
+  one_first place (p ∷ ps) refusal other (unpassed_here a) (unpassed_later passes b) = absurd (laws.apart s p a.fault passes a.is_fault)
+  one_first place (p ∷ ps) refusal other (unpassed_later passes a) (unpassed_here b) = absurd (laws.apart s p b.fault passes b.is_fault)
   one_first place (p ∷ ps) refusal other (unpassed_later passes a) (unpassed_later passing b) = one_first (suc place) ps refusal other a b
 
   -- ---- the request
 
   abbrev RequestOrFault : Data → Type 0
-  RequestOrFault d = ((q : Request) × StatesRequest s d q) ⊎ ((refusal : Refusal) × IsRequestFault s d refusal)
+  RequestOrFault d = ((q : Request) × ParsesRequest s d q) ⊎ ((refusal : Refusal) × IsRequestFault s d refusal)
 
-  with_refusal : (d : Data) → ((q : Request) × StatesRequest s d q) ⊎ ((f : EntityFault) × RequestRefused s d f) → RequestOrFault d
+  with_refusal : (d : Data) → ((q : Request) × ParsesRequest s d q) ⊎ ((f : EntityFault) × RequestRefused s d f) → RequestOrFault d
   with_refusal d (inl asked) = inl asked
-  with_refusal d (inr none) = inr (entity_refusal none.0, record { fault = none.0; due = none.1; is = refl })
+  with_refusal d (inr none) = inr (entity_refusal none.0, record { fault = none.0; is_fault = none.1; is = refl })
 
   one_fault : (d : Data) (refusal other : Refusal) → IsRequestFault s d refusal → IsRequestFault s d other → refusal ≡ other
-  one_fault d refusal other a b = a.is ∙ ap entity_refusal (laws.request_refusals s d a.fault b.fault a.due b.due) ∙ sym b.is
+  one_fault d refusal other a b = a.is ∙ ap entity_refusal (laws.request_refusals s d a.fault b.fault a.is_fault b.is_fault) ∙ sym b.is
 
   -- ---- the reading
 
@@ -89,7 +89,7 @@ module _ (laws : Laws) (s : StatedSchema) where
     asked = λ d. with_refusal d (laws.request s d);
     one_request = laws.one_request s;
     one_fault = one_fault;
-    no_fault = λ d q refusal a b. laws.no_request s d q b.fault a b.due;
+    no_fault = λ d q refusal a b. laws.no_request s d q b.fault a b.is_fault;
     declared = s.actions;
     lists = λ u parents is. (states.answers.actions u).1 (states.answers.member_of u parents is).0;
   }

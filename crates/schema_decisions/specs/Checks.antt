@@ -26,20 +26,20 @@ pub record PolicyReport : Type 0 where
   pub id : List ℕ
   pub outcome : CheckResult
 
--- `IsReportOf s policy told` holds if `told` has the id of `policy` and an outcome of validating `policy` under the
+-- `IsReportOf s policy report` holds if `report` has the id of `policy` and an outcome of validating `policy` under the
 -- schema `s`.
 abbrev pub IsReportOf : StatedSchema → NamedPolicy → PolicyReport → Type 0
-IsReportOf s policy told = (told.id ≡ policy.id) × IsCheckResult s policy.policy told.outcome
+IsReportOf s policy report = (report.id ≡ policy.id) × IsCheckResult s policy.policy report.outcome
 
 -- `AreReportsOf s policies text some_refused` holds if `text` has a line for the outcome of each of `policies` under
 -- the schema `s`, in their order, with a line feed between each two lines; and if `some_refused` is whether one of the
 -- policies is rejected.
 pub record AreReportsOf (s : StatedSchema) (policies : List NamedPolicy) (text : List ℕ)
     (some_refused : Bool) : Type 0 where
-  pub told : List PolicyReport
-  pub each : AllZip (IsReportOf s) policies told
-  pub text_is : text ≡ join_with_byte line_end (map (λ t. verdict_line t.id t.outcome) told)
-  pub some_refused_is : some_refused ≡ list_any (λ t. is_refusal t.outcome) told
+  pub report : List PolicyReport
+  pub each : AllZip (IsReportOf s) policies report
+  pub text_is : text ≡ join_with_byte line_end (map (λ t. verdict_line t.id t.outcome) report)
+  pub some_refused_is : some_refused ≡ list_any (λ t. is_refusal t.outcome) report
 
 -- `AreReportsOnFile s policies text some_refused` holds if `policies` is a file of policies, `text` has their lines
 -- under the schema `s`, and `some_refused` is whether one of the policies is rejected.
@@ -47,7 +47,7 @@ pub record AreReportsOnFile (s : StatedSchema) (policies text : List ℕ) (some_
   pub names : List (List ℕ)
   pub cores : List Policy
   pub file : ArePoliciesOf policies names cores
-  pub are_told : AreReportsOf s (named_policies names cores) text some_refused
+  pub has_reports : AreReportsOf s (named_policies names cores) text some_refused
 
 -- ---- the two texts
 
@@ -56,12 +56,12 @@ pub record AreReportsOnFile (s : StatedSchema) (policies text : List ℕ) (some_
 pub record IsChecked (schema policies text : List ℕ) (some_refused : Bool) : Type 0 where
   pub stated : StatedSchema
   pub schema_is : IsSchemaOf schema stated
-  pub file_told : AreReportsOnFile stated policies text some_refused
+  pub has_file_reports : AreReportsOnFile stated policies text some_refused
 
 -- `IsSchemaRefused schema refusal` holds if the bytes `schema` do not describe a schema, and `refusal` is their error.
 pub record IsSchemaRefused (schema : List ℕ) (refusal : Refusal) : Type 0 where
   pub fault : SchemaFault
-  pub due : RefusedFor schema fault
+  pub is_fault : RefusedFor schema fault
   pub is : refusal ≡ schema_refusal fault
 
 -- `AreNextRefused schema policies refusal` holds if the bytes `schema` describe a schema, and `refusal` is the error of

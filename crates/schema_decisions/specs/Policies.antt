@@ -13,7 +13,7 @@ use Rattle.schema_decisions.specs.CheckRefusals.{check_refusal}
 -- under `s`, and `refusal` reports the error.
 pub record IsUnpassed (s : StatedSchema) (place : ℕ) (policy : Policy) (refusal : Refusal) : Type 0 where
   pub fault : TypeFault
-  pub due : IsCheckRefused s policy fault
+  pub is_fault : IsCheckRefused s policy fault
   pub is : refusal ≡ check_refusal place fault
 
 -- `FirstUnpassed s place policies refusal` holds if `refusal` reports the error of the first of `policies` that does

@@ -7,7 +7,7 @@ use Rattle.serde_json.specs.Data.{Data}
 use Rattle.entity_hierarchy.specs.schema.Schemas.{StatedSchema}
 use Rattle.entity_hierarchy.specs.entities.declared.fault.EntityFault.{EntityFault}
 use Rattle.entity_hierarchy.specs.entities.Entities.{entity_stated_in}
-use Rattle.entity_hierarchy.specs.entities.Requests.{StatesRequest, RequestRefused}
+use Rattle.entity_hierarchy.specs.entities.Requests.{ParsesRequest, RequestRefused}
 use Rattle.validator.specs.Passing.{Passes}
 use Rattle.decision_texts.specs.answer_lines.declared.refusal.Refusal.{Refusal}
 use Rattle.decision_texts.specs.Settings.{Reading, reported_by}
@@ -18,7 +18,7 @@ use Rattle.schema_decisions.specs.Refusals.{entity_refusal}
 -- its first error.
 pub record IsRequestFault (s : StatedSchema) (d : Data) (refusal : Refusal) : Type 0 where
   pub fault : EntityFault
-  pub due : RequestRefused s d fault
+  pub is_fault : RequestRefused s d fault
   pub is : refusal ≡ entity_refusal fault
 
 -- `reading_under s` is the setting of the schema `s`: how texts are parsed and checked under `s`.
@@ -27,7 +27,7 @@ reading_under s = record {
   admits = All (Passes s);
   rejects = FirstUnpassed s 0;
   entity = λ d. reported_by entity_refusal (entity_stated_in s d);
-  states = StatesRequest s;
+  states = ParsesRequest s;
   faults = IsRequestFault s;
   actions = s.member_of;
 }

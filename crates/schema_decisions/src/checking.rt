@@ -53,7 +53,8 @@ fn check_each(
     schema: &Schema,
     policies: &[(String, Policy)],
 ) -> Result<(Vec<u8>, bool), NoMemory>
-    ensures { IfOk result (λ told. AreReportsOf (schema_view schema.now) (named_in policies.now) told.0.items told.1) }
+    ensures { IfOk result
+        (λ report. AreReportsOf (schema_view schema.now) (named_in policies.now) report.0.items report.1) }
 {
     let mut text = Vec::new(alloc);
     let mut some_refused = false;
@@ -68,7 +69,8 @@ fn check_each(
 
 /// Returns the lines of a file's policies under a schema, and whether one of the policies is rejected.
 fn check_file(alloc: Global, schema: &Schema, policies: &[u8]) -> Result<(Vec<u8>, bool), Refusal>
-    ensures told { IfOk result (λ told. AreReportsOnFile (schema_view schema.now) policies.now told.0.items told.1) }
+    ensures report { IfOk result
+        (λ report. AreReportsOnFile (schema_view schema.now) policies.now report.0.items report.1) }
     ensures refused { IfErr result (λ r. (r ≡ no_memory → ⊥) → ArePoliciesRefused policies.now r) }
 {
     let policies = policies_of_file(alloc, policies)?;
@@ -97,7 +99,7 @@ pub fn check_texts(
     schema: &[u8],
     policies: &[u8],
 ) -> Result<(Vec<u8>, bool), Refusal>
-    ensures checked { IfOk result (λ told. IsChecked schema.now policies.now told.0.items told.1) }
+    ensures checked { IfOk result (λ report. IsChecked schema.now policies.now report.0.items report.1) }
     ensures refused { IfErr result
         (λ refusal. (refusal ≡ no_memory → ⊥) → AreChecksRefused schema.now policies.now refusal) }
 {

@@ -1,6 +1,6 @@
 //! The answer to four texts: a schema, policies, entities and a request.
 ghost use Rattle.std.specs.Prelude.{IfOk, IfErr};
-ghost use Rattle.plain.specs.Refused.{OrNoMemory};
+ghost use Rattle.plain.specs.AllocationErrors.{OrNoMemory};
 ghost use Rattle.decision_texts.specs.answer_lines.Refusals.{no_memory};
 ghost use Rattle.schema_decisions.specs.Decisions.{IsDecided, IsSchemaDecisionRefused};
 

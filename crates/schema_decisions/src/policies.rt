@@ -2,7 +2,7 @@
 ghost use Rattle.std.specs.Prelude.{IfOk, IfErr, All, map};
 ghost use Rattle.entity_hierarchy.specs.schema.Views.{schema_view};
 ghost use Rattle.validator.specs.Passing.{Passes};
-ghost use Rattle.plain.specs.Refused.{OrNoMemory};
+ghost use Rattle.plain.specs.AllocationErrors.{OrNoMemory};
 ghost use Rattle.decision_texts.specs.answer_lines.Refusals.{no_memory};
 ghost use Rattle.schema_decisions.specs.Policies.{IsUnpassed, FirstUnpassed};
 

@@ -2,11 +2,11 @@
 ghost use Rattle.std.specs.Prelude.{◌≡◌, IfOk, IfErr};
 ghost use Rattle.serde_json.specs.View.{view};
 ghost use Rattle.json_words.specs.ReadsAs.{ReadsAs};
-ghost use Rattle.plain.specs.Refused.{OrNoMemory};
+ghost use Rattle.plain.specs.AllocationErrors.{OrNoMemory};
 ghost use Rattle.decision_texts.specs.Settings.{reported_by};
 ghost use Rattle.decision_texts.specs.answer_lines.Refusals.{no_memory};
 ghost use Rattle.entity_hierarchy.specs.entities.Entities.{entity_stated_in};
-ghost use Rattle.entity_hierarchy.specs.entities.Requests.{StatesRequest};
+ghost use Rattle.entity_hierarchy.specs.entities.Requests.{ParsesRequest};
 ghost use Rattle.entity_hierarchy.specs.schema.Views.{schema_view};
 ghost use Rattle.schema_decisions.specs.Refusals.{entity_refusal};
 ghost use Rattle.schema_decisions.specs.UnderSchema.{IsRequestFault, reading_under};
@@ -32,7 +32,7 @@ fn entity_in(alloc: Global, schema: &Schema, value: &Value) -> Result<Entity, Re
 
 /// Returns the request that a JSON value describes, or the value's first error.
 fn request_in(alloc: Global, schema: &Schema, value: &Value) -> Result<Request, Refusal>
-    ensures read { IfOk result (StatesRequest (schema_view schema.now) (view value.now)) }
+    ensures read { IfOk result (ParsesRequest (schema_view schema.now) (view value.now)) }
     ensures refused { IfErr result
         (OrNoMemory no_memory (IsRequestFault (schema_view schema.now) (view value.now))) }
 {

@@ -23,9 +23,9 @@ use Rattle.schema_types.specs.Forms.{form_named}
 use Rattle.schema_types.specs.Names.{is_qualified}
 use Rattle.schema_types.specs.Optional.{optional}
 use Rattle.schema_types.specs.TypeShape.{type_name, type_of}
-use Rattle.schema_file.specs.Once.{AreApart, StatesOnce}
+use Rattle.schema_file.specs.DistinctNames.{AreApart, StatesOnce}
 use Rattle.schema_file.specs.Laws.{FilesStateOnce}
-use Rattle.schema_file.specs.FileForm.{EntityTypeOf, ActionOf, NamespaceOf, ident, is_common, common_of, members_in, names_in, type_in, entity_type_name, entity_type_of, is_empty_in, parents_in, use_in, action_of, namespace_name, commons_of, entity_types_of, actions_of, namespaces_of, commons_in, entity_types_in, actions_in, namespace_of, stated}
+use Rattle.schema_file.specs.FileForm.{EntityTypeOf, ActionOf, NamespaceOf, ident, is_common, common_of, members_in, names_in, type_in, entity_type_name, entity_type_of, is_empty_in, parents_in, applies_to_in, action_of, namespace_name, commons_of, entity_types_of, actions_of, namespaces_of, commons_in, entity_types_in, actions_in, namespace_of, stated}
 use Rattle.schema_file.proofs.TypesLemmas.{object_ascends, optional_members, there_is}
 
 abbrev ok : {A : Type 0} → A → Result A SchemaFault
@@ -108,7 +108,7 @@ action_named k d x e =
     let a = bind_ok (demand BadShape (has_only (codes "memberOf" ∷ codes "appliesTo" ∷ codes "attributes" ∷ codes "annotations" ∷ []) d)) _ x e in
     let b = bind_ok (demand BadShape (is_empty_in (optional (codes "attributes") d))) _ x a.2 in
     let p = bind_ok (parents_in (optional (codes "memberOf") d)) _ x b.2 in
-    let u = bind_ok (use_in (optional (codes "appliesTo") d)) _ x p.2 in
+    let u = bind_ok (applies_to_in (optional (codes "appliesTo") d)) _ x p.2 in
     ap (λ (y : ActionOf). y.id) (sym (ok_same (record { id = k; parents = p.0; applies_to = u.0 }) x u.2))
 
 -- the name of a namespace is its key; the empty key is no name

@@ -22,7 +22,7 @@ use Rattle.schema_types.specs.Forms.{form_named}
 use Rattle.schema_types.specs.Optional.{optional, present, unless_null}
 use Rattle.schema_types.specs.TypeShape.{type_of}
 use Rattle.schema_file.specs.Laws.{IsTypeOf, common, shape, context, FilesTypesAscend}
-use Rattle.schema_file.specs.FileForm.{EntityTypeOf, UseOf, ActionOf, NamespaceOf, ident, is_common, common_of, members_in, names_in, names_at, type_in, entity_type_name, entity_type_of, is_empty_in, parents_in, use_of, use_in, action_of, namespace_name, commons_of, entity_types_of, actions_of, namespaces_of, commons_in, entity_types_in, actions_in, namespace_of, stated}
+use Rattle.schema_file.specs.FileForm.{EntityTypeOf, AppliesToOf, ActionOf, NamespaceOf, ident, is_common, common_of, members_in, names_in, names_at, type_in, entity_type_name, entity_type_of, is_empty_in, parents_in, applies_to_of, applies_to_in, action_of, namespace_name, commons_of, entity_types_of, actions_of, namespaces_of, commons_in, entity_types_in, actions_in, namespace_of, stated}
 
 abbrev ok : {A : Type 0} → A → Result A SchemaFault
 ok x = Ok x
@@ -144,29 +144,29 @@ module _ (ascend : StatedTypesAscend) where
       type_at_ascends (optional (codes "shape") d) s.0 r (λ y at. optional_ascends (codes "shape") d y h at) s.1
       (ap (λ (y : EntityTypeOf). y.shape) (ok_same (record { name = a.0; parents = p.0; shape = s.0 }) x s.2) ∙ is)
 
-  context_ascends : (d : Data) (u : UseOf) (r : Raw) → use_of d ≡ ok u → DataAscends d → u.context ≡ some r → RawAscends r
-  unfolding use_of
+  context_ascends : (d : Data) (u : AppliesToOf) (r : Raw) → applies_to_of d ≡ ok u → DataAscends d → u.context ≡ some r → RawAscends r
+  unfolding applies_to_of
   context_ascends d u r e h is =
       let a = bind_ok (demand BadShape (has_only (codes "principalTypes" ∷ codes "resourceTypes" ∷ codes "context" ∷ codes "annotations" ∷ []) d)) _ u e in
       let p = bind_ok (names_at (codes "principalTypes") d) _ u a.2 in
       let q = bind_ok (names_at (codes "resourceTypes") d) _ u p.2 in
       let s = bind_ok (type_in (optional (codes "context") d)) _ u q.2 in
       type_at_ascends (optional (codes "context") d) s.0 r (λ y at. optional_ascends (codes "context") d y h at) s.1
-      (ap (λ (y : UseOf). y.context) (ok_same (record { principals = p.0; resources = q.0; context = s.0 }) u s.2) ∙ is)
+      (ap (λ (y : AppliesToOf). y.context) (ok_same (record { principals = p.0; resources = q.0; context = s.0 }) u s.2) ∙ is)
 
-  used_ascends : (o : Option Data) (found : Option UseOf) (u : UseOf) (r : Raw) → ((e : Data) → o ≡ some e → DataAscends e) → use_in o ≡ ok found → found ≡ some u → u.context ≡ some r → RawAscends r
+  used_ascends : (o : Option Data) (found : Option AppliesToOf) (u : AppliesToOf) (r : Raw) → ((e : Data) → o ≡ some e → DataAscends e) → applies_to_in o ≡ ok found → found ≡ some u → u.context ≡ some r → RawAscends r
   used_ascends None found u r h e is at = none_some (ok_same None found e ∙ is)
   used_ascends (Some d) found u r h e is at =
-      let a = bind_ok (use_of d) (λ t. ok (some t)) found e in
-      context_ascends d u r (a.1 ∙ ap (λ (x : UseOf). ok x) (some_same a.0 u (ok_same (some a.0) found a.2 ∙ is))) (h d refl) at
+      let a = bind_ok (applies_to_of d) (λ t. ok (some t)) found e in
+      context_ascends d u r (a.1 ∙ ap (λ (x : AppliesToOf). ok x) (some_same a.0 u (ok_same (some a.0) found a.2 ∙ is))) (h d refl) at
 
-  action_ascends : (k : List ℕ) (d : Data) (x : ActionOf) (u : UseOf) (r : Raw) → action_of k d ≡ ok x → DataAscends d → x.applies_to ≡ some u → u.context ≡ some r → RawAscends r
+  action_ascends : (k : List ℕ) (d : Data) (x : ActionOf) (u : AppliesToOf) (r : Raw) → action_of k d ≡ ok x → DataAscends d → x.applies_to ≡ some u → u.context ≡ some r → RawAscends r
   unfolding action_of
   action_ascends k d x u r e h is at =
       let a = bind_ok (demand BadShape (has_only (codes "memberOf" ∷ codes "appliesTo" ∷ codes "attributes" ∷ codes "annotations" ∷ []) d)) _ x e in
       let b = bind_ok (demand BadShape (is_empty_in (optional (codes "attributes") d))) _ x a.2 in
       let p = bind_ok (parents_in (optional (codes "memberOf") d)) _ x b.2 in
-      let v = bind_ok (use_in (optional (codes "appliesTo") d)) _ x p.2 in
+      let v = bind_ok (applies_to_in (optional (codes "appliesTo") d)) _ x p.2 in
       used_ascends (optional (codes "appliesTo") d) v.0 u r (λ y here. optional_ascends (codes "appliesTo") d y h here) v.1
       (ap (λ (y : ActionOf). y.applies_to) (ok_same (record { id = k; parents = p.0; applies_to = v.0 }) x v.2) ∙ is) at
 

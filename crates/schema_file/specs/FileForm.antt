@@ -29,8 +29,9 @@ pub record EntityTypeOf : Type 0 where
   pub parents : List (List ℕ)
   pub shape : Option Raw
 
--- A `UseOf` is what an action applies to: the types of principals and resources, and the context's type, if it has one.
-pub record UseOf : Type 0 where
+-- A `AppliesToOf` is what an action applies to: the types of principals and resources, and the context's type, if it
+-- has one.
+pub record AppliesToOf : Type 0 where
   pub principals : List (List ℕ)
   pub resources : List (List ℕ)
   pub context : Option Raw
@@ -39,7 +40,7 @@ pub record UseOf : Type 0 where
 pub record ActionOf : Type 0 where
   pub id : List ℕ
   pub parents : List StatedParent
-  pub applies_to : Option UseOf
+  pub applies_to : Option AppliesToOf
 
 -- A `NamespaceOf` is a namespace of the file, with its declarations; the empty namespace has no name.
 pub record NamespaceOf : Type 0 where
@@ -162,9 +163,9 @@ parents_in (Some d) = do
   ds ← or_fault BadShape (as_array d)
   parents_of ds
 
--- `use_of d` is what an action applies to, as `d` describes it, or the first error.
-unfoldable pub use_of : Data → Result UseOf SchemaFault
-use_of d = do
+-- `applies_to_of d` is what an action applies to, as `d` describes it, or the first error.
+unfoldable pub applies_to_of : Data → Result AppliesToOf SchemaFault
+applies_to_of d = do
   keys ← demand BadShape
       (has_only (codes "principalTypes" ∷ codes "resourceTypes" ∷ codes "context" ∷ codes "annotations" ∷ []) d)
   principals ← names_at (codes "principalTypes") d
@@ -172,11 +173,11 @@ use_of d = do
   context ← type_in (optional (codes "context") d)
   Ok (record { principals = principals; resources = resources; context = context })
 
--- `use_in o` is what an action applies to, as the value in `o` describes it; `None` if `o` is `None`.
-abbrev pub use_in : Option Data → Result (Option UseOf) SchemaFault
-use_in None = Ok None
-use_in (Some d) = do
-  applied ← use_of d
+-- `applies_to_in o` is what an action applies to, as the value in `o` describes it; `None` if `o` is `None`.
+abbrev pub applies_to_in : Option Data → Result (Option AppliesToOf) SchemaFault
+applies_to_in None = Ok None
+applies_to_in (Some d) = do
+  applied ← applies_to_of d
   Ok (Some applied)
 
 -- `is_empty_in o` tests whether `o` is `None`, or the value in `o` is an object without members.
@@ -191,7 +192,7 @@ action_of k d = do
       (has_only (codes "memberOf" ∷ codes "appliesTo" ∷ codes "attributes" ∷ codes "annotations" ∷ []) d)
   empty ← demand BadShape (is_empty_in (optional (codes "attributes") d))
   parents ← parents_in (optional (codes "memberOf") d)
-  applies_to ← use_in (optional (codes "appliesTo") d)
+  applies_to ← applies_to_in (optional (codes "appliesTo") d)
   Ok (record { id = k; parents = parents; applies_to = applies_to })
 
 -- ---- namespaces

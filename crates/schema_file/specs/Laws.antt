@@ -3,8 +3,8 @@ use Rattle.std.specs.Prelude.{◌≡◌, ℕ, List, Contains, Some, Ok}
 use Rattle.serde_json.specs.Data.{Data}
 use Rattle.schema_types.specs.Raw.{Raw}
 use Rattle.schema_types.specs.Ascending.{DataAscends, RawAscends}
-use Rattle.schema_file.specs.Once.{HaveDistinctNames}
-use Rattle.schema_file.specs.FileForm.{EntityTypeOf, UseOf, ActionOf, NamespaceOf, stated}
+use Rattle.schema_file.specs.DistinctNames.{HaveDistinctNames}
+use Rattle.schema_file.specs.FileForm.{EntityTypeOf, AppliesToOf, ActionOf, NamespaceOf, stated}
 
 -- `FilesStateOnce`: the declared names of a file are distinct (`HaveDistinctNames`).
 abbrev pub FilesStateOnce : Type 0
@@ -14,7 +14,8 @@ FilesStateOnce = (d : Data) (ns : List NamespaceOf) → stated d ≡ Ok ns → D
 pub data IsTypeOf (n : NamespaceOf) : Raw → Type 0 where
   common : (c : List ℕ × Raw) → Contains n.commons c → IsTypeOf n c.1
   shape : (e : EntityTypeOf) (r : Raw) → Contains n.entity_types e → e.shape ≡ Some r → IsTypeOf n r
-  context : (a : ActionOf) (u : UseOf) (r : Raw) → Contains n.actions a → a.applies_to ≡ Some u → u.context ≡ Some r
+  context : (a : ActionOf) (u : AppliesToOf) (r : Raw) → Contains n.actions a → a.applies_to ≡ Some u → u.context
+      ≡ Some r
       → IsTypeOf n r
 
 -- `FilesTypesAscend`: in each type of a file the keys of each record ascend.

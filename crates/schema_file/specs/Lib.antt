@@ -1,5 +1,5 @@
 pub mod Laws
-pub mod Once
+pub mod DistinctNames
 pub mod FileForm
 pub mod StatedViews
 -- Specifications of lower crates, re-exported.

@@ -2,10 +2,10 @@
 use Rattle.std.specs.Prelude.{ℕ, List, map, option_map}
 use Rattle.schema_types.specs.Raw.{Raw}
 use Rattle.schema_types.specs.Views.{raw_view}
-use Rattle.schema_file.specs.FileForm.{EntityTypeOf, UseOf, ActionOf, NamespaceOf}
+use Rattle.schema_file.specs.FileForm.{EntityTypeOf, AppliesToOf, ActionOf, NamespaceOf}
 use Rattle.schema_file.specs.declared.stated.StatedCommon.{StatedCommon}
 use Rattle.schema_file.specs.declared.stated.StatedEntityType.{StatedEntityType}
-use Rattle.schema_file.specs.declared.stated.StatedUse.{StatedUse}
+use Rattle.schema_file.specs.declared.stated.StatedAppliesTo.{StatedAppliesTo}
 use Rattle.schema_file.specs.declared.stated.StatedAction.{StatedAction}
 use Rattle.schema_file.specs.declared.stated.StatedNamespace.{StatedNamespace}
 
@@ -17,13 +17,14 @@ common_view c = (c.name, raw_view c.ty)
 abbrev pub entity_type_view : StatedEntityType → EntityTypeOf
 entity_type_view e = record { name = e.name; parents = e.parents; shape = option_map raw_view e.shape }
 
--- `use_view u` is the abstract value of `u`, what an action of the code applies to.
-abbrev pub use_view : StatedUse → UseOf
-use_view u = record { principals = u.principals; resources = u.resources; context = option_map raw_view u.context }
+-- `applies_to_view u` is the abstract value of `u`, what an action of the code applies to.
+abbrev pub applies_to_view : StatedAppliesTo → AppliesToOf
+applies_to_view u = record
+    { principals = u.principals; resources = u.resources; context = option_map raw_view u.context }
 
 -- `action_view a` is the abstract value of the action `a` of the code.
 abbrev pub action_view : StatedAction → ActionOf
-action_view a = record { id = a.id; parents = a.parents; applies_to = option_map use_view a.applies_to }
+action_view a = record { id = a.id; parents = a.parents; applies_to = option_map applies_to_view a.applies_to }
 
 -- `namespace_view n` is the abstract value of the namespace `n` of the code.
 abbrev pub namespace_view : StatedNamespace → NamespaceOf

@@ -14,5 +14,5 @@ pub use schema_types::{
     Names, action_type, declared_action, find, find_action_of_type, full_name, is_other, resolve,
 };
 pub use stated::{
-    StatedAction, StatedCommon, StatedEntityType, StatedNamespace, StatedParent, StatedUse,
+    StatedAction, StatedAppliesTo, StatedCommon, StatedEntityType, StatedNamespace, StatedParent,
 };

@@ -2,13 +2,14 @@
 ghost use Rattle.std.specs.Prelude.{◌≡◌, option_map};
 ghost use Rattle.serde_json.specs.View.{view, items_view};
 ghost use Rattle.json_words.specs.ReadsAs.{ReadsAs};
-ghost use Rattle.schema_file.specs.StatedViews.{use_view, action_view};
-ghost use Rattle.schema_file.specs.FileForm.{parent_of, parents_of, parents_in, use_of, use_in, is_empty_in, action_of};
+ghost use Rattle.schema_file.specs.StatedViews.{applies_to_view, action_view};
+ghost use Rattle.schema_file.specs.FileForm.{parent_of, parents_of, parents_in, applies_to_of, applies_to_in};
+ghost use Rattle.schema_file.specs.FileForm.{is_empty_in, action_of};
 ghost use Rattle.schema_types.specs.declared.fault.SchemaFault.TheVariants as SchemaFault;
 
 use crate::reading_names::{read_names_at, read_optional_name};
 use crate::reading_types::read_optional_type;
-use crate::stated::{StatedAction, StatedParent, StatedUse};
+use crate::stated::{StatedAction, StatedAppliesTo, StatedParent};
 use json_words::only_keys;
 use plain::{Items, Text};
 use schema_types::{SchemaFault, optional, required_text};
@@ -59,9 +60,9 @@ fn read_optional_parents(
 }
 
 /// Returns what an action applies to, as a value describes it.
-#[tactic(auto, unfolding(crate::specs::FileForm::use_of))]
-fn read_use(alloc: Global, value: &Value) -> Result<StatedUse, SchemaFault>
-    ensures { ReadsAs SchemaFault.NoMemory use_view result (use_of (view value.now)) }
+#[tactic(auto, unfolding(crate::specs::FileForm::applies_to_of))]
+fn read_use(alloc: Global, value: &Value) -> Result<StatedAppliesTo, SchemaFault>
+    ensures { ReadsAs SchemaFault.NoMemory applies_to_view result (applies_to_of (view value.now)) }
 {
     if !only_keys(
         value,
@@ -72,7 +73,7 @@ fn read_use(alloc: Global, value: &Value) -> Result<StatedUse, SchemaFault>
     let principals = read_names_at(alloc, value, "principalTypes")?;
     let resources = read_names_at(alloc, value, "resourceTypes")?;
     let context = read_optional_type(alloc, optional(value, "context"))?;
-    Ok(StatedUse {
+    Ok(StatedAppliesTo {
         principals,
         resources,
         context,
@@ -80,9 +81,12 @@ fn read_use(alloc: Global, value: &Value) -> Result<StatedUse, SchemaFault>
 }
 
 /// Returns what an action applies to, by an optional value; `None` if there is no value.
-fn read_optional_use(alloc: Global, found: Option<&Value>) -> Result<Option<StatedUse>, SchemaFault>
-    ensures { ReadsAs SchemaFault.NoMemory (option_map use_view) result
-        (use_in (option_map (λ v. view v.now) found.entry)) }
+fn read_optional_use(
+    alloc: Global,
+    found: Option<&Value>,
+) -> Result<Option<StatedAppliesTo>, SchemaFault>
+    ensures { ReadsAs SchemaFault.NoMemory (option_map applies_to_view) result
+        (applies_to_in (option_map (λ v. view v.now) found.entry)) }
 {
     match found {
         None => Ok(None),

@@ -23,7 +23,7 @@ pub struct StatedEntityType {
 
 /// What an action applies to: the types of principals and resources, and the type of the context, if there is one.
 #[derive(Drop)]
-pub struct StatedUse {
+pub struct StatedAppliesTo {
     pub principals: Items<TypeName>,
     pub resources: Items<TypeName>,
     /// The type of the context; `None` if the file has none: the context is then empty.
@@ -44,7 +44,7 @@ pub struct StatedAction {
     pub id: Text,
     pub parents: Items<StatedParent>,
     /// What it applies to; `None` if the file has no `appliesTo` for it, so that it applies to no request.
-    pub applies_to: Option<StatedUse>,
+    pub applies_to: Option<StatedAppliesTo>,
 }
 
 /// A namespace with its declarations; the empty namespace has no name.

@@ -16,7 +16,7 @@ use Rattle.schema_types.specs.Names.{full_name}
 use Rattle.schema_file.specs.FileForm.{NamespaceOf}
 use Rattle.schema_names.specs.Qualifying.{common_in, commons_declared, entity_types_declared, actions_declared}
 use Rattle.schema_file.specs.schema_types.Actions.{action_type, action_uid}
-use Rattle.schema_names.specs.inner.Adding.{has_name, has_uid, Adds, AddsNamespace, AddsAll, Declares, any_common}
+use Rattle.schema_names.specs.inner.Adding.{has_name, has_uid, IsUnionWith, AddsNamespace, AddsAll, Declares, any_common}
 use Rattle.schema_names.specs.inner.Adding.{any_name, any_uid}
 
 pub or_cond : (b x : Bool) → cond b true x ≡ (b || x)
@@ -34,11 +34,11 @@ both_ways false true x y e = refl
 both_ways false false x y e = e
 
 -- first the one, and then the rest
-pub adds_before : {S X : Type 0} (has : S → X → Bool) (one rest : X → Bool) (cur new last : S) → Adds has one cur new → Adds has rest new last → Adds has (λ q. one q || rest q) cur last
+pub adds_before : {S X : Type 0} (has : S → X → Bool) (one rest : X → Bool) (cur new last : S) → IsUnionWith has one cur new → IsUnionWith has rest new last → IsUnionWith has (λ q. one q || rest q) cur last
 adds_before has one rest cur new last h k = λ q. k q ∙ both_ways (one q) (rest q) (has new q) (has cur q) (h q)
 
 -- the same of one test
-adds_by : {S X : Type 0} (has : S → X → Bool) (one other : X → Bool) (cur last : S) → ((q : X) → one q ≡ other q) → Adds has one cur last → Adds has other cur last
+adds_by : {S X : Type 0} (has : S → X → Bool) (one other : X → Bool) (cur last : S) → ((q : X) → one q ≡ other q) → IsUnionWith has one cur last → IsUnionWith has other cur last
 adds_by has one other cur last same h = λ q. h q ∙ ap (λ (b : Bool). b || has cur q) (same q)
 
 any_both : {X : Type 0} (test : X → Bool) (xs ys : List X) → (list_any test xs || list_any test ys) ≡ list_any test (xs ++ ys)
@@ -88,11 +88,11 @@ all_from_none ns none last c e a h =
 -- ---- one insertion
 
 pub name_added : (old new : BTreeSet (String Global)) (text : String Global) (written full name : List ℕ) → string_bytes text ≡ written → written ≡ full → full ≡ name
-    → Updates string_cmp old new text true → Adds has_name (λ q. bytes_eq name q) old new
+    → Updates string_cmp old new text true → IsUnionWith has_name (λ q. bytes_eq name q) old new
 name_added old new text written full name t w f h = λ q.
     btree_set_updates_text (string_bytes text) old new true h q ∙ or_cond (bytes_eq (string_bytes text) q) (contains_text old q)
     ∙ ap (λ (n : List ℕ). bytes_eq n q || contains_text old q) (t ∙ w ∙ f)
 
-pub uid_added : (old new : BTreeSet EntityUid) (added uid : EntityUid) → added ≡ uid → Updates uid_cmp old new added true → Adds has_uid (λ u. is_eq (uid_cmp uid u)) old new
+pub uid_added : (old new : BTreeSet EntityUid) (added uid : EntityUid) → added ≡ uid → Updates uid_cmp old new added true → IsUnionWith has_uid (λ u. is_eq (uid_cmp uid u)) old new
 uid_added old new added uid same h = λ u.
     h.0 u ∙ or_cond (is_eq (uid_cmp added u)) (contains uid_cmp old u) ∙ ap (λ (a : EntityUid). is_eq (uid_cmp a u) || contains uid_cmp old u) same

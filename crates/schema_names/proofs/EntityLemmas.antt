@@ -12,10 +12,10 @@ use Rattle.schema_types.specs.Mentions.{MentionsEntity}
 use Rattle.schema_types.specs.Law.{FoundEntitiesAreDeclared}
 use Rattle.schema_types.specs.Names.{Scope, full_name, entity_named, qualified_of}
 use Rattle.schema_types.specs.declared.fault.SchemaFault.{SchemaFault}
-use Rattle.schema_file.specs.FileForm.{EntityTypeOf, UseOf, NamespaceOf}
+use Rattle.schema_file.specs.FileForm.{EntityTypeOf, AppliesToOf, NamespaceOf}
 use Rattle.schema_names.specs.Naming.{DescribesFile}
 use Rattle.schema_names.specs.Laws.{IsEntityType, NamesItsEntityTypes}
-use Rattle.schema_names.specs.Qualifying.{entity_types_declared, scope_in, is_action_in, ResolvedEntityType, ResolvedUse, ResolvedAction, ResolvedSchema, entity_type_named, entity_types_named, type_named, qualified_entity_type, qualified_use, qualified_action, qualified_entity_types, qualified_actions, qualified}
+use Rattle.schema_names.specs.Qualifying.{entity_types_declared, scope_in, is_action_in, ResolvedEntityType, ResolvedAppliesTo, ResolvedAction, ResolvedSchema, entity_type_named, entity_types_named, type_named, qualified_entity_type, qualified_use, qualified_action, qualified_entity_types, qualified_actions, qualified}
 use Rattle.schema_names.proofs.FoundLemmas.{ok_same, read_from, read_to, all_of_from, all_of_to, map_from, some_passes, parts_of, namespace_from, namespace_to, namespace_parts, applies_from, record_from, common_from}
 
 abbrev ok : {A : Type 0} → A → Result A SchemaFault
@@ -44,15 +44,15 @@ entity_type_parts sc own x e read =
     let same : (let y : ResolvedEntityType = record { name = full_name own x.name; parents = a.0; shape = b.0 } in y) ≡ e = ok_same (record { name = full_name own x.name; parents = a.0; shape = b.0 }) e b.2 in
     (a.1 ∙ ap (λ (y : ResolvedEntityType). ok y.parents) same, ap (λ (y : ResolvedEntityType). y.name) same)
 
-use_parts : (sc : Scope) (own : Option (List ℕ)) (u : UseOf) (f : ResolvedUse) → qualified_use sc own u ≡ ok f
+use_parts : (sc : Scope) (own : Option (List ℕ)) (u : AppliesToOf) (f : ResolvedAppliesTo) → qualified_use sc own u ≡ ok f
     → (entity_types_named sc own u.principals ≡ ok f.principals) × (entity_types_named sc own u.resources ≡ ok f.resources)
 unfolding qualified_use
 use_parts sc own u f read =
     let a = bind_ok (entity_types_named sc own u.principals) _ f read in
     let b = bind_ok (entity_types_named sc own u.resources) _ f a.2 in
     let d = bind_ok (type_named sc own u.context) _ f b.2 in
-    let same : (let y : ResolvedUse = record { principals = a.0; resources = b.0; context = d.0 } in y) ≡ f = ok_same (record { principals = a.0; resources = b.0; context = d.0 }) f d.2 in
-    (a.1 ∙ ap (λ (y : ResolvedUse). ok y.principals) same, b.1 ∙ ap (λ (y : ResolvedUse). ok y.resources) same)
+    let same : (let y : ResolvedAppliesTo = record { principals = a.0; resources = b.0; context = d.0 } in y) ≡ f = ok_same (record { principals = a.0; resources = b.0; context = d.0 }) f d.2 in
+    (a.1 ∙ ap (λ (y : ResolvedAppliesTo). ok y.principals) same, b.1 ∙ ap (λ (y : ResolvedAppliesTo). ok y.resources) same)
 
 -- ---- of a file with each name found
 
@@ -82,9 +82,9 @@ module _ (ns : List NamespaceOf) (s : ResolvedSchema) (named : qualified ns ≡ 
       let t = read_from (λ i y. qualified_entity_type (scope_in ns) n.0.name y) 0 n.0.entity_types x.0.entity_types inside.1 e x.2 in
       (n.0.name, t.0, t.2.1)
 
-  use_in : (a : ResolvedAction) (f : ResolvedUse) → Contains s.actions a → a.applies_to ≡ Some f → (own : Option (List ℕ)) × (u : UseOf) × (qualified_use (scope_in ns) own u ≡ ok f)
+  applies_to_in : (a : ResolvedAction) (f : ResolvedAppliesTo) → Contains s.actions a → a.applies_to ≡ Some f → (own : Option (List ℕ)) × (u : AppliesToOf) × (qualified_use (scope_in ns) own u ≡ ok f)
   unfolding qualified_actions
-  use_in a f here applies =
+  applies_to_in a f here applies =
       let parts = parts_of ns s named in
       let x = all_of_from (λ p. p.actions) parts.0 a (subst (λ (y : ResolvedSchema). Contains y.actions a) (sym parts.2) here) in
       let n = namespace_from ns s named x.0 x.1 in
@@ -105,8 +105,8 @@ module _ (ns : List NamespaceOf) (s : ResolvedSchema) (named : qualified ns ≡ 
       commons = λ p r here q m. let c = common_from ns s named p r here in in_type c.0.own c.0.type r c.3 q m;
       records = λ r here q m. let x = record_from ns s named r here in in_type x.0.name x.1 r x.4 q m;
       parents = λ e here q m. let x = entity_type_from e here in in_list x.0 x.1.parents e.parents (entity_type_parts (scope_in ns) x.0 x.1 e x.2).0 q m;
-      principals = λ a f here applies q m. let u = use_in a f here applies in in_list u.0 u.1.principals f.principals (use_parts (scope_in ns) u.0 u.1 f u.2).0 q m;
-      resources = λ a f here applies q m. let u = use_in a f here applies in in_list u.0 u.1.resources f.resources (use_parts (scope_in ns) u.0 u.1 f u.2).1 q m;
+      principals = λ a f here applies q m. let u = applies_to_in a f here applies in in_list u.0 u.1.principals f.principals (use_parts (scope_in ns) u.0 u.1 f u.2).0 q m;
+      resources = λ a f here applies q m. let u = applies_to_in a f here applies in in_list u.0 u.1.resources f.resources (use_parts (scope_in ns) u.0 u.1 f u.2).1 q m;
     }
 
 pub names_its_entity_types : FoundEntitiesAreDeclared → (bytes : List ℕ) (s : ResolvedSchema) → DescribesFile bytes s → NamesItsEntityTypes s

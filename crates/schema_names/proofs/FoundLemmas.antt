@@ -15,13 +15,13 @@ use Rattle.schema_types.specs.Qualified.{Qualified}
 use Rattle.schema_types.specs.Expansions.{Declarations, Declares}
 use Rattle.schema_types.specs.Names.{Scope, full_name, qualified_of}
 use Rattle.schema_types.specs.declared.fault.SchemaFault.{SchemaFault}
-use Rattle.schema_file.specs.FileForm.{EntityTypeOf, UseOf, ActionOf, NamespaceOf}
+use Rattle.schema_file.specs.FileForm.{EntityTypeOf, AppliesToOf, ActionOf, NamespaceOf}
 use Rattle.schema_types.specs.Mentions.{IsClosed}
 use Rattle.schema_types.specs.Law.{ResolvedCommonsAreDeclared}
 use Rattle.schema_names.specs.Laws.{IsShapeOrContext, DeclaresItsCommonTypes}
 use Rattle.schema_names.specs.Naming.{DescribesFile}
 use Rattle.schema_names.specs.Records.{MustBeRecord}
-use Rattle.schema_names.specs.Qualifying.{all_of, CommonOf, common_in, commons_declared, scope_in, is_action_in, ResolvedEntityType, ResolvedUse, ResolvedAction, ResolvedSchema, entity_types_named, type_named, parents_named, use_named, qualified_common, qualified_entity_type, qualified_use, qualified_action, qualified_commons, qualified_entity_types, qualified_actions, qualified_namespace, qualified_namespaces, together, qualified}
+use Rattle.schema_names.specs.Qualifying.{all_of, CommonOf, common_in, commons_declared, scope_in, is_action_in, ResolvedEntityType, ResolvedAppliesTo, ResolvedAction, ResolvedSchema, entity_types_named, type_named, parents_named, applies_to_named, qualified_common, qualified_entity_type, qualified_use, qualified_action, qualified_commons, qualified_entity_types, qualified_actions, qualified_namespace, qualified_namespaces, together, qualified}
 
 abbrev ok : {A : Type 0} → A → Result A SchemaFault
 ok x = Ok x
@@ -199,27 +199,27 @@ shape_from sc own x e read r is =
     let same : (let y : ResolvedEntityType = record { name = full_name own x.name; parents = a.0; shape = b.0 } in y) ≡ e = ok_same (record { name = full_name own x.name; parents = a.0; shape = b.0 }) e b.2 in
     type_from sc own x.shape b.0 b.1 r (ap (λ (y : ResolvedEntityType). y.shape) same ∙ is)
 
-context_from : (sc : Scope) (own : Option (List ℕ)) (u : UseOf) (f : ResolvedUse) → qualified_use sc own u ≡ ok f → (r : Qualified) → f.context ≡ some r → Means sc own u.context r
+context_from : (sc : Scope) (own : Option (List ℕ)) (u : AppliesToOf) (f : ResolvedAppliesTo) → qualified_use sc own u ≡ ok f → (r : Qualified) → f.context ≡ some r → Means sc own u.context r
 unfolding qualified_use
 context_from sc own u f read r is =
     let a = bind_ok (entity_types_named sc own u.principals) _ f read in
     let b = bind_ok (entity_types_named sc own u.resources) _ f a.2 in
     let d = bind_ok (type_named sc own u.context) _ f b.2 in
-    let same : (let y : ResolvedUse = record { principals = a.0; resources = b.0; context = d.0 } in y) ≡ f = ok_same (record { principals = a.0; resources = b.0; context = d.0 }) f d.2 in
-    type_from sc own u.context d.0 d.1 r (ap (λ (y : ResolvedUse). y.context) same ∙ is)
+    let same : (let y : ResolvedAppliesTo = record { principals = a.0; resources = b.0; context = d.0 } in y) ≡ f = ok_same (record { principals = a.0; resources = b.0; context = d.0 }) f d.2 in
+    type_from sc own u.context d.0 d.1 r (ap (λ (y : ResolvedAppliesTo). y.context) same ∙ is)
 
-pub use_from : (sc : Scope) (own : Option (List ℕ)) (o : Option UseOf) (found : Option ResolvedUse) → use_named sc own o ≡ ok found → (f : ResolvedUse) → found ≡ some f → (u : UseOf) × (o ≡ some u) × (qualified_use sc own u ≡ ok f)
+pub use_from : (sc : Scope) (own : Option (List ℕ)) (o : Option AppliesToOf) (found : Option ResolvedAppliesTo) → applies_to_named sc own o ≡ ok found → (f : ResolvedAppliesTo) → found ≡ some f → (u : AppliesToOf) × (o ≡ some u) × (qualified_use sc own u ≡ ok f)
 use_from sc own None found e f is = none_some (ok_same None found e ∙ is)
 use_from sc own (Some u) found e f is =
     let a = bind_ok (qualified_use sc own u) (λ t. ok (some t)) found e in
-    (u, refl, a.1 ∙ ap (λ (x : ResolvedUse). ok x) (some_same a.0 f (ok_same (some a.0) found a.2 ∙ is)))
+    (u, refl, a.1 ∙ ap (λ (x : ResolvedAppliesTo). ok x) (some_same a.0 f (ok_same (some a.0) found a.2 ∙ is)))
 
-pub applies_from : (sc : Scope) (is_action : EntityUid → Bool) (own : Option (List ℕ)) (x : ActionOf) (a : ResolvedAction) → qualified_action sc is_action own x ≡ ok a → (f : ResolvedUse) → a.applies_to ≡ some f
-    → (u : UseOf) × (x.applies_to ≡ some u) × (qualified_use sc own u ≡ ok f)
+pub applies_from : (sc : Scope) (is_action : EntityUid → Bool) (own : Option (List ℕ)) (x : ActionOf) (a : ResolvedAction) → qualified_action sc is_action own x ≡ ok a → (f : ResolvedAppliesTo) → a.applies_to ≡ some f
+    → (u : AppliesToOf) × (x.applies_to ≡ some u) × (qualified_use sc own u ≡ ok f)
 unfolding qualified_action
 applies_from sc is_action own x a read f is =
     let p = bind_ok (parents_named is_action own x.parents) _ a read in
-    let u = bind_ok (use_named sc own x.applies_to) _ a p.2 in
+    let u = bind_ok (applies_to_named sc own x.applies_to) _ a p.2 in
     let same = ap (λ (y : ResolvedAction). y.applies_to) (ok_same _ a u.2) in
     use_from sc own x.applies_to u.0 u.1 f (same ∙ is)
 

@@ -11,7 +11,7 @@ use Rattle.schema_names.specs.declared.qualifying.ResolvedFile.{ResolvedFile}
 use Rattle.schema_file.specs.schema_types.NamesViews.{scope_of, is_action_of}
 use Rattle.schema_file.specs.FileForm.{NamespaceOf, stated}
 use Rattle.schema_names.specs.Qualifying.{together, scope_in, is_action_in, qualified_namespaces, qualified}
-use Rattle.schema_names.specs.ResolvedViews.{found_view}
+use Rattle.schema_names.specs.ResolvedViews.{resolved_view}
 use Rattle.schema_names.specs.Records.{SomeIsNoRecord}
 use Rattle.schema_names.specs.inner.Adding.{Declares}
 use Rattle.schema_names.specs.inner.Spreading.{MayRefuseRecords}
@@ -23,11 +23,11 @@ records_refused ns f (inl m) apart = absurd (apart m)
 records_refused ns f (inr (b, s)) apart = subst (λ (e : SchemaFault). NamesRefused ns e) (sym b) (no_record s)
 
 pub names_found : (ns : List NamespaceOf) (names : Names) → Declares ns names → (SomeIsNoRecord ns → ⊥) → (r : Result (List ResolvedFile) SchemaFault)
-    → ReadsAs NoMemory (map found_view) r (qualified_namespaces (scope_of names) (is_action_of names) ns)
-    → MatchResult r (λ ps. IsNamed ns (together (map found_view ps))) (λ f. f ≢ NoMemory → NamesRefused ns f)
+    → ReadsAs NoMemory (map resolved_view) r (qualified_namespaces (scope_of names) (is_action_of names) ns)
+    → MatchResult r (λ ps. IsNamed ns (together (map resolved_view ps))) (λ f. f ≢ NoMemory → NamesRefused ns f)
 unfolding qualified
 names_found ns names d none (Ok ps) gives =
-    let here : qualified_namespaces (scope_in ns) (is_action_in ns) ns ≡ Ok (map found_view ps) = (λ i. qualified_namespaces (sym d.scope i) (sym d.actions i) ns) ∙ gives in
+    let here : qualified_namespaces (scope_in ns) (is_action_in ns) ns ≡ Ok (map resolved_view ps) = (λ i. qualified_namespaces (sym d.scope i) (sym d.actions i) ns) ∙ gives in
     record { records = none; found = rw here refl }
 names_found ns names d none (Err f) gives = λ apart.
     let here : qualified_namespaces (scope_in ns) (is_action_in ns) ns ≡ Err f = (λ i. qualified_namespaces (sym d.scope i) (sym d.actions i) ns) ∙ gives apart in
@@ -48,7 +48,7 @@ pub shape_refused : (bytes : List ℕ) (d : Data) (f : SchemaFault) → or_fault
 shape_refused bytes d f json fails apart = bad_shape d f (json_some (json_of bytes) d json) (fails apart)
 
 pub bytes_named : (bytes : List ℕ) (d : Data) (ns : List NamespaceOf) → or_fault NotJson (json_of bytes) ≡ Ok d → stated d ≡ Ok ns → (r : Result (List ResolvedFile) SchemaFault)
-    → MatchResult r (λ ps. IsNamed ns (together (map found_view ps))) (λ f. f ≢ NoMemory → NamesRefused ns f)
-    → MatchResult r (λ ps. DescribesFile bytes (together (map found_view ps))) (λ f. f ≢ NoMemory → IsNamingError bytes f)
+    → MatchResult r (λ ps. IsNamed ns (together (map resolved_view ps))) (λ f. f ≢ NoMemory → NamesRefused ns f)
+    → MatchResult r (λ ps. DescribesFile bytes (together (map resolved_view ps))) (λ f. f ≢ NoMemory → IsNamingError bytes f)
 bytes_named bytes d ns json shape (Ok ps) h = record { value = d; namespaces = ns; json = json_some (json_of bytes) d json; shape = shape; named = h }
 bytes_named bytes d ns json shape (Err f) h = λ apart. bad_names d ns f (json_some (json_of bytes) d json) shape (h apart)

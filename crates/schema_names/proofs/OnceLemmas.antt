@@ -23,13 +23,13 @@ use Rattle.schema_types.specs.Names.{Scope, is_qualified, full_name, qualified_o
 use Rattle.schema_types.specs.TypeShape.{type_name, type_of}
 use Rattle.schema_types.specs.declared.fault.SchemaFault.{SchemaFault}
 use Rattle.schema_types.specs.declared.fault.SchemaFault.TheVariants.{BadShape}
-use Rattle.schema_file.specs.Once.{AreApart, StatesOnce, HaveDistinctNames}
+use Rattle.schema_file.specs.DistinctNames.{AreApart, StatesOnce, HaveDistinctNames}
 use Rattle.schema_file.specs.FileForm.{EntityTypeOf, ActionOf, NamespaceOf, ident, is_common, common_of, commons_of}
 use Rattle.schema_file.specs.FileForm.{entity_type_name, entity_type_of, entity_types_of, names_in, type_in, members_in}
 use Rattle.schema_file.specs.FileForm.{commons_in, entity_types_in, actions_in, namespace_name, namespace_of}
 use Rattle.schema_file.specs.FileForm.{namespaces_of, stated}
 use Rattle.schema_names.specs.Qualifying.{ResolvedEntityType, ResolvedAction, ResolvedSchema, all_of, entity_types_named}
-use Rattle.schema_names.specs.Qualifying.{type_named, parents_named, use_named, qualified_common, qualified_commons}
+use Rattle.schema_names.specs.Qualifying.{type_named, parents_named, applies_to_named, qualified_common, qualified_commons}
 use Rattle.schema_names.specs.Qualifying.{qualified_entity_type, qualified_entity_types, qualified_action}
 use Rattle.schema_names.specs.Qualifying.{qualified_actions, qualified_namespace, qualified_namespaces, together}
 use Rattle.schema_names.specs.Qualifying.{scope_in, is_action_in, qualified}
@@ -245,7 +245,7 @@ module _ (sc : Scope) (is_action : EntityUid → Bool) where
   unfolding qualified_action
   action_is own i x a read =
       let p = bind_ok (parents_named is_action own x.parents) _ a read in
-      let u = bind_ok (use_named sc own x.applies_to) _ a p.2 in
+      let u = bind_ok (applies_to_named sc own x.applies_to) _ a p.2 in
       ap (λ (y : ResolvedAction). y.uid) (sym (ok_same (record { uid = action_uid (action_type own) x.id; parents = p.0; applies_to = u.0 }) a u.2))
 
   module _ (n : NamespaceOf) (p : ResolvedSchema) (e : qualified_namespace sc is_action n ≡ ok p) where

@@ -5,7 +5,7 @@ use Rattle.std.specs.List.{list_all}
 use Rattle.std.proofs.lemmas.Bool.{cases_Bool}
 use Rattle.std.proofs.lemmas.List.{drop_all}
 use Rattle.schema_types.specs.Raw.{Raw}
-use Rattle.schema_file.specs.FileForm.{UseOf, ActionOf, NamespaceOf}
+use Rattle.schema_file.specs.FileForm.{AppliesToOf, ActionOf, NamespaceOf}
 use Rattle.schema_names.specs.Qualifying.{scope_in}
 use Rattle.schema_names.specs.Records.{MustBeRecord, SomeIsNoRecord}
 use Rattle.schema_names.specs.inner.Spreading.{is_known_non_record, ReportsRecords, is_record_at, is_record_in, are_shapes, are_contexts, are_records_of, are_records}
@@ -61,7 +61,7 @@ module _ (ns : List NamespaceOf) (names : List ℕ → Bool) (t : ReportsRecords
   no_shape n r h (inr (a, there, (u, applies, is))) m =
       let both = and_parts (are_shapes names (scope_in ns) n.name n.entity_types) _ h in
       let one = all_at (λ x. is_record_in names (scope_in ns) n.name x.applies_to) n.actions a both.1 there in
-      let used = ap (λ (o : Option UseOf). is_record_in names (scope_in ns) n.name o) (sym applies) ∙ one in
+      let used = ap (λ (o : Option AppliesToOf). is_record_in names (scope_in ns) n.name o) (sym applies) ∙ one in
       not_true _ (ap (λ (o : Option Raw). is_record_at names (scope_in ns) n.name o) (sym is) ∙ used) m
 
   pub all_records : are_records names (scope_in ns) ns ≡ true → SomeIsNoRecord ns → ⊥
@@ -71,7 +71,7 @@ module _ (ns : List NamespaceOf) (names : List ℕ → Bool) (t : ReportsRecords
   none_there n here None stands h = absurd (true≢false h)
   none_there n here (Some r) stands h = record { namespace = n; type = r; stated = here; stands = stands r refl; means = t.sound n.name r (not_false _ h) }
 
-  no_context : (n : NamespaceOf) → Contains ns n → (a : ActionOf) → Contains n.actions a → (o : Option UseOf) → a.applies_to ≡ o → is_record_in names (scope_in ns) n.name o ≡ false → SomeIsNoRecord ns
+  no_context : (n : NamespaceOf) → Contains ns n → (a : ActionOf) → Contains n.actions a → (o : Option AppliesToOf) → a.applies_to ≡ o → is_record_in names (scope_in ns) n.name o ≡ false → SomeIsNoRecord ns
   no_context n here a there None e h = absurd (true≢false h)
   no_context n here a there (Some u) e h = none_there n here u.context (λ r is. inr (a, there, (u, e, is))) h
 

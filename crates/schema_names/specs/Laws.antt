@@ -9,8 +9,8 @@ use Rattle.schema_types.specs.Law.{AreOnce, AreClosed}
 use Rattle.schema_types.specs.Ascending.{QualifiedAscends}
 use Rattle.schema_types.specs.AscendingLaw.{AllAscend}
 use Rattle.schema_types.specs.declared.fault.SchemaFault.{SchemaFault}
-use Rattle.schema_file.specs.Once.{AreApart}
-use Rattle.schema_names.specs.Qualifying.{ResolvedEntityType, ResolvedUse, ResolvedAction, ResolvedSchema}
+use Rattle.schema_file.specs.DistinctNames.{AreApart}
+use Rattle.schema_names.specs.Qualifying.{ResolvedEntityType, ResolvedAppliesTo, ResolvedAction, ResolvedSchema}
 use Rattle.schema_names.specs.Naming.{DescribesFile, IsNamingError}
 
 -- `DeclaresOnce s` holds if no common type of the file `s` has two definitions, and no two entity types and no two
@@ -25,7 +25,7 @@ abbrev pub IsShapeOrContext : ResolvedSchema → Qualified → Type 0
 IsShapeOrContext s r =
     ((e : ResolvedEntityType) × Contains s.entity_types e × (e.shape ≡ Some r))
     ⊎ ((a : ResolvedAction) × Contains s.actions a
-    × ((u : ResolvedUse) × (a.applies_to ≡ Some u) × (u.context ≡ Some r)))
+    × ((u : ResolvedAppliesTo) × (a.applies_to ≡ Some u) × (u.context ≡ Some r)))
 
 -- `DeclaresItsCommonTypes s` holds if each common type that is mentioned in the file `s` is declared there.
 pub record DeclaresItsCommonTypes (s : ResolvedSchema) : Type 0 where
@@ -48,9 +48,11 @@ pub record NamesItsEntityTypes (s : ResolvedSchema) : Type 0 where
   pub records : (r : Qualified) → IsShapeOrContext s r → (q : List ℕ) → MentionsEntity r q → IsEntityType s q
   pub parents : (e : ResolvedEntityType) → Contains s.entity_types e → (q : List ℕ) → Contains e.parents q
       → IsEntityType s q
-  pub principals : (a : ResolvedAction) (u : ResolvedUse) → Contains s.actions a → a.applies_to ≡ Some u → (q : List ℕ)
+  pub principals : (a : ResolvedAction) (u : ResolvedAppliesTo) → Contains s.actions a → a.applies_to ≡ Some u
+      → (q : List ℕ)
       → Contains u.principals q → IsEntityType s q
-  pub resources : (a : ResolvedAction) (u : ResolvedUse) → Contains s.actions a → a.applies_to ≡ Some u → (q : List ℕ)
+  pub resources : (a : ResolvedAction) (u : ResolvedAppliesTo) → Contains s.actions a → a.applies_to ≡ Some u
+      → (q : List ℕ)
       → Contains u.resources q → IsEntityType s q
 
 -- `FilesNameTheirEntityTypes`: in each file that bytes describe, each entity type that is mentioned is declared.

@@ -16,7 +16,7 @@ use Rattle.schema_types.specs.Qualified.{Qualified}
 use Rattle.schema_types.specs.Expansions.{Declarations}
 use Rattle.schema_types.specs.Names.{Scope, full_name, found, qualified_of}
 use Rattle.schema_file.specs.schema_types.Actions.{action_type, action_uid, declared_action, action_of_type}
-use Rattle.schema_file.specs.FileForm.{EntityTypeOf, UseOf, ActionOf, NamespaceOf}
+use Rattle.schema_file.specs.FileForm.{EntityTypeOf, AppliesToOf, ActionOf, NamespaceOf}
 use Rattle.schema_file.specs.declared.stated.StatedParent.{StatedParent}
 use Rattle.schema_types.specs.declared.fault.SchemaFault.{SchemaFault}
 use Rattle.schema_types.specs.declared.fault.SchemaFault.TheVariants.{UnknownName}
@@ -72,8 +72,8 @@ pub record ResolvedEntityType : Type 0 where
   pub parents : List (List ℕ)
   pub shape : Option Qualified
 
--- A `ResolvedUse` is what an action applies to, with resolved names.
-pub record ResolvedUse : Type 0 where
+-- A `ResolvedAppliesTo` is what an action applies to, with resolved names.
+pub record ResolvedAppliesTo : Type 0 where
   pub principals : List (List ℕ)
   pub resources : List (List ℕ)
   pub context : Option Qualified
@@ -82,7 +82,7 @@ pub record ResolvedUse : Type 0 where
 pub record ResolvedAction : Type 0 where
   pub uid : EntityUid
   pub parents : List EntityUid
-  pub applies_to : Option ResolvedUse
+  pub applies_to : Option ResolvedAppliesTo
 
 -- A `ResolvedSchema` has the declarations of a namespace, or of a whole file, with resolved names.
 pub record ResolvedSchema : Type 0 where
@@ -146,18 +146,19 @@ qualified_entity_type s own e = do
 
 -- `qualified_use s own u` is `u`, what an action of the namespace `own` applies to, with resolved names, or the first
 -- error.
-unfoldable pub qualified_use : Scope → Option (List ℕ) → UseOf → Result ResolvedUse SchemaFault
+unfoldable pub qualified_use : Scope → Option (List ℕ) → AppliesToOf → Result ResolvedAppliesTo SchemaFault
 qualified_use s own u = do
   principals ← entity_types_named s own u.principals
   resources ← entity_types_named s own u.resources
   context ← type_named s own u.context
   Ok (record { principals = principals; resources = resources; context = context })
 
--- `use_named s own o` is what an action of the namespace `own` applies to, given as written in `o`, with resolved
--- names, or the first error; `None` if the action applies to nothing (`None`).
-abbrev pub use_named : Scope → Option (List ℕ) → Option UseOf → Result (Option ResolvedUse) SchemaFault
-use_named s own None = Ok None
-use_named s own (Some u) = do
+-- `applies_to_named s own o` is what an action of the namespace `own` applies to, given as written in `o`, with
+-- resolved names, or the first error; `None` if the action applies to nothing (`None`).
+abbrev pub applies_to_named : Scope → Option (List ℕ) → Option AppliesToOf
+    → Result (Option ResolvedAppliesTo) SchemaFault
+applies_to_named s own None = Ok None
+applies_to_named s own (Some u) = do
   applied ← qualified_use s own u
   Ok (Some applied)
 
@@ -167,7 +168,7 @@ unfoldable pub qualified_action : Scope → (EntityUid → Bool) → Option (Lis
     → Result ResolvedAction SchemaFault
 qualified_action s is_action own a = do
   parents ← parents_named is_action own a.parents
-  applies_to ← use_named s own a.applies_to
+  applies_to ← applies_to_named s own a.applies_to
   Ok (record { uid = action_uid (action_type own) a.id; parents = parents; applies_to = applies_to })
 
 -- `qualified_commons s own cs`, `qualified_entity_types s own es` and `qualified_actions s is_action own us` are the

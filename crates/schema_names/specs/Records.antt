@@ -5,7 +5,7 @@ use Rattle.std.specs.Prelude.{◌≡◌, ◌⊎◌, ℕ, List, Contains, Bool, t
 use Rattle.schema_types.specs.Raw as raw
 use Rattle.schema_types.specs.Raw.{Raw}
 use Rattle.schema_types.specs.Names.{Scope, found, or_entity, built_in}
-use Rattle.schema_file.specs.FileForm.{EntityTypeOf, UseOf, ActionOf, NamespaceOf}
+use Rattle.schema_file.specs.FileForm.{EntityTypeOf, AppliesToOf, ActionOf, NamespaceOf}
 use Rattle.schema_names.specs.Qualifying.{CommonOf, commons_declared, scope_in}
 
 -- `common_meant s own r` is the full name of the declared common type to which `r` refers; `None` if it refers to none.
@@ -48,7 +48,7 @@ pub data MeansNoRecord (ns : List NamespaceOf) : Option (List ℕ) → Raw → T
 
 -- `HasContext a r` holds if `r` is the context of the action `a`.
 abbrev pub HasContext : ActionOf → Raw → Type 0
-HasContext a r = (u : UseOf) × (a.applies_to ≡ Some u) × (u.context ≡ Some r)
+HasContext a r = (u : AppliesToOf) × (a.applies_to ≡ Some u) × (u.context ≡ Some r)
 
 -- `MustBeRecord n r` holds if `r` must be a record: it is the shape of an entity type of the namespace `n`, or the
 -- context of an action.

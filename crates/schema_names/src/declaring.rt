@@ -8,7 +8,7 @@ ghost use Rattle.schema_types.specs.Names.{full_name};
 ghost use Rattle.schema_file.specs.StatedViews.{common_view, entity_type_view, action_view, namespace_view};
 ghost use Rattle.schema_names.specs.Qualifying.{common_in};
 ghost use Rattle.schema_file.specs.schema_types.Actions.{action_type, action_uid};
-ghost use Rattle.schema_names.specs.inner.Adding.{has_name, has_uid, Adds, AddsNamespace, Declares, any_common};
+ghost use Rattle.schema_names.specs.inner.Adding.{has_name, has_uid, IsUnionWith, AddsNamespace, Declares, any_common};
 ghost use Rattle.schema_names.specs.inner.Adding.{any_name, any_uid};
 
 use crate::qualifying::uid_of;
@@ -39,7 +39,8 @@ fn add_name(
     own: &Option<TypeName>,
     word: &TypeName,
 ) -> Result<(), NoMemory>
-    ensures { OnOk result (Adds has_name (λ q. bytes_eq (full_name own.now word.now) q) declared.old declared.new) }
+    ensures { OnOk result
+        (IsUnionWith has_name (λ q. bytes_eq (full_name own.now word.now) q) declared.old declared.new) }
 {
     let text = full_text(alloc, own, word)?;
     declared.insert(text)?;
@@ -53,7 +54,7 @@ fn add_commons(
     own: &Option<TypeName>,
     stated: &[StatedCommon],
 ) -> Result<(), NoMemory>
-    ensures { OnOk result (Adds has_name
+    ensures { OnOk result (IsUnionWith has_name
         (any_common (map (λ c. common_in own.now c) (map common_view stated.now))) declared.old declared.new) }
 {
     for common in stated {
@@ -69,7 +70,7 @@ fn add_entity_types(
     own: &Option<TypeName>,
     stated: &[StatedEntityType],
 ) -> Result<(), NoMemory>
-    ensures { OnOk result (Adds has_name
+    ensures { OnOk result (IsUnionWith has_name
         (any_name (map (λ e. full_name own.now e.name) (map entity_type_view stated.now))) declared.old declared.new) }
 {
     for entity_type in stated {
@@ -85,7 +86,7 @@ fn add_action(
     own: &Option<TypeName>,
     action: &StatedAction,
 ) -> Result<(), NoMemory>
-    ensures { OnOk result (Adds has_uid
+    ensures { OnOk result (IsUnionWith has_uid
         (λ u. is_eq (uid_cmp (action_uid (action_type own.now) action.now.id) u)) declared.old declared.new) }
 {
     let uid = uid_of(alloc, own, &action.id)?;
@@ -100,7 +101,7 @@ fn add_actions(
     own: &Option<TypeName>,
     stated: &[StatedAction],
 ) -> Result<(), NoMemory>
-    ensures { OnOk result (Adds has_uid
+    ensures { OnOk result (IsUnionWith has_uid
         (any_uid (map (λ a. action_uid (action_type own.now) a.id) (map action_view stated.now)))
         declared.old declared.new) }
 {

@@ -1,7 +1,7 @@
 //! The declarations of several namespaces, joined.
 ghost use Rattle.std.specs.Prelude.{◌≡◌, ◌++◌, IfOk, map};
 ghost use Rattle.schema_names.specs.Qualifying.{both, together};
-ghost use Rattle.schema_names.specs.ResolvedViews.{found_view};
+ghost use Rattle.schema_names.specs.ResolvedViews.{resolved_view};
 
 use crate::qualifying::ResolvedFile;
 use plain::{Items, NoMemory, both};
@@ -19,7 +19,7 @@ fn append<T: Drop>(items: Items<T>, more: Items<T>) -> Result<Items<T>, NoMemory
 
 /// Returns the declarations of both files or namespaces.
 fn join(first: ResolvedFile, second: ResolvedFile) -> Result<ResolvedFile, NoMemory>
-    ensures { IfOk result (λ found. found_view found ≡ both (found_view first) (found_view second)) }
+    ensures { IfOk result (λ found. resolved_view found ≡ both (resolved_view first) (resolved_view second)) }
 {
     let commons = append(first.commons, second.commons);
     let entity_types = append(first.entity_types, second.entity_types);
@@ -34,7 +34,7 @@ fn join(first: ResolvedFile, second: ResolvedFile) -> Result<ResolvedFile, NoMem
 
 /// Returns the declarations of all parts, in order.
 pub(crate) fn join_all(alloc: Global, parts: Items<ResolvedFile>) -> Result<ResolvedFile, NoMemory>
-    ensures { IfOk result (λ found. found_view found ≡ together (map found_view parts)) }
+    ensures { IfOk result (λ found. resolved_view found ≡ together (map resolved_view parts)) }
 {
     let mut whole = ResolvedFile {
         commons: Items::new(alloc),

@@ -15,4 +15,4 @@ pub use laws::{
     one_refusal, shapes_are_records, some_outcome,
 };
 pub use naming::read_named;
-pub use qualifying::{ResolvedAction, ResolvedEntityType, ResolvedFile, ResolvedUse};
+pub use qualifying::{ResolvedAction, ResolvedAppliesTo, ResolvedEntityType, ResolvedFile};

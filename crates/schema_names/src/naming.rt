@@ -5,7 +5,7 @@ ghost use Rattle.json_words.specs.ReadsAs.{ReadsAs, or_fault};
 ghost use Rattle.json_words.specs.Json.{json_of};
 ghost use Rattle.schema_file.specs.StatedViews.{namespace_view};
 ghost use Rattle.schema_names.specs.Qualifying.{together};
-ghost use Rattle.schema_names.specs.ResolvedViews.{found_view};
+ghost use Rattle.schema_names.specs.ResolvedViews.{resolved_view};
 ghost use Rattle.schema_names.specs.Naming.{IsNamed, NamesRefused, DescribesFile, IsNamingError};
 ghost use Rattle.schema_types.specs.declared.fault.SchemaFault.TheVariants as SchemaFault;
 
@@ -40,7 +40,7 @@ fn read_value(alloc: Global, bytes: &[u8]) -> Result<Value, SchemaFault>
 /// - `UnknownName` (22): a name is not declared.
 /// - `NoMemory` (1): an allocation failed; possible at any point.
 fn name_all(alloc: Global, stated: &[StatedNamespace]) -> Result<Items<ResolvedFile>, SchemaFault>
-    ensures { MatchResult result (λ ps. IsNamed (map namespace_view stated.now) (together (map found_view ps)))
+    ensures { MatchResult result (λ ps. IsNamed (map namespace_view stated.now) (together (map resolved_view ps)))
         (λ f. f ≢ SchemaFault.NoMemory → NamesRefused (map namespace_view stated.now) f) }
 {
     let names = declare(alloc, stated)?;
@@ -50,7 +50,7 @@ fn name_all(alloc: Global, stated: &[StatedNamespace]) -> Result<Items<ResolvedF
 
 /// Returns the namespaces that bytes describe, with resolved names. The errors are those of [`read_named`].
 fn read_parts(alloc: Global, bytes: &[u8]) -> Result<Items<ResolvedFile>, SchemaFault>
-    ensures { MatchResult result (λ ps. DescribesFile bytes.now (together (map found_view ps)))
+    ensures { MatchResult result (λ ps. DescribesFile bytes.now (together (map resolved_view ps)))
         (λ f. f ≢ SchemaFault.NoMemory → IsNamingError bytes.now f) }
 {
     let value = read_value(alloc, bytes)?;
@@ -69,7 +69,7 @@ fn read_parts(alloc: Global, bytes: &[u8]) -> Result<Items<ResolvedFile>, Schema
 /// - `UnknownName` (22): a name is not declared.
 /// - `NoMemory` (1): an allocation failed; possible at any point.
 pub fn read_named(alloc: Global, bytes: &[u8]) -> Result<ResolvedFile, SchemaFault>
-    ensures { MatchResult result (λ found. DescribesFile bytes.now (found_view found))
+    ensures { MatchResult result (λ found. DescribesFile bytes.now (resolved_view found))
         (λ f. f ≢ SchemaFault.NoMemory → IsNamingError bytes.now f) }
 {
     let parts = read_parts(alloc, bytes)?;

@@ -111,7 +111,7 @@ fn in_list(alloc: Global, place: Option<usize>) -> Result<Vec<usize>, NoMemory>
 
 /// Returns a list of one index, that of the common type whose name is the definition of `listed`; an empty list if the
 /// definition is not such a name.
-fn use_of(
+fn applies_to_of(
     alloc: Global,
     names: &Names,
     listed: &ListedCommon<'_>,
@@ -137,7 +137,7 @@ fn uses_of(
 {
     let mut edges = Vec::new(alloc);
     for listed in commons {
-        let used = use_of(alloc, names, listed, places)?;
+        let used = applies_to_of(alloc, names, listed, places)?;
         edges.push(used)?;
     }
     Ok(edges)

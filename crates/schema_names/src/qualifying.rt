@@ -6,21 +6,23 @@ ghost use Rattle.schema_types.specs.Views.{raw_view};
 ghost use Rattle.schema_types.specs.QualifiedViews.{qualified_view, resolved_common_view};
 ghost use Rattle.schema_file.specs.schema_types.NamesViews.{scope_of, is_action_of};
 ghost use Rattle.schema_file.specs.schema_types.Actions.{action_type, action_uid};
-ghost use Rattle.schema_file.specs.StatedViews.{common_view, entity_type_view, use_view, action_view, namespace_view};
-ghost use Rattle.schema_names.specs.ResolvedViews.{found_entity_type_view, found_use_view};
-ghost use Rattle.schema_names.specs.ResolvedViews.{found_action_view, found_view};
+ghost use Rattle.schema_file.specs.StatedViews.{common_view, entity_type_view, applies_to_view, action_view};
+ghost use Rattle.schema_file.specs.StatedViews.{namespace_view};
+ghost use Rattle.schema_names.specs.ResolvedViews.{resolved_entity_type_view, resolved_applies_to_view};
+ghost use Rattle.schema_names.specs.ResolvedViews.{resolved_action_view, resolved_view};
 ghost use Rattle.schema_names.specs.Qualifying.{action_meant};
 ghost use Rattle.schema_names.specs.Qualifying.{parent_named, parents_named, entity_type_named, entity_types_named};
 ghost use Rattle.schema_names.specs.Qualifying.{type_named, qualified_common, qualified_entity_type, qualified_use};
-ghost use Rattle.schema_names.specs.Qualifying.{use_named, qualified_action, qualified_commons, qualified_entity_types};
+ghost use Rattle.schema_names.specs.Qualifying.{applies_to_named, qualified_action, qualified_commons};
+ghost use Rattle.schema_names.specs.Qualifying.{qualified_entity_types};
 ghost use Rattle.schema_names.specs.Qualifying.{qualified_actions, qualified_namespace, qualified_namespaces};
 ghost use Rattle.schema_types.specs.declared.fault.SchemaFault.TheVariants as SchemaFault;
 
 use crate::appending_items::followed_by;
 use plain::{Items, NoMemory, Text, pair_with};
 use schema_file::{
-    Names, StatedAction, StatedCommon, StatedEntityType, StatedNamespace, StatedParent, StatedUse,
-    action_type, declared_action, find, find_action_of_type, full_name, resolve,
+    Names, StatedAction, StatedAppliesTo, StatedCommon, StatedEntityType, StatedNamespace,
+    StatedParent, action_type, declared_action, find, find_action_of_type, full_name, resolve,
 };
 use schema_types::{QualifiedType, RawType, ResolvedCommon, SchemaFault};
 use std::alloc::Global;
@@ -39,7 +41,7 @@ pub struct ResolvedEntityType {
 
 /// What an action applies to, with resolved names.
 #[derive(Drop)]
-pub struct ResolvedUse {
+pub struct ResolvedAppliesTo {
     /// The full names of the types of principals.
     pub principals: Items<TypeName>,
     /// The full names of the types of resources.
@@ -55,7 +57,7 @@ pub struct ResolvedAction {
     /// The uids of its parents, in the order of `memberOf`.
     pub parents: Items<EntityUid>,
     /// What it applies to; `None` if the file has no `appliesTo` for it, so that it applies to no request.
-    pub applies_to: Option<ResolvedUse>,
+    pub applies_to: Option<ResolvedAppliesTo>,
 }
 
 /// The declarations of a namespace, or of a whole file, with resolved names.
@@ -138,7 +140,7 @@ fn qualify_entity_type(
     own: &Option<TypeName>,
     entity_type: &StatedEntityType,
 ) -> Result<ResolvedEntityType, SchemaFault>
-    ensures { ReadsAs SchemaFault.NoMemory found_entity_type_view result
+    ensures { ReadsAs SchemaFault.NoMemory resolved_entity_type_view result
         (qualified_entity_type (scope_of names.now) own.now (entity_type_view entity_type.now)) }
 {
     let name = full_name(alloc, own, &entity_type.name)?;
@@ -159,17 +161,17 @@ fn qualify_use(
     alloc: Global,
     names: &Names,
     own: &Option<TypeName>,
-    stated: &StatedUse,
-) -> Result<ResolvedUse, SchemaFault>
-    ensures { ReadsAs SchemaFault.NoMemory found_use_view result
-        (qualified_use (scope_of names.now) own.now (use_view stated.now)) }
+    stated: &StatedAppliesTo,
+) -> Result<ResolvedAppliesTo, SchemaFault>
+    ensures { ReadsAs SchemaFault.NoMemory resolved_applies_to_view result
+        (qualified_use (scope_of names.now) own.now (applies_to_view stated.now)) }
 {
     let principals = qualify_names(alloc, names, own, stated.principals.as_slice())?;
     let resources = qualify_names(alloc, names, own, stated.resources.as_slice());
     let (principals, resources) = pair_with(principals, resources)?;
     let context = qualify_optional(alloc, names, own, &stated.context);
     let ((principals, resources), context) = pair_with((principals, resources), context)?;
-    Ok(ResolvedUse {
+    Ok(ResolvedAppliesTo {
         principals,
         resources,
         context,
@@ -181,10 +183,10 @@ fn qualify_optional_use(
     alloc: Global,
     names: &Names,
     own: &Option<TypeName>,
-    stated: &Option<StatedUse>,
-) -> Result<Option<ResolvedUse>, SchemaFault>
-    ensures { ReadsAs SchemaFault.NoMemory (option_map found_use_view) result
-        (use_named (scope_of names.now) own.now (option_map use_view stated.now)) }
+    stated: &Option<StatedAppliesTo>,
+) -> Result<Option<ResolvedAppliesTo>, SchemaFault>
+    ensures { ReadsAs SchemaFault.NoMemory (option_map resolved_applies_to_view) result
+        (applies_to_named (scope_of names.now) own.now (option_map applies_to_view stated.now)) }
 {
     match stated {
         None => Ok(None),
@@ -261,7 +263,7 @@ fn qualify_action(
     own: &Option<TypeName>,
     action: &StatedAction,
 ) -> Result<ResolvedAction, SchemaFault>
-    ensures { ReadsAs SchemaFault.NoMemory found_action_view result
+    ensures { ReadsAs SchemaFault.NoMemory resolved_action_view result
         (qualified_action (scope_of names.now) (is_action_of names.now) own.now (action_view action.now)) }
 {
     let uid = uid_of(alloc, own, &action.id)?;
@@ -300,7 +302,7 @@ fn qualify_entity_types(
     own: &Option<TypeName>,
     stated: &[StatedEntityType],
 ) -> Result<Items<ResolvedEntityType>, SchemaFault>
-    ensures { ReadsAs SchemaFault.NoMemory (map found_entity_type_view) result
+    ensures { ReadsAs SchemaFault.NoMemory (map resolved_entity_type_view) result
         (qualified_entity_types (scope_of names.now) own.now (map entity_type_view stated.now)) }
 {
     let mut found = Items::new(alloc);
@@ -317,7 +319,7 @@ fn qualify_actions(
     own: &Option<TypeName>,
     stated: &[StatedAction],
 ) -> Result<Items<ResolvedAction>, SchemaFault>
-    ensures { ReadsAs SchemaFault.NoMemory (map found_action_view) result
+    ensures { ReadsAs SchemaFault.NoMemory (map resolved_action_view) result
         (qualified_actions (scope_of names.now) (is_action_of names.now) own.now (map action_view stated.now)) }
 {
     let mut found = Items::new(alloc);
@@ -334,7 +336,7 @@ pub(crate) fn qualify_namespace(
     names: &Names,
     namespace: &StatedNamespace,
 ) -> Result<ResolvedFile, SchemaFault>
-    ensures { ReadsAs SchemaFault.NoMemory found_view result
+    ensures { ReadsAs SchemaFault.NoMemory resolved_view result
         (qualified_namespace (scope_of names.now) (is_action_of names.now) (namespace_view namespace.now)) }
 {
     let own = &namespace.name;
@@ -361,7 +363,7 @@ pub(crate) fn qualify_namespaces(
     names: &Names,
     stated: &[StatedNamespace],
 ) -> Result<Items<ResolvedFile>, SchemaFault>
-    ensures { ReadsAs SchemaFault.NoMemory (map found_view) result
+    ensures { ReadsAs SchemaFault.NoMemory (map resolved_view) result
         (qualified_namespaces (scope_of names.now) (is_action_of names.now) (map namespace_view stated.now)) }
 {
     let mut found = Items::new(alloc);

@@ -5,7 +5,8 @@ ghost use Rattle.std.specs.Prelude.{false, slice_get};
 ghost use Rattle.std.specs.BTreeSet.{btree_set_len};
 ghost use Rattle.schema_types.specs.Views.{raw_view};
 ghost use Rattle.schema_file.specs.schema_types.NamesViews.{scope_of};
-ghost use Rattle.schema_file.specs.StatedViews.{common_view, entity_type_view, use_view, action_view, namespace_view};
+ghost use Rattle.schema_file.specs.StatedViews.{common_view, entity_type_view, applies_to_view, action_view};
+ghost use Rattle.schema_file.specs.StatedViews.{namespace_view};
 ghost use Rattle.schema_names.specs.Records.{common_meant, is_no_record, SomeIsNoRecord};
 ghost use Rattle.schema_names.specs.Qualifying.{common_in, commons_declared};
 ghost use Rattle.schema_names.specs.inner.Adding.{has_name, Declares};
@@ -20,7 +21,8 @@ use crate::declaring::full_text;
 use crate::order::{ListedCommon, list_all, order_of};
 use plain::NoMemory;
 use schema_file::{
-    Names, StatedAction, StatedCommon, StatedEntityType, StatedNamespace, StatedUse, find, is_other,
+    Names, StatedAction, StatedAppliesTo, StatedCommon, StatedEntityType, StatedNamespace, find,
+    is_other,
 };
 use schema_types::{RawType, SchemaFault};
 use std::alloc::Global;
@@ -91,7 +93,7 @@ fn knows_non_record(
 }
 
 /// Adds a common type to `known` if, by `known`, it is not a record.
-fn add_if_none(
+fn add_if_not_record(
     alloc: Global,
     names: &Names,
     own: &Option<TypeName>,
@@ -113,7 +115,7 @@ fn add_if_none(
 }
 
 /// Adds the common types of a namespace that, by `known`, are not records.
-fn spread_in(
+fn add_non_records_of_namespace(
     alloc: Global,
     names: &Names,
     own: &Option<TypeName>,
@@ -124,13 +126,13 @@ fn spread_in(
         (map common_view commons.now)) known.old known.new) }
 {
     for common in commons {
-        add_if_none(alloc, names, own, common, known)?;
+        add_if_not_record(alloc, names, own, common, known)?;
     }
     Ok(())
 }
 
 /// Adds the common types that, by `known`, are not records.
-fn spread(
+fn add_non_records(
     alloc: Global,
     names: &Names,
     stated: &[StatedNamespace],
@@ -140,7 +142,7 @@ fn spread(
         (commons_declared (map namespace_view stated.now)) known.old known.new) }
 {
     for namespace in stated {
-        spread_in(
+        add_non_records_of_namespace(
             alloc,
             names,
             &namespace.name,
@@ -152,7 +154,7 @@ fn spread(
 }
 
 /// Adds the common types that, by `known`, are not records, and returns whether there was one.
-fn has_spread(
+fn has_added_non_record(
     alloc: Global,
     names: &Names,
     stated: &[StatedNamespace],
@@ -166,12 +168,12 @@ fn has_spread(
     ensures small { OnOk result (btree_set_len known.new < 2 ^ 63) }
 {
     let before = known.len();
-    spread(alloc, names, stated, known)?;
+    add_non_records(alloc, names, stated, known)?;
     Ok(known.len() != before)
 }
 
 /// Adds the common type at an index, if there is one and, by `known`, it is not a record.
-fn spread_at(
+fn add_non_record_at(
     alloc: Global,
     names: &Names,
     commons: &[ListedCommon<'_>],
@@ -184,13 +186,13 @@ fn spread_at(
 {
     if place < commons.len() {
         let listed = &commons[place];
-        add_if_none(alloc, names, listed.own, listed.common, known)?;
+        add_if_not_record(alloc, names, listed.own, listed.common, known)?;
     }
     Ok(())
 }
 
 /// Tests the common types at the indices `order`, one after another, and adds each that, by `known`, is not a record.
-fn spread_in_order(
+fn add_non_records_in_order(
     alloc: Global,
     names: &Names,
     commons: &[ListedCommon<'_>],
@@ -202,7 +204,7 @@ fn spread_in_order(
         (tried_in_order (map listed_view commons.now) order.now) known.old known.new) }
 {
     for at in order {
-        spread_at(alloc, names, commons, *at, known)?;
+        add_non_record_at(alloc, names, commons, *at, known)?;
     }
     Ok(())
 }
@@ -219,14 +221,14 @@ fn no_records(
     let commons = list_all(alloc, stated)?;
     let order = order_of(alloc, names, commons.as_slice())?;
     let mut known = BTreeSet::new(alloc);
-    spread_in_order(
+    add_non_records_in_order(
         alloc,
         names,
         commons.as_slice(),
         order.as_slice(),
         &mut known,
     )?;
-    while has_spread(alloc, names, stated, &mut known)? {}
+    while has_added_non_record(alloc, names, stated, &mut known)? {}
     Ok(known)
 }
 
@@ -249,15 +251,15 @@ fn is_record(
 
 /// Returns `false` if the context of an action is, by `known`, not a record; `true` otherwise, also if there is no
 /// context.
-fn is_context(
+fn has_record_context(
     alloc: Global,
     names: &Names,
     known: &BTreeSet<String>,
     own: &Option<TypeName>,
-    stated: &Option<StatedUse>,
+    stated: &Option<StatedAppliesTo>,
 ) -> Result<bool, NoMemory>
     ensures { IfOk result (λ b. b ≡ is_record_in (λ q. has_name known.now q) (scope_of names.now) own.now
-        (option_map use_view stated.now)) }
+        (option_map applies_to_view stated.now)) }
 {
     match stated {
         None => Ok(true),
@@ -297,7 +299,7 @@ fn are_contexts(
         (map action_view stated.now)) }
 {
     for item in stated {
-        let passes = is_context(alloc, names, known, own, &item.applies_to)?;
+        let passes = has_record_context(alloc, names, known, own, &item.applies_to)?;
         if !passes {
             return Ok(false);
         }

@@ -1,6 +1,6 @@
 //! Expanded types.
 ghost use Rattle.std.specs.Prelude.{◌≡◌, IfOk, IfErr};
-ghost use Rattle.schema_types.specs.Cedar.{HasSharedContent};
+ghost use Rattle.schema_types.specs.Cedar.{ContainsTypeOrName};
 ghost use Rattle.schema_types.specs.CedarViews.{cedar_view};
 
 use plain::{Items, NoMemory, Shared, Text};
@@ -40,7 +40,7 @@ impl CedarType {
     ///   would overflow. Copies of other types never fail.
     pub fn copy(&self) -> Result<CedarType, NoMemory>
         ensures same { IfOk result (λ ty. ty ≡ self.now) }
-        ensures memory { IfErr result (λ e. HasSharedContent (cedar_view self.now)) }
+        ensures memory { IfErr result (λ e. ContainsTypeOrName (cedar_view self.now)) }
     {
         match self {
             CedarType::Text => Ok(CedarType::Text),

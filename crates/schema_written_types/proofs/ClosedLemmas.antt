@@ -5,7 +5,7 @@ use Rattle.schema_types.specs.Qualified.{Qualified, QualifiedFields}
 use Rattle.schema_types.specs.Expansions.{Declarations}
 use Rattle.schema_types.specs.Mentions.{Mentions, FieldsMention, IsClosed}
 use Rattle.schema_written_types.specs.TypeTables.{Extent, TableEntry, TypeTable, AreWritten}
-use Rattle.schema_written_types.specs.inner.Table.{leaf_size, no_size, above, side_by_side, size_in, sizes_in, HasSize}
+use Rattle.schema_written_types.specs.inner.Table.{leaf_size, no_size, node_size, side_by_side, size_in, sizes_in, HasSize}
 
 mutual
   unfolding size_in
@@ -16,8 +16,8 @@ mutual
   sized known qualified.boolean h = (leaf_size, refl)
   sized known qualified.decimal h = (leaf_size, refl)
   sized known qualified.ipaddr h = (leaf_size, refl)
-  sized known (qualified.set r) h = let p = sized known r h in (above p.0, rw p.1 refl)
-  sized known (qualified.record_of rs) h = let p = fields_sized known no_size rs h in (above p.0, rw p.1 refl)
+  sized known (qualified.set r) h = let p = sized known r h in (node_size p.0, rw p.1 refl)
+  sized known (qualified.record_of rs) h = let p = fields_sized known no_size rs h in (node_size p.0, rw p.1 refl)
   sized known (qualified.entity n) h = (leaf_size, refl)
   sized known (qualified.common q) h = let p = h q refl in (p.0.size, rw p.1 refl)
 

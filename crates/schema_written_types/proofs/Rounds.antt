@@ -5,15 +5,15 @@ use Rattle.std.specs.Str.{bytes_eq}
 use Rattle.std.specs.BTreeMap.{btree_map_len, get, get_by_text, Updates}
 use Rattle.std.proofs.lemmas.Map.Text.{btree_map_updates_text}
 use Rattle.std.proofs.lemmas.Slice.Eq.{bytes_eq-Decides}
-use Rattle.schema_written_types.specs.declared.table.Known.{Known}
+use Rattle.schema_written_types.specs.declared.table.CommonEntry.{CommonEntry}
 use Rattle.schema_types.specs.Qualified as qualified
 use Rattle.schema_types.specs.Qualified.{Qualified}
 use Rattle.schema_types.specs.Expansions as written
 use Rattle.schema_types.specs.Expansions.{Declarations, Declares}
-use Rattle.schema_written_types.specs.TypeTables.{Extent, TableEntry, TypeTable, IsKnown, IsTable, AreWritten}
+use Rattle.schema_written_types.specs.TypeTables.{Extent, TableEntry, TypeTable, IsEntryFor, IsTable, AreWritten}
 use Rattle.schema_written_types.specs.inner.Table.{fits, size_in, written_in, built_of, AreSettled, all_known}
 use Rattle.schema_written_types.specs.TableViews.{known_view, type_table}
-use Rattle.schema_written_types.specs.inner.Rounds.{Adds, KeepsTable, Steps, Rounds}
+use Rattle.schema_written_types.specs.inner.Rounds.{AddsToTable, KeepsTable, Steps, Rounds}
 use Rattle.schema_types.specs.Outcome.{SomeHasNoExpansion}
 use Rattle.schema_types.specs.QualifiedViews.{qualified_view, resolved_common_view}
 use Rattle.schema_types.specs.declared.qualified.ResolvedCommon.{ResolvedCommon}
@@ -22,7 +22,7 @@ use Rattle.schema_written_types.proofs.Sizes.{within, fits_small, fits_large}
 use Rattle.schema_written_types.proofs.Tables.{sound, has_size, known_or, none_some}
 
 abbrev Map : Type 0
-Map = BTreeMap (String Global) Known
+Map = BTreeMap (String Global) CommonEntry
 
 some_is : {A : Type 0} (x y : A) → (let o : Option A = Some x in o) ≡ Some y → x ≡ y
 some_is x y e = cc
@@ -35,14 +35,14 @@ built_small known s r e = rw e refl
 built_large : (known : TypeTable) (s : Extent) (r : Qualified) → fits s ≡ false → built_of known s r ≡ None
 built_large known s r e = rw e refl
 
-stands_at : (commons : Declarations) (d : List ℕ × Qualified) (old new : Map) → Declares commons d.0 d.1 → IsTable commons (type_table old) → (a : Adds d old new) → (q : List ℕ) (k : TableEntry) (b : Bool) → bytes_eq d.0 q ≡ b
-    → cond b (Some a.added) (type_table old q) ≡ Some k → IsKnown commons q k
+stands_at : (commons : Declarations) (d : List ℕ × Qualified) (old new : Map) → Declares commons d.0 d.1 → IsTable commons (type_table old) → (a : AddsToTable d old new) → (q : List ℕ) (k : TableEntry) (b : Bool) → bytes_eq d.0 q ≡ b
+    → cond b (Some a.added) (type_table old q) ≡ Some k → IsEntryFor commons q k
 stands_at commons d old new here h a q k false apart e = h q k e
 stands_at commons d old new here h a q k true same e =
     let is : a.added ≡ k = some_is a.added k e in
     let key : d.0 ≡ q = (bytes_eq-Decides d.0 q).0 same in
     let f = sound commons (type_table old) h d.1 a.added.size a.size in
-    let at_d : IsKnown commons d.0 a.added = record {
+    let at_d : IsEntryFor commons d.0 a.added = record {
       type = f.type;
       is_written = written.common d.0 d.1 f.type here f.is_written;
       size_is = f.size_is;
@@ -50,7 +50,7 @@ stands_at commons d old new here h a q k true same e =
           let fit = fits_small a.added.size f.type f.size_is small in
           a.whole ∙ built_small (type_table old) a.added.size d.1 fit ∙ f.at_hand (within a.added.size fit);
       unbuilt = λ large. a.whole ∙ built_large (type_table old) a.added.size d.1 (fits_large a.added.size f.type f.size_is large);
-    } in subst (λ (x : TableEntry). IsKnown commons q x) is (subst (λ (x : List ℕ). IsKnown commons x a.added) key at_d)
+    } in subst (λ (x : TableEntry). IsEntryFor commons q x) is (subst (λ (x : List ℕ). IsEntryFor commons x a.added) key at_d)
 
 step_sound : (commons : Declarations) (d : List ℕ × Qualified) (old new : Map) → Declares commons d.0 d.1 → IsTable commons (type_table old) → Steps d old new → IsTable commons (type_table new)
 step_sound commons d old new here h (inl s) = subst (λ (t : Map). IsTable commons (type_table t)) (sym s.same) h
@@ -152,23 +152,23 @@ has_no_expansion commons known settled lacks =
 
 -- ---- what an insertion adds
 
-pub added_at : (name : List ℕ) (r : Qualified) (old new : Map) (key : String Global) (k : Known) (o : Option Known) → string_bytes key ≡ name
+pub added_at : (name : List ℕ) (r : Qualified) (old new : Map) (key : String Global) (k : CommonEntry) (o : Option CommonEntry) → string_bytes key ≡ name
     → (is_some (get_by_text old name) ≡ false) → Updates string_cmp old new key (Some k) → btree_map_len new ≡ btree_map_len old + (if is_some o then 0 else 1) → o ≡ get string_cmp old key → size_in (type_table old) r ≡ Some (known_view k).size → (known_view k).whole ≡ built_of (type_table old) (known_view k).size r
     → Steps (name, r) old new
 added_at name r old new key k o named absent updates len was size whole = inr (record {
-  longer = let gone : is_some o ≡ false = ap (λ (x : Option Known). is_some x) was ∙ ap (λ (bs : List ℕ). is_some (get_by_text old bs)) named ∙ absent in let more = ap (λ (b : Bool). btree_map_len old + cond b 0 1) gone in omega (arith, len, more);
+  longer = let gone : is_some o ≡ false = ap (λ (x : Option CommonEntry). is_some x) was ∙ ap (λ (bs : List ℕ). is_some (get_by_text old bs)) named ∙ absent in let more = ap (λ (b : Bool). btree_map_len old + cond b 0 1) gone in omega (arith, len, more);
   added = known_view k;
   size = size;
   whole = whole;
   known = λ q. known_at q;
 })
   where
-    by_test : (b : Bool) (x y : Option Known) → option_map known_view (cond b x y) ≡ cond b (option_map known_view x) (option_map known_view y)
+    by_test : (b : Bool) (x y : Option CommonEntry) → option_map known_view (cond b x y) ≡ cond b (option_map known_view x) (option_map known_view y)
     by_test true x y = refl
     by_test false x y = refl
 
     known_at : (q : List ℕ) → type_table new q ≡ cond (bytes_eq name q) (Some (known_view k)) (type_table old q)
-    known_at q = ap (λ (x : Option Known). option_map known_view x) (btree_map_updates_text (string_bytes key) old new (Some k) updates q) ∙ rw named (by_test (bytes_eq name q) (Some k) (get_by_text old q))
+    known_at q = ap (λ (x : Option CommonEntry). option_map known_view x) (btree_map_updates_text (string_bytes key) old new (Some k) updates q) ∙ rw named (by_test (bytes_eq name q) (Some k) (get_by_text old q))
 
 -- ---- the declarations that are left
 

@@ -7,7 +7,7 @@ use Rattle.schema_types.specs.Cedar.{Cedar, CedarFields}
 use Rattle.schema_types.specs.Expansions as written
 use Rattle.schema_types.specs.Expansions.{Declarations, Declares, IsExpansion, AreFieldExpansions}
 use Rattle.schema_written_types.specs.TypeTables.{Extent, size_of, TableEntry, TypeTable, IsTable}
-use Rattle.schema_written_types.specs.inner.Table.{IsWithin, leaf_size, no_size, above, side_by_side, size_in, sizes_in, written_in, fields_in, AreSettled}
+use Rattle.schema_written_types.specs.inner.Table.{IsWithin, leaf_size, no_size, node_size, side_by_side, size_in, sizes_in, written_in, fields_in, AreSettled}
 use Rattle.schema_written_types.proofs.Sizes.{not_large}
 
 -- ---- nothing that a settled table lacks has an end
@@ -40,9 +40,9 @@ mutual
   has_size commons known h _ _ written.decimal = (leaf_size, refl)
   has_size commons known h _ _ written.ipaddr = (leaf_size, refl)
   has_size commons known h _ _ (written.set r t w) =
-      let p = has_size commons known h r t w in (above p.0, rw p.1 refl)
+      let p = has_size commons known h r t w in (node_size p.0, rw p.1 refl)
   has_size commons known h _ _ (written.record_of rs ts w) =
-      let p = have_sizes commons known h no_size rs ts w in (above p.0, rw p.1 refl)
+      let p = have_sizes commons known h no_size rs ts w in (node_size p.0, rw p.1 refl)
   has_size commons known h _ _ (written.entity n) = (leaf_size, refl)
   has_size commons known h _ _ (written.common q r t d w) =
       let p = has_size commons known h r t w in name_has_size known q (known_or (known q)) r p.0 p.1 (settled known commons h q r d)
@@ -90,7 +90,7 @@ name_written : (known : TypeTable) (q : List ℕ) (k : TableEntry) (t : Cedar) �
 unfolding written_in
 name_written known q k t e w = rw e w
 
-within_above : (x s : Extent) → above x ≡ s → IsWithin s → IsWithin x
+within_above : (x s : Extent) → node_size x ≡ s → IsWithin s → IsWithin x
 within_above x s e w = let a = ap (λ (y : Extent). y.parts) e in let b = ap (λ (y : Extent). y.deep) e in (omega (arith, a, w.0), omega (arith, b, w.1))
 
 mutual
@@ -103,7 +103,7 @@ mutual
   sound commons known h qualified.decimal s e = leaf commons known qualified.decimal cedar.decimal s written.decimal refl refl e
   sound commons known h qualified.ipaddr s e = leaf commons known qualified.ipaddr cedar.ipaddr s written.ipaddr refl refl e
   sound commons known h (qualified.set r) s e =
-      let p = mapped_some above (size_in known r) s e in
+      let p = mapped_some node_size (size_in known r) s e in
       let f = sound commons known h r p.0 p.1 in
       let parts_is = ap (λ (x : Extent). x.parts) (f.size_is) in
       let deep_is = ap (λ (x : Extent). x.deep) (f.size_is) in record {
@@ -113,7 +113,7 @@ mutual
         at_hand = λ w. rw (f.at_hand (within_above p.0 s p.2 w)) refl;
       }
   sound commons known h (qualified.record_of rs) s e =
-      let p = mapped_some above (sizes_in known no_size rs) s e in
+      let p = mapped_some node_size (sizes_in known no_size rs) s e in
       let f = sound_fields commons known h no_size rs p.0 (record { parts = omega arith; deep = omega arith }) p.1 in
       let parts_is = f.parts_are in
       let deep_is = f.depth_is in record {

@@ -3,7 +3,7 @@ use Rattle.std.specs.Prelude.{option_map, String}
 use Rattle.std.specs.BTreeMap.{BTreeMap, get_by_text}
 use Rattle.std.specs.declared.alloc.Global.{Global}
 use Rattle.schema_written_types.specs.declared.table.Size.{Size}
-use Rattle.schema_written_types.specs.declared.table.Known.{Known}
+use Rattle.schema_written_types.specs.declared.table.CommonEntry.{CommonEntry}
 use Rattle.schema_types.specs.CedarViews.{cedar_view}
 use Rattle.schema_written_types.specs.TypeTables.{Extent, TableEntry, TypeTable}
 
@@ -12,8 +12,8 @@ use Rattle.schema_written_types.specs.TypeTables.{Extent, TableEntry, TypeTable}
 abbrev pub size_view : Size → Extent
 size_view s = record { parts = s.parts; deep = s.deep }
 
-abbrev pub known_view : Known → TableEntry
+abbrev pub known_view : CommonEntry → TableEntry
 known_view k = record { size = size_view k.size; whole = option_map cedar_view k.whole }
 
-abbrev pub type_table : BTreeMap (String Global) Known → TypeTable
+abbrev pub type_table : BTreeMap (String Global) CommonEntry → TypeTable
 type_table table q = option_map known_view (get_by_text table q)

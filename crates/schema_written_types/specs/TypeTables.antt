@@ -27,18 +27,18 @@ pub record TableEntry : Type 0 where
 abbrev pub TypeTable : Type 0
 TypeTable = List ℕ → Option TableEntry
 
--- `IsKnown commons q k` holds if the common type `q` has an expansion, and the entry `k` has the size of the expansion,
--- and the expansion itself if and only if it is not too large.
-pub record IsKnown (commons : Declarations) (q : List ℕ) (k : TableEntry) : Type 0 where
+-- `IsEntryFor commons q k` holds if the common type `q` has an expansion, and the entry `k` has the size of the
+-- expansion, and the expansion itself if and only if it is not too large.
+pub record IsEntryFor (commons : Declarations) (q : List ℕ) (k : TableEntry) : Type 0 where
   pub type : Cedar
   pub is_written : IsExpansion commons (common q) type
   pub size_is : k.size ≡ size_of type
   pub at_hand : (IsTooLarge type → ⊥) → k.whole ≡ Some type
   pub unbuilt : IsTooLarge type → k.whole ≡ None
 
--- `IsTable commons known` holds if each entry of the table `known` is right for its name (`IsKnown`).
+-- `IsTable commons known` holds if each entry of the table `known` is right for its name (`IsEntryFor`).
 abbrev pub IsTable : Declarations → TypeTable → Type 0
-IsTable commons known = (q : List ℕ) (k : TableEntry) → known q ≡ Some k → IsKnown commons q k
+IsTable commons known = (q : List ℕ) (k : TableEntry) → known q ≡ Some k → IsEntryFor commons q k
 
 -- `AreWritten commons known` holds if the table `known` has an entry for every declared name, and each entry is right.
 pub record AreWritten (commons : Declarations) (known : TypeTable) : Type 0 where

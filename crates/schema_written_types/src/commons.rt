@@ -15,7 +15,7 @@ ghost use Rattle.schema_types.specs.declared.fault.SchemaFault.TheVariants as Sc
 use crate::order::order_of;
 use crate::size::{is_within, size_of};
 use crate::write::write;
-use crate::{Known, Size, Table};
+use crate::{CommonEntry, Size, Table};
 use plain::NoMemory;
 use schema_types::{CedarType, QualifiedType, ResolvedCommon, SchemaFault};
 use std::alloc::Global;
@@ -57,7 +57,7 @@ fn add_if_ready(
     };
     let whole = write_within(alloc, ty, size, table)?;
     let key = String::from_str(alloc, name)?;
-    table.insert(key, Known { size, whole })?;
+    table.insert(key, CommonEntry { size, whole })?;
     Ok(())
 }
 

@@ -12,5 +12,5 @@ mod write;
 
 pub use commons::{demand_sizes, write_commons};
 pub use place_order::successors_first;
-pub use table::{Known, Size, Table};
+pub use table::{CommonEntry, Size, Table};
 pub use whole::write_whole;

@@ -7,14 +7,15 @@ use plain::NoMemory;
 use std::alloc::Global;
 use std::collections::VecDeque;
 
-/// A node on the path of the search, and how many of its edges were followed.
+/// A node on the path of the search, and how many of its edges were followed. The front of a deque of steps is the end
+/// of the path.
 #[derive(Clone, Copy)]
 pub(crate) struct Step {
     place: usize,
     followed: usize,
 }
 
-/// Returns the successors of a node; an empty slice past the end.
+/// Returns the successors of a node; an empty slice if `place` is not a node.
 fn ends_of(edges: &[Vec<usize>], place: usize) -> &[usize]
     ensures { result.now ≡ ends_at (graph_of edges.now) place }
 {
@@ -25,7 +26,8 @@ fn ends_of(edges: &[Vec<usize>], place: usize) -> &[usize]
     }
 }
 
-/// Returns whether a node was not seen before, and marks it as seen. Past the end, returns `false` and marks nothing.
+/// Returns whether a node was not seen before, and marks it as seen. If `place` is not a node, returns `false` and
+/// marks nothing.
 fn mark(seen: &mut Vec<bool>, place: usize) -> bool
     ensures new { result ≡ is_new seen.old.items place }
     ensures marks { seen.new.items ≡ slice_set seen.old.items place true }

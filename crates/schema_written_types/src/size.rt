@@ -1,6 +1,6 @@
 //! The size of an expanded type, up to one more than the limits of 10,000 nodes and a depth of 64.
 ghost use Rattle.std.specs.Prelude.{◌≡◌, option_map};
-ghost use Rattle.schema_written_types.specs.inner.Table.{leaf_size, no_size as none_of, above as above_of};
+ghost use Rattle.schema_written_types.specs.inner.Table.{leaf_size, no_size as none_of, node_size as above_of};
 ghost use Rattle.schema_written_types.specs.inner.Table.{side_by_side as side_by_side_of};
 ghost use Rattle.schema_written_types.specs.inner.Table.{fits, size_in, sizes_in};
 ghost use Rattle.schema_written_types.specs.TableViews.{size_view, type_table};
@@ -31,7 +31,7 @@ fn nothing() -> Size
 }
 
 /// Returns the size of a node whose parts together have this size.
-fn above(size: Size) -> Size
+fn node_size(size: Size) -> Size
     ensures { size_view result ≡ above_of (size_view size) }
 {
     Size {
@@ -74,11 +74,11 @@ pub(crate) fn size_of(ty: &QualifiedType, table: &Table) -> Option<Size>
         | QualifiedType::Ipaddr
         | QualifiedType::Entity(_) => Some(leaf()),
         QualifiedType::Set(element) => match size_of(element, table) {
-            Some(size) => Some(above(size)),
+            Some(size) => Some(node_size(size)),
             None => None,
         },
         QualifiedType::Record(fields) => match size_of_fields(fields, table) {
-            Some(size) => Some(above(size)),
+            Some(size) => Some(node_size(size)),
             None => None,
         },
         QualifiedType::Common(name) => known_size(name.as_str(), table),

@@ -14,7 +14,7 @@ pub struct Size {
 
 /// An entry of the table: the size of a common type's expansion, and the expansion unless it is too large.
 #[derive(Drop)]
-pub struct Known {
+pub struct CommonEntry {
     /// The size of the expansion.
     pub size: Size,
     /// The expansion; `None` if it is too large.
@@ -22,4 +22,4 @@ pub struct Known {
 }
 
 /// The entries of common types, by their full names.
-pub type Table = BTreeMap<String, Known>;
+pub type Table = BTreeMap<String, CommonEntry>;

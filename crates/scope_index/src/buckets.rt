@@ -99,7 +99,7 @@ fn put_under(
 
 // Removes the policy of an id from the bucket of an entity, given the buckets of the entity's type. Returns whether
 // this leaves an empty bucket.
-fn strike(named: &mut TypeBuckets, entity: &SharedText, id: &str) -> bool
+fn remove_from_bucket(named: &mut TypeBuckets, entity: &SharedText, id: &str) -> bool
     ensures turns { IsSetAtId entity.now id.now None named.old named.new }
     ensures none { IsTrue result → (q : List ℕ) → policy_of_entity_id named.new entity.now q ≡ None }
 {
@@ -117,14 +117,14 @@ fn strike(named: &mut TypeBuckets, entity: &SharedText, id: &str) -> bool
 fn take_named(named: &mut TypeBuckets, entity: &SharedText, id: &str)
     ensures { IsSetAtId entity.now id.now None named.old named.new }
 {
-    if strike(named, entity, id) {
+    if remove_from_bucket(named, entity, id) {
         named.remove(entity);
     }
 }
 
 // Removes the policy of an id from the bucket of an entity. Returns whether the entry of the entity's type then has
 // no buckets.
-fn strike_type(under: &mut EntityBuckets, uid: &EntityUid, id: &str) -> bool
+fn remove_from_type(under: &mut EntityBuckets, uid: &EntityUid, id: &str) -> bool
     ensures turns { IsSetAtUid uid.now id.now None under.old under.new }
     ensures none { IsTrue result → (u : PlainUid) (q : List ℕ) → IsTrue (is_text uid.now.type_name u.type_name)
         → policy_of_uid under.new u q ≡ None }
@@ -143,7 +143,7 @@ fn strike_type(under: &mut EntityBuckets, uid: &EntityUid, id: &str) -> bool
 fn take_under(under: &mut EntityBuckets, uid: &EntityUid, id: &str)
     ensures { IsSetAtUid uid.now id.now None under.old under.new }
 {
-    if strike_type(under, uid, id) {
+    if remove_from_type(under, uid, id) {
         under.remove(&uid.type_name);
     }
 }

@@ -20,7 +20,7 @@ use Rattle.site.specs.declared.event.EventReply.{EventReply}
 use Rattle.site.specs.declared.event.EventReply.TheVariants.{Replied, Message, Summary}
 use Rattle.site.specs.Sites.{SiteName, SentSummary, World, numbered, start}
 use Rattle.site.specs.Worlds.{input_of, answer_among, answer_of, after, HappensAt, Happens, Leads}
-use Rattle.site.specs.Worlds.{AnswersFixWorlds}
+use Rattle.site.specs.Worlds.{RepliesDetermineWorlds}
 
 replied_same : (r x : Reply) → Replied r ≡ Replied x → r ≡ x
 replied_same r x e = cc
@@ -194,5 +194,5 @@ module _ (schema : StatedSchema) (left : LeavesWhatItTook schema) (sites : List 
       let same = happens_once w e a h.0 k.0 h.1 k.1 in
       leads_once k.0 es rs v v2 (subst (λ (m : World). Leads (Step schema) sites m es rs v) same h.2) k.2
 
-pub answers_fix_worlds : ((schema : StatedSchema) → LeavesWhatItTook schema) → AnswersFixWorlds
-answers_fix_worlds left schema sites es rs v w h k = leads_once schema (left schema) sites (start sites) es rs v w h k
+pub replies_determine_worlds : ((schema : StatedSchema) → LeavesWhatItTook schema) → RepliesDetermineWorlds
+replies_determine_worlds left schema sites es rs v w h k = leads_once schema (left schema) sites (start sites) es rs v w h k

@@ -23,7 +23,7 @@ use Rattle.site.specs.Sites.{SiteName, first_sites, numbered, set_numbered, Sent
 use Rattle.site.specs.Sites.{start}
 use Rattle.site.specs.Worlds.{HasTexts, input_of, answer_among, message_bytes, summary_bytes, message_made}
 use Rattle.site.specs.Worlds.{summary_made, after, HappensAt, Happens, Leads}
-use Rattle.site.specs.Played.{IsSiteOf, AreSitesOf, IsViewOf, IsRunTo}
+use Rattle.site.specs.SystemViews.{IsSiteOf, AreSitesOf, IsViewOf, IsRunTo}
 use Rattle.site.specs.inner.Playing.{input_among, AnswersOperation, IsEventStep}
 
 -- ---- the sites

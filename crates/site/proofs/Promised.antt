@@ -29,7 +29,7 @@ use Rattle.site.specs.declared.event.EventReply.TheVariants.{Unknown, Replied}
 use Rattle.site.specs.Sites.{SiteName, AreSites, numbered, SentSummary, SentMessage, World, content, part_since}
 use Rattle.site.specs.Sites.{start}
 use Rattle.site.specs.Worlds.{HappensAt, IsStepAt, Happens, Leads, input_of, WasIssued}
-use Rattle.site.specs.Promises.{KeepsPromises, StatesBy, IssuesBy, WorldsKeepPromises}
+use Rattle.site.specs.Promises.{KeepsPromises, DescribesBy, IssuesBy, WorldsKeepPromises}
 use Rattle.site.proofs.Growing.{StoreLaws, has_update}
 use Rattle.site.proofs.Issued.{Issue, IsLogged, issues_of, issues, was_issued, is_logged}
 use Rattle.site.proofs.Keeping.{AllIssued, Keeps, keeps_start, exchanged, get_set_numbered, some_same}
@@ -187,7 +187,7 @@ module _ (schema : StatedSchema) (sites : List SiteName) (are : AreSites sites) 
     module _ (es : List Event) (rs : List EventReply)
         (to : (u : Update) → IsLogged log u → WasIssued (IssuesBy schema) sites es rs u)
         (from : (u : Update) → WasIssued (IssuesBy schema) sites es rs u → IsLogged log u) where
-      promises : KeepsPromises (Step schema) (StatesBy schema) (IssuesBy schema) sites es rs w
+      promises : KeepsPromises (Step schema) (DescribesBy schema) (IssuesBy schema) sites es rs w
       promises = record {
         stored = λ k s h u c. to u (K.stored k s h u (has_update s u c));
         sent = λ k m us h is u c. to u (known k m h u (has_update (content m) u

@@ -1,7 +1,7 @@
 pub mod Sites
 pub mod Worlds
 pub mod Promises
-pub mod Played
+pub mod SystemViews
 pub mod inner
 -- Specifications of lower crates, re-exported.
 pub use Rattle.site_steps.specs as site_steps

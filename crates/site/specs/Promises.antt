@@ -24,9 +24,9 @@ use Rattle.site.specs.Sites.{SiteName, AreSites, numbered, SentSummary, SentMess
 use Rattle.site.specs.Worlds.{Happens, IsWorld, WasIssued, issued_by}
 
 -- The promises have three relations as parameters. `Steps n s i r t`: the site named `n` with the store `s` may reply
--- `r` to the input `i` and then have the store `t`. `States bytes us`: `bytes` are a message with the updates `us`.
+-- `r` to the input `i` and then have the store `t`. `Describes bytes us`: `bytes` are a message with the updates `us`.
 -- `Issues d r u`: the operation `d` with the reply `r` issues the update `u`.
-module _ (Steps : SiteName → Store → Input → Reply → Store → Type 0) (States : List ℕ → List Update → Type 0)
+module _ (Steps : SiteName → Store → Input → Reply → Store → Type 0) (Describes : List ℕ → List Update → Type 0)
     (Issues : Operation → Reply → Update → Type 0) where
   -- `KeepsPromises sites es rs w` holds if each promise below holds in the state `w` of a system of the sites `sites`,
   -- after the events `es` with the replies `rs`.
@@ -35,7 +35,7 @@ module _ (Steps : SiteName → Store → Input → Reply → Store → Type 0) (
     -- reply has the entry's stamp, at the site that the stamp names.
     pub stored : (k : ℕ) (s : Store) → numbered w.stores k ≡ Some s → (u : Update) → Contains (updates s) u
         → WasIssued Issues sites es rs u
-    pub sent : (k : ℕ) (m : SentMessage) (us : List Update) → slice_get w.messages k ≡ Some m → States m.bytes us
+    pub sent : (k : ℕ) (m : SentMessage) (us : List Update) → slice_get w.messages k ≡ Some m → Describes m.bytes us
         → (u : Update) → Contains us u → WasIssued Issues sites es rs u
     -- A stamp identifies an update: equal stamps mean equal updates, wherever they occur.
     pub alike : (u v : Update) → WasIssued Issues sites es rs u → WasIssued Issues sites es rs v
@@ -49,7 +49,7 @@ module _ (Steps : SiteName → Store → Input → Reply → Store → Type 0) (
         → numbered v.stores i ≡ Some (joined_stores s m.whole)
     -- Messages are faithful: a state has the updates of the store that it was made from, and a delta has those updates
     -- whose names its summary lacks or has with a smaller stamp.
-    pub read : (k : ℕ) (m : SentMessage) → slice_get w.messages k ≡ Some m → States m.bytes (updates (content m))
+    pub read : (k : ℕ) (m : SentMessage) → slice_get w.messages k ≡ Some m → Describes m.bytes (updates (content m))
     -- Messages are understood: at any site and over any store, a message or a summary that was made is rejected only
     -- for `NoMemory`.
     pub taken : (k : ℕ) (m : SentMessage) (n : SiteName) (s t : Store) (f : SiteFault)
@@ -70,10 +70,10 @@ module _ (Steps : SiteName → Store → Input → Reply → Store → Type 0) (
 
 -- ---- by the functions that the contracts of a site cite
 
--- `StatesBy schema bytes us` holds if the parsing function `updates_stated` gives the updates `us` for the message
+-- `DescribesBy schema bytes us` holds if the parsing function `updates_stated` gives the updates `us` for the message
 -- `bytes` of `schema`.
-abbrev pub StatesBy : StatedSchema → List ℕ → List Update → Type 0
-StatesBy schema bytes us = updates_stated schema.label bytes ≡ Ok us
+abbrev pub DescribesBy : StatedSchema → List ℕ → List Update → Type 0
+DescribesBy schema bytes us = updates_stated schema.label bytes ≡ Ok us
 
 -- `IssuesBy schema d r u` holds if `u` is the update that the operation `d` with the reply `r` got a stamp for.
 abbrev pub IssuesBy : StatedSchema → Operation → Reply → Update → Type 0
@@ -83,11 +83,11 @@ IssuesBy schema d r u = Contains (issued_by schema d r) u
 -- events `es` with the replies `rs` lead.
 abbrev pub WorldKeepsPromises : StatedSchema → List SiteName → List Event → List EventReply → Type 0
 WorldKeepsPromises schema sites es rs =
-    AlwaysKeepsPromises (Step schema) (StatesBy schema) (IssuesBy schema) sites es rs
+    AlwaysKeepsPromises (Step schema) (DescribesBy schema) (IssuesBy schema) sites es rs
 
 -- `WorldsKeepPromises schema`: the promises hold for all sites of `schema` with distinct names and all lists of events.
 abbrev pub WorldsKeepPromises : StatedSchema → Type 0
-WorldsKeepPromises schema = SystemsKeepPromises (Step schema) (StatesBy schema) (IssuesBy schema)
+WorldsKeepPromises schema = SystemsKeepPromises (Step schema) (DescribesBy schema) (IssuesBy schema)
 
 -- `AllWorldsKeepPromises`: the promises hold for all sites, with distinct names, of each schema that bytes describe.
 abbrev pub AllWorldsKeepPromises : Type 0

@@ -138,9 +138,9 @@ module _ (Steps : SiteName → Store → Input → Reply → Store → Type 0) w
   abbrev pub IsWorld : List SiteName → List Event → List EventReply → World → Type 0
   IsWorld sites es rs w = Leads sites (start sites) es rs w
 
--- `AnswersFixWorlds`: events and replies together determine the state of a system.
-abbrev pub AnswersFixWorlds : Type 0
-AnswersFixWorlds = (schema : StatedSchema) (sites : List SiteName) (es : List Event) (rs : List EventReply)
+-- `RepliesDetermineWorlds`: events and replies together determine the state of a system.
+abbrev pub RepliesDetermineWorlds : Type 0
+RepliesDetermineWorlds = (schema : StatedSchema) (sites : List SiteName) (es : List Event) (rs : List EventReply)
     (v w : World) → IsWorld (Step schema) sites es rs v → IsWorld (Step schema) sites es rs w → v ≡ w
 
 -- ---- what was issued

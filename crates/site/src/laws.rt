@@ -2,7 +2,7 @@
 ghost use Rattle.std.specs.Prelude.{◌<◌, ℕ};
 ghost use Rattle.site.specs.Sites.{AreSites, first_sites};
 ghost use Rattle.site.specs.Promises.{AllWorldsKeepPromises};
-ghost use Rattle.site.specs.Worlds.{AnswersFixWorlds};
+ghost use Rattle.site.specs.Worlds.{RepliesDetermineWorlds};
 
 use site_steps::{
     Entity, Policy, SchemaTexts, deltas_are_joined, inputs_have_one_outcome, json_texts_are_utf8,
@@ -41,8 +41,8 @@ pub fn worlds_keep_promises()
 
 /// Proves that events and replies together determine a system: the store of each site, and each message and summary
 /// that was made. No-op.
-pub fn answers_fix_worlds()
-    ensures { AnswersFixWorlds }
+pub fn replies_determine_worlds()
+    ensures { RepliesDetermineWorlds }
 {
     runs_leave_what_they_took();
 }

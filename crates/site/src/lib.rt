@@ -11,7 +11,7 @@ mod world;
 
 pub use entities::{entities_are_read_as_stated, requests_are_read_as_stated};
 pub use event::{Event, EventReply, Operation};
-pub use laws::{answers_fix_worlds, first_sites_are_distinct, worlds_keep_promises};
+pub use laws::{first_sites_are_distinct, replies_determine_worlds, worlds_keep_promises};
 pub use site_steps::{
     EntityFault, Found, Input, Put, Reply, Scratch, Site, SiteFault, SiteName, Stamp, Taken,
     answer, entity_texts_are_read_as_stated, inputs_have_one_outcome, is_site_name,

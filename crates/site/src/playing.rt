@@ -5,7 +5,7 @@ ghost use Rattle.std.specs.Prelude.{◌≡◌, List, ◌++◌, IfOk, OnOk, lengt
 ghost use Rattle.site_steps.specs.SiteViews.{schema_of, store_in, IsSameSite};
 ghost use Rattle.site_steps.specs.Inputs.{input_of};
 ghost use Rattle.site.specs.Worlds.{HasTexts, answer_among, message_bytes, summary_bytes as bytes_made};
-ghost use Rattle.site.specs.Played.{IsRunTo, IsViewOf};
+ghost use Rattle.site.specs.SystemViews.{IsRunTo, IsViewOf};
 ghost use Rattle.site.specs.inner.Playing.{input_among, AnswersOperation, IsEventStep};
 
 use crate::event::{Event, EventReply, Operation};

@@ -6,7 +6,7 @@ ghost use Rattle.site_steps.specs.stamped_store.SiteNames.{five_digits};
 ghost use Rattle.site_steps.specs.stamped_store.Store.{store_of};
 ghost use Rattle.site.specs.Sites.{SiteName as Named, first_sites, start};
 ghost use Rattle.site.specs.Promises.{WorldKeepsPromises};
-ghost use Rattle.site.specs.Played.{IsSiteOf, AreSitesOf, IsRunTo};
+ghost use Rattle.site.specs.SystemViews.{IsSiteOf, AreSitesOf, IsRunTo};
 
 use crate::event::{Event, EventReply};
 use crate::laws::{first_sites_are_distinct, worlds_keep_promises};

@@ -19,7 +19,7 @@ use Rattle.site_steps.specs.stamped_store.Store.{Store, updates}
 use Rattle.site_steps.specs.message_format.Messages.{state_text, updates_stated}
 use Rattle.schema_decisions.specs.answer_lines.declared.refusal.Refusal.{Refusal}
 use Rattle.schema_decisions.specs.answer_lines.Refusals.{bad_shape, no_memory}
-use Rattle.plain.specs.Refused.{OrNoMemory}
+use Rattle.plain.specs.AllocationErrors.{OrNoMemory}
 use Rattle.schema_decisions.specs.decision_texts.EntityArrays.{entities_in, entities_of}
 use Rattle.schema_decisions.specs.UnderSchema.{reading_under}
 use Rattle.site_steps.specs.SiteViews.{SiteView, schema_of, store_in, IsSameSite}

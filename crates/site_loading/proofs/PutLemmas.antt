@@ -6,7 +6,7 @@ use Rattle.schema_decisions.specs.schema.Views.{schema_view}
 use Rattle.schema_decisions.specs.schema.Schemas.{StatedSchema}
 use Rattle.site_steps.specs.stamped_store.Store.{Store}
 use Rattle.schema_decisions.specs.answer_lines.declared.refusal.Refusal.{Refusal}
-use Rattle.plain.specs.Refused.{OrNoMemory}
+use Rattle.plain.specs.AllocationErrors.{OrNoMemory}
 use Rattle.schema_decisions.specs.answer_lines.Refusals.{no_memory}
 use Rattle.site_steps.specs.declared.fault.SiteFault.{SiteFault}
 use Rattle.site_steps.specs.declared.fault.SiteFault.TheVariants as fault

@@ -4,7 +4,7 @@ ghost use Rattle.serde_json.specs.Data.{Data};
 ghost use Rattle.serde_json.specs.View.{view};
 ghost use Rattle.schema_decisions.specs.json_words.Arrays.{unread_members};
 ghost use Rattle.site_steps.specs.SiteViews.{schema_of, store_in, IsSameSite};
-ghost use Rattle.plain.specs.Refused.{OrNoMemory};
+ghost use Rattle.plain.specs.AllocationErrors.{OrNoMemory};
 ghost use Rattle.schema_decisions.specs.answer_lines.Refusals.{no_memory};
 ghost use Rattle.site_loading.specs.Puts.{entity_put, Accepts, AcceptsAll, RefusesAt, RefusesFirst};
 ghost use Rattle.site_loading.specs.Loads.{LoadsEntities, RefusesEntities};

@@ -1,7 +1,7 @@
 //! The state of a site after a load of files.
 ghost use Rattle.std.specs.Prelude.{◌≡◌, option_map, IfOk, IfErr, OnOk};
 ghost use Rattle.site_steps.specs.SiteViews.{schema_of, store_in, IsSameSite};
-ghost use Rattle.plain.specs.Refused.{OrNoMemory};
+ghost use Rattle.plain.specs.AllocationErrors.{OrNoMemory};
 ghost use Rattle.schema_decisions.specs.answer_lines.Refusals.{no_memory};
 ghost use Rattle.site_loading.specs.Loads.{IsLoadedState, IsRefused, LoadsIfNamed, RefusesIfNamed};
 ghost use Rattle.site_loading.specs.Loads.{LoadsPolicies, RefusesPolicies, LoadsEntities, RefusesEntities};

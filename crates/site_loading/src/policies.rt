@@ -2,7 +2,7 @@
 ghost use Rattle.std.specs.Prelude.{◌≡◌, length, map, string_bytes, IfOk, IfErr, OnOk};
 ghost use Rattle.grammar_files.specs.Cuts.{AreTextsOf};
 ghost use Rattle.site_steps.specs.SiteViews.{schema_of, store_in, IsSameSite};
-ghost use Rattle.plain.specs.Refused.{OrNoMemory};
+ghost use Rattle.plain.specs.AllocationErrors.{OrNoMemory};
 ghost use Rattle.schema_decisions.specs.answer_lines.Refusals.{no_memory};
 ghost use Rattle.site_loading.specs.Puts.{policy_put, Accepts, AcceptsAll, RefusesAt, RefusesFirst};
 ghost use Rattle.site_loading.specs.Loads.{policy_puts, LoadsPolicies, RefusesPolicies};

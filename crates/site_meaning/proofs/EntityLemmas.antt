@@ -17,7 +17,7 @@ use Rattle.stamped_store.specs.declared.entry.Entry.{Entry}
 use Rattle.stamped_store.specs.declared.entry.ReadText.{ReadText}
 use Rattle.stamped_store.specs.EntryOrder.{PlainEntry, plain_entry, body_bytes}
 use Rattle.stamped_store.specs.Abstraction.{abstract_entries}
-use Rattle.stamped_store.specs.Stored.{value_at}
+use Rattle.stamped_store.specs.JoinMaps.{value_at}
 use Rattle.stamped_store.specs.Store.{Store, Update, StoreEntries, updates, abstract_store, abstract_updates, id_name}
 use Rattle.stamped_store.specs.Store.{entity_name}
 use Rattle.stamped_store.specs.Contents.{text_under}

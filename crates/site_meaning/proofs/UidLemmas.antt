@@ -17,7 +17,7 @@ use Rattle.entity_hierarchy.specs.ancestor_search.Hierarchy.{IsAscending, names}
 use Rattle.entity_hierarchy.specs.entity_data.declared.entity.Entity.{Entity}
 use Rattle.stamped_store.specs.declared.entry.Entry.{Entry}
 use Rattle.stamped_store.specs.declared.entry.ReadText.{ReadText}
-use Rattle.stamped_store.specs.Stored.{value_at}
+use Rattle.stamped_store.specs.JoinMaps.{value_at}
 use Rattle.site_meaning.specs.TextsRead.{entity_read, entity_at, uids_read}
 use Rattle.site_meaning.specs.inner.Listing.{uid_with, uids_with_text}
 

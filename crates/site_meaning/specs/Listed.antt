@@ -13,7 +13,7 @@ use Rattle.entity_hierarchy.specs.ancestor_search.Deciding.{same_uid}
 use Rattle.entity_hierarchy.specs.entity_data.declared.entity.Entity.{Entity}
 use Rattle.entity_hierarchy.specs.entity_data.Entities.{AreListed}
 use Rattle.stamped_store.specs.declared.entry.Entry.{Entry}
-use Rattle.stamped_store.specs.Stored.{value_at}
+use Rattle.stamped_store.specs.JoinMaps.{value_at}
 use Rattle.site_meaning.specs.StoreMeaning.{data_of, data_in}
 use Rattle.site_meaning.specs.TextsRead.{entity_at, uids_read}
 

@@ -11,7 +11,7 @@ use Rattle.entity_hierarchy.specs.authoriser.Answers.{NamedPolicy}
 use Rattle.entity_hierarchy.specs.entity_data.declared.entity.Entity.{Entity}
 use Rattle.stamped_store.specs.declared.entry.Entry.{Entry}
 use Rattle.stamped_store.specs.declared.entry.ReadText.{ReadText}
-use Rattle.stamped_store.specs.Stored.{value_at}
+use Rattle.stamped_store.specs.JoinMaps.{value_at}
 
 -- `policy_read id t` is the list of the one parsed policy of the text `t`, with the name `id`; it is empty if `t` is
 -- `None`.

@@ -126,7 +126,7 @@ impl Given {
     /// Appends which caches of a site are present, or how many policies its last answer evaluated.
     pub(crate) fn push_measure(&self, word: &str, name: &str, line: &mut Line) {
         match (word, site_of(&self.sites, name)) {
-            ("tried", Some(site)) => line.push_number(site.tried() as u64),
+            ("tried", Some(site)) => line.push_number(site.evaluated() as u64),
             (_, Some(site)) => push_caches(line, site.caches_present()),
             _ => line.push(BAD_ROW),
         }

@@ -11,7 +11,7 @@ use Rattle.values.specs.declared.entity_uid.EntityUid.{EntityUid}
 use Rattle.values.specs.declared.request.Request.{Request}
 use Rattle.site_meaning.specs.policy_grammar.declared.policy.Effect.{Effect}
 use Rattle.site_meaning.specs.policy_grammar.declared.policy.Effect.TheVariants.{Permit, Forbid}
-use Rattle.site_meaning.specs.policy_grammar.Whole.{expression_of}
+use Rattle.site_meaning.specs.policy_grammar.PolicyExpression.{expression_of}
 use Rattle.site_meaning.specs.ancestor_search.Decided.{is_same}
 use Rattle.site_meaning.specs.ancestor_search.Deciding.{Contains-here, Contains-there, Contains-none, Contains-cases}
 use Rattle.site_meaning.specs.ancestor_search.Deciding.{same_uid}
@@ -42,7 +42,7 @@ use Rattle.sync_messages.specs.Texts.{ReadsPolicy, ReadsEntity, entity_of_text, 
 use Rattle.site_meaning.specs.StoreMeaning.{AreEntities, IsReadFrom, data_of, data_in}
 use Rattle.sync_messages.specs.validator.Passing.{Passes}
 use Rattle.site_soundness.specs.Answers.{HasPermittedErrors, StoredPoliciesAreSound, StoredAnswersAreSound}
-use Rattle.site_soundness.specs.Worlds.{AreRead, WhatIsStoredIsSound, entity_kept}
+use Rattle.site_soundness.specs.Worlds.{AreRead, ValidationIsSound, entity_kept}
 use Rattle.site_soundness.proofs.Values.{bound, is_it, demanded}
 use Rattle.site_soundness.proofs.Stored.{mapped}
 
@@ -177,7 +177,7 @@ answer_errs W q ps a (inr is) right e m =
     (subst (λ (es : List ErringPolicy). Contains es e) (errors_are (satisfied Permit js) (satisfied Forbid js) (erring js))
     (subst (λ (x : Answer). Contains x.errors e) is.answer m))
 
-pub stored_policies_are_sound : MemberOfIsKept → MemberOfGivesAlike → WhatIsStoredIsSound → TellsContents → StoredPoliciesAreSound
+pub stored_policies_are_sound : MemberOfIsKept → MemberOfGivesAlike → ValidationIsSound → TellsContents → StoredPoliciesAreSound
 stored_policies_are_sound kept alike right tells bytes schema stated s d q states policies are_policies entities are p at r gives =
     right bytes schema stated (data_in entities) (are_read schema s entities are)
     (uids schema s entities are) (are_listed tells schema s entities are)
@@ -185,7 +185,7 @@ stored_policies_are_sound kept alike right tells bytes schema stated s d q state
     ((alike bytes schema stated (data_in entities) q (expression_of p.policy) r).0
     (subst (λ (W : Entities). EvaluatesTo W q (expression_of p.policy) r) (kept bytes schema stated (data_in entities)) gives))
 
-pub stored_answers_are_sound : MemberOfIsKept → MemberOfGivesAlike → WhatIsStoredIsSound → TellsContents → StoredAnswersAreSound
+pub stored_answers_are_sound : MemberOfIsKept → MemberOfGivesAlike → ValidationIsSound → TellsContents → StoredAnswersAreSound
 stored_answers_are_sound kept alike right tells bytes schema stated s d q states a is =
     answer_errs _ q is.policies a is.is_answer (λ p at r gives.
     (stored_policies_are_sound kept alike right tells bytes schema stated s d q states is.policies is.are_policies is.entities is.are_entities p at r gives).0)

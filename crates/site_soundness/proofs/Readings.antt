@@ -15,7 +15,7 @@ use Rattle.site_meaning.specs.entities.declared.fault.EntityFault.TheVariants.{N
 use Rattle.site_meaning.specs.entity_data.declared.entity.Entity.{Entity}
 use Rattle.site_meaning.specs.entities.declared.stated.StatedEntity.{StatedEntity}
 use Rattle.site_meaning.specs.entities.Faults.{with_entity_fault}
-use Rattle.site_meaning.specs.entities.Stated.{stated_in, is_absent_or_empty, or_empty}
+use Rattle.site_meaning.specs.entities.EntityForms.{stated_in, is_absent_or_empty, or_empty}
 use Rattle.site_meaning.specs.entities.Entities.{is_action_type, shape_of, attributes_in, parents_in, entity_stated_in}
 use Rattle.site_meaning.specs.entities.Contexts.{context_where, is_place}
 use Rattle.site_meaning.specs.entities.Requests.{context_asked}

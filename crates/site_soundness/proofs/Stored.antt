@@ -12,7 +12,7 @@ use Rattle.site_meaning.specs.entity_hierarchy.Laws.{closed_world}
 use Rattle.site_meaning.specs.entity_data.Listing.{in_first, in_second}
 use Rattle.sync_messages.specs.type_checker.FromSchemas.{typing_environment_of}
 use Rattle.sync_messages.specs.validator.Outcomes.{PassingPoliciesAreSound}
-use Rattle.site_soundness.specs.Worlds.{WhatIsReadConforms, WhatIsStoredIsSound}
+use Rattle.site_soundness.specs.Worlds.{ParsedDataConforms, ValidationIsSound}
 
 -- each entity with parents is stored, or an action
 module _ (s : StatedSchema) (wf : IsWellFormed s) (entities : EntityMap) (us : List EntityUid) (listed : AreListed entities us) where
@@ -32,8 +32,8 @@ mapped {B = B} f (w ∷ xs) x h = elim (Contains-cases w xs x h) [
   | inr t ↦ Contains-there (f w) (map f xs) (f x) (mapped f xs x t)
 ]
 
-pub what_is_stored_is_sound : StatedSchemasAreWellFormed → WhatIsReadConforms → PathsAreDecided → PassingPoliciesAreSound → WhatIsStoredIsSound
-what_is_stored_is_sound well conforms decided right bytes s stated entities are_read us listed d q states policy passes r gives =
+pub validation_is_sound : StatedSchemasAreWellFormed → ParsedDataConforms → PathsAreDecided → PassingPoliciesAreSound → ValidationIsSound
+validation_is_sound well conforms decided right bytes s stated entities are_read us listed d q states policy passes r gives =
     let at = conforms bytes s stated entities are_read d q states in
     let W = closed_world s entities in
     right s policy passes W (reaches W.parents (s.actions ++ us)) (decided W.parents (s.actions ++ us) (all_listed s (well bytes s stated) entities us listed))

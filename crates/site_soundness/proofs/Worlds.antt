@@ -20,7 +20,7 @@ use Rattle.site_meaning.specs.entities.declared.fault.EntityFault.TheVariants.{S
 use Rattle.site_meaning.specs.entity_data.declared.entity.Entity.{Entity}
 use Rattle.site_meaning.specs.entities.declared.stated.StatedEntity.{StatedEntity}
 use Rattle.site_meaning.specs.entities.Faults.{with_entity_fault}
-use Rattle.site_meaning.specs.entities.Stated.{stated_in, is_absent_or_empty, or_empty}
+use Rattle.site_meaning.specs.entities.EntityForms.{stated_in, is_absent_or_empty, or_empty}
 use Rattle.site_meaning.specs.entities.Entities.{is_action_type, shape_of, attributes_in, parent_fits, parents_fit}
 use Rattle.site_meaning.specs.entities.Entities.{parents_in, entity_stated_in}
 use Rattle.site_meaning.specs.entities.Laws.{ActionTypeTestIsExact, SetsHoldTheirMembers}
@@ -37,7 +37,7 @@ use Rattle.sync_messages.specs.typing.Laws.{ParentsDetermineAncestors}
 use Rattle.sync_messages.specs.type_checker.FromSchemas.{attributes_of, shape_fields, declared_ancestors}
 use Rattle.sync_messages.specs.type_checker.FromSchemas.{typing_environment_of}
 use Rattle.site_soundness.specs.Laws.{EntitiesAreOfTheirTypes, RequestsAreOfAnEnvironment}
-use Rattle.site_soundness.specs.Worlds.{AreRead, entity_kept, WhatIsReadConforms}
+use Rattle.site_soundness.specs.Worlds.{AreRead, entity_kept, ParsedDataConforms}
 use Rattle.site_soundness.proofs.Values.{bound, is_it, demanded}
 
 -- ---- what is read is no action, and has parents that it may have
@@ -198,8 +198,8 @@ module _ (told_types : ActionTypeTestIsExact) (sets : SetsHoldTheirMembers) (typ
     ancestors_of_others u a plain above =
         tells (typing_environment_of s e) W.parents (λ l m n h i. wf.parents_join l m n h i) (λ v p not_action h. allowed_at v p not_action (s.ancestors v) (entities v) refl refl h) u a plain above
 
-pub what_is_read_conforms : StatedSchemasAreWellFormed → ActionTypeTestIsExact → SetsHoldTheirMembers → EntitiesAreOfTheirTypes → RequestsAreOfAnEnvironment → ParentsDetermineAncestors → WhatIsReadConforms
-what_is_read_conforms well told_types sets typed requests tells bytes s stated entities are_read d q states =
+pub parsed_data_conforms : StatedSchemasAreWellFormed → ActionTypeTestIsExact → SetsHoldTheirMembers → EntitiesAreOfTheirTypes → RequestsAreOfAnEnvironment → ParentsDetermineAncestors → ParsedDataConforms
+parsed_data_conforms well told_types sets typed requests tells bytes s stated entities are_read d q states =
     let wf = well bytes s stated in
     let at = requests s d q states in (
       at.0,

@@ -8,7 +8,7 @@ use Rattle.serde_json.specs.Data.{Data}
 use Rattle.values.specs.declared.entity_uid.EntityUid.{EntityUid}
 use Rattle.values.specs.declared.request.Request.{Request}
 use Rattle.values.specs.Values.{boolean}
-use Rattle.site_meaning.specs.policy_grammar.Whole.{expression_of}
+use Rattle.site_meaning.specs.policy_grammar.PolicyExpression.{expression_of}
 use Rattle.site_meaning.specs.evaluator.Outcomes.{EvaluationResult}
 use Rattle.site_meaning.specs.evaluator.Evaluation.{EvaluatesTo}
 use Rattle.sync_messages.specs.typing.Types.{boolean_type}
@@ -18,7 +18,7 @@ use Rattle.site_meaning.specs.authoriser.declared.answer.ErringPolicy.{ErringPol
 use Rattle.site_meaning.specs.authoriser.Answers.{NamedPolicy, fault_of}
 use Rattle.site_meaning.specs.schema.Schemas.{StatedSchema, IsSchemaOf}
 use Rattle.site_meaning.specs.entity_data.declared.entity.Entity.{Entity}
-use Rattle.site_meaning.specs.entities.Requests.{StatesRequest}
+use Rattle.site_meaning.specs.entities.Requests.{ParsesRequest}
 use Rattle.sync_messages.specs.validator.Passing.{IsImpossible}
 use Rattle.site_meaning.specs.stamped_store.Store.{Store}
 use Rattle.sync_messages.specs.Texts.{ReadsPolicy, ReadsEntity}
@@ -34,7 +34,7 @@ HasPermittedErrors a = (e : ErringPolicy) → Contains a.errors e → IsPermitte
 -- `ArithBoundsError`; an impossible policy never gives true.
 abbrev pub StoredPoliciesAreSound : Type 0
 StoredPoliciesAreSound = (bytes : List ℕ) (schema : StatedSchema) → IsSchemaOf bytes schema → (s : Store)
-    → (d : Data) (q : Request) → StatesRequest schema d q
+    → (d : Data) (q : Request) → ParsesRequest schema d q
     → (policies : List NamedPolicy) → ArePolicies (λ _. ReadsPolicy schema) s policies
     → (entities : EntityUid → Option Entity) → AreEntities (ReadsEntity schema) s entities
     → (p : NamedPolicy) → Contains policies p → (r : EvaluationResult)
@@ -46,5 +46,5 @@ StoredPoliciesAreSound = (bytes : List ℕ) (schema : StatedSchema) → IsSchema
 -- `ArithBoundsError`.
 abbrev pub StoredAnswersAreSound : Type 0
 StoredAnswersAreSound = (bytes : List ℕ) (schema : StatedSchema) → IsSchemaOf bytes schema → (s : Store)
-    → (d : Data) (q : Request) → StatesRequest schema d q → (a : Answer)
+    → (d : Data) (q : Request) → ParsesRequest schema d q → (a : Answer)
     → IsAnswerOver (λ _. ReadsPolicy schema) (ReadsEntity schema) schema s q a → HasPermittedErrors a

@@ -12,7 +12,7 @@ use Rattle.site_meaning.specs.schema.Schemas.{EnvironmentOf, StatedSchema}
 use Rattle.site_meaning.specs.entities.Typing.{typed_value, record_in}
 use Rattle.site_meaning.specs.entity_data.declared.entity.Entity.{Entity}
 use Rattle.site_meaning.specs.entities.Entities.{entity_stated_in}
-use Rattle.site_meaning.specs.entities.Requests.{StatesRequest}
+use Rattle.site_meaning.specs.entities.Requests.{ParsesRequest}
 use Rattle.sync_messages.specs.typing.Types.{record_type}
 use Rattle.sync_messages.specs.typing.Environment.{Environment}
 use Rattle.sync_messages.specs.typing.Membership.{Of}
@@ -44,5 +44,5 @@ pub record IsOfKind (env : Environment) (q : Request) : Type 0 where
 
 -- `RequestsAreOfAnEnvironment`: a request that JSON describes under a schema is of one of the schema's environments.
 abbrev pub RequestsAreOfAnEnvironment : Type 0
-RequestsAreOfAnEnvironment = (s : StatedSchema) (d : Data) (q : Request) → StatesRequest s d q
+RequestsAreOfAnEnvironment = (s : StatedSchema) (d : Data) (q : Request) → ParsesRequest s d q
     → (e : EnvironmentOf) × Contains s.environments e × IsOfKind (typing_environment_of s e) q

@@ -10,13 +10,13 @@ use Rattle.values.specs.declared.entity_uid.EntityUid.{EntityUid}
 use Rattle.values.specs.declared.request.Request.{Request}
 use Rattle.values.specs.Values.{boolean}
 use Rattle.site_meaning.specs.policy_grammar.declared.policy.Policy.{Policy}
-use Rattle.site_meaning.specs.policy_grammar.Whole.{expression_of}
+use Rattle.site_meaning.specs.policy_grammar.PolicyExpression.{expression_of}
 use Rattle.site_meaning.specs.evaluator.Outcomes.{EvaluationResult}
 use Rattle.site_meaning.specs.evaluator.Evaluation.{EvaluatesTo}
 use Rattle.site_meaning.specs.schema.Schemas.{EnvironmentOf, StatedSchema, IsSchemaOf}
 use Rattle.site_meaning.specs.entity_data.declared.entity.Entity.{Entity}
 use Rattle.site_meaning.specs.entities.Entities.{entity_stated_in}
-use Rattle.site_meaning.specs.entities.Requests.{StatesRequest}
+use Rattle.site_meaning.specs.entities.Requests.{ParsesRequest}
 use Rattle.site_meaning.specs.entity_data.declared.data.EntityData.{EntityData}
 use Rattle.site_meaning.specs.entity_data.Entities.{EntityMap, AreListed}
 use Rattle.site_meaning.specs.entity_hierarchy.Laws.{closed_world}
@@ -34,19 +34,19 @@ abbrev pub AreRead : StatedSchema → EntityMap → Type 0
 AreRead s entities = (u : EntityUid) (kept : EntityData) → entities u ≡ Some kept
     → (d : Data) × (entity_stated_in s d ≡ Ok (entity_kept u kept))
 
--- `WhatIsReadConforms`: under a schema that bytes describe, parsed entities and a parsed request conform to an
+-- `ParsedDataConforms`: under a schema that bytes describe, parsed entities and a parsed request conform to an
 -- environment of the schema. The schema's actions are added to the entities, each with all of its ancestors as parents.
-abbrev pub WhatIsReadConforms : Type 0
-WhatIsReadConforms = (bytes : List ℕ) (s : StatedSchema) → IsSchemaOf bytes s → (entities : EntityMap)
-    → AreRead s entities → (d : Data) (q : Request) → StatesRequest s d q
+abbrev pub ParsedDataConforms : Type 0
+ParsedDataConforms = (bytes : List ℕ) (s : StatedSchema) → IsSchemaOf bytes s → (entities : EntityMap)
+    → AreRead s entities → (d : Data) (q : Request) → ParsesRequest s d q
     → (e : EnvironmentOf) × Contains s.environments e × Conforms (typing_environment_of s e) (closed_world s entities) q
 
--- `WhatIsStoredIsSound`: let finitely many entities and a request be parsed under a schema that bytes describe. Over
+-- `ValidationIsSound`: let finitely many entities and a request be parsed under a schema that bytes describe. Over
 -- these entities and the schema's actions, and for this request, a policy that passes validation gives a boolean,
 -- `EntityDoesNotExist` or `ArithBoundsError`; an impossible policy never gives true.
-abbrev pub WhatIsStoredIsSound : Type 0
-WhatIsStoredIsSound = (bytes : List ℕ) (s : StatedSchema) → IsSchemaOf bytes s → (entities : EntityMap)
+abbrev pub ValidationIsSound : Type 0
+ValidationIsSound = (bytes : List ℕ) (s : StatedSchema) → IsSchemaOf bytes s → (entities : EntityMap)
     → AreRead s entities → (us : List EntityUid) → AreListed entities us → (d : Data) (q : Request)
-    → StatesRequest s d q → (policy : Policy) → Passes s policy → (r : EvaluationResult)
+    → ParsesRequest s d q → (policy : Policy) → Passes s policy → (r : EvaluationResult)
     → EvaluatesTo (closed_world s entities) q (expression_of policy) r
     → Fits boolean_type r × (IsImpossible s policy → r ≢ Ok (boolean true))

@@ -2,7 +2,7 @@
 //! no-ops.
 ghost use Rattle.site_soundness.specs.Laws.{ValuesAreOfTheirTypes, RecordsAreOfTheirTypes};
 ghost use Rattle.site_soundness.specs.Laws.{EntitiesAreOfTheirTypes, RequestsAreOfAnEnvironment};
-ghost use Rattle.site_soundness.specs.Worlds.{WhatIsReadConforms, WhatIsStoredIsSound};
+ghost use Rattle.site_soundness.specs.Worlds.{ParsedDataConforms, ValidationIsSound};
 ghost use Rattle.site_soundness.specs.Answers.{StoredPoliciesAreSound, StoredAnswersAreSound};
 
 use site_meaning::{
@@ -28,8 +28,8 @@ pub fn what_is_read_is_of_its_type()
 
 /// Proves that entities parsed under a schema together with the schema's actions, and a request parsed under it,
 /// conform to the schema. This is the premise of the soundness of validation. No-op.
-pub fn what_is_read_conforms()
-    ensures { WhatIsReadConforms }
+pub fn parsed_data_conforms()
+    ensures { ParsedDataConforms }
 {
     stated_schemas_are_well_formed();
     action_type_test_is_exact();
@@ -41,11 +41,11 @@ pub fn what_is_read_conforms()
 /// Proves that validation is sound over parsed entities: if each of finitely many entities and the request were parsed
 /// under the schema, a policy that passes validation gives a boolean, `EntityDoesNotExist` or `ArithBoundsError`; an
 /// impossible policy never gives true. No-op.
-pub fn what_is_stored_is_sound()
-    ensures { WhatIsStoredIsSound }
+pub fn validation_is_sound()
+    ensures { ValidationIsSound }
 {
     stated_schemas_are_well_formed();
-    what_is_read_conforms();
+    parsed_data_conforms();
     paths_are_decided();
     passing_policies_are_sound();
 }
@@ -60,6 +60,6 @@ pub fn stored_answers_are_sound()
     ensures answers { StoredAnswersAreSound }
 {
     actions_may_be_closed();
-    what_is_stored_is_sound();
+    validation_is_sound();
     contents_are_the_texts();
 }

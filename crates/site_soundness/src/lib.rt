@@ -9,8 +9,8 @@
 mod laws;
 
 pub use laws::{
-    stored_answers_are_sound, what_is_read_conforms, what_is_read_is_of_its_type,
-    what_is_stored_is_sound,
+    parsed_data_conforms, stored_answers_are_sound, validation_is_sound,
+    what_is_read_is_of_its_type,
 };
 pub use site_meaning::declarations_are_read_as_stated;
 pub use sync_messages::{

@@ -7,13 +7,13 @@ use Rattle.site_soundness.specs.entity_uids.Laws.{WrittenIsRead}
 use Rattle.site_soundness.specs.entity_hierarchy.Laws.{closed_world}
 use Rattle.site_soundness.specs.type_checker.FromSchemas.{typing_environment_of}
 use Rattle.site_soundness.specs.typing.Conforming.{Conforms}
-use Rattle.site_soundness.specs.Worlds.{WhatIsReadConforms}
+use Rattle.site_soundness.specs.Worlds.{ParsedDataConforms}
 use Rattle.site_soundness_example.specs.Example.{schema_text, schema, entities, request_json, request}
 use Rattle.site_soundness_example.specs.ExamplePremises.{ExampleDataConforms}
 use Rattle.site_soundness_example.proofs.ExampleStated.{only, something_is_stated}
 use Rattle.site_soundness_example.proofs.ExampleRead.{are_read, states}
 
-pub something_conforms : DeclarationsAreRead → PathTestIsExact → WrittenIsRead → WhatIsReadConforms → ExampleDataConforms
+pub something_conforms : DeclarationsAreRead → PathTestIsExact → WrittenIsRead → ParsedDataConforms → ExampleDataConforms
 something_conforms read paths back conform =
     let at = conform schema_text schema (something_is_stated read) entities are_read request_json request (states paths back) in
     subst (λ (e : EnvironmentOf). Conforms (typing_environment_of schema e) (closed_world schema entities) request) (sym (only at.1)) at.2

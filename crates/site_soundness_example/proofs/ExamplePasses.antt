@@ -17,7 +17,7 @@ use Rattle.site_soundness.specs.grammar_core.declared.operator.Binary.{Binary}
 use Rattle.site_soundness.specs.grammar_core.declared.operator.Binary.TheVariants as binary
 use Rattle.site_soundness.specs.grammar_core.declared.expr.Expr.{Expr}
 use Rattle.site_soundness.specs.grammar_core.declared.expr.Expr.TheVariants as form
-use Rattle.site_soundness.specs.policy_grammar.Whole.{truth, entity_literal, is_equal, expression_of}
+use Rattle.site_soundness.specs.policy_grammar.PolicyExpression.{truth, entity_literal, is_equal, expression_of}
 use Rattle.site_soundness.specs.evaluator.Outcomes.{holds}
 use Rattle.site_soundness.specs.evaluator.evaluator_steps.Attributes as stored
 use Rattle.site_soundness.specs.evaluator.Operators as operator
@@ -28,7 +28,7 @@ use Rattle.site_soundness.specs.type_checker.FromSchemas.{typing_environment_of}
 use Rattle.site_soundness.specs.typing.Types
 use Rattle.site_soundness.specs.typing.Types.{StaticType, boolean_type, true_type}
 use Rattle.site_soundness.specs.typing.Environment.{Environment, attribute_may_be_missing}
-use Rattle.site_soundness.specs.typing.Gained.{Capability, Pairs}
+use Rattle.site_soundness.specs.typing.Gained.{Capability, CapabilityList}
 use Rattle.site_soundness.specs.typing.Literals.{UndecidedByLiterals}
 use Rattle.site_soundness.specs.typing.Literals
 use Rattle.site_soundness.specs.typing.Rows
@@ -132,7 +132,7 @@ nothing_known p = ((λ e. absurd (false≢true e)), (λ c. Contains-none p c))
 age_known : Decides true (Contains (age_of_principal ∷ []) age_of_principal)
 age_known = ((λ e. Contains-here age_of_principal []), (λ c. refl))
 
-principal_typed : (K : Pairs) → Types env K (form.Variable variable.Principal) (Types.entity_type (codes "User")) []
+principal_typed : (K : CapabilityList) → Types env K (form.Variable variable.Principal) (Types.entity_type (codes "User")) []
 principal_typed K = Typing.types_variable variable.Principal
 
 has_typed : Types env [] has_age boolean_type (age_of_principal ∷ [])

@@ -13,8 +13,8 @@ use Rattle.site_soundness.specs.entity_uids.Laws.{WrittenIsRead}
 use Rattle.site_soundness.specs.entities.Typing.{record_in, typed_value, typed_items, typed_members, long_in}
 use Rattle.site_soundness.specs.entities.Entities.{entity_stated_in, shape_of, attributes_in, parents_in, parents_fit}
 use Rattle.site_soundness.specs.entities.Entities.{parent_fits}
-use Rattle.site_soundness.specs.entities.Stated.{stated_in, uids_of}
-use Rattle.site_soundness.specs.entities.Requests.{asked_by, context_asked, StatesRequest}
+use Rattle.site_soundness.specs.entities.EntityForms.{stated_in, uids_of}
+use Rattle.site_soundness.specs.entities.Requests.{asked_by, context_asked, ParsesRequest}
 use Rattle.site_soundness.specs.entity_data.declared.data.EntityData.{EntityData}
 use Rattle.site_soundness.specs.entity_data.Entities.{AreListed}
 use Rattle.site_soundness.specs.typing.Example.{alice, view}
@@ -57,7 +57,7 @@ no_context : context_asked schema (asked_by request) request_json ≡ Ok []
 unfolding context_asked record_in typed_members
 no_context = refl
 
-pub states : PathTestIsExact → WrittenIsRead → StatesRequest schema request_json request
+pub states : PathTestIsExact → WrittenIsRead → ParsesRequest schema request_json request
 states paths back =
     let user_named : IsUid (uid_json alice) alice = (back alice ((paths user).0 user_is_path)).plain in
     let action_named : IsUid (uid_json view) view = (back view ((paths view.type_name).0 action_is_path)).plain in

@@ -18,9 +18,9 @@ use Rattle.site_soundness.specs.schema_types.Expansions.{IsExpansion, AreFieldEx
 use Rattle.site_soundness.specs.schema_types.Names.{found, as_declared, any_named, entity_named, common_named}
 use Rattle.site_soundness.specs.schema_types.Names.{qualified_of, fields_of, built_in}
 use Rattle.json_words.specs.Each.{each}
-use Rattle.site_soundness.specs.schema_file.FileForm.{NamespaceOf, EntityTypeOf, ActionOf, UseOf}
+use Rattle.site_soundness.specs.schema_file.FileForm.{NamespaceOf, EntityTypeOf, ActionOf, AppliesToOf}
 use Rattle.site_soundness.specs.schema.declared.parts.EnvironmentKey.{EnvironmentKey}
-use Rattle.site_soundness.specs.schema_names.Qualifying.{scope_in, ResolvedEntityType, ResolvedUse, ResolvedAction, ResolvedSchema}
+use Rattle.site_soundness.specs.schema_names.Qualifying.{scope_in, ResolvedEntityType, ResolvedAppliesTo, ResolvedAction, ResolvedSchema}
 use Rattle.site_soundness.specs.schema_names.Qualifying.{qualified, qualified_namespaces, qualified_namespace}
 use Rattle.site_soundness.specs.schema_names.Qualifying.{qualified_commons, qualified_entity_types, qualified_actions}
 use Rattle.site_soundness.specs.schema_names.Qualifying.{qualified_action, qualified_use, qualified_entity_type}
@@ -47,7 +47,7 @@ the_shape = qualified.record_of (qualified.field (codes "age") qualified.long fa
 abbrev the_type : ResolvedEntityType
 the_type = record { name = user; parents = []; shape = Some the_shape }
 
-abbrev the_use : ResolvedUse
+abbrev the_use : ResolvedAppliesTo
 the_use = record { principals = user ∷ []; resources = user ∷ []; context = None }
 
 abbrev the_action : ResolvedAction
@@ -86,7 +86,7 @@ no_record ns own r e (MeansNoRecord.named o s c m d rest) =
 abbrev the_stated_type : EntityTypeOf
 the_stated_type = record { name = user; parents = []; shape = Some raw_shape }
 
-abbrev the_stated_use : UseOf
+abbrev the_stated_use : AppliesToOf
 the_stated_use = record { principals = user ∷ []; resources = user ∷ []; context = None }
 
 abbrev the_stated_action : ActionOf
@@ -100,7 +100,7 @@ is_shape r (inl (e, c, at)) =
     sym (some_same (subst (λ (x : EntityTypeOf). x.shape ≡ Some r) (sym (only c)) at))
 is_shape r (inr (a, c, used_by)) =
     let used : the_stated_use ≡ used_by.0 = some_same (subst (λ (x : ActionOf). x.applies_to ≡ Some used_by.0) (sym (only c)) used_by.1) in
-    some_none (subst (λ (x : UseOf). x.context ≡ Some r) (sym used) used_by.2)
+    some_none (subst (λ (x : AppliesToOf). x.context ≡ Some r) (sym used) used_by.2)
 
 records : SomeIsNoRecord namespaces → ⊥
 unfolding namespaces
@@ -142,7 +142,7 @@ is_the_shape : (r : Qualified) → IsShapeOrContext named r → r ≡ the_shape
 is_the_shape r (inl (e, c, at)) = sym (some_same (subst (λ (x : ResolvedEntityType). x.shape ≡ Some r) (sym (only c)) at))
 is_the_shape r (inr (a, c, used_by)) =
     let used : the_use ≡ used_by.0 = some_same (subst (λ (x : ResolvedAction). x.applies_to ≡ Some used_by.0) (sym (only c)) used_by.1) in
-    some_none (subst (λ (x : ResolvedUse). x.context ≡ Some r) (sym used) used_by.2)
+    some_none (subst (λ (x : ResolvedAppliesTo). x.context ≡ Some r) (sym used) used_by.2)
 
 is_written : (r : Qualified) → IsSchemaType named r → IsWritten [] r
 is_written r (IsSchemaType.common q s d) = absurd d
@@ -201,12 +201,12 @@ one_place_ascends = (tt, tt)
 viewing_is : IsEnvironment named viewing
 viewing_is = (the_use, record { action = the_action; declared = Contains-here the_action []; is = refl; applies = refl; principal = Contains-here user []; resource = Contains-here user [] }, refl)
 
-place_is : (p : EnvironmentKey) (u : ResolvedUse) → Applies named p u → viewing.place ≡ p
+place_is : (p : EnvironmentKey) (u : ResolvedAppliesTo) → Applies named p u → viewing.place ≡ p
 place_is p u h =
     let used : the_use ≡ u = some_same (subst (λ (x : ResolvedAction). x.applies_to ≡ Some u) (sym (only h.declared)) h.applies) in
     let action : view ≡ p.action = action_is p.action (h.action, h.declared, h.is) in
-    let principal : user ≡ p.principal = only (subst (λ (x : ResolvedUse). Contains x.principals p.principal) (sym used) h.principal) in
-    let resource : user ≡ p.resource = only (subst (λ (x : ResolvedUse). Contains x.resources p.resource) (sym used) h.resource) in
+    let principal : user ≡ p.principal = only (subst (λ (x : ResolvedAppliesTo). Contains x.principals p.principal) (sym used) h.principal) in
+    let resource : user ≡ p.resource = only (subst (λ (x : ResolvedAppliesTo). Contains x.resources p.resource) (sym used) h.resource) in
     ap (λ (a : EntityUid). place_of a user user) action ∙ ap (λ (n : List ℕ). place_of p.action n user) principal ∙ ap (λ (n : List ℕ). place_of p.action p.principal n) resource
 
 pub answers : Answers named schema

@@ -14,7 +14,7 @@ use Rattle.json_words.specs.Json.{json_of}
 use Rattle.site_soundness.specs.schema_types.Raw as raw
 use Rattle.site_soundness.specs.schema_types.TypeShape.{type_name, type_of, formed, fields_in}
 use Rattle.site_soundness.specs.schema_file.FileForm.{NamespaceOf, stated, namespaces_of, namespace_of, namespace_name}
-use Rattle.site_soundness.specs.schema_file.FileForm.{commons_of, entity_types_of, actions_of, action_of, use_of}
+use Rattle.site_soundness.specs.schema_file.FileForm.{commons_of, entity_types_of, actions_of, action_of, applies_to_of}
 use Rattle.site_soundness.specs.schema_file.FileForm.{parents_of, parent_of, entity_type_of, common_of, ident, name_of}
 use Rattle.site_soundness.specs.schema_file.FileForm.{names_of}
 use Rattle.json_words.specs.Each.{each, each_member}
@@ -58,5 +58,5 @@ namespaces = record {
 } ∷ []
 
 pub shape : stated schema_json ≡ Ok namespaces
-unfolding schema_json namespaces type_name type_of formed form_named fields_in stated namespaces_of namespace_of namespace_name commons_of entity_types_of actions_of action_of use_of parents_of parent_of entity_type_of common_of ident name_of names_of each each_member is_path pieces is_letter is_word_byte
+unfolding schema_json namespaces type_name type_of formed form_named fields_in stated namespaces_of namespace_of namespace_name commons_of entity_types_of actions_of action_of applies_to_of parents_of parent_of entity_type_of common_of ident name_of names_of each each_member is_path pieces is_letter is_word_byte
 shape = refl

@@ -2,12 +2,12 @@
 -- vacuous.
 use Rattle.std.specs.Prelude.{[], ◌∷◌, true, Ok}
 use Rattle.values.specs.Values.{boolean}
-use Rattle.site_soundness.specs.policy_grammar.Whole.{expression_of}
+use Rattle.site_soundness.specs.policy_grammar.PolicyExpression.{expression_of}
 use Rattle.site_soundness.specs.evaluator.Evaluation.{EvaluatesTo}
 use Rattle.site_soundness.specs.schema.Schemas.{IsSchemaOf}
 use Rattle.site_soundness.specs.entity_data.Entities.{AreListed}
 use Rattle.site_soundness.specs.entity_hierarchy.Laws.{closed_world}
-use Rattle.site_soundness.specs.entities.Requests.{StatesRequest}
+use Rattle.site_soundness.specs.entities.Requests.{ParsesRequest}
 use Rattle.site_soundness.specs.type_checker.FromSchemas.{typing_environment_of}
 use Rattle.site_soundness.specs.typing.Example.{alice}
 use Rattle.site_soundness.specs.typing.Environment.{attribute_may_be_missing}
@@ -25,7 +25,7 @@ ExampleSchemaIsDescribed = IsSchemaOf schema_text schema
 -- `ExampleDataIsParsed`: the entities, of which Alice is the only one, and the request are parsed under this schema.
 abbrev pub ExampleDataIsParsed : Type 0
 ExampleDataIsParsed =
-    AreRead schema entities × AreListed entities (alice ∷ []) × StatesRequest schema request_json request
+    AreRead schema entities × AreListed entities (alice ∷ []) × ParsesRequest schema request_json request
 
 -- `ExampleDataConforms`: these entities and this request conform to the environment `viewing` of the schema.
 abbrev pub ExampleDataConforms : Type 0

@@ -3,7 +3,7 @@ ghost use Rattle.site_soundness_example.specs.ExamplePremises.{ExampleSchemaIsDe
 ghost use Rattle.site_soundness_example.specs.ExamplePremises.{ExampleDataConforms};
 ghost use Rattle.site_soundness_example.specs.ExamplePremises.{ExamplePolicyPasses, UnguardedAccessIsRejected};
 
-use site_soundness::{declarations_are_read_as_stated, names_read_back, what_is_read_conforms};
+use site_soundness::{declarations_are_read_as_stated, names_read_back, parsed_data_conforms};
 use values::path_tests_are_exact;
 
 /// Proves by an example that the theorems about schemas and what conforms to them are not vacuous. No-op.
@@ -21,5 +21,5 @@ pub fn something_conforms_under_a_schema()
     path_tests_are_exact();
     names_read_back();
     declarations_are_read_as_stated();
-    what_is_read_conforms();
+    parsed_data_conforms();
 }

@@ -13,7 +13,7 @@ use Rattle.site_store.specs.policy_grammar.declared.policy.Policy.{Policy}
 use Rattle.site_store.specs.policy_grammar.declared.fault.ReadFault.{ReadFault}
 use Rattle.site_store.specs.policy_grammar.declared.fault.ReadFault.TheVariants as reading
 use Rattle.site_store.specs.policy_grammar.Limits.{IsId}
-use Rattle.plain.specs.Refused.{OrNoMemory}
+use Rattle.plain.specs.AllocationErrors.{OrNoMemory}
 use Rattle.site_store.specs.policy_grammar.PolicyText.{IsPolicyText, IsPolicyRefused}
 use Rattle.site_store.specs.schema.Schemas.{StatedSchema}
 use Rattle.site_store.specs.entity_data.declared.entity.Entity.{Entity}
@@ -28,7 +28,7 @@ use Rattle.site_steps.specs.declared.fault.SiteFault.{SiteFault}
 use Rattle.site_steps.specs.declared.fault.SiteFault.TheVariants as fault
 use Rattle.site_steps.specs.Admitted.{IsEntityUnder, IsNotAdmitted, no_policy, not_passing}
 use Rattle.site_steps.specs.Faults.{of_reading, of_checking}
-use Rattle.site_steps.specs.inner.Recording.{IsJudged, IsStatedBy}
+use Rattle.site_steps.specs.inner.Recording.{IsCheckedPolicy, IsStatedBy}
 
 module _ (s : StatedSchema) (id text : List ℕ) (named : IsId id) (r : SiteFault) where
   -- a text that is not a policy's
@@ -90,7 +90,7 @@ reads_again s e text is json again =
 pub judged_by : {E : Type 0} → (s : StatedSchema) (id text : List ℕ) (p : Policy) (verdict : Result Bool SiteFault)
     (t : Result (List ℕ) E) (b : ReadText Policy) (impossible : Bool) → IsId id → IsPolicyText text p
     → IfOk verdict (λ yes. Passes s p × (IsTrue yes ↔ IsImpossible s p)) → IfOk t (λ x. x ≡ text) → b.read ≡ p
-    → verdict ≡ Ok impossible → t ≡ Ok b.text → IsJudged s id text b impossible
+    → verdict ≡ Ok impossible → t ≡ Ok b.text → IsCheckedPolicy s id text b impossible
 judged_by {E} s id text p verdict t b impossible named is passes same read told kept =
     let both = subst (λ v. IfOk v (λ yes. Passes s p × (IsTrue yes ↔ IsImpossible s p))) told passes in
     record {

@@ -14,7 +14,7 @@ use Rattle.site_store.specs.entities.declared.fault.EntityFault.{EntityFault}
 use Rattle.site_store.specs.entities.declared.fault.EntityFault.TheVariants.{BadShape}
 use Rattle.site_store.specs.entities.declared.stated.StatedEntity.{StatedEntity}
 use Rattle.site_store.specs.entities.Entities.{attributes_in, entity_stated_in, parents_in}
-use Rattle.site_store.specs.entities.Stated.{has_objects, stated_parents, stated_in, stated_uid}
+use Rattle.site_store.specs.entities.EntityForms.{has_objects, stated_parents, stated_in, stated_uid}
 
 -- the value of a step that did not fail
 value_of : {A B F : Type 0} (r : Result A F) (f : A → Result B F) (y : B) → (r >>= f) ≡ Ok y

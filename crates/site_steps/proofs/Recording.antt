@@ -24,8 +24,8 @@ use Rattle.site_steps.specs.declared.fault.SiteFault.TheVariants as fault
 use Rattle.site_steps.specs.Admitted.{IsEntityUnder, IsNotAdmitted, bad_id, no_policy, not_passing, entity_stated}
 use Rattle.site_steps.specs.SiteViews.{IsHeld, IsSite}
 use Rattle.site_steps.specs.Steps.{Records, PutsPolicy, PutsEntity, Deletes}
-use Rattle.site_steps.specs.inner.Recording.{RecordsOr, PutsUnless, IsNext, put_result, IsStatedBy, IsNoEntityFault, IsJudged}
-use Rattle.plain.specs.Refused.{OrNoMemory}
+use Rattle.site_steps.specs.inner.Recording.{RecordsOr, PutsUnless, IsNext, put_result, IsStatedBy, IsNoEntityFault, IsCheckedPolicy}
+use Rattle.plain.specs.AllocationErrors.{OrNoMemory}
 
 -- ---- what is always true of a site, after a call that may have found no memory
 pub site_after : {A B : Type 0} → (schema : StatedSchema) (name : List ℕ) (k l t : StoreEntries Policy Entity) (u : Update)
@@ -71,7 +71,7 @@ stands law n s name body (Err f) t h = tt
 
 -- ---- a policy is put
 pub puts_policy : (schema : StatedSchema) (n : List ℕ) (s : Store) (id text : List ℕ) (b : ReadText Policy) (impossible : Bool)
-    (r : Result Stamp SiteFault) (t : Store) → IsJudged schema id text b impossible
+    (r : Result Stamp SiteFault) (t : Store) → IsCheckedPolicy schema id text b impossible
     → RecordsOr n s (policy_name id) (Some b.text) r t → PutsPolicy schema n s id text (put_result impossible r) t
 puts_policy schema n s id text b impossible (Ok stamp) t j h = (
   b.read,

@@ -13,10 +13,10 @@ use Rattle.site_soundness.specs.message_format.Updates.{AreInRange, plain_update
 use Rattle.site_soundness.specs.sync_messages.Messages.{IsMessageOf, IsMessageFaultOf}
 use Rattle.site_soundness.specs.sync_messages.Texts.{RefusesPolicy, RefusesEntity}
 use Rattle.site_soundness.specs.sync_messages.Laws.{PoliciesHaveOneReading, EntitiesHaveOneReading}
-use Rattle.site_soundness.specs.message_format.Bodies.{TextsHaveOneOutcome}
+use Rattle.site_soundness.specs.message_format.Bodies.{BodiesHaveOneOutcome}
 use Rattle.site_soundness.specs.message_format.declared.fault.MessageFault.{MessageFault}
 use Rattle.site_soundness.specs.message_format.declared.fault.MessageFault.TheVariants as sending
-use Rattle.plain.specs.Refused.{OrNoMemory}
+use Rattle.plain.specs.AllocationErrors.{OrNoMemory}
 use Rattle.site_steps.specs.Faults.{of_message}
 use Rattle.site_steps.specs.declared.fault.SiteFault.{SiteFault}
 use Rattle.site_steps.specs.declared.fault.SiteFault.TheVariants as fault
@@ -202,7 +202,7 @@ texts_of schema = record { schema = record { ref_ptr = (0, 0); now = schema } }
 
 -- under a schema each text has one outcome
 pub texts_are_one : (w : StatedSchema) → PoliciesHaveOneReading → EntitiesHaveOneReading
-    → TextsHaveOneOutcome (IsPolicyUnder w) (λ (id : List ℕ). RefusesPolicy w) (IsEntityUnder w) (RefusesEntity w)
+    → BodiesHaveOneOutcome (IsPolicyUnder w) (λ (id : List ℕ). RefusesPolicy w) (IsEntityUnder w) (RefusesEntity w)
 texts_are_one w policies entities = record {
   policies = λ id text. (policies w text).0;
   entities = λ uid text. (entities w uid text).0;

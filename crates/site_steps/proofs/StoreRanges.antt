@@ -20,7 +20,7 @@ use Rattle.site_store.specs.stamped_store.EntryOrder.{PlainEntry, entry_cmp}
 use Rattle.site_store.specs.stamped_store.Greatest.{IsGreatestAt, greatest_count}
 use Rattle.site_store.specs.stamped_store.SiteNames.{IsSiteName}
 use Rattle.site_store.specs.stamped_store.Store.{Store, Update, IsStoreOf, updates, store_of, issue}
-use Rattle.site_store.specs.stamped_store.Stored.{value_at}
+use Rattle.site_store.specs.stamped_store.JoinMaps.{value_at}
 use Rattle.site_soundness.specs.message_format.Summaries.{AreStamped, IsName, IsStamped}
 use Rattle.site_soundness.specs.message_format.Updates.{AreInRange, stamped}
 use Rattle.site_steps.specs.Steps.{most_count}

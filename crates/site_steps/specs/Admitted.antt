@@ -19,7 +19,7 @@ use Rattle.site_store.specs.entity_data.declared.entity.Entity.{Entity}
 use Rattle.site_store.specs.entities.declared.fault.EntityFault.{EntityFault}
 use Rattle.site_store.specs.entities.declared.fault.EntityFault.TheVariants.{BadShape}
 use Rattle.site_store.specs.entities.Entities.{entity_stated_in}
-use Rattle.site_store.specs.entities.Requests.{StatesRequest, RequestRefused}
+use Rattle.site_store.specs.entities.Requests.{ParsesRequest, RequestRefused}
 use Rattle.site_soundness.specs.validator.declared.fault.TypeFault.{TypeFault}
 use Rattle.site_soundness.specs.validator.Passing.{IsCheckRefused}
 use Rattle.site_soundness.specs.message_format.Summaries.{IsStamped}
@@ -72,7 +72,7 @@ entity_stated schema json = do
 -- (`None`) describe none.
 abbrev pub IsRequestOf : StatedSchema → Option Data → Request → Type 0
 IsRequestOf schema None q = ⊥
-IsRequestOf schema (Some d) q = StatesRequest schema d q
+IsRequestOf schema (Some d) q = ParsesRequest schema d q
 
 -- `IsNoRequest schema json f` holds if `f` is the first error of `json` as a request under `schema`. `None` stands for
 -- bytes that are not JSON, whose error is `BadShape` (30).

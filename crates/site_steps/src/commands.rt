@@ -19,8 +19,8 @@ ghost use Rattle.site_steps.specs.SiteViews.{schema_of, store_in, IsSameSite};
 ghost use Rattle.site_steps.specs.Steps.{PutsPolicy, PutsEntity, Deletes};
 ghost use Rattle.site_steps.specs.inner.Recording.{RecordsOr, PutsUnless, IsNext, put_result};
 
+use crate::checking::{CheckedPolicy, checked_policy, stated_entity};
 use crate::fault::SiteFault;
-use crate::judging::{CheckedPolicy, judged_policy, stated_entity};
 use crate::outcome::Put;
 use crate::ranges::ranges_stay;
 use crate::site::Site;
@@ -157,7 +157,7 @@ impl Site {
         ensures same { IsSameSite self.old self.new }
     {
         stamps_are_issued();
-        match judged_policy(self.alloc, self.store.schema(), id, text) {
+        match checked_policy(self.alloc, self.store.schema(), id, text) {
             Ok(judged) => {
                 let CheckedPolicy {
                     id,

@@ -9,10 +9,10 @@
 #![tactic(auto)]
 
 mod answering;
+mod checking;
 mod commands;
 mod fault;
 mod input;
-mod judging;
 mod laws;
 mod leaving;
 mod outcome;

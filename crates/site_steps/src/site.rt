@@ -12,8 +12,8 @@ ghost use Rattle.site_soundness.specs.Answers.{HasPermittedErrors};
 ghost use Rattle.site_steps.specs.SiteViews.{schema_of, store_in, IsValidStore};
 ghost use Rattle.site_steps.specs.Steps.{Answers, policy_found, most_count};
 
+use crate::checking::stated_request;
 use crate::fault::SiteFault;
-use crate::judging::stated_request;
 use crate::ranges::ranges_stay;
 use crate::under_schema::readings_stay;
 use plain::{NoMemory, Shared};
@@ -207,8 +207,8 @@ impl Site {
     }
 
     /// Returns how many policies the last answer evaluated; for tests alone.
-    pub fn tried(&self) -> usize {
-        self.store.tried()
+    pub fn evaluated(&self) -> usize {
+        self.store.evaluated()
     }
 
     /// Drops the caches, as a failed allocation does, so that the next answers search and evaluate everything; for

@@ -12,7 +12,7 @@ ghost use Rattle.site_store.specs.stamped_store.declared.entry.Entry.{Entry};
 ghost use Rattle.site_store.specs.stamped_store.EntryOrder.{greater};
 ghost use Rattle.site_store.specs.stamped_store.Reading.{IsEntryRead};
 ghost use Rattle.site_store.specs.stamped_store.Store.{StoreEntries, kept};
-ghost use Rattle.site_store.specs.stamped_store.Stored.{taken};
+ghost use Rattle.site_store.specs.stamped_store.JoinMaps.{taken};
 ghost use Rattle.site_steps.specs.Admitted.{IsPolicyUnder, IsEntityUnder};
 ghost use Rattle.site_steps.specs.SiteViews.{IsHeld};
 

@@ -12,11 +12,11 @@ use Rattle.site_meaning.specs.entity_data.declared.entity.Entity.{Entity}
 use Rattle.site_meaning.specs.entity_data.Entities.{kept_parents, action_or}
 use Rattle.stamped_store.specs.declared.entry.Entry.{Entry}
 use Rattle.stamped_store.specs.EntryOrder.{greater}
-use Rattle.stamped_store.specs.Stored.{taken}
+use Rattle.stamped_store.specs.JoinMaps.{taken}
 use Rattle.stamped_store.proofs.Points.{others_kept}
 use Rattle.site_meaning.specs.StoreMeaning.{data_of}
 use Rattle.site_meaning.specs.TextsRead.{entity_at, entity_read}
-use Rattle.site_store.specs.Kept.{EntityEntries, edges_under, AreAncestorsOf}
+use Rattle.site_store.specs.CacheValidity.{EntityEntries, edges_under, AreAncestorsOf}
 use Rattle.site_store.specs.inner.Updating.{AreAncestorsBut}
 
 not_tied : (uid q : EntityUid) → is_eq (uid_cmp uid q) ≡ false → uid_cmp q uid ≢ Equal

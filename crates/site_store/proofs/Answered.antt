@@ -21,10 +21,10 @@ all_are_candidates parents q ps qs same =
     subst (λ (xs : List NamedPolicy). AreCandidates parents q ps xs) (sym same)
     (record { among = λ p has. has; all = λ p has applies. has })
 
-pub over_candidates : {E : Type 0} (result : Result Answer E) (W : Entities) (above : EntityUid → EntityUid → Bool) → Decides W.parents above
+pub over_candidates : {E : Type 0} (result : Result Answer E) (W : Entities) (ancestor_test : EntityUid → EntityUid → Bool) → Decides W.parents ancestor_test
     → CandidatesSuffice → (q : Request) (k : StoreEntries Policy Entity) (ps : List NamedPolicy)
     → updates (abstract_store k) ≡ abstract_updates k → AreCandidates W.parents q (policies_read k.policies) ps → Ascend ps
     → IfOk result (IsAnswer W q ps) → IfOk result (IsAnswer W q (policies_read k.policies))
-over_candidates (Ok a) W above decides suffice q k ps in_order among rise h =
-    (suffice W above decides q (policies_read k.policies) ps a (kept_ascend k (policies_read k.policies) in_order refl) rise among).1 h
-over_candidates (Err e) W above decides suffice q k ps in_order among rise h = tt
+over_candidates (Ok a) W ancestor_test decides suffice q k ps in_order among rise h =
+    (suffice W ancestor_test decides q (policies_read k.policies) ps a (kept_ascend k (policies_read k.policies) in_order refl) rise among).1 h
+over_candidates (Err e) W ancestor_test decides suffice q k ps in_order among rise h = tt

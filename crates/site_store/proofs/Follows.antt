@@ -23,7 +23,7 @@ use Rattle.scope_index.specs.policy_grammar.declared.policy.Policy.{Policy}
 use Rattle.scope_index.specs.Keys.{Kept, kept_at}
 use Rattle.stamped_store.specs.declared.entry.Entry.{Entry}
 use Rattle.stamped_store.specs.EntryOrder.{greater}
-use Rattle.stamped_store.specs.Stored.{value_at_text, taken}
+use Rattle.stamped_store.specs.JoinMaps.{value_at_text, taken}
 use Rattle.site_store.specs.Indexed.{PolicyEntries, policy_in, policy_at, AreIndexed}
 use Rattle.site_store.specs.inner.IndexUpdating.{AreIndexedBut, noted}
 

@@ -20,7 +20,7 @@ use Rattle.scope_index.specs.policy_grammar.declared.policy.Policy.{Policy}
 use Rattle.values.specs.declared.request.Request.{Request}
 use Rattle.ancestor_closure.specs.ancestor_search.Hierarchy.{Parents}
 use Rattle.stamped_store.specs.declared.entry.Entry.{Entry}
-use Rattle.stamped_store.specs.Stored.{value_at_text}
+use Rattle.stamped_store.specs.JoinMaps.{value_at_text}
 use Rattle.stamped_store.specs.declared.entry.ReadText.{ReadText}
 use Rattle.scope_index.specs.Keys.{Kept, kept_at, Candidate, ids, lent, IsCandidate}
 use Rattle.scope_index.specs.Scopes.{IsScopeTrue}

@@ -11,7 +11,7 @@ use Rattle.scope_index.specs.Keys.{Kept}
 use Rattle.site_meaning.specs.entity_data.declared.entity.Entity.{Entity}
 use Rattle.stamped_store.specs.Store.{StoreEntries, kept}
 use Rattle.site_store.specs.Indexed.{PolicyEntries, AreIndexed}
-use Rattle.site_store.specs.Kept.{EntityEntries, AreAncestorsOf}
+use Rattle.site_store.specs.CacheValidity.{EntityEntries, AreAncestorsOf}
 use Rattle.site_store.specs.StoreViews.{AreValidCaches}
 
 abbrev pub Entries : Type 0
@@ -51,10 +51,10 @@ module _ (schema lent : SchemaEntries) (is_lent : lent ≡ schema) where
       → (index : Option Kept) → IfSome index (AreIndexed old.policies)
       → (ancestors : Option AncestorCache) → IfSome ancestors (AreAncestorsOf (schema_view lent) new.entities)
       → AreValidCaches (schema_view schema) new index ancestors
-  beside_entity r new old es ok err index index_is ancestors followed =
+  beside_entity r new old es ok err index index_is ancestors updated_cache =
       record {
         index_is = subst (λ (ps : PolicyEntries). IfSome index (AreIndexed ps)) (sym (policies_stay r new old es ok err)) index_is;
-        ancestors_are = subst (λ (x : SchemaEntries). IfSome ancestors (AreAncestorsOf (schema_view x) new.entities)) is_lent followed;
+        ancestors_are = subst (λ (x : SchemaEntries). IfSome ancestors (AreAncestorsOf (schema_view x) new.entities)) is_lent updated_cache;
       }
 
 -- after a change of a policy

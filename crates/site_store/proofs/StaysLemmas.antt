@@ -13,12 +13,12 @@ use Rattle.site_meaning.specs.entity_data.declared.entity.Entity.{Entity}
 use Rattle.stamped_store.specs.declared.entry.Entry.{Entry}
 use Rattle.stamped_store.specs.EntryOrder.{greater}
 use Rattle.stamped_store.specs.Store.{StoreEntries, kept}
-use Rattle.stamped_store.specs.Stored.{value_at, taken}
+use Rattle.stamped_store.specs.JoinMaps.{value_at, taken}
 use Rattle.site_meaning.specs.StoreMeaning.{entity_data_under}
 use Rattle.site_meaning.specs.TextsRead.{entity_at, entity_read}
 use Rattle.site_store.specs.Winning.{StoredWins}
 use Rattle.site_store.proofs.Unchanged.{finds_the_same}
-use Rattle.site_store.specs.Kept.{EntityEntries, edges_under, AreAncestorsOf}
+use Rattle.site_store.specs.CacheValidity.{EntityEntries, edges_under, AreAncestorsOf}
 
 same_entities : (es : EntityEntries) (uid : EntityUid) (entry : Entry Entity) → StoredWins (value_at uid_cmp es uid) entry
     → (q : EntityUid) → entity_at (taken uid_cmp greater es uid entry) q ≡ entity_at es q

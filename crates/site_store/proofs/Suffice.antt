@@ -3,7 +3,7 @@ use Rattle.std.proofs.Common.{◌≡◌, ◌∙◌, sym, true, false}
 use Rattle.std.specs.Prelude.{Ok, Err}
 use Rattle.values.specs.declared.request.Request.{Request}
 use Rattle.values.specs.Values.{boolean}
-use Rattle.scope_index.specs.policy_grammar.Whole.{expression_of}
+use Rattle.scope_index.specs.policy_grammar.PolicyExpression.{expression_of}
 use Rattle.site_meaning.specs.evaluator.Operators.{Entities}
 use Rattle.site_meaning.specs.evaluator.Evaluation.{EvaluatesTo}
 use Rattle.site_meaning.specs.evaluator.Laws.{HaveOneOutcome, HasOneOutcome}
@@ -22,8 +22,8 @@ idle_of W q p one given = record {
 }
 
 pub candidates_suffice : HaveOneOutcome → LeavingOutChangesNothing → OtherScopesGiveFalse → CandidatesSuffice
-candidates_suffice one left_out gives_false W above D q ps qs a h k c =
+candidates_suffice one left_out gives_false W ancestor_test D q ps qs a h k c =
     skipping (λ (p : NamedPolicy). p.id) (λ xs. IsAnswer W q xs a) (λ (p : NamedPolicy). IsScopeTrue W.parents p.policy.scope q)
-    (λ xs kept none. left_out W above D q xs kept a (λ p i f.
-    idle_of W q p (one W above D q (expression_of p.policy)) (gives_false W above D q p.policy (λ t. none p i f t))))
+    (λ xs kept none. left_out W ancestor_test D q xs kept a (λ p i f.
+    idle_of W q p (one W ancestor_test D q (expression_of p.policy)) (gives_false W ancestor_test D q p.policy (λ t. none p i f t))))
     ps qs h k c.among c.all

@@ -18,7 +18,7 @@ use Rattle.stamped_store.specs.declared.entry.Entry.{Entry}
 use Rattle.stamped_store.specs.EntryOrder.{greater}
 use Rattle.stamped_store.specs.Joins.{option_joined}
 use Rattle.stamped_store.specs.Store.{StoreEntries, kept}
-use Rattle.stamped_store.specs.Stored.{value_at, value_at_text, taken}
+use Rattle.stamped_store.specs.JoinMaps.{value_at, value_at_text, taken}
 use Rattle.stamped_store.proofs.Points.{value_at-taken, value_at-tied}
 use Rattle.site_store.specs.Indexed.{PolicyEntries, policy_in, AreIndexed}
 use Rattle.site_store.specs.Winning.{StoredWins}

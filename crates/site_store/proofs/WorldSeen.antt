@@ -21,7 +21,7 @@ use Rattle.site_meaning.specs.declared.stored_entities.StoredEntities.{StoredEnt
 use Rattle.site_meaning.specs.StoreMeaning.{data_in, entity_data_under}
 use Rattle.site_meaning.specs.TextsRead.{entity_at, uids_read}
 use Rattle.site_meaning.specs.Listed.{entities_listed}
-use Rattle.site_store.specs.Kept.{edges_under, AreAncestorsOf}
+use Rattle.site_store.specs.CacheValidity.{edges_under, AreAncestorsOf}
 use Rattle.site_store.specs.StoreViews.{StoreView, world_stored}
 use Rattle.site_store.specs.inner.Worlds.{IsStoredWorld}
 

@@ -23,8 +23,8 @@ abbrev pub Ascend : List NamedPolicy → Type 0
 Ascend ps = AreIdsAscending (map (λ p. p.id) ps)
 
 -- `CandidatesSuffice`: if the ids of all policies and of the candidates ascend, the answers over the candidates are the
--- answers over all policies. Here `W` is the entity data, and the test `above` decides the ancestors in it.
+-- answers over all policies. Here `W` is the entity data, and the test `ancestor_test` decides the ancestors in it.
 abbrev pub CandidatesSuffice : Type 0
-CandidatesSuffice = (W : Entities) (above : EntityUid → EntityUid → Bool) → Decides W.parents above →
+CandidatesSuffice = (W : Entities) (ancestor_test : EntityUid → EntityUid → Bool) → Decides W.parents ancestor_test →
     (q : Request) (ps qs : List NamedPolicy) (a : Answer) → Ascend ps → Ascend qs → AreCandidates W.parents q ps qs
     → IsAnswer W q ps a ↔ IsAnswer W q qs a

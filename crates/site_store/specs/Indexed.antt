@@ -8,7 +8,7 @@ use Rattle.std.specs.declared.string.String.{String}
 use Rattle.scope_index.specs.policy_grammar.declared.policy.Policy.{Policy}
 use Rattle.scope_index.specs.Keys.{Kept, kept_at}
 use Rattle.stamped_store.specs.declared.entry.Entry.{Entry}
-use Rattle.stamped_store.specs.Stored.{value_at_text}
+use Rattle.stamped_store.specs.JoinMaps.{value_at_text}
 
 -- A `PolicyEntries` is the list of a store's entries of policies.
 abbrev pub PolicyEntries : Type 0

@@ -2,7 +2,7 @@ pub mod Indexed
 pub mod Winning
 pub mod inner
 pub mod Candidates
-pub mod Kept
+pub mod CacheValidity
 pub mod StoreViews
 -- Specifications of lower crates, re-exported.
 pub use Rattle.scope_index.specs as scope_index

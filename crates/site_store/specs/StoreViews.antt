@@ -13,7 +13,7 @@ use Rattle.stamped_store.specs.Store.{StoreEntries}
 use Rattle.site_meaning.specs.StoreMeaning.{entity_data_under}
 use Rattle.site_meaning.specs.TextsRead.{entity_at}
 use Rattle.site_store.specs.Indexed.{AreIndexed}
-use Rattle.site_store.specs.Kept.{AreAncestorsOf}
+use Rattle.site_store.specs.CacheValidity.{AreAncestorsOf}
 
 -- A `StoreView` is a schema and the entries of a store, each text with its parsed value.
 pub record StoreView : Type 0 where

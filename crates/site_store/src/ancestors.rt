@@ -4,12 +4,12 @@ ghost use Rattle.values.specs.Names.{uid_cmp};
 ghost use Rattle.site_meaning.specs.schema.Views.{schema_view};
 ghost use Rattle.stamped_store.specs.EntryOrder.{plain_entry, greater};
 ghost use Rattle.stamped_store.specs.Store.{abstract_store, store_of, updates, kept, entity_name, KeepsOtherNames};
-ghost use Rattle.stamped_store.specs.Stored.{taken, value_at};
-ghost use Rattle.site_store.specs.Kept.{AreAncestorsOf};
+ghost use Rattle.stamped_store.specs.JoinMaps.{taken, value_at};
+ghost use Rattle.site_store.specs.CacheValidity.{AreAncestorsOf};
 ghost use Rattle.site_store.specs.inner.Updating.{AreAncestorsBut};
 ghost use Rattle.site_store.specs.Winning.{StoredWins};
 
-use crate::rebuild_policy::RebuildRule;
+use crate::rebuild_rule::RebuildRule;
 use crate::winning::stored_wins;
 use ancestor_closure::AncestorCache;
 use plain::NoMemory;
@@ -23,31 +23,31 @@ use values::EntityUid;
 ///
 /// # Errors
 ///
-/// - `NoMemory`: an allocation failed, or there would be more ancestors than the budget of `rebuild_policy` allows.
+/// - `NoMemory`: an allocation failed, or there would be more ancestors than the budget of `rebuild_rule` allows.
 pub(crate) fn ancestors_of(
     alloc: Global,
     schema: &Schema,
     store: &StampedStore<Policy, Entity>,
-    rebuild_policy: &mut RebuildRule,
+    rebuild_rule: &mut RebuildRule,
 ) -> Result<AncestorCache, NoMemory>
     ensures { IfOk result (AreAncestorsOf (schema_view schema.now) store.now.entities) }
 {
     let entities = StoredEntities::of(store);
     let world = entity_data_under(alloc, &entities, schema);
-    AncestorCache::of_graph(alloc, &world, &mut rebuild_policy.room)
+    AncestorCache::of_graph(alloc, &world, &mut rebuild_rule.budget)
 }
 
 /// Updates the cache after the entity `uid` changed. After an error the cache must not be used.
 ///
 /// # Errors
 ///
-/// - `NoMemory`: an allocation failed, or there would be more ancestors than the budget of `rebuild_policy` allows.
-fn follow_store(
+/// - `NoMemory`: an allocation failed, or there would be more ancestors than the budget of `rebuild_rule` allows.
+fn update_cache(
     alloc: Global,
     ancestors: &mut AncestorCache,
     schema: &Schema,
     store: &StampedStore<Policy, Entity>,
-    rebuild_policy: &mut RebuildRule,
+    rebuild_rule: &mut RebuildRule,
     uid: &EntityUid,
 ) -> Result<(), NoMemory>
     requires { AreAncestorsBut uid.now (schema_view schema.now) store.now.entities ancestors.old }
@@ -55,27 +55,27 @@ fn follow_store(
 {
     let entities = StoredEntities::of(store);
     let world = entity_data_under(alloc, &entities, schema);
-    ancestors.follow(&world, uid, &mut rebuild_policy.room)
+    ancestors.follow(&world, uid, &mut rebuild_rule.budget)
 }
 
 /// Returns the cache, updated after the entity `uid` changed, or `None` if there was none or the update failed.
 ///
 /// The cache is also dropped if its updates for one message have cost so much that a rebuild after the message is
-/// cheaper (`RebuildRule::is_dear`).
-fn followed(
+/// cheaper (`RebuildRule::costs_more_than_rebuild`).
+fn updated_cache(
     alloc: Global,
     ancestors: Option<AncestorCache>,
     schema: &Schema,
     store: &StampedStore<Policy, Entity>,
-    rebuild_policy: &mut RebuildRule,
+    rebuild_rule: &mut RebuildRule,
     uid: &EntityUid,
 ) -> Option<AncestorCache>
     requires { IfSome ancestors (AreAncestorsBut uid.now (schema_view schema.now) store.now.entities) }
     ensures { IfSome result (AreAncestorsOf (schema_view schema.now) store.now.entities) }
 {
     let mut ancestors = ancestors?;
-    follow_store(alloc, &mut ancestors, schema, store, rebuild_policy, uid).ok()?;
-    if rebuild_policy.is_dear(store.entities().len()) {
+    update_cache(alloc, &mut ancestors, schema, store, rebuild_rule, uid).ok()?;
+    if rebuild_rule.costs_more_than_rebuild(store.entities().len()) {
         return None;
     }
     Some(ancestors)
@@ -98,17 +98,17 @@ fn needs_nothing(
 }
 
 /// Joins an entry at an entity's uid, and then updates the cache, or drops the cache if the update fails.
-fn take_and_follow(
+fn join_and_update_cache(
     alloc: Global,
     schema: &Schema,
     store: &mut StampedStore<Policy, Entity>,
     ancestors: &mut Option<AncestorCache>,
-    rebuild_policy: &mut RebuildRule,
+    rebuild_rule: &mut RebuildRule,
     uid: EntityUid,
     entry: Entry<Entity>,
 ) -> Result<(), (EntityUid, Entry<Entity>)>
     requires { IfSome ancestors.old (AreAncestorsOf (schema_view schema.now) store.old.entities) }
-    ensures followed { IfSome ancestors.new (AreAncestorsOf (schema_view schema.now) store.new.entities) }
+    ensures updated_cache { IfSome ancestors.new (AreAncestorsOf (schema_view schema.now) store.new.entities) }
     ensures ok { OnOk result (abstract_store store.new
         ≡ store_of (updates (abstract_store store.old) ++ (entity_name uid, plain_entry entry) ∷ [])) }
     ensures others { OnOk result
@@ -122,7 +122,7 @@ fn take_and_follow(
     store.take_entity(uid, entry)?;
     let before = ancestors.take();
     *ancestors = match name {
-        Ok(name) => followed(alloc, before, schema, store, rebuild_policy, &name),
+        Ok(name) => updated_cache(alloc, before, schema, store, rebuild_rule, &name),
         Err(_) => None,
     };
     Ok(())
@@ -131,7 +131,7 @@ fn take_and_follow(
 /// Joins an entry at an entity's uid, and updates the cache.
 ///
 /// The cache is dropped if its update fails, or if the updates for one message have cost much more than a rebuild
-/// (`RebuildRule::is_dear`). The entry is joined all the same.
+/// (`RebuildRule::costs_more_than_rebuild`). The entry is joined all the same.
 ///
 /// # Errors
 ///
@@ -141,12 +141,12 @@ pub(crate) fn take_entity(
     schema: &Schema,
     store: &mut StampedStore<Policy, Entity>,
     ancestors: &mut Option<AncestorCache>,
-    rebuild_policy: &mut RebuildRule,
+    rebuild_rule: &mut RebuildRule,
     uid: EntityUid,
     entry: Entry<Entity>,
 ) -> Result<(), (EntityUid, Entry<Entity>)>
     requires { IfSome ancestors.old (AreAncestorsOf (schema_view schema.now) store.old.entities) }
-    ensures followed { IfSome ancestors.new (AreAncestorsOf (schema_view schema.now) store.new.entities) }
+    ensures updated_cache { IfSome ancestors.new (AreAncestorsOf (schema_view schema.now) store.new.entities) }
     ensures ok { OnOk result (abstract_store store.new
         ≡ store_of (updates (abstract_store store.old) ++ (entity_name uid, plain_entry entry) ∷ [])) }
     ensures others { OnOk result
@@ -156,11 +156,11 @@ pub(crate) fn take_entity(
     ensures refused { IfErr result (λ pair. pair ≡ (uid, entry)) }
     ensures err { OnErr result (store.new ≡ store.old) }
 {
-    rebuild_policy.pass();
+    rebuild_rule.count_change();
     if needs_nothing(store, ancestors, &uid, &entry) {
         return store.take_entity(uid, entry);
     }
-    take_and_follow(alloc, schema, store, ancestors, rebuild_policy, uid, entry)
+    join_and_update_cache(alloc, schema, store, ancestors, rebuild_rule, uid, entry)
 }
 
 /// Joins an entry at an entity's uid, and updates the cache without first comparing the entry with the stored one.
@@ -171,12 +171,12 @@ pub(crate) fn record_entity(
     schema: &Schema,
     store: &mut StampedStore<Policy, Entity>,
     ancestors: &mut Option<AncestorCache>,
-    rebuild_policy: &mut RebuildRule,
+    rebuild_rule: &mut RebuildRule,
     uid: EntityUid,
     entry: Entry<Entity>,
 ) -> Result<(), (EntityUid, Entry<Entity>)>
     requires { IfSome ancestors.old (AreAncestorsOf (schema_view schema.now) store.old.entities) }
-    ensures followed { IfSome ancestors.new (AreAncestorsOf (schema_view schema.now) store.new.entities) }
+    ensures updated_cache { IfSome ancestors.new (AreAncestorsOf (schema_view schema.now) store.new.entities) }
     ensures ok { OnOk result (abstract_store store.new
         ≡ store_of (updates (abstract_store store.old) ++ (entity_name uid, plain_entry entry) ∷ [])) }
     ensures others { OnOk result
@@ -186,6 +186,6 @@ pub(crate) fn record_entity(
     ensures refused { IfErr result (λ pair. pair ≡ (uid, entry)) }
     ensures err { OnErr result (store.new ≡ store.old) }
 {
-    rebuild_policy.pass();
-    take_and_follow(alloc, schema, store, ancestors, rebuild_policy, uid, entry)
+    rebuild_rule.count_change();
+    join_and_update_cache(alloc, schema, store, ancestors, rebuild_rule, uid, entry)
 }

@@ -45,7 +45,7 @@ impl StoredWorld<'_, '_> {
         ensures ascending { IfOk result (λ ps. Ascend (named ps.items)) }
     {
         if let Some(index) = self.index {
-            if scan_count.is_bound() {
+            if scan_count.names_an_entity() {
                 if let Ok(policies) = offered(self.store, index, request, ancestry) {
                     return Ok(policies);
                 }

@@ -7,7 +7,7 @@ ghost use Rattle.std.specs.Str.{bytes_eq};
 ghost use Rattle.scope_index.specs.Keys.{kept_at};
 ghost use Rattle.stamped_store.specs.EntryOrder.{plain_entry, greater};
 ghost use Rattle.stamped_store.specs.Store.{abstract_store, store_of, updates, kept, policy_name, KeepsOtherNames};
-ghost use Rattle.stamped_store.specs.Stored.{taken, value_at_text};
+ghost use Rattle.stamped_store.specs.JoinMaps.{taken, value_at_text};
 ghost use Rattle.site_store.specs.Indexed.{policy_at, policy_in, AreIndexed};
 ghost use Rattle.site_store.specs.inner.IndexUpdating.{AreIndexedBut, noted};
 ghost use Rattle.site_store.specs.Winning.{StoredWins};
@@ -32,7 +32,7 @@ fn policy_under<'s, E: Drop>(store: &'s StampedStore<Policy, E>, id: &str) -> Op
 }
 
 /// Returns the index, updated after the policy of `id` changed, or `None` if there was none or an allocation failed.
-fn followed<E: Drop>(
+fn updated_index<E: Drop>(
     index: Option<ScopeIndex>,
     store: &StampedStore<Policy, E>,
     id: &str,
@@ -137,7 +137,7 @@ pub(crate) fn record_policy<E: Drop>(
     store.take_policy(id, entry)?;
     let before = index.take();
     *index = match name {
-        Ok(name) => followed(before, store, name.as_str()),
+        Ok(name) => updated_index(before, store, name.as_str()),
         Err(_) => None,
     };
     Ok(())

@@ -13,7 +13,7 @@ mod answering;
 mod index;
 mod laws;
 mod offering;
-mod rebuild_policy;
+mod rebuild_rule;
 mod scan_count;
 mod store;
 mod stored_world;

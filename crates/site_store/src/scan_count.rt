@@ -11,8 +11,8 @@ use std::cell::Cell;
 /// No contract and no answer depends on these measures.
 #[derive(Drop)]
 pub(crate) struct ScanCount {
-    tried: Cell<usize>,
-    is_bound: bool,
+    evaluated: Cell<usize>,
+    names_an_entity: bool,
 }
 
 /// Returns whether the constraint of a scope on the principal or the resource names an entity.
@@ -27,8 +27,8 @@ impl ScanCount {
     /// Creates the measures of an empty store.
     pub(crate) fn new() -> ScanCount {
         ScanCount {
-            tried: Cell::new(0),
-            is_bound: false,
+            evaluated: Cell::new(0),
+            names_an_entity: false,
         }
     }
 
@@ -36,24 +36,24 @@ impl ScanCount {
     pub(crate) fn note(&mut self, entry: &Entry<Policy>) {
         if let Some(text) = &entry.body {
             let scope = &*text.read.scope;
-            self.is_bound = self.is_bound
+            self.names_an_entity = self.names_an_entity
                 | names_entity(&scope.principal)
                 | names_entity(&scope.resource);
         }
     }
 
     /// Returns whether an index may have fewer candidates than all policies.
-    pub(crate) fn is_bound(&self) -> bool {
-        self.is_bound
+    pub(crate) fn names_an_entity(&self) -> bool {
+        self.names_an_entity
     }
 
     /// Records the number of policies that an answer evaluates.
-    pub(crate) fn begin(&self, tried: usize) {
-        self.tried.set(tried);
+    pub(crate) fn begin(&self, evaluated: usize) {
+        self.evaluated.set(evaluated);
     }
 
     /// Returns how many policies the last answer evaluated.
-    pub(crate) fn tried(&self) -> usize {
-        self.tried.get()
+    pub(crate) fn evaluated(&self) -> usize {
+        self.evaluated.get()
     }
 }

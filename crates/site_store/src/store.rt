@@ -8,14 +8,14 @@ ghost use Rattle.stamped_store.specs.EntryOrder.{plain_entry, greater};
 ghost use Rattle.stamped_store.specs.Reading.{AreEntriesRead};
 ghost use Rattle.stamped_store.specs.Store.{abstract_store, store_of, updates, kept};
 ghost use Rattle.stamped_store.specs.Store.{policy_name, entity_name, KeepsOtherNames};
-ghost use Rattle.stamped_store.specs.Stored.{taken};
+ghost use Rattle.stamped_store.specs.JoinMaps.{taken};
 ghost use Rattle.site_meaning.specs.StoreMeaning.{IsAnswerOver, MakesCycle, MakesNoCycle};
 ghost use Rattle.site_store.specs.StoreViews.{AreValidCaches};
 
 use crate::ancestors::{ancestors_of, record_entity, take_entity};
 use crate::answering::is_in_order;
 use crate::index::{rebuild_index_if_missing, record_policy, take_policy};
-use crate::rebuild_policy::RebuildRule;
+use crate::rebuild_rule::RebuildRule;
 use crate::scan_count::ScanCount;
 use crate::stored_world::StoredWorld;
 use ancestor_closure::AncestorCache;
@@ -35,7 +35,7 @@ pub struct IndexedStore {
     store: StampedStore<Policy, Entity>,
     index: Option<ScopeIndex>,
     ancestors: Option<AncestorCache>,
-    rebuild_policy: RebuildRule,
+    rebuild_rule: RebuildRule,
     scan_count: ScanCount,
 }
 
@@ -57,23 +57,23 @@ impl Model for IndexedStore {
     ghost invariant = { λ s. AreValidCaches (schema_view s.schema) s.store s.index s.ancestors };
 }
 
-/// Rebuilds the caches that are absent, if there is memory; the ancestor cache only if `rebuild_policy` allows it.
+/// Rebuilds the caches that are absent, if there is memory; the ancestor cache only if `rebuild_rule` allows it.
 fn rebuild_absent(
     alloc: Global,
     schema: &Schema,
     store: &StampedStore<Policy, Entity>,
     index: &mut Option<ScopeIndex>,
     ancestors: &mut Option<AncestorCache>,
-    rebuild_policy: &mut RebuildRule,
+    rebuild_rule: &mut RebuildRule,
 )
     requires { AreValidCaches (schema_view schema.now) store.now index.old ancestors.old }
     ensures { AreValidCaches (schema_view schema.now) store.now index.new ancestors.new }
 {
     rebuild_index_if_missing(alloc, store, index);
     let entities = store.entities().len();
-    if rebuild_policy.begin(ancestors.is_some(), entities) {
-        *ancestors = ancestors_of(alloc, schema, store, rebuild_policy).ok();
-        rebuild_policy.end(entities);
+    if rebuild_rule.begin(ancestors.is_some(), entities) {
+        *ancestors = ancestors_of(alloc, schema, store, rebuild_rule).ok();
+        rebuild_rule.end(entities);
     }
 }
 
@@ -91,7 +91,7 @@ impl IndexedStore {
             store: StampedStore::new(alloc),
             index: Some(ScopeIndex::new(alloc)),
             ancestors: None,
-            rebuild_policy: RebuildRule::new(),
+            rebuild_rule: RebuildRule::new(),
             scan_count: ScanCount::new(),
         }
     }
@@ -167,7 +167,7 @@ impl IndexedStore {
             &self.schema,
             &mut self.store,
             &mut self.ancestors,
-            &mut self.rebuild_policy,
+            &mut self.rebuild_rule,
             uid,
             entry,
         )
@@ -199,7 +199,7 @@ impl IndexedStore {
             &self.store,
             &mut self.index,
             &mut self.ancestors,
-            &mut self.rebuild_policy,
+            &mut self.rebuild_rule,
         );
         record_policy(self.alloc, &mut self.store, &mut self.index, id, entry)
     }
@@ -229,14 +229,14 @@ impl IndexedStore {
             &self.store,
             &mut self.index,
             &mut self.ancestors,
-            &mut self.rebuild_policy,
+            &mut self.rebuild_rule,
         );
         record_entity(
             self.alloc,
             &self.schema,
             &mut self.store,
             &mut self.ancestors,
-            &mut self.rebuild_policy,
+            &mut self.rebuild_rule,
             uid,
             entry,
         )
@@ -255,7 +255,7 @@ impl IndexedStore {
             &self.store,
             &mut self.index,
             &mut self.ancestors,
-            &mut self.rebuild_policy,
+            &mut self.rebuild_rule,
         );
     }
 
@@ -340,7 +340,7 @@ impl IndexedStore {
     }
 
     /// Returns how many policies the last answer evaluated; for tests alone.
-    pub fn tried(&self) -> usize {
-        self.scan_count.tried()
+    pub fn evaluated(&self) -> usize {
+        self.scan_count.evaluated()
     }
 }

@@ -86,10 +86,10 @@ impl StoredWorld<'_, '_> {
 impl Ancestry for StoredWorld<'_, '_> {
     ghost parents = { λ s. (world_stored s).parents };
 
-    ghost above = { λ s.
+    ghost ancestor_test = { λ s.
         reaches (world_stored s).parents (uids_with (action_uids s.schema) (uids_read s.kept.entities)) };
 
-    ghost above_is = { λ s.
+    ghost ancestor_test_decides = { λ s.
         all_decided (actions_under s.schema) (action_uids s.schema) (actions_are_listed s.schema)
         (data_in (entity_at s.kept.entities)) (uids_read s.kept.entities) (entities_listed s.kept.entities) };
 

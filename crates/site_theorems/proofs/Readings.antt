@@ -15,10 +15,10 @@ use Rattle.site.specs.site_steps.stamped_store.Contents.{text_under}
 use Rattle.site.specs.site_steps.site_meaning.StoreMeaning.{IsReadFrom, AreEntities, IsAnswerOver, MakesCycle}
 use Rattle.site.specs.site_steps.site_meaning.StoreMeaning.{MakesNoCycle}
 use Rattle.site.specs.site_steps.Admitted.{entity_stated, IsRequestOf, IsNoRequest}
-use Rattle.site.specs.site_steps.entities.StatedEntities.{StatesEntity, RefusesEntity}
+use Rattle.site.specs.site_steps.entities.StatedEntities.{DescribesEntity, RefusesEntity}
 use Rattle.site.specs.site_steps.entities.StatedRequests.{DescribesRequest, RefusesRequest}
-use Rattle.site.specs.site_steps.entities.AsStated.{EntitiesAreRead, RequestsAreRead}
-use Rattle.site_theorems.specs.Steps.{JsonStates, JsonRefused}
+use Rattle.site.specs.site_steps.entities.ParsingLaws.{EntitiesAreRead, RequestsAreRead}
+use Rattle.site_theorems.specs.Steps.{JsonDescribes, JsonRefused}
 
 -- ---- entities of a store
 
@@ -68,7 +68,7 @@ bad_is : (f : EntityFault) → refused BadShape ≡ refused f → f ≡ BadShape
 bad_is f e = cc
 
 pub entity_value : EntitiesAreRead → (schema : StatedSchema) (json : Option Data) (e : Entity)
-    → (entity_stated schema json ≡ Ok e) ↔ JsonStates (StatesEntity schema) json e
+    → (entity_stated schema json ≡ Ok e) ↔ JsonDescribes (DescribesEntity schema) json e
 entity_value read schema None e = ((λ h. absurd cc), (λ h. absurd h))
 entity_value read schema (Some d) e = (read schema d).value e
 
@@ -78,7 +78,7 @@ entity_fault read schema None f = (bad_is f, (λ h. cc))
 entity_fault read schema (Some d) f = (read schema d).fault f
 
 pub request_value : RequestsAreRead → (schema : StatedSchema) (json : Option Data) (q : Request)
-    → IsRequestOf schema json q ↔ JsonStates (DescribesRequest schema) json q
+    → IsRequestOf schema json q ↔ JsonDescribes (DescribesRequest schema) json q
 request_value read schema None q = ((λ h. h), (λ h. h))
 request_value read schema (Some d) q = (read schema d).states q
 

@@ -17,15 +17,15 @@ use Rattle.site.specs.site_steps.declared.reply.Reply.{Reply}
 use Rattle.site.specs.site_steps.declared.reply.Reply.TheVariants as reply
 use Rattle.site.specs.site_steps.Runs.{Run, took_by, took, update_of_entity, updates_of_message}
 use Rattle.site.specs.site_steps.Permitted.{RunsAreSound}
-use Rattle.site.specs.site_steps.entities.AsStated.{EntitiesAreRead}
+use Rattle.site.specs.site_steps.entities.ParsingLaws.{EntitiesAreRead}
 use Rattle.site.proofs.of_site_steps.of_stamped_store.Greatests.{entry_order}
 use Rattle.site.proofs.of_site_steps.of_stamped_store.GreatestsBy.{is_store_of-store_of, store_of-same_members}
-use Rattle.site.specs.site_steps.sync_messages.StatedUpdates.{StatesUpdates}
-use Rattle.site.specs.site_steps.sync_messages.AsStated.{UpdatesAreRead}
+use Rattle.site.specs.site_steps.sync_messages.StatedUpdates.{DescribesUpdates}
+use Rattle.site.specs.site_steps.sync_messages.ParsingLaws.{UpdatesAreRead}
 use Rattle.site_theorems.specs.Steps.{IsStep}
 use Rattle.site_theorems.specs.Laws.{StepsAreAsStated}
 use Rattle.site_theorems.specs.Runs.{IsRun, Applies, Applied, LeavesApplied, RunsLeaveApplied, Holds}
-use Rattle.site_theorems.specs.Runs.{EqualUpdatesLeaveEqualStores, RunsReplyHarmlessly}
+use Rattle.site_theorems.specs.Runs.{EqualUpdatesLeaveEqualStores, RunsHavePermittedErrors}
 use Rattle.site_theorems.proofs.Readings.{entity_value}
 
 -- by the theorems of lower crates
@@ -40,7 +40,7 @@ pub both : (a b c d : List Update) → a ≡ c → b ≡ d → a ++ b ≡ c ++ d
 both a b c d e f = ap (λ (x : List Update). x ++ b) e ∙ ap (λ (x : List Update). c ++ x) f
 
 module _ (law : RunLaws) (schema : StatedSchema) where
-  stated_updates : (bytes : List ℕ) (us : List Update) → StatesUpdates schema.label bytes us
+  stated_updates : (bytes : List ℕ) (us : List Update) → DescribesUpdates schema.label bytes us
       → updates_stated schema.label bytes ≡ Ok us
   stated_updates bytes us h = ((law.messages schema.label bytes).value us).1 h
 
@@ -74,7 +74,7 @@ module _ (law : RunLaws) (schema : StatedSchema) where
   )
   applied_by n s (input.DeleteEntity uid) (reply.Stamped (Ok stamp)) t h = refl
   applied_by n s (input.Take bytes) (reply.Taken (Ok (All k))) t h =
-      subst (λ (us : List Update). StatesUpdates schema.label bytes us)
+      subst (λ (us : List Update). DescribesUpdates schema.label bytes us)
       (ap (λ (x : Result (List Update) MessageFault). updates_of_message x)
       (sym (stated_updates bytes (plain_updates h.0) h.1.stated))) h.1.stated
   applied_by n s (input.Take bytes) (reply.Taken (Ok (Short k))) t h = (
@@ -143,6 +143,6 @@ runs_leave law schema n s is rs t h = leaves law schema n s is rs t h
 pub runs_equal : RunLaws → EqualUpdatesLeaveEqualStores
 runs_equal law schema us vs s t h k same = equal law schema us vs s t h k same
 
-pub runs_harmless : RunLaws → RunsAreSound → RunsReplyHarmlessly
+pub runs_harmless : RunLaws → RunsAreSound → RunsHavePermittedErrors
 runs_harmless law sound bytes schema stated n s is rs t h =
     sound bytes schema stated n s is rs t (run_from law schema n s is rs t h)

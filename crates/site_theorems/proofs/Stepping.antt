@@ -20,9 +20,9 @@ use Rattle.site.specs.site_steps.Inputs.{Input}
 use Rattle.site.specs.site_steps.Inputs as input
 use Rattle.site.specs.site_steps.declared.reply.Reply.{Reply}
 use Rattle.site.specs.site_steps.declared.reply.Reply.TheVariants as reply
-use Rattle.site.specs.site_steps.entities.AsStated.{EntitiesAreRead, RequestsAreRead}
-use Rattle.site.specs.site_steps.sync_messages.StatedTexts.{StatesText}
-use Rattle.site.specs.site_steps.sync_messages.AsStated.{TextsAreRead, SummariesAreRead, MessagesAreRead}
+use Rattle.site.specs.site_steps.entities.ParsingLaws.{EntitiesAreRead, RequestsAreRead}
+use Rattle.site.specs.site_steps.sync_messages.StatedTexts.{DescribesText}
+use Rattle.site.specs.site_steps.sync_messages.ParsingLaws.{TextsAreRead, SummariesAreRead, MessagesAreRead}
 use Rattle.site_theorems.specs.Steps.{PutsEntity, IsNoMessageOf, TakesMessage, Answers, WritesDelta, IsStep}
 use Rattle.site_theorems.specs.Laws.{StepsAreAsStated}
 use Rattle.site_theorems.proofs.Readings.{answer_as, cycle_as, no_cycle_as, entity_value, entity_fault}
@@ -37,10 +37,10 @@ pub record ReadLaws : Type 0 where
   pub messages : MessagesAreRead
 
 module _ (law : ReadLaws) (schema : StatedSchema) where
-  text_to : (uid : EntityUid) (text : List ℕ) (e : Entity) → IsEntityUnder schema uid text e → StatesText schema uid text e
+  text_to : (uid : EntityUid) (text : List ℕ) (e : Entity) → IsEntityUnder schema uid text e → DescribesText schema uid text e
   text_to uid text e h = ((law.texts schema uid text).value e).0 h
 
-  text_from : (uid : EntityUid) (text : List ℕ) (e : Entity) → StatesText schema uid text e → IsEntityUnder schema uid text e
+  text_from : (uid : EntityUid) (text : List ℕ) (e : Entity) → DescribesText schema uid text e → IsEntityUnder schema uid text e
   text_from uid text e h = ((law.texts schema uid text).value e).1 h
 
   module _ (n : List ℕ) (s : Store) where
@@ -50,7 +50,7 @@ module _ (law : ReadLaws) (schema : StatedSchema) where
     puts_to json (Ok stamp) t h = (
       h.0,
       (entity_value law.entities schema json h.0).0 h.1,
-      no_cycle_as (IsEntityUnder schema) (StatesText schema) text_to schema s h.0 h.2,
+      no_cycle_as (IsEntityUnder schema) (DescribesText schema) text_to schema s h.0 h.2,
       h.3,
     )
     puts_to json (Err fault.NoMemory) t h = h
@@ -59,7 +59,7 @@ module _ (law : ReadLaws) (schema : StatedSchema) where
       (
         h.0.0,
         (entity_value law.entities schema json h.0.0).0 h.0.1,
-        cycle_as (IsEntityUnder schema) (StatesText schema) text_to schema s h.0.0 h.0.2,
+        cycle_as (IsEntityUnder schema) (DescribesText schema) text_to schema s h.0.0 h.0.2,
       ),
       h.1,
     )
@@ -67,7 +67,7 @@ module _ (law : ReadLaws) (schema : StatedSchema) where
       (
         h.0.0,
         (entity_value law.entities schema json h.0.0).0 h.0.1,
-        no_cycle_as (IsEntityUnder schema) (StatesText schema) text_to schema s h.0.0 h.0.2,
+        no_cycle_as (IsEntityUnder schema) (DescribesText schema) text_to schema s h.0.0 h.0.2,
       ),
       h.1,
     )
@@ -78,7 +78,7 @@ module _ (law : ReadLaws) (schema : StatedSchema) where
     puts_from json (Ok stamp) t h = (
       h.0,
       (entity_value law.entities schema json h.0).1 h.1,
-      no_cycle_as (StatesText schema) (IsEntityUnder schema) text_from schema s h.0 h.2,
+      no_cycle_as (DescribesText schema) (IsEntityUnder schema) text_from schema s h.0 h.2,
       h.3,
     )
     puts_from json (Err fault.NoMemory) t h = h
@@ -87,7 +87,7 @@ module _ (law : ReadLaws) (schema : StatedSchema) where
       (
         h.0.0,
         (entity_value law.entities schema json h.0.0).1 h.0.1,
-        cycle_as (StatesText schema) (IsEntityUnder schema) text_from schema s h.0.0 h.0.2,
+        cycle_as (DescribesText schema) (IsEntityUnder schema) text_from schema s h.0.0 h.0.2,
       ),
       h.1,
     )
@@ -95,7 +95,7 @@ module _ (law : ReadLaws) (schema : StatedSchema) where
       (
         h.0.0,
         (entity_value law.entities schema json h.0.0).1 h.0.1,
-        no_cycle_as (StatesText schema) (IsEntityUnder schema) text_from schema s h.0.0 h.0.2,
+        no_cycle_as (DescribesText schema) (IsEntityUnder schema) text_from schema s h.0.0 h.0.2,
       ),
       h.1,
     )
@@ -126,7 +126,7 @@ module _ (law : ReadLaws) (schema : StatedSchema) where
     answers_to json (Ok a) h = (
       h.0,
       (request_value law.requests schema json h.0).0 h.1,
-      answer_as (IsEntityUnder schema) (StatesText schema) text_to (IsPolicyUnder schema) schema s h.0 a h.2,
+      answer_as (IsEntityUnder schema) (DescribesText schema) text_to (IsPolicyUnder schema) schema s h.0 a h.2,
     )
     answers_to json (Err (fault.Request f)) h = (request_fault law.requests schema json f).0 h
     answers_to json (Err f) h = h
@@ -136,7 +136,7 @@ module _ (law : ReadLaws) (schema : StatedSchema) where
     answers_from json (Ok a) h = (
       h.0,
       (request_value law.requests schema json h.0).1 h.1,
-      answer_as (StatesText schema) (IsEntityUnder schema) text_from (IsPolicyUnder schema) schema s h.0 a h.2,
+      answer_as (DescribesText schema) (IsEntityUnder schema) text_from (IsPolicyUnder schema) schema s h.0 a h.2,
     )
     answers_from json (Err (fault.Request f)) h = (request_fault law.requests schema json f).1 h
     answers_from json (Err f) h = h

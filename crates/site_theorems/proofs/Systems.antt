@@ -23,13 +23,13 @@ use Rattle.site.specs.declared.event.Event.{Event}
 use Rattle.site.specs.declared.event.EventReply.{EventReply}
 use Rattle.site.specs.Sites.{SiteName, numbered, World, start}
 use Rattle.site.specs.Worlds.{IsStepAt, HappensAt, Happens, Leads, WasIssued, issued_by, input_of}
-use Rattle.site.specs.Promises.{KeepsPromises, StatesBy, IssuesBy, SystemsKeepPromises}
+use Rattle.site.specs.Promises.{KeepsPromises, DescribesBy, IssuesBy, SystemsKeepPromises}
 use Rattle.site.specs.Promises as site
-use Rattle.site.specs.site_steps.entities.StatedEntities.{StatesEntity}
-use Rattle.site.specs.site_steps.entities.AsStated.{EntitiesAreRead}
-use Rattle.site.specs.site_steps.sync_messages.StatedUpdates.{StatesUpdates}
-use Rattle.site.specs.site_steps.sync_messages.AsStated.{UpdatesAreRead}
-use Rattle.site_theorems.specs.Steps.{JsonStates, IsStep}
+use Rattle.site.specs.site_steps.entities.StatedEntities.{DescribesEntity}
+use Rattle.site.specs.site_steps.entities.ParsingLaws.{EntitiesAreRead}
+use Rattle.site.specs.site_steps.sync_messages.StatedUpdates.{DescribesUpdates}
+use Rattle.site.specs.site_steps.sync_messages.ParsingLaws.{UpdatesAreRead}
+use Rattle.site_theorems.specs.Steps.{JsonDescribes, IsStep}
 use Rattle.site_theorems.specs.Laws.{StepsAreAsStated}
 use Rattle.site_theorems.specs.Promises.{Issues, WorldsKeepPromises}
 use Rattle.site_theorems.proofs.Readings.{entity_value}
@@ -80,7 +80,7 @@ update_at stamp e = (entity_name e.uid, issued stamp (Some (canonical_text e)))
 
 module _ (read : EntitiesAreRead) (schema : StatedSchema) where
   abbrev Put : Stamp → Option Data → Update → Type 0
-  Put stamp json u = (e : Entity) × JsonStates (StatesEntity schema) json e × (u ≡ update_at stamp e)
+  Put stamp json u = (e : Entity) × JsonDescribes (DescribesEntity schema) json e × (u ≡ update_at stamp e)
 
   put_to : (stamp : Stamp) (json : Option Data) (u : Update) (x : Result Entity EntityFault) → entity_stated schema json ≡ x
       → Contains (update_of_entity stamp x) u → Put stamp json u
@@ -134,14 +134,14 @@ module _ (steps : StepsAreAsStated) (entities : EntitiesAreRead) (updates : Upda
   step_from n s i r t h = (steps schema n s i r t).1 h
 
   module _ (sites : List SiteName) (es : List Event) (rs : List EventReply) (w : World)
-      (K : KeepsPromises (Step schema) (StatesBy schema) (IssuesBy schema) sites es rs w) where
+      (K : KeepsPromises (Step schema) (DescribesBy schema) (IssuesBy schema) sites es rs w) where
     to : (u : Update) → WasIssued (IssuesBy schema) sites es rs u → WasIssued (Issues schema) sites es rs u
     to u h = was_as (IssuesBy schema) (Issues schema) (issued_to entities schema) sites es rs u h
 
     from : (u : Update) → WasIssued (Issues schema) sites es rs u → WasIssued (IssuesBy schema) sites es rs u
     from u h = was_as (Issues schema) (IssuesBy schema) (issued_from entities schema) sites es rs u h
 
-    promises : KeepsPromises (IsStep schema) (StatesUpdates schema.label) (Issues schema) sites es rs w
+    promises : KeepsPromises (IsStep schema) (DescribesUpdates schema.label) (Issues schema) sites es rs w
     promises = record {
       stored = λ k s h u c. to u (K.stored k s h u c);
       sent = λ k m us h is u c. to u (K.sent k m us h (((updates schema.label m.bytes).value us).1 is) u c);

@@ -2,5 +2,5 @@ pub mod Steps
 pub mod Runs
 pub mod SiteStores
 pub mod Promises
-pub mod Headline
+pub mod MainTheorem
 pub mod Laws

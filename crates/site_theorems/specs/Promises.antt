@@ -14,9 +14,9 @@ use Rattle.site.specs.site_steps.declared.reply.Reply.TheVariants as reply
 use Rattle.site.specs.declared.event.Operation.{Operation}
 use Rattle.site.specs.declared.event.Operation.TheVariants as operation
 use Rattle.site.specs.Promises.{SystemsKeepPromises}
-use Rattle.site.specs.site_steps.entities.StatedEntities.{StatesEntity}
-use Rattle.site.specs.site_steps.sync_messages.StatedUpdates.{StatesUpdates}
-use Rattle.site_theorems.specs.Steps.{JsonStates, IsStep}
+use Rattle.site.specs.site_steps.entities.StatedEntities.{DescribesEntity}
+use Rattle.site.specs.site_steps.sync_messages.StatedUpdates.{DescribesUpdates}
+use Rattle.site_theorems.specs.Steps.{JsonDescribes, IsStep}
 
 -- `Issues schema d r u` holds if the local command `d` issued the update `u`: the reply `r` to `d` has the stamp of
 -- `u`.
@@ -25,7 +25,7 @@ Issues schema (operation.PutPolicy id text) (reply.Put (Ok put)) u =
     u ≡ (policy_name id, issued put.stamp (Some text))
 Issues schema (operation.DeletePolicy id) (reply.Stamped (Ok stamp)) u = u ≡ (policy_name id, issued stamp None)
 Issues schema (operation.PutEntity bytes) (reply.Stamped (Ok stamp)) u =
-    (e : Entity) × JsonStates (StatesEntity schema) (json_of bytes) e
+    (e : Entity) × JsonDescribes (DescribesEntity schema) (json_of bytes) e
     × (u ≡ (entity_name e.uid, issued stamp (Some (canonical_text e))))
 Issues schema (operation.DeleteEntity uid) (reply.Stamped (Ok stamp)) u = u ≡ (entity_name uid, issued stamp None)
 Issues schema _ _ u = ⊥
@@ -33,7 +33,7 @@ Issues schema _ _ u = ⊥
 -- `WorldsKeepPromises schema` holds if all systems of sites of `schema` keep the promises, by the steps, messages and
 -- issued updates that bytes describe.
 abbrev pub WorldsKeepPromises : StatedSchema → Type 0
-WorldsKeepPromises schema = SystemsKeepPromises (IsStep schema) (StatesUpdates schema.label) (Issues schema)
+WorldsKeepPromises schema = SystemsKeepPromises (IsStep schema) (DescribesUpdates schema.label) (Issues schema)
 
 -- `AllWorldsKeepPromises`: under each schema that bytes describe, all systems of sites keep the promises.
 abbrev pub AllWorldsKeepPromises : Type 0

@@ -17,9 +17,9 @@ use Rattle.site.specs.site_steps.Inputs as input
 use Rattle.site.specs.site_steps.declared.reply.Reply.{Reply}
 use Rattle.site.specs.site_steps.declared.reply.Reply.TheVariants as reply
 use Rattle.site.specs.site_steps.Permitted.{ArePermittedReplies}
-use Rattle.site.specs.site_steps.entities.StatedEntities.{StatesEntity}
-use Rattle.site.specs.site_steps.sync_messages.StatedUpdates.{StatesUpdates}
-use Rattle.site_theorems.specs.Steps.{JsonStates, IsStep}
+use Rattle.site.specs.site_steps.entities.StatedEntities.{DescribesEntity}
+use Rattle.site.specs.site_steps.sync_messages.StatedUpdates.{DescribesUpdates}
+use Rattle.site_theorems.specs.Steps.{JsonDescribes, IsStep}
 
 -- ---- runs
 
@@ -42,12 +42,12 @@ Applies schema (input.PutPolicy id text) (reply.Put (Ok put)) us =
     us ≡ (policy_name id, issued put.stamp (Some text)) ∷ []
 Applies schema (input.DeletePolicy id) (reply.Stamped (Ok stamp)) us = us ≡ (policy_name id, issued stamp None) ∷ []
 Applies schema (input.PutEntity bytes) (reply.Stamped (Ok stamp)) us =
-    (e : Entity) × JsonStates (StatesEntity schema) (json_of bytes) e
+    (e : Entity) × JsonDescribes (DescribesEntity schema) (json_of bytes) e
     × (us ≡ (entity_name e.uid, issued stamp (Some (canonical_text e))) ∷ [])
 Applies schema (input.DeleteEntity uid) (reply.Stamped (Ok stamp)) us = us ≡ (entity_name uid, issued stamp None) ∷ []
-Applies schema (input.Take bytes) (reply.Taken (Ok (All k))) us = StatesUpdates schema.label bytes us
+Applies schema (input.Take bytes) (reply.Taken (Ok (All k))) us = DescribesUpdates schema.label bytes us
 Applies schema (input.Take bytes) (reply.Taken (Ok (Short k))) us =
-    (all : List Update) × StatesUpdates schema.label bytes all × (us ≡ take k all)
+    (all : List Update) × DescribesUpdates schema.label bytes all × (us ≡ take k all)
 Applies schema _ _ us = us ≡ []
 
 -- `Applied schema is rs us` holds if `us` are the updates that the inputs `is` with the replies `rs` applied, in their
@@ -96,8 +96,8 @@ abbrev pub EqualUpdatesLeaveEqualStores : Type 0
 EqualUpdatesLeaveEqualStores = (schema : StatedSchema) (us vs : List Update) (s t : Store) → Holds schema us s
     → Holds schema vs t → ((u : Update) → Contains us u ↔ Contains vs u) → s ≡ t
 
--- `RunsReplyHarmlessly`: under a schema that bytes describe, each error of a policy in an answer of a run is
+-- `RunsHavePermittedErrors`: under a schema that bytes describe, each error of a policy in an answer of a run is
 -- `EntityDoesNotExist` or `ArithBoundsError`.
-abbrev pub RunsReplyHarmlessly : Type 0
-RunsReplyHarmlessly = (bytes : List ℕ) (schema : StatedSchema) → IsSchemaOf bytes schema → (n : List ℕ) (s : Store)
+abbrev pub RunsHavePermittedErrors : Type 0
+RunsHavePermittedErrors = (bytes : List ℕ) (schema : StatedSchema) → IsSchemaOf bytes schema → (n : List ℕ) (s : Store)
     (is : List Input) (rs : List Reply) (t : Store) → IsRun schema n s is rs t → ArePermittedReplies rs

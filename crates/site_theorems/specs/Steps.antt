@@ -32,18 +32,18 @@ use Rattle.site.specs.site_steps.Inputs.{Input}
 use Rattle.site.specs.site_steps.Inputs as input
 use Rattle.site.specs.site_steps.declared.reply.Reply.{Reply}
 use Rattle.site.specs.site_steps.declared.reply.Reply.TheVariants as reply
-use Rattle.site.specs.site_steps.entities.StatedEntities.{StatesEntity, RefusesEntity}
+use Rattle.site.specs.site_steps.entities.StatedEntities.{DescribesEntity, RefusesEntity}
 use Rattle.site.specs.site_steps.entities.StatedRequests.{DescribesRequest, RefusesRequest}
-use Rattle.site.specs.site_steps.sync_messages.StatedTexts.{StatesText}
-use Rattle.site.specs.site_steps.sync_messages.StatedSummaries.{StatesSummary, RefusesSummary}
-use Rattle.site.specs.site_steps.sync_messages.StatedMessages.{StatesMessage, RefusesMessage}
+use Rattle.site.specs.site_steps.sync_messages.StatedTexts.{DescribesText}
+use Rattle.site.specs.site_steps.sync_messages.StatedSummaries.{DescribesSummary, RefusesSummary}
+use Rattle.site.specs.site_steps.sync_messages.StatedMessages.{DescribesMessage, RefusesMessage}
 
 -- ---- JSON, where `None` stands for bytes that are not JSON
 
--- `JsonStates States json x` holds if `json` is JSON that describes `x` by the relation `States`.
-abbrev pub JsonStates : {A : Type 0} → (Data → A → Type 0) → Option Data → A → Type 0
-JsonStates States None x = ⊥
-JsonStates States (Some d) x = States d x
+-- `JsonDescribes Describes json x` holds if `json` is JSON that describes `x` by the relation `Describes`.
+abbrev pub JsonDescribes : {A : Type 0} → (Data → A → Type 0) → Option Data → A → Type 0
+JsonDescribes Describes None x = ⊥
+JsonDescribes Describes (Some d) x = Describes d x
 
 -- `JsonRefused Refuses json f` holds if `json` is not JSON and `f` is `BadShape`, or `json` is JSON with the error `f`
 -- by the relation `Refuses`.
@@ -57,14 +57,15 @@ JsonRefused Refuses (Some d) f = Refuses d f
 -- canonical text, may lead from the store `s` to the store `t` with the result `r`.
 abbrev pub PutsEntity : StatedSchema → List ℕ → Store → Option Data → Result Stamp SiteFault → Store → Type 0
 PutsEntity schema n s json (Ok stamp) t =
-    (e : Entity) × JsonStates (StatesEntity schema) json e × MakesNoCycle (StatesText schema) schema s e
+    (e : Entity) × JsonDescribes (DescribesEntity schema) json e × MakesNoCycle (DescribesText schema) schema s e
     × Records n s (entity_name e.uid) (Some (canonical_text e)) stamp t
 PutsEntity schema n s json (Err fault.NoMemory) t = t ≡ s
 PutsEntity schema n s json (Err (fault.Entity f)) t = JsonRefused (RefusesEntity schema) json f × (t ≡ s)
 PutsEntity schema n s json (Err fault.WouldCycle) t =
-    ((e : Entity) × JsonStates (StatesEntity schema) json e × MakesCycle (StatesText schema) schema s e) × (t ≡ s)
+    ((e : Entity) × JsonDescribes (DescribesEntity schema) json e × MakesCycle (DescribesText schema) schema s e)
+    × (t ≡ s)
 PutsEntity schema n s json (Err fault.ClockFull) t =
-    ((e : Entity) × JsonStates (StatesEntity schema) json e × MakesNoCycle (StatesText schema) schema s e)
+    ((e : Entity) × JsonDescribes (DescribesEntity schema) json e × MakesNoCycle (DescribesText schema) schema s e)
     × IsClockFull s t
 PutsEntity schema n s json (Err _) t = ⊥
 
@@ -78,7 +79,7 @@ IsNoMessageOf schema bytes _ = ⊥
 -- result `r`: all of its updates are applied, or the first ones, or the message is rejected whole.
 abbrev pub TakesMessage : StatedSchema → Store → List ℕ → Result Taken SiteFault → Store → Type 0
 TakesMessage schema s bytes (Ok taken) t =
-    (us : List (Update Policy Entity)) × StatesMessage schema bytes us × TakesUpdates s (plain_updates us) taken t
+    (us : List (Update Policy Entity)) × DescribesMessage schema bytes us × TakesUpdates s (plain_updates us) taken t
 TakesMessage schema s bytes (Err f) t = IsNoMessageOf schema bytes f × (t ≡ s)
 
 -- ---- queries
@@ -87,8 +88,8 @@ TakesMessage schema s bytes (Err f) t = IsNoMessageOf schema bytes f × (t ≡ s
 -- first error of `json` as a request, or `NoMemory`.
 abbrev pub Answers : StatedSchema → Store → Option Data → Result Answer SiteFault → Type 0
 Answers schema s json (Ok a) =
-    (q : Request) × JsonStates (DescribesRequest schema) json q
-    × IsAnswerOver (IsPolicyUnder schema) (StatesText schema) schema s q a
+    (q : Request) × JsonDescribes (DescribesRequest schema) json q
+    × IsAnswerOver (IsPolicyUnder schema) (DescribesText schema) schema s q a
 Answers schema s json (Err fault.NoMemory) = Unit {0}
 Answers schema s json (Err (fault.Request f)) = JsonRefused (RefusesRequest schema) json f
 Answers schema s json (Err _) = ⊥
@@ -97,7 +98,7 @@ Answers schema s json (Err _) = ⊥
 -- their first error as a summary of `schema`, or `NoMemory`.
 abbrev pub WritesDelta : StatedSchema → Store → List ℕ → Result (List ℕ) SiteFault → Type 0
 WritesDelta schema s summary (Ok written) =
-    (m : deltas.Summary) × StatesSummary schema.label summary m
+    (m : deltas.Summary) × DescribesSummary schema.label summary m
     × (written ≡ delta_text schema.label (deltas.delta s m))
 WritesDelta schema s summary (Err fault.NoMemory) = Unit {0}
 WritesDelta schema s summary (Err (fault.Message f)) = RefusesSummary schema.label summary f

@@ -1,9 +1,9 @@
 //! Theorems over relations between bytes and what they describe. The functions are no-ops.
 ghost use Rattle.site_theorems.specs.Laws.{StepsAreAsStated};
-ghost use Rattle.site_theorems.specs.Runs.{RunsLeaveApplied, EqualUpdatesLeaveEqualStores, RunsReplyHarmlessly};
+ghost use Rattle.site_theorems.specs.Runs.{RunsLeaveApplied, EqualUpdatesLeaveEqualStores, RunsHavePermittedErrors};
 ghost use Rattle.site_theorems.specs.SiteStores.{SitesHoldApplied};
 ghost use Rattle.site_theorems.specs.Promises.{AllWorldsKeepPromises};
-ghost use Rattle.site_theorems.specs.Headline.{SitesAreAsStated};
+ghost use Rattle.site_theorems.specs.MainTheorem.{SitesAreAsStated};
 
 use site::{
     entities_are_read_as_stated, entity_texts_are_read_as_stated, messages_are_read_as_stated,
@@ -33,12 +33,12 @@ pub fn steps_are_as_stated()
 ///   site had and the applied ones: at each name the greatest entry.
 /// - `equal`: sites that had and applied equal sets of updates hold equal stores, whatever the order, the repeats and
 ///   the grouping of the updates.
-/// - `harmless`: under a schema that bytes describe, each error of a policy in an answer is `EntityDoesNotExist` or
+/// - `permitted`: under a schema that bytes describe, each error of a policy in an answer is `EntityDoesNotExist` or
 ///   `ArithBoundsError`: none is of a type, of an attribute or of an extension function.
 pub fn runs_leave_what_was_applied()
     ensures leave { RunsLeaveApplied }
     ensures equal { EqualUpdatesLeaveEqualStores }
-    ensures harmless { RunsReplyHarmlessly }
+    ensures permitted { RunsHavePermittedErrors }
 {
     steps_are_as_stated();
     entities_are_read_as_stated();

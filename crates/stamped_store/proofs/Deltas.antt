@@ -14,7 +14,7 @@ use Rattle.values.specs.Names.{name_cmp, name_cmp-IsTotalOrder, name_cmp-IsAntis
 use Rattle.stamped_store.specs.declared.entry.Stamp.{Stamp}
 use Rattle.stamped_store.specs.Joins.{option_joined, option_below}
 use Rattle.stamped_store.specs.EntryOrder.{PlainEntry, body_cmp, site_cmp, greater_entry}
-use Rattle.stamped_store.specs.Stored.{value_at}
+use Rattle.stamped_store.specs.JoinMaps.{value_at}
 use Rattle.stamped_store.specs.Store.{Store, Update, updates, plain_below, IsStoreBelow, joined_stores}
 use Rattle.stamped_store.specs.Deltas.{Summary, stamp_of, stamp_cmp, summary_of, is_unseen, delta, HaveOneEntryForAStamp}
 use Rattle.stamped_store.proofs.Greatests.{greater_entry_is_join}

@@ -11,7 +11,7 @@ use Rattle.std.proofs.lemmas.Cmp.{ranked, by_ranked, nat_list_cmp_total}
 use Rattle.stamped_store.specs.Joins.{IsJoin}
 use Rattle.stamped_store.specs.EntryOrder.{EntryAt, PlainEntry, body_cmp, site_cmp, entry_cmp_by, entry_cmp, greater_entry}
 use Rattle.stamped_store.specs.EntryJoins.{entry_cmp_by_total}
-use Rattle.stamped_store.specs.Stored.{joined_onto}
+use Rattle.stamped_store.specs.JoinMaps.{joined_onto}
 use Rattle.stamped_store.specs.Greatest.{max_count, greatest_count, store_of}
 use Rattle.stamped_store.proofs.GreatestsBy.{IsExactOrder, greater_is_join, by_test}
 use Rattle.stamped_store.proofs.GreatestsBy.{alike as alike_by, greater_assoc as greater_assoc_by, greater_commutes as greater_commutes_by, greater_itself as greater_itself_by}

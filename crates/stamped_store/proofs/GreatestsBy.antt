@@ -12,7 +12,7 @@ use Rattle.plain.proofs.Members.{Contains-here, Contains-there, Contains-cases, 
 use Rattle.stamped_store.specs.Joins.{IsJoin, IsLeastAbove, option_below, option_joined}
 use Rattle.stamped_store.specs.EntryOrder.{greater_of}
 use Rattle.stamped_store.specs.EntryJoins.{greater_by_is_join}
-use Rattle.stamped_store.specs.Stored.{joined_onto}
+use Rattle.stamped_store.specs.JoinMaps.{joined_onto}
 use Rattle.stamped_store.specs.Greatest.{IsGreatestAt, IsStoreOf, IsStoreBelow, store_of, joined_stores, greatest_at}
 use Rattle.stamped_store.proofs.Lifted.{above_first, above_second, least_above}
 

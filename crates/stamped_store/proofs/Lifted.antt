@@ -3,7 +3,7 @@ use Rattle.std.specs.Prelude.{◌≡◌, Bool, true, Option, Some, None, refl, L
 use Rattle.std.proofs.Common.{sym, subst}
 use Rattle.std.specs.declared.cmp.Ordering.{Ordering}
 use Rattle.stamped_store.specs.Joins.{IsJoin, IsLeastAbove, join_from_least, option_below, option_joined}
-use Rattle.stamped_store.specs.Stored.{IsBelowAt, joined_at, value_at, IsBelow, IsJoined}
+use Rattle.stamped_store.specs.JoinMaps.{IsBelowAt, joined_at, value_at, IsBelow, IsJoined}
 
 module _ {V : Type 0} (below : V → V → Bool) (join : V → V → V) (l : IsJoin (λ a b. below a b ≡ true) join) where
   pub itself : (a : Option V) → option_below below a a ≡ true

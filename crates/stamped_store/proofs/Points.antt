@@ -14,7 +14,7 @@ use Rattle.std.proofs.lemmas.Map.{lookup-none}
 use Rattle.std.proofs.lemmas.Map.Entries.{none_past_head}
 use Rattle.std.proofs.lemmas.Map.Keys.{sorted_tail, IsDistinct-from_sorted}
 use Rattle.stamped_store.specs.Joins.{option_below, option_joined}
-use Rattle.stamped_store.specs.Stored.{value_at, taken, all_joined, joined_onto, KeepsOthers, IsJoined, IsBelow}
+use Rattle.stamped_store.specs.JoinMaps.{value_at, taken, all_joined, joined_onto, KeepsOthers, IsJoined, IsBelow}
 
 equal_of : (r : Ordering) → is_eq r ≡ true → r ≡ Equal
 equal_of Less h = absurd (cc)

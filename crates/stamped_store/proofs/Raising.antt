@@ -11,7 +11,7 @@ use Rattle.std.proofs.lemmas.Cmp.{nat_cmp_total}
 use Rattle.values.specs.declared.name.Name.{Name}
 use Rattle.values.specs.Names.{name_cmp, name_cmp-IsTotalOrder, name_cmp-IsAntisymmetric}
 use Rattle.stamped_store.specs.EntryOrder.{body_cmp, entry_cmp, greater_of, greater_entry}
-use Rattle.stamped_store.specs.Stored.{joined_onto}
+use Rattle.stamped_store.specs.JoinMaps.{joined_onto}
 use Rattle.stamped_store.specs.Greatest.{greatest_at}
 use Rattle.stamped_store.specs.Store.{updates, store_of, joined_stores, IsStoreJoin}
 use Rattle.stamped_store.specs.Raised.{NumberedEntry, NumberedUpdate, NumberedStore, numbered_cmp, numbered_updates, numbered_store_of, IsNumberedStoreOf, IsNumberedJoin, joined_numbered, IsSiteNumber, HaveSiteNumbers, raise_entry, raise_update, raise, raise_store}

@@ -14,7 +14,7 @@ use Rattle.std.specs.declared.cmp.Ordering.{Ordering}
 use Rattle.std.specs.declared.cmp.Ordering.TheVariants.{Less, Equal, Greater}
 use Rattle.stamped_store.specs.declared.entry.Entry.{Entry}
 use Rattle.stamped_store.specs.EntryOrder.{entry_cmp, greater, greater_entry, plain_entry}
-use Rattle.stamped_store.specs.Stored.{value_at, taken, all_joined, joined_onto}
+use Rattle.stamped_store.specs.JoinMaps.{value_at, taken, all_joined, joined_onto}
 use Rattle.stamped_store.specs.Greatest.{store_of}
 use Rattle.stamped_store.specs.Abstraction.{abstract_entry, abstract_entries, abstract_map, greatest_kept}
 use Rattle.stamped_store.proofs.Greatests.{entry_order}

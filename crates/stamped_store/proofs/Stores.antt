@@ -18,7 +18,7 @@ use Rattle.values.specs.declared.entity_uid.EntityUid.{EntityUid}
 use Rattle.values.specs.Names.{name_cmp, uid_cmp, name_cmp-IsTotalOrder, name_cmp-IsAntisymmetric}
 use Rattle.stamped_store.specs.declared.entry.Entry.{Entry}
 use Rattle.stamped_store.specs.EntryOrder.{PlainEntry, plain_entry, greater, greater_entry}
-use Rattle.stamped_store.specs.Stored.{value_at, value_at_text, taken, all_joined, joined_onto}
+use Rattle.stamped_store.specs.JoinMaps.{value_at, value_at_text, taken, all_joined, joined_onto}
 use Rattle.stamped_store.specs.Greatest.{greatest_count, max_count}
 use Rattle.stamped_store.specs.Abstraction.{abstract_entry, abstract_entries, greatest_kept}
 use Rattle.stamped_store.specs.Store.{Update, StoreEntries, kept, updates, store_of, id_name, entity_name, abstract_updates, abstract_store, IsCounted}

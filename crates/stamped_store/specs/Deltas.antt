@@ -11,7 +11,7 @@ use Rattle.values.specs.declared.name.Name.{Name}
 use Rattle.values.specs.Names.{name_cmp}
 use Rattle.stamped_store.specs.declared.entry.Stamp.{Stamp}
 use Rattle.stamped_store.specs.EntryOrder.{PlainEntry, site_cmp}
-use Rattle.stamped_store.specs.Stored.{value_at}
+use Rattle.stamped_store.specs.JoinMaps.{value_at}
 use Rattle.stamped_store.specs.Store.{Store, updates}
 
 -- `stamp_of e` is the stamp of the entry `e`.

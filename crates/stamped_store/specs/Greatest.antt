@@ -7,7 +7,7 @@ use Rattle.std.specs.FinMap.{FinMap, empty, get, insert, entries}
 use Rattle.std.specs.declared.cmp.Ordering.{Ordering}
 use Rattle.stamped_store.specs.Joins.{option_below}
 use Rattle.stamped_store.specs.EntryOrder.{PlainEntry, greater_of}
-use Rattle.stamped_store.specs.Stored.{joined_onto}
+use Rattle.stamped_store.specs.JoinMaps.{joined_onto}
 
 -- `max_count es` is the greatest count of the entries `es`, 0 without entries.
 abbrev pub max_count : {N : Type 0} → List (N × PlainEntry) → ℕ

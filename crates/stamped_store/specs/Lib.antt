@@ -2,7 +2,7 @@ pub mod SiteNames
 pub mod Joins
 pub mod EntryOrder
 pub mod EntryJoins
-pub mod Stored
+pub mod JoinMaps
 pub mod Greatest
 pub mod Abstraction
 pub mod Store

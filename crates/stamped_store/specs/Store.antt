@@ -14,7 +14,7 @@ use Rattle.stamped_store.specs.declared.entry.Stamp.{Stamp}
 use Rattle.stamped_store.specs.Joins.{IsLeastAbove}
 use Rattle.stamped_store.specs.EntryOrder.{EntryAt, PlainEntry, entry_cmp, greater}
 use Rattle.stamped_store.specs.Greatest as updates_of
-use Rattle.stamped_store.specs.Stored.{all_joined}
+use Rattle.stamped_store.specs.JoinMaps.{all_joined}
 use Rattle.stamped_store.specs.Abstraction.{abstract_entries}
 
 -- `StoreAt Site` is the type of stores whose sites have the type `Site`.

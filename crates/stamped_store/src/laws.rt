@@ -16,7 +16,7 @@ ghost use Rattle.stamped_store.specs.Joins.{IsJoin, IsLeastAbove};
 ghost use Rattle.stamped_store.specs.EntryOrder.{PlainEntry, plain_entry, entry_cmp, greater_entry, greater};
 ghost use Rattle.stamped_store.specs.EntryOrder.{entry_at_most, site_cmp};
 ghost use Rattle.stamped_store.specs.SiteNames.{SiteTestIsExact, SiteNamesAreTexts, SiteDigitsAreNames, five_digits};
-ghost use Rattle.stamped_store.specs.Stored.{IsBelowAt, joined_at, value_at, taken};
+ghost use Rattle.stamped_store.specs.JoinMaps.{IsBelowAt, joined_at, value_at, taken};
 ghost use Rattle.stamped_store.specs.Greatest.{greatest_count};
 ghost use Rattle.stamped_store.specs.Store.{Store, Update, updates, store_of, plain_below, IsStoreBelow, IsStoreJoin};
 ghost use Rattle.stamped_store.specs.Store.{joined_stores, issue, issued, policy_name, entity_name};

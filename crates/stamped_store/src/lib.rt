@@ -8,15 +8,15 @@
 mod entry;
 mod join;
 pub mod laws;
-mod policy_store;
 mod readings;
 mod site_name;
 mod stamped;
 mod stamping;
+mod store;
 
 pub use entry::{Entry, ReadText, Stamp};
 pub use join::Join;
-pub use policy_store::{COUNT_MAX, StampedStore};
 pub use readings::Readings;
 pub use site_name::{SiteName, is_site_name};
 pub use stamped::{Short, Stamped};
+pub use store::{COUNT_MAX, StampedStore};

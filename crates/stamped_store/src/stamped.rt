@@ -6,8 +6,8 @@ ghost use Rattle.std.specs.BTreeMap.{insert_entry};
 ghost use Rattle.std.specs.Map.{keys_of};
 ghost use Rattle.std.specs.Map.Iter.{ShowsInOrder, deref_pair};
 ghost use Rattle.stamped_store.specs.Joins.{IsLeastAbove, option_below};
-ghost use Rattle.stamped_store.specs.Stored.{value_at, value_at_text, joined_onto, taken, all_joined, KeepsOthers};
-ghost use Rattle.stamped_store.specs.Stored.{IsBelow, IsJoined};
+ghost use Rattle.stamped_store.specs.JoinMaps.{value_at, value_at_text, joined_onto, taken, all_joined, KeepsOthers};
+ghost use Rattle.stamped_store.specs.JoinMaps.{IsBelow, IsJoined};
 
 use crate::Join;
 use std::alloc::Global;

@@ -11,7 +11,7 @@ use Rattle.sync_messages.specs.message_format.declared.fault.MessageFault.{Messa
 use Rattle.sync_messages.specs.message_format.declared.fault.MessageFault.TheVariants as fault
 use Rattle.sync_messages.specs.message_format.Summaries.{IsStamped}
 use Rattle.sync_messages.specs.message_format.Messages.{state_text, updates_stated}
-use Rattle.plain.specs.Refused.{OrNoMemory}
+use Rattle.plain.specs.AllocationErrors.{OrNoMemory}
 use Rattle.sync_messages.specs.message_format.declared.update.Update.{Update as SentUpdate}
 use Rattle.sync_messages.specs.message_format.Updates.{IsMessage, IsValid, AreInRange, AreValid, stamped}
 use Rattle.sync_messages.specs.message_format.Updates.{plain_updates}
@@ -32,7 +32,7 @@ texts_of schema = record { schema = record { ref_ptr = (0, 0); now = schema } }
 -- a fault that is due is told, if it is not told as want of memory
 pub told : (s : StatedSchema) (bytes : List ℕ) (f : MessageFault) → OrNoMemory fault.NoMemory (IsMessageFaultOf s bytes) f
     → (message_refusal f ≡ no_memory → ⊥) → IsMessageRefused s bytes (message_refusal f)
-told s bytes f due other = record { fault = f; due = due (λ e. other (ap message_refusal e)); is = refl }
+told s bytes f is_fault other = record { fault = f; is_fault = is_fault (λ e. other (ap message_refusal e)); is = refl }
 
 -- ---- what is in a store
 

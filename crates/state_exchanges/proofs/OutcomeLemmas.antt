@@ -11,7 +11,7 @@ use Rattle.sync_messages.specs.message_format.declared.fault.MessageFault.{Messa
 use Rattle.sync_messages.specs.message_format.Messages.{state_text}
 use Rattle.sync_messages.specs.message_format.declared.update.Update.{Update as SentUpdate}
 use Rattle.sync_messages.specs.message_format.Updates.{plain_updates}
-use Rattle.sync_messages.specs.message_format.Bodies.{TextsHaveOneOutcome}
+use Rattle.sync_messages.specs.message_format.Bodies.{BodiesHaveOneOutcome}
 use Rattle.sync_messages.specs.Laws.{PoliciesHaveOneReading, EntitiesHaveOneReading}
 use Rattle.sync_messages.specs.Texts.{ReadsPolicy, RefusesPolicy, ReadsEntity, RefusesEntity}
 use Rattle.schema_decisions.specs.answer_lines.declared.refusal.Refusal.{Refusal}
@@ -32,7 +32,7 @@ pub record Laws (s : StatedSchema) : Type 0 where
 
 -- under a schema each text has one outcome
 pub texts_are_one : (s : StatedSchema) → PoliciesHaveOneReading → EntitiesHaveOneReading
-    → TextsHaveOneOutcome (λ (id : List ℕ). ReadsPolicy s) (λ (id : List ℕ). RefusesPolicy s) (ReadsEntity s) (RefusesEntity s)
+    → BodiesHaveOneOutcome (λ (id : List ℕ). ReadsPolicy s) (λ (id : List ℕ). RefusesPolicy s) (ReadsEntity s) (RefusesEntity s)
 texts_are_one s policies entities = record {
   policies = λ id text. (policies s text).0;
   entities = λ uid text. (entities s uid text).0;
@@ -41,11 +41,11 @@ texts_are_one s policies entities = record {
 -- ---- two messages under a schema
 module _ (s : StatedSchema) (laws : Laws s) where
   refused_same : (bytes : List ℕ) (r q : Refusal) → IsMessageRefused s bytes r → IsMessageRefused s bytes q → r ≡ q
-  refused_same bytes r q a b = a.is ∙ ap message_refusal (laws.fault bytes a.fault b.fault a.due b.due) ∙ sym b.is
+  refused_same bytes r q a b = a.is ∙ ap message_refusal (laws.fault bytes a.fault b.fault a.is_fault b.is_fault) ∙ sym b.is
 
   refused_apart : (bytes : List ℕ) (us : List (SentUpdate Policy Entity)) (r : Refusal) → IsMessageOf s bytes us
       → IsMessageRefused s bytes r → ⊥
-  refused_apart bytes us r h a = laws.apart bytes us a.fault h a.due
+  refused_apart bytes us r h a = laws.apart bytes us a.fault h a.is_fault
 
   both_refused_same : (f g : List ℕ) (r q : Refusal) → AreRefusedUnder s f g r → AreRefusedUnder s f g q → r ≡ q
   both_refused_same f g r q (inl a) (inl b) = refused_same f r q a b
@@ -65,7 +65,7 @@ module _ (s : StatedSchema) (laws : Laws s) where
 -- ---- the three texts
 module _ (one : schemas.OneSchema) (not_both : schemas.NotBoth) (one_refusal : schemas.OneRefusal) (schema f g : List ℕ) where
   under : (s : StatedSchema) → IsSchemaOf schema s → (r : Refusal) → AreRefused schema f g r → AreRefusedUnder s f g r
-  under s is r (inl a) = absurd (not_both schema s a.fault is a.due)
+  under s is r (inl a) = absurd (not_both schema s a.fault is a.is_fault)
   under s is r (inr a) = subst (λ (t : StatedSchema). AreRefusedUnder t f g r) (one schema a.stated s a.schema_is is) a.refused
 
   module _ (s : StatedSchema) (is : IsSchemaOf schema s) (laws : Laws s) where
@@ -97,7 +97,7 @@ module _ (one : schemas.OneSchema) (not_both : schemas.NotBoth) (one_refusal : s
       inr (record {
         stated = s;
         schema_is = is;
-        refused = inr (record { first = us; first_read = first; refused = record { fault = e.0; due = e.1; is = refl } });
+        refused = inr (record { first = us; first_read = first; refused = record { fault = e.0; is_fault = e.1; is = refl } });
       }),
     )
 
@@ -105,17 +105,17 @@ module _ (one : schemas.OneSchema) (not_both : schemas.NotBoth) (one_refusal : s
     by_first (inl h) = by_second h.0 h.1 (laws.some g)
     by_first (inr e) = (
       refused (message_refusal e.0),
-      inr (record { stated = s; schema_is = is; refused = inl (record { fault = e.0; due = e.1; is = refl }) }),
+      inr (record { stated = s; schema_is = is; refused = inl (record { fault = e.0; is_fault = e.1; is = refl }) }),
     )
 
     pub stated : HaveOneOutcome schema f g
-    stated = let some = by_first (laws.some f) in (some.0, some.1, λ other due. one_come some.0 other some.1 due)
+    stated = let some = by_first (laws.some f) in (some.0, some.1, λ other is_fault. one_come some.0 other some.1 is_fault)
 
-  module _ (fault : SchemaFault) (due : RefusedFor schema fault) where
+  module _ (fault : SchemaFault) (is_fault : RefusedFor schema fault) where
     one_refused : (other : MergeOutcome) → IsOutcomeOfTexts schema f g other → other ≡ refused (schema_refusal fault)
-    one_refused (merged text) h = absurd (not_both schema h.stated fault h.schema_is due)
-    one_refused (refused r) (inl h) = ap refused (h.is ∙ ap schema_refusal (one_refusal schema h.fault fault h.due due))
-    one_refused (refused r) (inr h) = absurd (not_both schema h.stated fault h.schema_is due)
+    one_refused (merged text) h = absurd (not_both schema h.stated fault h.schema_is is_fault)
+    one_refused (refused r) (inl h) = ap refused (h.is ∙ ap schema_refusal (one_refusal schema h.fault fault h.is_fault is_fault))
+    one_refused (refused r) (inr h) = absurd (not_both schema h.stated fault h.schema_is is_fault)
 
     pub unstated : HaveOneOutcome schema f g
-    unstated = (refused (schema_refusal fault), inl (record { fault = fault; due = due; is = refl }), one_refused)
+    unstated = (refused (schema_refusal fault), inl (record { fault = fault; is_fault = is_fault; is = refl }), one_refused)

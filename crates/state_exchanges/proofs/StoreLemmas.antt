@@ -12,7 +12,7 @@ use Rattle.std.specs.declared.cmp.Ordering.TheVariants.{Less, Equal, Greater}
 use Rattle.values.specs.declared.name.Name.{Name}
 use Rattle.values.specs.Names.{name_cmp, name_cmp-IsTotalOrder, name_cmp-IsAntisymmetric}
 use Rattle.sync_messages.specs.stamped_store.EntryOrder.{PlainEntry, entry_cmp, greater_entry}
-use Rattle.sync_messages.specs.stamped_store.Stored.{joined_onto}
+use Rattle.sync_messages.specs.stamped_store.JoinMaps.{joined_onto}
 use Rattle.sync_messages.specs.stamped_store.Store.{Store, Update, updates, store_of}
 
 none_long : {X : Type 0} (xs : List X) → length xs ≡ 0 → xs ≡ []

@@ -24,7 +24,7 @@ message_refusal f = record { code = code_of f; place = place_of f; within = with
 -- `IsMessageRefused s bytes refusal` holds if `refusal` is the first error of `bytes` as a message of the schema `s`.
 pub record IsMessageRefused (s : StatedSchema) (bytes : List ℕ) (refusal : Refusal) : Type 0 where
   pub fault : MessageFault
-  pub due : IsMessageFaultOf s bytes fault
+  pub is_fault : IsMessageFaultOf s bytes fault
   pub is : refusal ≡ message_refusal fault
 
 -- ---- stores

@@ -13,7 +13,7 @@ use Rattle.validator.specs.Faults as validation
 use Rattle.validator.specs.Passing.{IsCheckRefused}
 use Rattle.message_format.specs.declared.bodies.BodyFault.{BodyFault}
 use Rattle.message_format.specs.declared.bodies.BodyFault.TheVariants as body
-use Rattle.plain.specs.Refused.{OrNoMemory}
+use Rattle.plain.specs.AllocationErrors.{OrNoMemory}
 use Rattle.sync_messages.specs.Texts.{RefusesPolicy, no_policy, not_passing}
 
 module _ (s : StatedSchema) (t : List ℕ) (b : BodyFault) where

@@ -12,7 +12,7 @@ use Rattle.message_format.specs.declared.version.MessageVersion.TheVariants.{One
 use Rattle.message_format.specs.declared.fault.MessageFault.{MessageFault}
 use Rattle.message_format.specs.declared.fault.MessageFault.TheVariants.{NotJson, BadShape, OtherSchema, Version}
 use Rattle.message_format.specs.Summaries.{number_at, version_in}
-use Rattle.sync_messages.specs.MessageForms.{HasVersion, number_of, StatesForm, RefusesForm}
+use Rattle.sync_messages.specs.MessageForms.{HasVersion, number_of, DescribesForm, RefusesForm}
 use Rattle.sync_messages.specs.MessageForms as says
 use Rattle.sync_messages.proofs.Steps.{done, failed, ok_is, never, same_bytes, bytes_same, true_false, untrue, Only}
 use Rattle.sync_messages.proofs.Parts.{Read, number_is, is_number, only_number}
@@ -100,7 +100,7 @@ module _ {A : Type 0} (Form : Data → List ℕ → A → Type 0) (shape : Messa
         let h = reader.is_form d schema a form in
         json_step d e ∙ shape_read h.0 d (done (schema, a)) h.1 h.2
 
-    pub states : (a : A) → StatesForm Form label bytes a → form_read label bytes ≡ done a
+    pub states : (a : A) → DescribesForm Form label bytes a → form_read label bytes ≡ done a
     states a h = whole h.value label a h.json h.form ∙ ap (λ (b : Bool). demand OtherSchema b >>= λ same. done a) (same_bytes label label refl)
 
     no_form : (version : MessageVersion) (d : Data) → DataAscends d → HasVersion d (number_of version) → ((schema : List ℕ) (a : A) → Form d schema a → ⊥) → (r : Read (List ℕ × A))
@@ -118,7 +118,7 @@ module _ {A : Type 0} (Form : Data → List ℕ → A → Type 0) (shape : Messa
         whole d schema a e form ∙ ap (λ (b : Bool). demand OtherSchema b >>= λ same. done a) (untrue (bytes_eq schema label) (λ h. apart (bytes_same schema label h)))
 
     abbrev pub Outcome : Type 0
-    Outcome = ((a : A) × StatesForm Form label bytes a) ⊎ ((f : MessageFault) × RefusesForm Form label bytes f)
+    Outcome = ((a : A) × DescribesForm Form label bytes a) ⊎ ((f : MessageFault) × RefusesForm Form label bytes f)
 
     by_schema : (d : Data) → json_of bytes ≡ Some d → (schema : List ℕ) (a : A) → Form d schema a → (b : Bool) → bytes_eq schema label ≡ b → Outcome
     by_schema d e schema a form true same = inl (a, record { value = d; json = e; form = subst (λ (l : List ℕ). Form d l a) (bytes_same schema label same) form })

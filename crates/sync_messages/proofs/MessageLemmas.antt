@@ -8,7 +8,7 @@ use Rattle.message_format.specs.declared.fault.MessageFault.{MessageFault}
 use Rattle.message_format.specs.declared.fault.MessageFault.TheVariants as fault
 use Rattle.message_format.specs.declared.update.Update.{Update}
 use Rattle.message_format.specs.Updates.{IsMessage, IsMessageFault}
-use Rattle.plain.specs.Refused.{OrNoMemory}
+use Rattle.plain.specs.AllocationErrors.{OrNoMemory}
 use Rattle.sync_messages.specs.Messages.{IsMessageOf, IsMessageFaultOf}
 use Rattle.sync_messages.specs.Texts.{ReadsPolicy, RefusesPolicy, ReadsEntity, RefusesEntity}
 

@@ -20,7 +20,7 @@ use Rattle.message_format.specs.declared.bodies.BodyFault.{BodyFault}
 use Rattle.message_format.specs.declared.fault.MessageFault.{MessageFault}
 use Rattle.message_format.specs.declared.update.Update.{Update}
 use Rattle.message_format.specs.declared.update.Update.TheVariants as update
-use Rattle.message_format.specs.Summaries.{IsName, IsStamped, judged}
+use Rattle.message_format.specs.Summaries.{IsName, IsStamped, checked_stamp}
 use Rattle.message_format.specs.Messages.{updates_stated}
 use Rattle.message_format.specs.Updates.{plain_updates, stamped, AreInRange, fault_at, IsUpdateRead, IsReadable, IsUnreadable, IsBodyFault, IsFirstFault}
 use Rattle.message_format.proofs.Outcomes.{Passes, one_message, one_refusal, never_both, some_outcome}
@@ -30,16 +30,16 @@ use Rattle.validator.specs.entities.entity_data.declared.entity.Entity.{Entity}
 use Rattle.sync_messages.specs.Laws.{PoliciesHaveOneReading, EntitiesHaveOneReading}
 use Rattle.sync_messages.specs.Texts.{ReadsPolicy, RefusesPolicy, ReadsEntity, RefusesEntity}
 use Rattle.sync_messages.specs.Messages.{IsMessageOf, IsMessageFaultOf}
-use Rattle.validator.specs.entities.AsStated.{EntitiesAreRead}
+use Rattle.validator.specs.entities.ParsingLaws.{EntitiesAreRead}
 use Rattle.validator.specs.entities.schema.Agreement.{HasOneOutcome}
-use Rattle.sync_messages.specs.MessageForms.{StatesName, StatesSite}
+use Rattle.sync_messages.specs.MessageForms.{DescribesName, DescribesSite}
 use Rattle.sync_messages.specs.MessageForms as form
-use Rattle.sync_messages.specs.StatedUpdates.{StatesEntry, StatesUpdates}
+use Rattle.sync_messages.specs.StatedUpdates.{DescribesEntry, DescribesUpdates}
 use Rattle.sync_messages.specs.StatedSummaries.{IdFits, Fits}
-use Rattle.sync_messages.specs.StatedTexts.{StatesText, RefusesText}
-use Rattle.sync_messages.specs.StatedMessages.{HasTextsOf, HasBody, RefusesBody, RefusesEntries, StatesMessage, RefusesMessage}
+use Rattle.sync_messages.specs.StatedTexts.{DescribesText, RefusesText}
+use Rattle.sync_messages.specs.StatedMessages.{HasTextsOf, HasBody, RefusesBody, RefusesEntries, DescribesMessage, RefusesMessage}
 use Rattle.sync_messages.specs.StatedMessages as says
-use Rattle.sync_messages.specs.AsStated.{MessageIsRead}
+use Rattle.sync_messages.specs.ParsingLaws.{MessageIsRead}
 use Rattle.sync_messages.proofs.Steps.{done}
 use Rattle.sync_messages.proofs.Parts.{Facts}
 use Rattle.sync_messages.proofs.Ranges.{fits_pass, refused_fail, RangesOutcome, ranges_outcome}
@@ -95,15 +95,15 @@ IsSpelled (name.Entity uid) = IsPath uid.type_name
 abbrev AreSpelled : List PlainUpdate → Type 0
 AreSpelled us = AllByRecursion (λ u. IsSpelled u.0 × IsSiteName u.1.site) us
 
-name_spelled : (d : Data) (n : Name) → StatesName d n → IsSpelled n
+name_spelled : (d : Data) (n : Name) → DescribesName d n → IsSpelled n
 name_spelled d (name.Policy id) h = tt
 name_spelled d (name.Entity uid) h = h.1
 
-site_spelled : SiteDigitsAreNames → (version : MessageVersion) (d : Data) (site : List ℕ) → StatesSite version d site → IsSiteName site
+site_spelled : SiteDigitsAreNames → (version : MessageVersion) (d : Data) (site : List ℕ) → DescribesSite version d site → IsSiteName site
 site_spelled digits version d site (form.by_number n h) = digits n (omega (arith, h.1))
 site_spelled digits version d site (form.by_name s h) = h
 
-entries_spelled : SiteDigitsAreNames → (version : MessageVersion) (ds : List Data) (us : List PlainUpdate) → AllZip (StatesEntry version) ds us → AreSpelled us
+entries_spelled : SiteDigitsAreNames → (version : MessageVersion) (ds : List Data) (us : List PlainUpdate) → AllZip (DescribesEntry version) ds us → AreSpelled us
 entries_spelled digits version [] [] h = tt
 entries_spelled digits version [] (u ∷ us) h = absurd h
 entries_spelled digits version (d ∷ ds) [] h = absurd h
@@ -140,10 +140,10 @@ module _ (below : Below) (s : StatedSchema) where
   abbrev NoPolicies : List ℕ → List ℕ → BodyFault → Type 0
   NoPolicies id = RefusesPolicy s
 
-  entity_states : (uid : EntityUid) (text : List ℕ) (e : Entity) → ReadsEntity s uid text e → StatesText s uid text e
+  entity_states : (uid : EntityUid) (text : List ℕ) (e : Entity) → ReadsEntity s uid text e → DescribesText s uid text e
   entity_states uid text e h = ((text_given below.entities s uid text).value e).0 h
 
-  states_entity : (uid : EntityUid) (text : List ℕ) (e : Entity) → StatesText s uid text e → ReadsEntity s uid text e
+  states_entity : (uid : EntityUid) (text : List ℕ) (e : Entity) → DescribesText s uid text e → ReadsEntity s uid text e
   states_entity uid text e h = ((text_given below.entities s uid text).value e).1 h
 
   entity_refuses : (uid : EntityUid) (text : List ℕ) (f : BodyFault) → RefusesEntity s uid text f → RefusesText s uid text f
@@ -162,7 +162,7 @@ module _ (below : Below) (s : StatedSchema) where
       subst (RefusesEntries s place (u ∷ us)) (sym h.is)
       (says.bad_body place u us h.within fit (unreadable_as NoPolicies (RefusesEntity s) (RefusesText s) entity_refuses u.0 u.1.body h.within h.unreadable))
 
-  here_by : (place : ℕ) (u : PlainUpdate) (us : List PlainUpdate) (why : MessageFault) → Fault place u why (judged place (stamped u)) → RangesOutcome place (stamped u) → RefusesEntries s place (u ∷ us) why
+  here_by : (place : ℕ) (u : PlainUpdate) (us : List PlainUpdate) (why : MessageFault) → Fault place u why (checked_stamp place (stamped u)) → RangesOutcome place (stamped u) → RefusesEntries s place (u ∷ us) why
   here_by place u us why h (inl fit) = body_fault place u us why fit (subst (Fault place u why) (fits_pass place (stamped u) fit) h)
   here_by place u us why h (inr bad) =
       let same : why ≡ bad.0 = subst (Fault place u why) (refused_fail place (stamped u) bad.0 bad.1) h in
@@ -172,7 +172,7 @@ module _ (below : Below) (s : StatedSchema) where
   first_refuses place [] why h = absurd h
   first_refuses place (u ∷ us) why (inl here) = here_by place u us why here (ranges_outcome place (stamped u))
   first_refuses place (u ∷ us) why (inr later) =
-      says.later_entry place u us why (stamped_fits (stamped u) later.0) (readable_as Policies (ReadsEntity s) (StatesText s) entity_states u.0 u.1.body later.1)
+      says.later_entry place u us why (stamped_fits (stamped u) later.0) (readable_as Policies (ReadsEntity s) (DescribesText s) entity_states u.0 u.1.body later.1)
       (first_refuses (suc place) us why later.2)
 
   refuses_first : (place : ℕ) (us : List PlainUpdate) (why : MessageFault) → AreSpelled us → RefusesEntries s place us why → IsFirstFault Policies (ReadsEntity s) NoPolicies (RefusesEntity s) place us why
@@ -181,29 +181,29 @@ module _ (below : Below) (s : StatedSchema) where
       let here : IsBodyFault NoPolicies (RefusesEntity s) k u (fault_at k within) = record { within = within; unreadable = unreadable_as NoPolicies (RefusesText s) (RefusesEntity s) refuses_entity u.0 u.1.body within bad; is = refl } in
       inl (subst (Fault k u (fault_at k within)) (sym (fits_pass k (stamped u) fit)) here)
   refuses_first place us why spelled (says.later_entry k u more f fit body rest) =
-      inr (fits_stamped u fit spelled.0, readable_as Policies (StatesText s) (ReadsEntity s) states_entity u.0 u.1.body body, refuses_first (suc k) more f spelled.1 rest)
+      inr (fits_stamped u fit spelled.0, readable_as Policies (DescribesText s) (ReadsEntity s) states_entity u.0 u.1.body body, refuses_first (suc k) more f spelled.1 rest)
 
   -- ---- a whole message
 
   module _ (bytes : List ℕ) where
-    abbrev given : (us : List PlainUpdate) → (updates_stated s.label bytes ≡ done us) ↔ StatesUpdates s.label bytes us
+    abbrev given : (us : List PlainUpdate) → (updates_stated s.label bytes ≡ done us) ↔ DescribesUpdates s.label bytes us
     given us = (updates_given below.facts below.ascends s.label bytes).value us
 
-    spelled : (us : List PlainUpdate) → StatesUpdates s.label bytes us → AreSpelled us
+    spelled : (us : List PlainUpdate) → DescribesUpdates s.label bytes us → AreSpelled us
     spelled us h = entries_spelled below.facts.digits h.form.version (list_of h.form.entries) us h.form.state
 
-    message_states : (us : List (Update Policy Entity)) → IsMessageOf s bytes us → StatesMessage s bytes us
+    message_states : (us : List (Update Policy Entity)) → IsMessageOf s bytes us → DescribesMessage s bytes us
     message_states us h = record {
       stated = (given (plain_updates us)).0 h.stated;
       fit = all_fit (plain_updates us) h.in_range;
-      have_texts = updates_as Policies (ReadsEntity s) (StatesText s) entity_states us h.are_read;
+      have_texts = updates_as Policies (ReadsEntity s) (DescribesText s) entity_states us h.are_read;
     }
 
-    states_message : (us : List (Update Policy Entity)) → StatesMessage s bytes us → IsMessageOf s bytes us
+    states_message : (us : List (Update Policy Entity)) → DescribesMessage s bytes us → IsMessageOf s bytes us
     states_message us h = record {
       stated = (given (plain_updates us)).1 h.stated;
       in_range = all_stamped (plain_updates us) h.fit (spelled (plain_updates us) h.stated);
-      are_read = updates_as Policies (StatesText s) (ReadsEntity s) states_entity us h.have_texts;
+      are_read = updates_as Policies (DescribesText s) (ReadsEntity s) states_entity us h.have_texts;
     }
 
     abbrev Refusal : MessageFault → Result (List PlainUpdate) MessageFault → Type 0
@@ -228,11 +228,11 @@ module _ (below : Below) (s : StatedSchema) where
     }
 
     some_message : ((us : List (Update Policy Entity)) × IsMessageOf s bytes us) ⊎ ((f : MessageFault) × IsMessageFaultOf s bytes f)
-        → ((us : List (Update Policy Entity)) × StatesMessage s bytes us) ⊎ ((f : MessageFault) × RefusesMessage s bytes f)
+        → ((us : List (Update Policy Entity)) × DescribesMessage s bytes us) ⊎ ((f : MessageFault) × RefusesMessage s bytes f)
     some_message (inl h) = inl (h.0, message_states h.0 h.1)
     some_message (inr h) = inr (h.0, message_refuses h.0 h.1)
 
-    pub message_outcome : HasOneOutcome (StatesMessage s bytes) (RefusesMessage s bytes)
+    pub message_outcome : HasOneOutcome (DescribesMessage s bytes) (RefusesMessage s bytes)
     message_outcome = record {
       one_value = λ us vs h k. one_message Policies (ReadsEntity s) NoPolicies (RefusesEntity s) (λ id text. (below.policy_texts s text).0) (λ uid text. (below.entity_texts s uid text).0)
           s.label bytes us vs (states_message us h) (states_message vs k);

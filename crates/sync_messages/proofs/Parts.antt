@@ -28,7 +28,7 @@ use Rattle.message_format.specs.declared.fault.MessageFault.{MessageFault}
 use Rattle.message_format.specs.declared.fault.MessageFault.TheVariants.{BadShape}
 use Rattle.message_format.specs.Summaries.{IsName, StampAt, name_json, number_at, policy_in, entity_name_in, name_in}
 use Rattle.message_format.specs.Summaries.{numbered_in, raised_in, named_in, site_in, stamped_by, stamped_in}
-use Rattle.sync_messages.specs.MessageForms.{StatesName, StatesSite}
+use Rattle.sync_messages.specs.MessageForms.{DescribesName, DescribesSite}
 use Rattle.sync_messages.specs.MessageForms as says
 use Rattle.sync_messages.proofs.Steps.{done, ok_is, none_some, some_is, some_of, passes, Only, only_ok, only_bind, only_demand, only_or}
 use Rattle.sync_messages.proofs.Exact.{exact_object, value_ascends, not_there}
@@ -113,11 +113,11 @@ uid_keys : Ascend (codes "id" ∷ codes "type" ∷ [])
 unfolding IsStrictlySortedBy
 uid_keys = ((refl, tt), (tt, tt))
 
-policy_states : (d : Data) → DataAscends d → has_only (codes "policy" ∷ []) d ≡ true → (n : Name) → policy_in d ≡ done n → StatesName d n
+policy_states : (d : Data) → DataAscends d → has_only (codes "policy" ∷ []) d ≡ true → (n : Name) → policy_in d ≡ done n → DescribesName d n
 unfolding policy_in
 policy_states d asc alone n e =
     let a = bind_ok (or_fault BadShape (text_at (codes "policy") d)) (λ id. done (Policy id)) n e in
-    subst (StatesName d) (ok_is (Policy a.0) n a.2)
+    subst (DescribesName d) (ok_is (Policy a.0) n a.2)
     (exact_object ((codes "policy", json.string a.0) ∷ []) d (one_key (codes "policy")) asc alone (text_is (codes "policy") d a.0 a.1, tt))
 
 plain_by : (d : Data) (uid : EntityUid) (inner : Option Data) → get (codes "__entity") d ≡ inner → inner ≡ None → IsUid d uid → IsPlainUid d uid
@@ -144,11 +144,11 @@ abbrev named : Name → Read Name
 named n = Ok n
 
 entity_made : (d found : Data) (uid : EntityUid) (n : Name) → named (Entity uid) ≡ named n → d ≡ json.object (member (codes "entity") found no_members) → (found ≡ uid_json uid) × IsPath uid.type_name
-    → StatesName d n
+    → DescribesName d n
 entity_made d found uid n same outer inner =
-    subst (StatesName d) (ok_is (Entity uid) n same) (outer ∙ ap (λ (x : Data). json.object (member (codes "entity") x no_members)) inner.0, inner.1)
+    subst (DescribesName d) (ok_is (Entity uid) n same) (outer ∙ ap (λ (x : Data). json.object (member (codes "entity") x no_members)) inner.0, inner.1)
 
-entity_states : UidsAreFound → (d : Data) → DataAscends d → (n : Name) → entity_name_in d ≡ done n → StatesName d n
+entity_states : UidsAreFound → (d : Data) → DataAscends d → (n : Name) → entity_name_in d ≡ done n → DescribesName d n
 unfolding entity_name_in
 entity_states all d asc n e =
     let a = bind_ok (demand BadShape (has_only (codes "entity" ∷ []) d)) (λ x. or_fault BadShape (get (codes "entity") d) >>= λ found. demand BadShape (has_only (codes "id" ∷ codes "type" ∷ []) found) >>= λ y. or_fault BadShape (uid_in found) >>= λ uid. done (Entity uid)) n e in
@@ -160,12 +160,12 @@ entity_states all d asc n e =
     let outer = exact_object ((codes "entity", b.0) ∷ []) d (one_key (codes "entity")) asc (passes BadShape (has_only (codes "entity" ∷ []) d) a.0 a.1) (at, tt) in
     entity_made d b.0 u.0 n u.2 outer inner
 
-name_by : (t : Bool) (d : Data) (n : Name) → (t ≡ true → policy_in d ≡ done n → StatesName d n) → (entity_name_in d ≡ done n → StatesName d n)
-    → (if t then policy_in d else entity_name_in d) ≡ done n → StatesName d n
+name_by : (t : Bool) (d : Data) (n : Name) → (t ≡ true → policy_in d ≡ done n → DescribesName d n) → (entity_name_in d ≡ done n → DescribesName d n)
+    → (if t then policy_in d else entity_name_in d) ≡ done n → DescribesName d n
 name_by true d n f g h = f refl h
 name_by false d n f g h = g h
 
-pub name_is : Facts → (d : Data) → DataAscends d → (n : Name) → name_in d ≡ done n → StatesName d n
+pub name_is : Facts → (d : Data) → DataAscends d → (n : Name) → name_in d ≡ done n → DescribesName d n
 unfolding name_in
 name_is facts d asc n e = name_by (has_only (codes "policy" ∷ []) d) d n (λ alone h. policy_states d asc alone n h) (λ h. entity_states facts.uids d asc n h) e
 
@@ -173,7 +173,7 @@ policy_back : (id : List ℕ) → name_in (name_json (Policy id)) ≡ done (Poli
 unfolding name_in policy_in
 policy_back id = refl
 
-pub is_name : Facts → (d : Data) (n : Name) → StatesName d n → name_in d ≡ done n
+pub is_name : Facts → (d : Data) (n : Name) → DescribesName d n → name_in d ≡ done n
 is_name facts d (Policy id) h = ap name_in h ∙ policy_back id
 is_name facts d (Entity uid) h = ap name_in h.0 ∙ facts.names (Entity uid) h.1
 
@@ -200,7 +200,7 @@ only_name d = only_name_by (has_only (codes "policy" ∷ []) d) (policy_in d) (e
 -- ---- sites
 
 abbrev SiteAt : MessageVersion → Data → List ℕ → Type 0
-SiteAt version d site = (x : Data) × (get (codes "site") d ≡ Some x) × StatesSite version x site
+SiteAt version d site = (x : Data) × (get (codes "site") d ≡ Some x) × DescribesSite version x site
 
 both : (a b : Bool) → a ≡ true → b ≡ true → (a && b) ≡ true
 both true b p q = q
@@ -215,7 +215,7 @@ number_site d site e =
     let range = passes BadShape (nat_le 1 a.0 && nat_le a.0 65535) b.0 b.1 in
     let same : five_digits a.0 ≡ site = ap five_digits (ok_is a.0 o.0 b.2) ∙ ok_is (five_digits o.0) site o.2 in
     let fits : IsSiteNumber a.0 = (leb-true 1 a.0 (left (nat_le 1 a.0) (nat_le a.0 65535) range), leb-true a.0 65535 (right (nat_le 1 a.0) (nat_le a.0 65535) range)) in
-    (json.number (unsigned a.0), number_is (codes "site") d a.0 a.1, subst (StatesSite One (json.number (unsigned a.0))) same (says.by_number a.0 fits))
+    (json.number (unsigned a.0), number_is (codes "site") d a.0 a.1, subst (DescribesSite One (json.number (unsigned a.0))) same (says.by_number a.0 fits))
 
 name_site : SiteTestIsExact → (d : Data) (site : List ℕ) → named_in d ≡ done site → SiteAt Two d site
 unfolding named_in
@@ -223,7 +223,7 @@ name_site tested d site e =
     let a = bind_ok (or_fault BadShape (text_at (codes "site") d)) (λ s. demand BadShape (is_site_name s) >>= λ q. done s) site e in
     let b = bind_ok (demand BadShape (is_site_name a.0)) (λ q. done a.0) site a.2 in
     let named : IsSiteName a.0 = (tested a.0).0 (passes BadShape (is_site_name a.0) b.0 b.1) in
-    (json.string a.0, text_is (codes "site") d a.0 a.1, subst (StatesSite Two (json.string a.0)) (ok_is a.0 site b.2) (says.by_name a.0 named))
+    (json.string a.0, text_is (codes "site") d a.0 a.1, subst (DescribesSite Two (json.string a.0)) (ok_is a.0 site b.2) (says.by_name a.0 named))
 
 pub site_is : Facts → (version : MessageVersion) (d : Data) (site : List ℕ) → site_in version d ≡ done site → SiteAt version d site
 site_is facts One d site e = number_site d site e
@@ -237,7 +237,7 @@ named_back : SiteTestIsExact → (d : Data) (site : List ℕ) → IsSiteName sit
 unfolding named_in
 named_back tested d site h at = rw (at, (tested site).1 h) refl
 
-pub is_site : Facts → (version : MessageVersion) (d x : Data) (site : List ℕ) → get (codes "site") d ≡ Some x → StatesSite version x site → site_in version d ≡ done site
+pub is_site : Facts → (version : MessageVersion) (d x : Data) (site : List ℕ) → get (codes "site") d ≡ Some x → DescribesSite version x site → site_in version d ≡ done site
 is_site facts version d x site at (says.by_number n h) = numbered_back d n h at
 is_site facts version d x site at (says.by_name s h) = named_back facts.tested d s h at
 
@@ -263,8 +263,8 @@ pub record HasParts (version : MessageVersion) (d : Data) (u : Name × Stamp) : 
   pub at_count : get (codes "count") d ≡ Some (json.number (unsigned u.1.count))
   pub at_name : get (codes "name") d ≡ Some name
   pub at_site : get (codes "site") d ≡ Some site
-  pub states_name : StatesName name u.0
-  pub states_site : StatesSite version site u.1.site
+  pub states_name : DescribesName name u.0
+  pub states_site : DescribesSite version site u.1.site
 
 abbrev SiteStamp : Type 0
 SiteStamp = Name × StampAt (List ℕ)

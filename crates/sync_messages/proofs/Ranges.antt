@@ -11,7 +11,7 @@ use Rattle.stamped_store.specs.declared.entry.Stamp.{Stamp}
 use Rattle.stamped_store.specs.Deltas.{Summary}
 use Rattle.message_format.specs.declared.fault.MessageFault.{MessageFault}
 use Rattle.message_format.specs.declared.fault.MessageFault.TheVariants.{CountRange, BadEntry}
-use Rattle.message_format.specs.Summaries.{is_name_in_range, bad_id, judged}
+use Rattle.message_format.specs.Summaries.{is_name_in_range, bad_id, checked_stamp}
 use Rattle.sync_messages.specs.StatedSummaries.{CountFits, IdFits, Fits, RefusesRanges, RefusesStamps}
 use Rattle.sync_messages.specs.StatedSummaries as says
 use Rattle.sync_messages.proofs.Steps.{done, failed, true_false, untrue}
@@ -46,11 +46,11 @@ fits_id (Entity uid) h = refl
 -- ---- one name and stamp
 
 judged_by : (place : ℕ) (u : Name × Stamp) (a b : Bool) → count_test u.1.count ≡ a → is_name_in_range u.0 ≡ b
-    → judged place u ≡ (demand (CountRange place) a >>= λ counted. demand (BadEntry place bad_id) b >>= λ named. Ok u)
-unfolding judged
+    → checked_stamp place u ≡ (demand (CountRange place) a >>= λ counted. demand (BadEntry place bad_id) b >>= λ named. Ok u)
+unfolding checked_stamp
 judged_by place u a b e f = λ i. demand (CountRange place) (e i) >>= λ counted. demand (BadEntry place bad_id) (f i) >>= λ named. Ok u
 
-pub fits_pass : (place : ℕ) (u : Name × Stamp) → Fits u → judged place u ≡ done u
+pub fits_pass : (place : ℕ) (u : Name × Stamp) → Fits u → checked_stamp place u ≡ done u
 fits_pass place u h = judged_by place u true true (is_within 1 most u.1.count h.count) (fits_id u.0 h.id)
 
 count_fails : (n : ℕ) → (CountFits n → ⊥) → count_test n ≡ false
@@ -59,7 +59,7 @@ count_fails n out = untrue (count_test n) (λ h. out (within 1 most n h))
 id_fails : (n : Name) → (IdFits n → ⊥) → is_name_in_range n ≡ false
 id_fails n out = untrue (is_name_in_range n) (λ h. out (id_fits n h))
 
-pub refused_fail : (place : ℕ) (u : Name × Stamp) (f : MessageFault) → RefusesRanges place u f → judged place u ≡ failed f
+pub refused_fail : (place : ℕ) (u : Name × Stamp) (f : MessageFault) → RefusesRanges place u f → checked_stamp place u ≡ failed f
 refused_fail place u f (says.bad_count out) = judged_by place u false (is_name_in_range u.0) (count_fails u.1.count out) refl
 refused_fail place u f (says.bad_id count out) = judged_by place u true false (is_within 1 most u.1.count count) (id_fails u.0 out)
 
@@ -76,12 +76,12 @@ ranges_outcome place u = by_tests place u (count_test u.1.count) (is_name_in_ran
 
 -- ---- all of a summary
 
-pub all_pass : (place : ℕ) (m : Summary) → AllByRecursion Fits m → each judged place m ≡ done m
+pub all_pass : (place : ℕ) (m : Summary) → AllByRecursion Fits m → each checked_stamp place m ≡ done m
 unfolding each
 all_pass place [] h = refl
 all_pass place (u ∷ m) h = rw (fits_pass place u h.0, all_pass (suc place) m h.1) refl
 
-pub first_fails : (place : ℕ) (m : Summary) (f : MessageFault) → RefusesStamps place m f → each judged place m ≡ failed f
+pub first_fails : (place : ℕ) (m : Summary) (f : MessageFault) → RefusesStamps place m f → each checked_stamp place m ≡ failed f
 unfolding each
 first_fails place m f (says.bad_stamp k u more g h) = rw (refused_fail k u g h) refl
 first_fails place m f (says.later_stamp k u more g fit h) = rw (fits_pass k u fit, first_fails (suc k) more g h) refl

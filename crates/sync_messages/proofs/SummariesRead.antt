@@ -24,10 +24,10 @@ use Rattle.message_format.specs.declared.version.MessageVersion.{MessageVersion}
 use Rattle.message_format.specs.declared.version.MessageVersion.TheVariants.{Two}
 use Rattle.message_format.specs.declared.fault.MessageFault.{MessageFault}
 use Rattle.message_format.specs.declared.fault.MessageFault.TheVariants.{NotJson, BadShape, OtherSchema}
-use Rattle.message_format.specs.Summaries.{ascend, stamp_json, summary_json, stamped_in, stamp_in, stamps_of, stamps_in, judged, version_in, summary_in, summary_stated}
+use Rattle.message_format.specs.Summaries.{ascend, stamp_json, summary_json, stamped_in, stamp_in, stamps_of, stamps_in, checked_stamp, version_in, summary_in, summary_stated}
 use Rattle.validator.specs.entities.schema.Agreement.{Gives, HasOneOutcome}
-use Rattle.sync_messages.specs.MessageForms.{StatesName, StatesSite, HasVersion, number_of, StatesForm, RefusesForm}
-use Rattle.sync_messages.specs.StatedSummaries.{StatesStamp, names_of, IsSummary, RefusesStamps, StatesSummary, RefusesSummary}
+use Rattle.sync_messages.specs.MessageForms.{DescribesName, DescribesSite, HasVersion, number_of, DescribesForm, RefusesForm}
+use Rattle.sync_messages.specs.StatedSummaries.{DescribesStamp, names_of, IsSummary, RefusesStamps, DescribesSummary, RefusesSummary}
 use Rattle.sync_messages.specs.StatedSummaries as says
 use Rattle.sync_messages.proofs.Steps.{done, failed, ok_is, some_is, passes, bytes_same, Only, only_ok, only_bind, only_demand, only_or, only_each}
 use Rattle.sync_messages.proofs.Exact.{exact_object, value_ascends, items_ascend}
@@ -91,7 +91,7 @@ stamp_keys_ascend : Ascend stamp_keys
 unfolding IsStrictlySortedBy
 stamp_keys_ascend = ((refl, (refl, tt)), ((refl, tt), (tt, tt)))
 
-stamp_is : Facts → (version : MessageVersion) (d : Data) (u : Name × Stamp) → DataAscends d → stamp_in version d ≡ done u → StatesStamp version d u
+stamp_is : Facts → (version : MessageVersion) (d : Data) (u : Name × Stamp) → DataAscends d → stamp_in version d ≡ done u → DescribesStamp version d u
 unfolding stamp_in
 stamp_is facts version d u asc e =
     let a = bind_ok (demand BadShape (has_only stamp_keys d)) (λ shape. stamped_in version d) u e in
@@ -110,13 +110,13 @@ stamp_object name site u = json.object (member (codes "count") (json.number (uns
     (member (codes "name") name
     (member (codes "site") site no_members)))
 
-object_read : Facts → (version : MessageVersion) (name site : Data) (u : Name × Stamp) → StatesName name u.0 → StatesSite version site u.1.site → stamp_in version (stamp_object name site u) ≡ done u
+object_read : Facts → (version : MessageVersion) (name site : Data) (u : Name × Stamp) → DescribesName name u.0 → DescribesSite version site u.1.site → stamp_in version (stamp_object name site u) ≡ done u
 unfolding stamp_in
 object_read facts version name site u named sited =
     let parts : HasParts version (stamp_object name site u) u = record { name = name; site = site; at_count = refl; at_name = refl; at_site = refl; states_name = named; states_site = sited } in
     are_parts facts version (stamp_object name site u) u parts
 
-is_stamp : Facts → (version : MessageVersion) (d : Data) (u : Name × Stamp) → StatesStamp version d u → stamp_in version d ≡ done u
+is_stamp : Facts → (version : MessageVersion) (d : Data) (u : Name × Stamp) → DescribesStamp version d u → stamp_in version d ≡ done u
 is_stamp facts version d u h = ap (stamp_in version) h.is ∙ object_read facts version h.name h.site u h.states_name h.states_site
 
 only_stamp : (version : MessageVersion) (d : Data) → Only BadShape (stamp_in version d)
@@ -162,7 +162,7 @@ with_items version ds = each (λ i x. stamp_in version x) 0 (list_of ds) >>= λ 
 record AreStamps (version : MessageVersion) (d : Data) (m : Summary) : Type 0 where
   items : Items
   at : get (codes "stamps") d ≡ Some (json.array items)
-  state : AllZip (StatesStamp version) (list_of items) m
+  state : AllZip (DescribesStamp version) (list_of items) m
   up : ascend m ≡ true
 
 stamps_are : Facts → (version : MessageVersion) (d : Data) → DataAscends d → (m : Summary) → stamps_in version d ≡ done m → AreStamps version d m
@@ -176,7 +176,7 @@ stamps_are facts version d asc m e =
     subst (AreStamps version d) (ok_is c.0 m u.2) (record {
       items = b.0;
       at = there;
-      state = each_is (stamp_in version) DataAscends (StatesStamp version) (λ x v asc_x h. stamp_is facts version x v asc_x h) 0 (list_of b.0) c.0
+      state = each_is (stamp_in version) DataAscends (DescribesStamp version) (λ x v asc_x h. stamp_is facts version x v asc_x h) 0 (list_of b.0) c.0
           (items_ascend b.0 (value_ascends (codes "stamps") d asc (json.array b.0) there)) c.1;
       up = passes BadShape (ascend c.0) u.0 u.1;
     })
@@ -206,11 +206,11 @@ summary_object schema stamps version = json.object (member (codes "kind") (json.
     (member (codes "stamps") (json.array stamps)
     (member (codes "version") (json.number (unsigned (number_of version))) no_members))))
 
-shape_read : Facts → (version : MessageVersion) (schema : List ℕ) (stamps : Items) (m : Summary) → AllZip (StatesStamp version) (list_of stamps) m → ascend m ≡ true
+shape_read : Facts → (version : MessageVersion) (schema : List ℕ) (stamps : Items) (m : Summary) → AllZip (DescribesStamp version) (list_of stamps) m → ascend m ≡ true
     → shape version (summary_object schema stamps version) ≡ done (schema, m)
 unfolding stamps_in stamps_of
 shape_read facts version schema stamps m h up =
-    rw (is_each (stamp_in version) (StatesStamp version) (λ d u k. is_stamp facts version d u k) 0 (list_of stamps) m h, up) refl
+    rw (is_each (stamp_in version) (DescribesStamp version) (λ d u k. is_stamp facts version d u k) 0 (list_of stamps) m h, up) refl
 
 is_form : Facts → (d : Data) (schema : List ℕ) (m : Summary) → IsSummary d schema m → (version : MessageVersion) × HasVersion d (number_of version) × (shape version d ≡ done (schema, m))
 is_form facts d schema m h =
@@ -235,19 +235,19 @@ only_form version d =
 -- ---- the reading function reads the form, then the schema, and then checks the ranges
 
 abbrev last_step : List ℕ → Stated → Read Summary
-last_step label p = demand OtherSchema (bytes_eq p.0 label) >>= λ same. each judged 0 p.1
+last_step label p = demand OtherSchema (bytes_eq p.0 label) >>= λ same. each checked_stamp 0 p.1
 
-by_stamps : (label schema : List ℕ) (r : Read Summary) → (r >>= λ m. demand OtherSchema (bytes_eq schema label) >>= λ same. each judged 0 m) ≡ ((r >>= λ m. done (schema, m)) >>= last_step label)
+by_stamps : (label schema : List ℕ) (r : Read Summary) → (r >>= λ m. demand OtherSchema (bytes_eq schema label) >>= λ same. each checked_stamp 0 m) ≡ ((r >>= λ m. done (schema, m)) >>= last_step label)
 by_stamps label schema (Ok m) = refl
 by_stamps label schema (Err f) = refl
 
 by_schema : (label : List ℕ) (o : Read (List ℕ)) (r : Read Summary)
-    → (o >>= λ schema. r >>= λ m. demand OtherSchema (bytes_eq schema label) >>= λ same. each judged 0 m) ≡ ((o >>= λ schema. r >>= λ m. done (schema, m)) >>= last_step label)
+    → (o >>= λ schema. r >>= λ m. demand OtherSchema (bytes_eq schema label) >>= λ same. each checked_stamp 0 m) ≡ ((o >>= λ schema. r >>= λ m. done (schema, m)) >>= last_step label)
 by_schema label (Ok schema) r = by_stamps label schema r
 by_schema label (Err f) r = refl
 
 abbrev rest_read : List ℕ → MessageVersion → Data → Read Summary
-rest_read label version d = or_fault BadShape (text_at (codes "schema") d) >>= λ schema. stamps_in version d >>= λ m. demand OtherSchema (bytes_eq schema label) >>= λ same. each judged 0 m
+rest_read label version d = or_fault BadShape (text_at (codes "schema") d) >>= λ schema. stamps_in version d >>= λ m. demand OtherSchema (bytes_eq schema label) >>= λ same. each checked_stamp 0 m
 
 abbrev kind_read : List ℕ → MessageVersion → Data → Read Summary
 kind_read label version d = or_fault BadShape (text_at (codes "kind") d) >>= λ kind. demand BadShape (is_summary_kind kind) >>= λ summary. rest_read label version d
@@ -258,11 +258,11 @@ by_step label version d =
     (by_kind (or_fault BadShape (text_at (codes "kind") d)) is_summary_kind BadShape (rest_read label version d) (with_summary version d) (last_step label)
     (by_schema label (or_fault BadShape (text_at (codes "schema") d)) (stamps_in version d)))
 
-split_test : (b : Bool) (m : Summary) → (demand OtherSchema b >>= λ same. each judged 0 m) ≡ ((demand OtherSchema b >>= λ same. done m) >>= λ n. each judged 0 n)
+split_test : (b : Bool) (m : Summary) → (demand OtherSchema b >>= λ same. each checked_stamp 0 m) ≡ ((demand OtherSchema b >>= λ same. done m) >>= λ n. each checked_stamp 0 n)
 split_test true m = refl
 split_test false m = refl
 
-split : (label : List ℕ) (r : Read Stated) → (r >>= last_step label) ≡ ((r >>= λ p. demand OtherSchema (bytes_eq p.0 label) >>= λ same. Ok p.1) >>= λ m. each judged 0 m)
+split : (label : List ℕ) (r : Read Stated) → (r >>= last_step label) ≡ ((r >>= λ p. demand OtherSchema (bytes_eq p.0 label) >>= λ same. Ok p.1) >>= λ m. each checked_stamp 0 m)
 split label (Ok p) = split_test (bytes_eq p.0 label) p.1
 split label (Err f) = refl
 
@@ -270,17 +270,17 @@ split_bind : {A B C : Type 0} (r : Read A) (f : A → Read B) (g : A → Read C)
 split_bind (Ok x) f g k e = e x
 split_bind (Err h) f g k e = refl
 
-in_step : (label : List ℕ) (d : Data) → summary_in label d ≡ (value_read IsSummary shape label d >>= λ m. each judged 0 m)
+in_step : (label : List ℕ) (d : Data) → summary_in label d ≡ (value_read IsSummary shape label d >>= λ m. each checked_stamp 0 m)
 unfolding summary_in
 in_step label d =
     split_bind (version_in d) (λ version. demand BadShape (has_only summary_keys d) >>= λ keys. kind_read label version d)
-    (λ version. shape version d >>= λ p. demand OtherSchema (bytes_eq p.0 label) >>= λ same. Ok p.1) (λ m. each judged 0 m)
+    (λ version. shape version d >>= λ p. demand OtherSchema (bytes_eq p.0 label) >>= λ same. Ok p.1) (λ m. each checked_stamp 0 m)
     (λ version. by_step label version d ∙ split label (shape version d))
 
-stated_step : (label bytes : List ℕ) → summary_stated label bytes ≡ (form_read IsSummary shape label bytes >>= λ m. each judged 0 m)
+stated_step : (label bytes : List ℕ) → summary_stated label bytes ≡ (form_read IsSummary shape label bytes >>= λ m. each checked_stamp 0 m)
 unfolding summary_stated
 stated_step label bytes =
-    split_bind (or_fault NotJson (json_of bytes)) (λ d. summary_in label d) (λ d. value_read IsSummary shape label d) (λ m. each judged 0 m) (λ d. in_step label d)
+    split_bind (or_fault NotJson (json_of bytes)) (λ d. summary_in label d) (λ d. value_read IsSummary shape label d) (λ m. each checked_stamp 0 m) (λ d. in_step label d)
 
 -- ---- the theorems
 
@@ -288,10 +288,10 @@ module _ (facts : Facts) (ascends : JsonAscends) (label bytes : List ℕ) where
   reader : IsReader IsSummary shape
   reader = record { form_is = form_is facts; is_form = is_form facts; only_form = only_form }
 
-  after : (r : Read Summary) → form_read IsSummary shape label bytes ≡ r → summary_stated label bytes ≡ (r >>= λ m. each judged 0 m)
-  after r e = stated_step label bytes ∙ ap (λ (x : Read Summary). x >>= λ m. each judged 0 m) e
+  after : (r : Read Summary) → form_read IsSummary shape label bytes ≡ r → summary_stated label bytes ≡ (r >>= λ m. each checked_stamp 0 m)
+  after r e = stated_step label bytes ∙ ap (λ (x : Read Summary). x >>= λ m. each checked_stamp 0 m) e
 
-  summary_states : (m : Summary) → StatesSummary label bytes m → summary_stated label bytes ≡ done m
+  summary_states : (m : Summary) → DescribesSummary label bytes m → summary_stated label bytes ≡ done m
   summary_states m h = after (done m) (states IsSummary shape reader ascends label bytes m h.states) ∙ all_pass 0 m h.fit
 
   summary_refuses : (f : MessageFault) → RefusesSummary label bytes f → summary_stated label bytes ≡ failed f
@@ -299,32 +299,32 @@ module _ (facts : Facts) (ascends : JsonAscends) (label bytes : List ℕ) where
   summary_refuses f (says.bad_stamps m g h bad) = after (done m) (states IsSummary shape reader ascends label bytes m h) ∙ first_fails 0 m g bad
 
   abbrev Outcome : Type 0
-  Outcome = ((m : Summary) × StatesSummary label bytes m) ⊎ ((f : MessageFault) × RefusesSummary label bytes f)
+  Outcome = ((m : Summary) × DescribesSummary label bytes m) ⊎ ((f : MessageFault) × RefusesSummary label bytes f)
 
-  by_ranges : (m : Summary) → StatesForm IsSummary label bytes m → AllByRecursion says.Fits m ⊎ ((f : MessageFault) × RefusesStamps 0 m f) → Outcome
+  by_ranges : (m : Summary) → DescribesForm IsSummary label bytes m → AllByRecursion says.Fits m ⊎ ((f : MessageFault) × RefusesStamps 0 m f) → Outcome
   by_ranges m h (inl fit) = inl (m, record { states = h; fit = fit })
   by_ranges m h (inr bad) = inr (bad.0, says.bad_stamps m bad.0 h bad.1)
 
-  by_form : ((m : Summary) × StatesForm IsSummary label bytes m) ⊎ ((f : MessageFault) × RefusesForm IsSummary label bytes f) → Outcome
+  by_form : ((m : Summary) × DescribesForm IsSummary label bytes m) ⊎ ((f : MessageFault) × RefusesForm IsSummary label bytes f) → Outcome
   by_form (inl h) = by_ranges h.0 h.1 (stamps_outcome 0 h.0)
   by_form (inr h) = inr (h.0, says.no_summary h.0 h.1)
 
   some_summary : Outcome
   some_summary = by_form (some_form IsSummary shape reader ascends label bytes)
 
-  pub summary_given : Gives (summary_stated label bytes) (StatesSummary label bytes) (RefusesSummary label bytes)
-  summary_given = gives (summary_stated label bytes) (StatesSummary label bytes) (RefusesSummary label bytes) summary_states summary_refuses some_summary
+  pub summary_given : Gives (summary_stated label bytes) (DescribesSummary label bytes) (RefusesSummary label bytes)
+  summary_given = gives (summary_stated label bytes) (DescribesSummary label bytes) (RefusesSummary label bytes) summary_states summary_refuses some_summary
 
-  pub summary_outcome : HasOneOutcome (StatesSummary label bytes) (RefusesSummary label bytes)
-  summary_outcome = one_outcome (summary_stated label bytes) (StatesSummary label bytes) (RefusesSummary label bytes) summary_states summary_refuses some_summary
+  pub summary_outcome : HasOneOutcome (DescribesSummary label bytes) (RefusesSummary label bytes)
+  summary_outcome = one_outcome (summary_stated label bytes) (DescribesSummary label bytes) (RefusesSummary label bytes) summary_states summary_refuses some_summary
 
 -- ---- version 2 as it is written
 
-stamp_written : (version : MessageVersion) (d : Data) (u : Name × Stamp) → version ≡ Two → StatesStamp version d u → d ≡ stamp_json u
+stamp_written : (version : MessageVersion) (d : Data) (u : Name × Stamp) → version ≡ Two → DescribesStamp version d u → d ≡ stamp_json u
 stamp_written version d u two h =
     h.is ∙ (λ i. stamp_object (name_written h.name u.0 h.states_name i) (site_written version h.site u.1.site h.states_site two i) u)
 
-stamps_written : (version : MessageVersion) (ds : Items) (m : Summary) → version ≡ Two → AllZip (StatesStamp version) (list_of ds) m → ds ≡ items_of (map stamp_json m)
+stamps_written : (version : MessageVersion) (ds : Items) (m : Summary) → version ≡ Two → AllZip (DescribesStamp version) (list_of ds) m → ds ≡ items_of (map stamp_json m)
 stamps_written version no_items [] two h = refl
 stamps_written version no_items (u ∷ m) two h = absurd h
 stamps_written version (item d ds) [] two h = absurd h

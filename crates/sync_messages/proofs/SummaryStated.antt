@@ -6,7 +6,7 @@ use Rattle.message_format.specs.declared.fault.MessageFault.{MessageFault}
 use Rattle.message_format.specs.declared.fault.MessageFault.TheVariants.{NoMemory}
 use Rattle.validator.specs.entities.schema.Agreement.{Gives}
 
-pub summary_as_stated : (r read : Result Summary MessageFault) (States : Summary → Type 0) (Refuses : MessageFault → Type 0)
-    → Gives read States Refuses → ReadsAs NoMemory (λ m. m) r read → MatchResult r States (λ f. (f ≡ NoMemory → ⊥) → Refuses f)
-summary_as_stated (Ok m) read States Refuses gives h = (gives.value m).0 h
-summary_as_stated (Err f) read States Refuses gives h = λ apart. (gives.fault f).0 (h apart)
+pub summary_as_stated : (r read : Result Summary MessageFault) (Describes : Summary → Type 0) (Refuses : MessageFault → Type 0)
+    → Gives read Describes Refuses → ReadsAs NoMemory (λ m. m) r read → MatchResult r Describes (λ f. (f ≡ NoMemory → ⊥) → Refuses f)
+summary_as_stated (Ok m) read Describes Refuses gives h = (gives.value m).0 h
+summary_as_stated (Err f) read Describes Refuses gives h = λ apart. (gives.fault f).0 (h apart)

@@ -17,10 +17,10 @@ use Rattle.validator.specs.entities.Faults.{code_of}
 use Rattle.validator.specs.entities.Entities.{entity_stated_in}
 use Rattle.validator.specs.entities.Canonical.{canonical_text}
 use Rattle.sync_messages.specs.Texts.{refused_by, entity_of_text}
-use Rattle.validator.specs.entities.StatedEntities.{StatesEntity}
+use Rattle.validator.specs.entities.StatedEntities.{DescribesEntity}
 use Rattle.validator.specs.entities.schema.Agreement.{Gives}
-use Rattle.validator.specs.entities.AsStated.{EntitiesAreRead}
-use Rattle.sync_messages.specs.StatedTexts.{StatesText, RefusesText}
+use Rattle.validator.specs.entities.ParsingLaws.{EntitiesAreRead}
+use Rattle.sync_messages.specs.StatedTexts.{DescribesText, RefusesText}
 use Rattle.sync_messages.specs.StatedTexts as says
 use Rattle.sync_messages.proofs.Steps.{done, failed, same_bytes, bytes_same, true_false, untrue}
 use Rattle.sync_messages.proofs.OneOutcome.{gives}
@@ -45,12 +45,12 @@ module _ (read : EntitiesAreRead) (s : StatedSchema) (uid : EntityUid) (text : L
   entity_step : (d : Data) (r : Result Entity EntityFault) → json_of text ≡ Some d → entity_stated_in s d ≡ r → entity_of_text s uid text ≡ (refused_by r >>= checked uid text)
   entity_step d r e f = json_step (Some d) e ∙ ap (λ (x : Result Entity EntityFault). refused_by x >>= checked uid text) f
 
-  check_step : (d : Data) (e : Entity) (a b : Bool) → json_of text ≡ Some d → StatesEntity s d e → bytes_eq (canonical_text e) text ≡ a → is_same e.uid uid ≡ b
+  check_step : (d : Data) (e : Entity) (a b : Bool) → json_of text ≡ Some d → DescribesEntity s d e → bytes_eq (canonical_text e) text ≡ a → is_same e.uid uid ≡ b
       → entity_of_text s uid text ≡ (demand (Refused 57) a >>= λ canonical. demand OtherName b >>= λ named. Ok e)
   check_step d e a b j h f g =
       entity_step d (Ok e) j (((read s d).value e).1 h) ∙ (λ i. demand (Refused 57) (f i) >>= λ canonical. demand OtherName (g i) >>= λ named. Ok e)
 
-  text_states : (e : Entity) → StatesText s uid text e → entity_of_text s uid text ≡ done e
+  text_states : (e : Entity) → DescribesText s uid text e → entity_of_text s uid text ≡ done e
   text_states e h = check_step h.value e true true h.json h.states (same_bytes (canonical_text e) text h.canonical) (is_the_same e.uid uid h.named)
 
   text_refuses : (f : BodyFault) → RefusesText s uid text f → entity_of_text s uid text ≡ failed f
@@ -62,9 +62,9 @@ module _ (read : EntitiesAreRead) (s : StatedSchema) (uid : EntityUid) (text : L
       check_step d e true false j h (same_bytes (canonical_text e) text same) (untrue (is_same e.uid uid) (λ k. apart (same_is e.uid uid k)))
 
   abbrev Outcome : Type 0
-  Outcome = ((e : Entity) × StatesText s uid text e) ⊎ ((f : BodyFault) × RefusesText s uid text f)
+  Outcome = ((e : Entity) × DescribesText s uid text e) ⊎ ((f : BodyFault) × RefusesText s uid text f)
 
-  by_checks : (d : Data) (e : Entity) (a b : Bool) → json_of text ≡ Some d → StatesEntity s d e → bytes_eq (canonical_text e) text ≡ a → is_same e.uid uid ≡ b → Outcome
+  by_checks : (d : Data) (e : Entity) (a b : Bool) → json_of text ≡ Some d → DescribesEntity s d e → bytes_eq (canonical_text e) text ≡ a → is_same e.uid uid ≡ b → Outcome
   by_checks d e false b j h f g = inr (Refused 57, says.other_text d e j h (λ k. true_false (bytes_eq (canonical_text e) text) (same_bytes (canonical_text e) text k) f))
   by_checks d e true false j h f g = inr (OtherName, says.other_name d e j h (bytes_same (canonical_text e) text f) (λ k. true_false (is_same e.uid uid) (is_the_same e.uid uid k) g))
   by_checks d e true true j h f g = inl (e, record { value = d; json = j; states = h; canonical = bytes_same (canonical_text e) text f; named = same_is e.uid uid g })
@@ -77,5 +77,5 @@ module _ (read : EntitiesAreRead) (s : StatedSchema) (uid : EntityUid) (text : L
   by_json (Some d) e = by_entity d e (entity_stated_in s d) refl
   by_json None e = inr (Refused 30, says.not_json e)
 
-  pub text_given : Gives (entity_of_text s uid text) (StatesText s uid text) (RefusesText s uid text)
-  text_given = gives (entity_of_text s uid text) (StatesText s uid text) (RefusesText s uid text) text_states text_refuses (by_json (json_of text) refl)
+  pub text_given : Gives (entity_of_text s uid text) (DescribesText s uid text) (RefusesText s uid text)
+  text_given = gives (entity_of_text s uid text) (DescribesText s uid text) (RefusesText s uid text) text_states text_refuses (by_json (json_of text) refl)

@@ -26,9 +26,9 @@ use Rattle.message_format.specs.Summaries.{name_json, stamped_in, version_in}
 use Rattle.message_format.specs.Messages.{body_json, entry_json, message_json, text_in, body_in, entry_by, entry_in, entries_of, entries_by, entries_in, is_kind}
 use Rattle.message_format.specs.Messages.{updates_by, updates_in, updates_stated}
 use Rattle.validator.specs.entities.schema.Agreement.{Gives, HasOneOutcome}
-use Rattle.sync_messages.specs.MessageForms.{StatesName, StatesSite, HasVersion, number_of}
+use Rattle.sync_messages.specs.MessageForms.{DescribesName, DescribesSite, HasVersion, number_of}
 use Rattle.sync_messages.specs.MessageForms as says
-use Rattle.sync_messages.specs.StatedUpdates.{StatesEntry, IsUpdates, StatesUpdates, RefusesUpdates}
+use Rattle.sync_messages.specs.StatedUpdates.{DescribesEntry, IsUpdates, DescribesUpdates, RefusesUpdates}
 use Rattle.sync_messages.proofs.Steps.{done, failed, ok_is, some_is, some_of, passes, bytes_same, Only, only_ok, only_wrong, only_bind, only_demand, only_or, only_each}
 use Rattle.sync_messages.proofs.Exact.{exact_object, value_ascends, items_ascend}
 use Rattle.sync_messages.proofs.Parts.{Read, Facts, text_is, array_is, HasParts, parts_are, are_parts, only_parts, each_is, is_each}
@@ -86,9 +86,9 @@ abbrev read : Update → Read Update
 read u = Ok u
 
 entry_made : (version : MessageVersion) (d : Data) (body : Option (List ℕ)) (u : Name × Stamp) (x : Update) → read (u.0, issued u.1 body) ≡ read x → HasParts version d u
-    → (get (codes "body") d ≡ Some (body_json body)) → has_only entry_keys d ≡ true → DataAscends d → StatesEntry version d x
+    → (get (codes "body") d ≡ Some (body_json body)) → has_only entry_keys d ≡ true → DataAscends d → DescribesEntry version d x
 entry_made version d body u x e h at alone asc =
-    subst (StatesEntry version d) (ok_is (u.0, issued u.1 body) x e) (record {
+    subst (DescribesEntry version d) (ok_is (u.0, issued u.1 body) x e) (record {
       name = h.name;
       site = h.site;
       is = exact_object ((codes "body", body_json body) ∷ (codes "count", json.number (unsigned u.1.count)) ∷ (codes "name", h.name) ∷ (codes "site", h.site) ∷ []) d entry_keys_ascend asc alone
@@ -97,7 +97,7 @@ entry_made version d body u x e h at alone asc =
       states_site = h.states_site;
     })
 
-entry_is : Facts → (version : MessageVersion) (d : Data) (u : Update) → DataAscends d → entry_in version d ≡ done u → StatesEntry version d u
+entry_is : Facts → (version : MessageVersion) (d : Data) (u : Update) → DataAscends d → entry_in version d ≡ done u → DescribesEntry version d u
 entry_is facts version d u asc e =
     let a = bind_ok (demand BadShape (has_only entry_keys d)) (λ shape. or_fault BadShape (get (codes "body") d) >>= λ found. with_found version d found) u (sym (entry_step version d) ∙ e) in
     let b = bind_ok (or_fault BadShape (get (codes "body") d)) (λ found. with_found version d found) u a.2 in
@@ -116,13 +116,13 @@ entry_object name site u = json.object (member (codes "body") (body_json u.1.bod
     (member (codes "name") name
     (member (codes "site") site no_members))))
 
-object_read : Facts → (version : MessageVersion) (name site : Data) (u : Update) → StatesName name u.0 → StatesSite version site u.1.site → entry_in version (entry_object name site u) ≡ done u
+object_read : Facts → (version : MessageVersion) (name site : Data) (u : Update) → DescribesName name u.0 → DescribesSite version site u.1.site → entry_in version (entry_object name site u) ≡ done u
 unfolding entry_in entry_by
 object_read facts version name site u named sited =
     let parts : HasParts version (entry_object name site u) (stamp_of u) = record { name = name; site = site; at_count = refl; at_name = refl; at_site = refl; states_name = named; states_site = sited } in
     rw (is_body u.1.body, are_parts facts version (entry_object name site u) (stamp_of u) parts) refl
 
-is_entry : Facts → (version : MessageVersion) (d : Data) (u : Update) → StatesEntry version d u → entry_in version d ≡ done u
+is_entry : Facts → (version : MessageVersion) (d : Data) (u : Update) → DescribesEntry version d u → entry_in version d ≡ done u
 is_entry facts version d u h = ap (entry_in version) h.is ∙ object_read facts version h.name h.site u h.states_name h.states_site
 
 only_entry : (version : MessageVersion) (d : Data) → Only BadShape (entry_in version d)
@@ -173,7 +173,7 @@ abbrev pub shape : MessageVersion → Data → Read Stated
 shape version d = demand BadShape (has_only update_keys d) >>= λ keys. with_keys version d
 
 entries_are : Facts → (version : MessageVersion) (d : Data) → DataAscends d → (us : List Update) → entries_in version d ≡ done us
-    → (ds : Items) × (get (codes "entries") d ≡ Some (json.array ds)) × AllZip (StatesEntry version) (list_of ds) us
+    → (ds : Items) × (get (codes "entries") d ≡ Some (json.array ds)) × AllZip (DescribesEntry version) (list_of ds) us
 unfolding entries_in entries_by entries_of
 entries_are facts version d asc us e =
     let a = bind_ok (or_fault BadShape (get (codes "entries") d)) (λ found. or_fault BadShape (as_array found) >>= λ ds. each (λ i x. entry_in version x) 0 (list_of ds)) us e in
@@ -181,7 +181,7 @@ entries_are facts version d asc us e =
     let at = array_is (codes "entries") d a.0 b.0 a.1 b.1 in (
       b.0,
       at,
-      each_is (entry_in version) DataAscends (StatesEntry version) (λ x u asc_x h. entry_is facts version x u asc_x h) 0 (list_of b.0) us
+      each_is (entry_in version) DataAscends (DescribesEntry version) (λ x u asc_x h. entry_is facts version x u asc_x h) 0 (list_of b.0) us
           (items_ascend b.0 (value_ascends (codes "entries") d asc (json.array b.0) at)) b.2,
     )
 
@@ -210,10 +210,10 @@ update_object entries kind schema version = json.object (member (codes "entries"
     (member (codes "version") (json.number (unsigned (number_of version))) no_members))))
 
 shape_read : Facts → (version : MessageVersion) (entries : Items) (kind schema : List ℕ) (us : List Update) → (kind ≡ codes "state") ⊎ (kind ≡ codes "delta")
-    → AllZip (StatesEntry version) (list_of entries) us → shape version (update_object entries kind schema version) ≡ done (schema, us)
+    → AllZip (DescribesEntry version) (list_of entries) us → shape version (update_object entries kind schema version) ≡ done (schema, us)
 unfolding entries_in entries_by entries_of
 shape_read facts version entries kind schema us is h =
-    rw (is_the_kind kind is, is_each (entry_in version) (StatesEntry version) (λ d u k. is_entry facts version d u k) 0 (list_of entries) us h) refl
+    rw (is_the_kind kind is, is_each (entry_in version) (DescribesEntry version) (λ d u k. is_entry facts version d u k) 0 (list_of entries) us h) refl
 
 is_form : Facts → (d : Data) (schema : List ℕ) (us : List Update) → IsUpdates d schema us → (version : MessageVersion) × HasVersion d (number_of version) × (shape version d ≡ done (schema, us))
 is_form facts d schema us h =
@@ -286,35 +286,35 @@ module _ (facts : Facts) (ascends : JsonAscends) (label bytes : List ℕ) where
   reader : IsReader IsUpdates shape
   reader = record { form_is = form_is facts; is_form = is_form facts; only_form = only_form }
 
-  updates_states : (us : List Update) → StatesUpdates label bytes us → updates_stated label bytes ≡ done us
+  updates_states : (us : List Update) → DescribesUpdates label bytes us → updates_stated label bytes ≡ done us
   updates_states us h = stated_step label bytes ∙ states IsUpdates shape reader ascends label bytes us h
 
   updates_refuses : (f : MessageFault) → RefusesUpdates label bytes f → updates_stated label bytes ≡ failed f
   updates_refuses f h = stated_step label bytes ∙ refuses IsUpdates shape reader ascends label bytes f h
 
-  pub updates_given : Gives (updates_stated label bytes) (StatesUpdates label bytes) (RefusesUpdates label bytes)
+  pub updates_given : Gives (updates_stated label bytes) (DescribesUpdates label bytes) (RefusesUpdates label bytes)
   updates_given =
-      gives (updates_stated label bytes) (StatesUpdates label bytes) (RefusesUpdates label bytes) updates_states updates_refuses (some_form IsUpdates shape reader ascends label bytes)
+      gives (updates_stated label bytes) (DescribesUpdates label bytes) (RefusesUpdates label bytes) updates_states updates_refuses (some_form IsUpdates shape reader ascends label bytes)
 
-  pub updates_outcome : HasOneOutcome (StatesUpdates label bytes) (RefusesUpdates label bytes)
+  pub updates_outcome : HasOneOutcome (DescribesUpdates label bytes) (RefusesUpdates label bytes)
   updates_outcome =
-      one_outcome (updates_stated label bytes) (StatesUpdates label bytes) (RefusesUpdates label bytes) updates_states updates_refuses (some_form IsUpdates shape reader ascends label bytes)
+      one_outcome (updates_stated label bytes) (DescribesUpdates label bytes) (RefusesUpdates label bytes) updates_states updates_refuses (some_form IsUpdates shape reader ascends label bytes)
 
 -- ---- version 2 as it is written
 
-pub site_written : (version : MessageVersion) (d : Data) (site : List ℕ) → StatesSite version d site → version ≡ Two → d ≡ json.string site
+pub site_written : (version : MessageVersion) (d : Data) (site : List ℕ) → DescribesSite version d site → version ≡ Two → d ≡ json.string site
 site_written version d site (says.by_number n h) e = absurd cc
 site_written version d site (says.by_name s h) e = refl
 
-pub name_written : (d : Data) (n : Name) → StatesName d n → d ≡ name_json n
+pub name_written : (d : Data) (n : Name) → DescribesName d n → d ≡ name_json n
 name_written d (name.Policy id) h = h
 name_written d (name.Entity uid) h = h.0
 
-entry_written : (version : MessageVersion) (d : Data) (u : Update) → version ≡ Two → StatesEntry version d u → d ≡ entry_json u
+entry_written : (version : MessageVersion) (d : Data) (u : Update) → version ≡ Two → DescribesEntry version d u → d ≡ entry_json u
 entry_written version d u two h =
     h.is ∙ (λ i. entry_object (name_written h.name u.0 h.states_name i) (site_written version h.site u.1.site h.states_site two i) u)
 
-entries_written : (version : MessageVersion) (ds : Items) (us : List Update) → version ≡ Two → AllZip (StatesEntry version) (list_of ds) us → ds ≡ items_of (map entry_json us)
+entries_written : (version : MessageVersion) (ds : Items) (us : List Update) → version ≡ Two → AllZip (DescribesEntry version) (list_of ds) us → ds ≡ items_of (map entry_json us)
 entries_written version no_items [] two h = refl
 entries_written version no_items (u ∷ us) two h = absurd h
 entries_written version (item d ds) [] two h = absurd h

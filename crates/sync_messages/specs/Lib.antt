@@ -4,7 +4,7 @@ pub mod StatedUpdates
 pub mod StatedSummaries
 pub mod StatedTexts
 pub mod StatedMessages
-pub mod AsStated
+pub mod ParsingLaws
 pub mod Messages
 pub mod Texts
 -- Specifications of lower crates, re-exported.

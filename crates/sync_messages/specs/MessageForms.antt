@@ -20,17 +20,17 @@ use Rattle.message_format.specs.Summaries.{name_json}
 
 -- ---- parts
 
--- `StatesName d name` holds if `d` is the JSON of `name`: {"policy":id}, or {"entity":{"id":..,"type":..}} with a type
--- that is a path, such as `Photos::Album`.
-abbrev pub StatesName : Data → Name → Type 0
-StatesName d (Policy id) = d ≡ name_json (Policy id)
-StatesName d (Entity uid) = (d ≡ name_json (Entity uid)) × IsPath uid.type_name
+-- `DescribesName d name` holds if `d` is the JSON of `name`: {"policy":id}, or {"entity":{"id":..,"type":..}} with a
+-- type that is a path, such as `Photos::Album`.
+abbrev pub DescribesName : Data → Name → Type 0
+DescribesName d (Policy id) = d ≡ name_json (Policy id)
+DescribesName d (Entity uid) = (d ≡ name_json (Entity uid)) × IsPath uid.type_name
 
--- `StatesSite version d site` holds if `d` is the JSON of the site with the name `site` in messages of `version`: in
+-- `DescribesSite version d site` holds if `d` is the JSON of the site with the name `site` in messages of `version`: in
 -- version 1 a number, in version 2 a string.
-pub data StatesSite : MessageVersion → Data → List ℕ → Type 0 where
-  by_number : (n : ℕ) → IsSiteNumber n → StatesSite One (number (unsigned n)) (five_digits n)
-  by_name : (site : List ℕ) → IsSiteName site → StatesSite Two (string site) site
+pub data DescribesSite : MessageVersion → Data → List ℕ → Type 0 where
+  by_number : (n : ℕ) → IsSiteNumber n → DescribesSite One (number (unsigned n)) (five_digits n)
+  by_name : (site : List ℕ) → IsSiteName site → DescribesSite Two (string site) site
 
 -- ---- versions
 
@@ -45,10 +45,10 @@ number_of Two = 2
 
 -- ---- bytes
 
--- `StatesForm Form label bytes content` holds if `bytes` are a message in the form `Form` for the schema with the label
--- `label`, with the content `content`. `Form d schema content` says that the JSON `d` is a message for the schema with
--- the label `schema`, with the content `content`.
-pub record StatesForm {A : Type 0} (Form : Data → List ℕ → A → Type 0) (label bytes : List ℕ) (content : A) : Type 0
+-- `DescribesForm Form label bytes content` holds if `bytes` are a message in the form `Form` for the schema with the
+-- label `label`, with the content `content`. `Form d schema content` says that the JSON `d` is a message for the schema
+-- with the label `schema`, with the content `content`.
+pub record DescribesForm {A : Type 0} (Form : Data → List ℕ → A → Type 0) (label bytes : List ℕ) (content : A) : Type 0
   where
     pub value : Data
     pub json : json_of bytes ≡ Some value

@@ -14,18 +14,18 @@ use Rattle.message_format.specs.Updates.{plain_updates, stamped, fault_at, IsUpd
 use Rattle.validator.specs.entities.schema.Schemas.{StatedSchema}
 use Rattle.validator.specs.entities.entity_data.declared.entity.Entity.{Entity}
 use Rattle.sync_messages.specs.Texts.{ReadsPolicy, RefusesPolicy}
-use Rattle.sync_messages.specs.StatedUpdates.{StatesUpdates, RefusesUpdates}
+use Rattle.sync_messages.specs.StatedUpdates.{DescribesUpdates, RefusesUpdates}
 use Rattle.sync_messages.specs.StatedSummaries.{Fits, RefusesRanges}
-use Rattle.sync_messages.specs.StatedTexts.{StatesText, RefusesText}
+use Rattle.sync_messages.specs.StatedTexts.{DescribesText, RefusesText}
 
 -- `HasTextsOf s us` holds if each update of `us` that has a text has the value of that text under the schema `s`: a
 -- policy that passes validation, or the entity that has this canonical text and the uid in the update's name.
 abbrev pub HasTextsOf : StatedSchema → List (Update Policy Entity) → Type 0
-HasTextsOf s us = AllByRecursion (IsUpdateRead (λ id. ReadsPolicy s) (StatesText s)) us
+HasTextsOf s us = AllByRecursion (IsUpdateRead (λ id. ReadsPolicy s) (DescribesText s)) us
 
 -- `HasBody s u` holds if the update `u` is a tombstone, or its body is the text of a policy or entity under `s`.
 abbrev pub HasBody : StatedSchema → PlainUpdate → Type 0
-HasBody s u = IsValid (λ id. ReadsPolicy s) (StatesText s) u
+HasBody s u = IsValid (λ id. ReadsPolicy s) (DescribesText s) u
 
 -- `RefusesBody s u fault` holds if the body of the update `u` is a text that is rejected with the error `fault` under
 -- the schema `s` and the name of `u`.
@@ -42,9 +42,9 @@ pub data RefusesEntries (s : StatedSchema) : ℕ → List PlainUpdate → Messag
   later_entry : (place : ℕ) (u : PlainUpdate) (us : List PlainUpdate) (fault : MessageFault) → Fits (stamped u)
       → HasBody s u → RefusesEntries s (suc place) us fault → RefusesEntries s place (u ∷ us) fault
 
--- `StatesMessage s bytes us` holds if `bytes` are a state or delta of the schema `s` with the updates `us`.
-pub record StatesMessage (s : StatedSchema) (bytes : List ℕ) (us : List (Update Policy Entity)) : Type 0 where
-  pub stated : StatesUpdates s.label bytes (plain_updates us)
+-- `DescribesMessage s bytes us` holds if `bytes` are a state or delta of the schema `s` with the updates `us`.
+pub record DescribesMessage (s : StatedSchema) (bytes : List ℕ) (us : List (Update Policy Entity)) : Type 0 where
+  pub stated : DescribesUpdates s.label bytes (plain_updates us)
   pub fit : AllByRecursion (λ u. Fits (stamped u)) (plain_updates us)
   pub have_texts : HasTextsOf s us
 
@@ -52,5 +52,5 @@ pub record StatesMessage (s : StatedSchema) (bytes : List ℕ) (us : List (Updat
 -- of the form, of the label, and then of an entry.
 pub data RefusesMessage (s : StatedSchema) (bytes : List ℕ) : MessageFault → Type 0 where
   no_updates : (fault : MessageFault) → RefusesUpdates s.label bytes fault → RefusesMessage s bytes fault
-  bad_entries : (us : List PlainUpdate) (fault : MessageFault) → StatesUpdates s.label bytes us
+  bad_entries : (us : List PlainUpdate) (fault : MessageFault) → DescribesUpdates s.label bytes us
       → RefusesEntries s 0 us fault → RefusesMessage s bytes fault

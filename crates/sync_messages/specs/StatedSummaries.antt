@@ -16,20 +16,20 @@ use Rattle.stamped_store.specs.Deltas.{Summary}
 use Rattle.message_format.specs.declared.version.MessageVersion.{MessageVersion}
 use Rattle.message_format.specs.declared.fault.MessageFault.{MessageFault}
 use Rattle.message_format.specs.declared.fault.MessageFault.TheVariants.{CountRange, BadEntry}
-use Rattle.sync_messages.specs.MessageForms.{StatesName, StatesSite, number_of, StatesForm, RefusesForm}
+use Rattle.sync_messages.specs.MessageForms.{DescribesName, DescribesSite, number_of, DescribesForm, RefusesForm}
 
 -- ---- the form
 
--- `StatesStamp version d u` holds if `d` is {"count":n,"name":N,"site":S} for the name and stamp `u`, in the form of
+-- `DescribesStamp version d u` holds if `d` is {"count":n,"name":N,"site":S} for the name and stamp `u`, in the form of
 -- `version`.
-pub record StatesStamp (version : MessageVersion) (d : Data) (u : Name × Stamp) : Type 0 where
+pub record DescribesStamp (version : MessageVersion) (d : Data) (u : Name × Stamp) : Type 0 where
   pub name : Data
   pub site : Data
   pub is : d ≡ object (member (codes "count") (number (unsigned u.1.count))
       (member (codes "name") name
       (member (codes "site") site no_members)))
-  pub states_name : StatesName name u.0
-  pub states_site : StatesSite version site u.1.site
+  pub states_name : DescribesName name u.0
+  pub states_site : DescribesSite version site u.1.site
 
 -- `names_of m` are the names of the summary `m`.
 abbrev pub names_of : Summary → List Name
@@ -44,7 +44,7 @@ pub record IsSummary (d : Data) (schema : List ℕ) (m : Summary) : Type 0 where
       (member (codes "schema") (string schema)
       (member (codes "stamps") (array stamps)
       (member (codes "version") (number (unsigned (number_of version))) no_members))))
-  pub state : AllZip (StatesStamp version) (list_of stamps) m
+  pub state : AllZip (DescribesStamp version) (list_of stamps) m
   pub ascend : IsStrictlySortedBy name_cmp (names_of m)
 
 -- ---- the ranges
@@ -79,15 +79,15 @@ pub data RefusesStamps : ℕ → Summary → MessageFault → Type 0 where
 
 -- ---- bytes
 
--- `StatesSummary label bytes m` holds if `bytes` are the summary `m` for the schema with the label `label`, and each
+-- `DescribesSummary label bytes m` holds if `bytes` are the summary `m` for the schema with the label `label`, and each
 -- count and name of `m` is in its range.
-pub record StatesSummary (label bytes : List ℕ) (m : Summary) : Type 0 where
-  pub states : StatesForm IsSummary label bytes m
+pub record DescribesSummary (label bytes : List ℕ) (m : Summary) : Type 0 where
+  pub states : DescribesForm IsSummary label bytes m
   pub fit : AllByRecursion Fits m
 
 -- `RefusesSummary label bytes fault` holds if `bytes` are not a summary for the schema with the label `label`, and
 -- `fault` is the first error: of the form, of the label, and then of a stamp.
 pub data RefusesSummary (label bytes : List ℕ) : MessageFault → Type 0 where
   no_summary : (fault : MessageFault) → RefusesForm IsSummary label bytes fault → RefusesSummary label bytes fault
-  bad_stamps : (m : Summary) (fault : MessageFault) → StatesForm IsSummary label bytes m → RefusesStamps 0 m fault
+  bad_stamps : (m : Summary) (fault : MessageFault) → DescribesForm IsSummary label bytes m → RefusesStamps 0 m fault
       → RefusesSummary label bytes fault

@@ -14,14 +14,14 @@ use Rattle.validator.specs.entities.entity_data.declared.entity.Entity.{Entity}
 use Rattle.validator.specs.entities.declared.fault.EntityFault.{EntityFault}
 use Rattle.validator.specs.entities.Faults.{code_of}
 use Rattle.validator.specs.entities.Canonical.{canonical_text}
-use Rattle.validator.specs.entities.StatedEntities.{StatesEntity, RefusesEntity}
+use Rattle.validator.specs.entities.StatedEntities.{DescribesEntity, RefusesEntity}
 
--- `StatesText s uid text e` holds if `text` is the JSON of the entity `e` under the schema `s`, in its canonical
+-- `DescribesText s uid text e` holds if `text` is the JSON of the entity `e` under the schema `s`, in its canonical
 -- spelling, and the uid of `e` is `uid`.
-pub record StatesText (s : StatedSchema) (uid : EntityUid) (text : List ℕ) (e : Entity) : Type 0 where
+pub record DescribesText (s : StatedSchema) (uid : EntityUid) (text : List ℕ) (e : Entity) : Type 0 where
   pub value : Data
   pub json : json_of text ≡ Some value
-  pub states : StatesEntity s value e
+  pub states : DescribesEntity s value e
   pub canonical : canonical_text e ≡ text
   pub named : e.uid ≡ uid
 
@@ -31,7 +31,7 @@ pub data RefusesText (s : StatedSchema) (uid : EntityUid) (text : List ℕ) : Bo
   not_json : json_of text ≡ None → RefusesText s uid text (Refused 30)
   no_entity : (d : Data) (fault : EntityFault) → json_of text ≡ Some d → RefusesEntity s d fault
       → RefusesText s uid text (Refused (code_of fault))
-  other_text : (d : Data) (e : Entity) → json_of text ≡ Some d → StatesEntity s d e → (canonical_text e ≡ text → ⊥)
+  other_text : (d : Data) (e : Entity) → json_of text ≡ Some d → DescribesEntity s d e → (canonical_text e ≡ text → ⊥)
       → RefusesText s uid text (Refused 57)
-  other_name : (d : Data) (e : Entity) → json_of text ≡ Some d → StatesEntity s d e → canonical_text e ≡ text
+  other_name : (d : Data) (e : Entity) → json_of text ≡ Some d → DescribesEntity s d e → canonical_text e ≡ text
       → (e.uid ≡ uid → ⊥) → RefusesText s uid text OtherName

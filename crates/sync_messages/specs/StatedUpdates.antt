@@ -10,19 +10,19 @@ use Rattle.stamped_store.specs.Store.{Update}
 use Rattle.message_format.specs.declared.version.MessageVersion.{MessageVersion}
 use Rattle.message_format.specs.declared.fault.MessageFault.{MessageFault}
 use Rattle.message_format.specs.Messages.{body_json}
-use Rattle.sync_messages.specs.MessageForms.{StatesName, StatesSite, number_of, StatesForm, RefusesForm}
+use Rattle.sync_messages.specs.MessageForms.{DescribesName, DescribesSite, number_of, DescribesForm, RefusesForm}
 
--- `StatesEntry version d u` holds if `d` is {"body":null or a text,"count":n,"name":N,"site":S} for the update `u`, in
--- the form of `version`, where N describes its name and S its site.
-pub record StatesEntry (version : MessageVersion) (d : Data) (u : Update) : Type 0 where
+-- `DescribesEntry version d u` holds if `d` is {"body":null or a text,"count":n,"name":N,"site":S} for the update `u`,
+-- in the form of `version`, where N describes its name and S its site.
+pub record DescribesEntry (version : MessageVersion) (d : Data) (u : Update) : Type 0 where
   pub name : Data
   pub site : Data
   pub is : d ≡ object (member (codes "body") (body_json u.1.body)
       (member (codes "count") (number (unsigned u.1.count))
       (member (codes "name") name
       (member (codes "site") site no_members))))
-  pub states_name : StatesName name u.0
-  pub states_site : StatesSite version site u.1.site
+  pub states_name : DescribesName name u.0
+  pub states_site : DescribesSite version site u.1.site
 
 -- `IsUpdates d schema us` holds if `d` is {"entries":[..],"kind":"state" or "delta","schema":schema,"version":2 or 1},
 -- with one entry for each of the updates `us`, in their order.
@@ -35,12 +35,12 @@ pub record IsUpdates (d : Data) (schema : List ℕ) (us : List Update) : Type 0 
       (member (codes "schema") (string schema)
       (member (codes "version") (number (unsigned (number_of version))) no_members))))
   pub is_kind : (kind ≡ codes "state") ⊎ (kind ≡ codes "delta")
-  pub state : AllZip (StatesEntry version) (list_of entries) us
+  pub state : AllZip (DescribesEntry version) (list_of entries) us
 
--- `StatesUpdates label bytes us` holds if `bytes` have the form of a state or delta for the schema with the label
+-- `DescribesUpdates label bytes us` holds if `bytes` have the form of a state or delta for the schema with the label
 -- `label`, with the updates `us`. The counts and names may be out of their ranges, and the texts need not be valid.
-abbrev pub StatesUpdates : List ℕ → List ℕ → List Update → Type 0
-StatesUpdates label bytes us = StatesForm IsUpdates label bytes us
+abbrev pub DescribesUpdates : List ℕ → List ℕ → List Update → Type 0
+DescribesUpdates label bytes us = DescribesForm IsUpdates label bytes us
 
 -- `RefusesUpdates label bytes fault` holds if `bytes` do not have the form of a state or delta for the schema with the
 -- label `label`, and `fault` is the first error.

@@ -1,7 +1,7 @@
 //! Theorems: the parsing of messages agrees with the relations on bytes. The functions are no-ops.
-ghost use Rattle.sync_messages.specs.AsStated.{UpdatesAreRead, UpdatesHaveOneOutcome, UpdatesAreWritten};
-ghost use Rattle.sync_messages.specs.AsStated.{SummariesAreRead, SummariesHaveOneOutcome, SummariesAreWritten};
-ghost use Rattle.sync_messages.specs.AsStated.{TextsAreRead, MessagesAreRead, MessagesHaveOneOutcome};
+ghost use Rattle.sync_messages.specs.ParsingLaws.{UpdatesAreRead, UpdatesHaveOneOutcome, UpdatesAreWritten};
+ghost use Rattle.sync_messages.specs.ParsingLaws.{SummariesAreRead, SummariesHaveOneOutcome, SummariesAreWritten};
+ghost use Rattle.sync_messages.specs.ParsingLaws.{TextsAreRead, MessagesAreRead, MessagesHaveOneOutcome};
 
 use crate::laws::stored_texts_have_one_reading;
 use json_words::json_keys_ascend;

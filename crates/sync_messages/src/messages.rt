@@ -1,13 +1,13 @@
 //! The parsing of messages under a schema: states, deltas and summaries.
 ghost use Rattle.std.specs.Prelude.{IfOk, IfErr, MatchResult};
 ghost use Rattle.json_words.specs.ReadsAs.{ReadsAs};
-ghost use Rattle.plain.specs.Refused.{OrNoMemory};
+ghost use Rattle.plain.specs.AllocationErrors.{OrNoMemory};
 ghost use Rattle.message_format.specs.declared.fault.MessageFault.TheVariants as MessageFault;
 ghost use Rattle.validator.specs.entities.schema.Views.{schema_view};
 ghost use Rattle.message_format.specs.Summaries.{summary_stated};
 ghost use Rattle.sync_messages.specs.Messages.{IsMessageOf, IsMessageFaultOf};
-ghost use Rattle.sync_messages.specs.StatedMessages.{StatesMessage, RefusesMessage};
-ghost use Rattle.sync_messages.specs.StatedSummaries.{StatesSummary, RefusesSummary};
+ghost use Rattle.sync_messages.specs.StatedMessages.{DescribesMessage, RefusesMessage};
+ghost use Rattle.sync_messages.specs.StatedSummaries.{DescribesSummary, RefusesSummary};
 
 use crate::as_stated::{messages_are_read_as_stated, summaries_are_read_as_stated};
 use crate::texts::SchemaTexts;
@@ -31,7 +31,7 @@ pub fn read_updates(
     ensures read { IfOk result (λ us. IsMessageOf (schema_view schema.now) bytes.now us.items) }
     ensures refused { IfErr result
         (OrNoMemory MessageFault.NoMemory (IsMessageFaultOf (schema_view schema.now) bytes.now)) }
-    ensures stated { MatchResult result (λ us. StatesMessage (schema_view schema.now) bytes.now us.items)
+    ensures stated { MatchResult result (λ us. DescribesMessage (schema_view schema.now) bytes.now us.items)
         (OrNoMemory MessageFault.NoMemory (RefusesMessage (schema_view schema.now) bytes.now)) }
 {
     messages_are_read_as_stated();
@@ -52,7 +52,7 @@ pub fn read_updates(
 /// - `NoMemory` (1): an allocation failed; possible at any point.
 pub fn read_summary(alloc: Global, label: &str, bytes: &[u8]) -> Result<Summary, MessageFault>
     ensures read { ReadsAs MessageFault.NoMemory (λ m. m) result (summary_stated label.now bytes.now) }
-    ensures stated { MatchResult result (StatesSummary label.now bytes.now)
+    ensures stated { MatchResult result (DescribesSummary label.now bytes.now)
         (OrNoMemory MessageFault.NoMemory (RefusesSummary label.now bytes.now)) }
 {
     summaries_are_read_as_stated();

@@ -12,7 +12,7 @@ ghost use Rattle.validator.specs.entities.Entities.{entity_stated_in};
 ghost use Rattle.validator.specs.entities.Canonical.{canonical_text};
 ghost use Rattle.validator.specs.Faults as validation;
 ghost use Rattle.validator.specs.Passing.{Passes};
-ghost use Rattle.plain.specs.Refused.{OrNoMemory};
+ghost use Rattle.plain.specs.AllocationErrors.{OrNoMemory};
 ghost use Rattle.sync_messages.specs.Texts.{ReadsPolicy, RefusesPolicy, RefusesEntity, entity_of_text, refused_by};
 
 use message_format::{

@@ -42,9 +42,9 @@ use Rattle.policy_grammar.specs.declared.policy.ActionScope.TheVariants as actio
 use Rattle.policy_grammar.specs.declared.policy.Policy.{Policy}
 use Rattle.policy_grammar.specs.grammar_desugaring.Core.{core_of}
 use Rattle.policy_grammar.specs.grammar_desugaring.Meaning.{uid_of}
-use Rattle.policy_grammar.specs.Conditions.{condition_of, joined, asked_by}
+use Rattle.policy_grammar.specs.Conditions.{condition_of, joined, condition_expression}
 use Rattle.policy_grammar.specs.CoreOf.{AreUidsOf, IsEntityScopeOf, IsActionScopeOf, IsCoreOf}
-use Rattle.policy_grammar.specs.Whole.{expression_of, falsehood, entity_literal, entity_part, action_part}
+use Rattle.policy_grammar.specs.PolicyExpression.{expression_of, falsehood, entity_literal, entity_part, action_part}
 use Rattle.token_spans.specs.Places.{to, part_count, action_count, condition_count}
 use Rattle.token_spans.specs.Places.{NodePlace, in_entity, in_action}
 use Rattle.token_spans.specs.Places.{at_conditions, by_word, unless_at, from_resource, from_action, from_effect}
@@ -84,7 +84,7 @@ nameless e z is none h = none_some (sym none ∙ ap (λ y. name_of (out-Expr y))
 
 one_name : (text : List ℕ) (c : Condition) (ts us behind : List Token) (path : List ℕ) (e : Expr) (n : OwnName)
     (word : ConditionWord) → ts ≡ us ++ behind → p.condition nesting_limit us c
-    → follow path (asked_by word (core_of text c.expression)) ≡ Some e → name_of (out-Expr e) ≡ Some n
+    → follow path (condition_expression word (core_of text c.expression)) ≡ Some e → name_of (out-Expr e) ≡ Some n
     → NameAt text ts (by_word word c ts path) n
 one_name text c ts us behind path e n When whole_is d h named =
     let b = braced us c d in

@@ -23,7 +23,7 @@ use Rattle.policy_grammar.proofs.of_grammar_desugaring.Cores as cores
 use Rattle.token_spans.specs.inner.Nodes as part
 use Rattle.token_spans.specs.Forms.{Form, kept, up_to, own_tokens, tokens_after_step, tokens_after_test}
 use Rattle.token_spans.proofs.LanguageCounts.{path_fits}
-use Rattle.token_spans.specs.Written.{IsWritingOf, itself, negated, tested}
+use Rattle.token_spans.specs.NodeTokens.{IsWritingOf, itself, negated, tested}
 use Rattle.token_spans.proofs.Lifting.{relation_up, sum_up, product_up, unary_up, member_up, primary_up, and_up, or_up}
 use Rattle.token_spans.proofs.Lists.{many_more, many_count, past}
 use Rattle.token_spans.proofs.Chains.{any_count, piece_count}

@@ -23,16 +23,16 @@ use Rattle.grammar_policies.specs.Grammar as p
 use Rattle.typing.specs.Places.{operands_of, operands_in, follow, and_then}
 use Rattle.policy_grammar.specs.declared.policy.Policy.{Policy}
 use Rattle.policy_grammar.specs.grammar_desugaring.Core.{core_of}
-use Rattle.policy_grammar.specs.Conditions.{condition_of, joined, asked_by}
+use Rattle.policy_grammar.specs.Conditions.{condition_of, joined, condition_expression}
 use Rattle.policy_grammar.specs.CoreOf.{IsCoreOf}
-use Rattle.policy_grammar.specs.Whole.{expression_of, truth, entity_part}
-use Rattle.policy_grammar.specs.Whole.{action_part as scope_action}
+use Rattle.policy_grammar.specs.PolicyExpression.{expression_of, truth, entity_part}
+use Rattle.policy_grammar.specs.PolicyExpression.{action_part as scope_action}
 use Rattle.grammar_core.specs.declared.leaf.Variable.TheVariants.{Resource}
 use Rattle.token_spans.specs.Forms.{whole, unwrapped, own_tokens, up_to}
 use Rattle.token_spans.specs.Places.{to, part_count, action_count, condition_count}
 use Rattle.token_spans.specs.Places.{NodePlace, whole_policy, in_entity, in_action, in_expression}
 use Rattle.token_spans.specs.Places.{at_conditions, by_word, unless_at, from_resource, from_action, from_effect, from_byte, place_at, written}
-use Rattle.token_spans.specs.Written.{IsWritingOf, IsPlacedIn, of_expression, of_unless, of_principal, of_action, of_resource, of_policy, HasTokensIn}
+use Rattle.token_spans.specs.NodeTokens.{IsWritingOf, IsPlacedIn, of_expression, of_unless, of_principal, of_action, of_resource, of_policy, HasTokensIn}
 use Rattle.token_spans.proofs.Lifting.{any_inner}
 use Rattle.token_spans.proofs.Lists.{Ends, ends_here, ends_later, past, some_same, none_some, swapped}
 use Rattle.token_spans.proofs.Chains.{any_count}
@@ -171,7 +171,7 @@ inside_is ts us behind c is b =
 -- a node of what a condition asks
 at_one : (text : List ℕ) (c : Condition) (ts us behind : List Token) (path : List ℕ) (e : Expr) (word : ConditionWord)
     → c.word ≡ word → ts ≡ us ++ behind → p.condition nesting_limit us c
-    → follow path (asked_by word (core_of text c.expression)) ≡ Some e
+    → follow path (condition_expression word (core_of text c.expression)) ≡ Some e
     → At ts (by_word word c ts path) (InConditions text e)
 at_one text c ts us behind path e When is whole_is d h =
     let b = braced us c d in
@@ -186,7 +186,7 @@ at_one text c ts us behind [] e Unless is whole_is d h = record {
   within = (0, sym whole_is);
   found = ap (λ rest. Some (up_to ts rest)) (past ts us behind (condition_count c) whole_is (condition_length us c d))
       ∙ ap (λ vs. Some vs) (up_to_is ts us behind whole_is);
-  known = as_unless c d is (sym (some_same h) ∙ sym (ap (λ w. asked_by w (core_of text c.expression)) is));
+  known = as_unless c d is (sym (some_same h) ∙ sym (ap (λ w. condition_expression w (core_of text c.expression)) is));
 }
 at_one text c ts us behind (i ∷ path) e Unless is whole_is d h =
     let o = follow_one (core_of text c.expression) (core.Unary Not (core_of text c.expression)) i path e

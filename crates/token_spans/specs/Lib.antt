@@ -1,5 +1,5 @@
 pub mod Spans
-pub mod Written
+pub mod NodeTokens
 pub mod NameWritten
 pub mod TokenCounts
 pub mod Counted

@@ -21,7 +21,7 @@ use Rattle.grammar_policies.specs.Grammar.{policy}
 use Rattle.policy_grammar.specs.declared.policy.Policy.{Policy}
 use Rattle.policy_grammar.specs.grammar_desugaring.Meaning.{path_name, uid_of}
 use Rattle.policy_grammar.specs.CoreOf.{IsCoreOf}
-use Rattle.policy_grammar.specs.Whole.{expression_of}
+use Rattle.policy_grammar.specs.PolicyExpression.{expression_of}
 use Rattle.typing.specs.Places.{follow}
 use Rattle.token_spans.specs.Names.{named_at}
 

@@ -1,6 +1,6 @@
 //! Theorems about spans. The functions are no-ops.
 ghost use Rattle.token_spans.specs.NameWritten.{NamesHaveTokens};
-ghost use Rattle.token_spans.specs.Written.{NodesHaveTokens};
+ghost use Rattle.token_spans.specs.NodeTokens.{NodesHaveTokens};
 
 /// Proves that each core node of a policy's whole expression has a place in the policy's tokens. No-op.
 ///

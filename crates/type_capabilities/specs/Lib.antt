@@ -1,5 +1,5 @@
 pub mod Order
 pub mod Ordered
-pub mod Pairs
+pub mod CapabilityList
 pub mod Stacks
 pub mod NodeCodes

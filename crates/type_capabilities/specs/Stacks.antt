@@ -3,21 +3,22 @@
 use Rattle.std.specs.Prelude.{◌≡◌, ◌≤◌, ℕ, List, Option, Some}
 use Rattle.std.specs.List.{slice_get}
 use Rattle.std.specs.BTreeMap.{BTreeMap, get_by}
-use Rattle.type_capabilities.specs.Pairs.{PairValue, pair_of, pair_cmp}
+use Rattle.type_capabilities.specs.CapabilityList.{CapabilityValue, capability_of, pair_cmp}
 use Rattle.type_capabilities.specs.declared.pair.Capability.{Capability}
 
 -- `place_of m p` is the index that the map `m` records for the pair `p`, if it records one.
-abbrev pub place_of : BTreeMap Capability ℕ → PairValue → Option ℕ
-place_of m p = get_by (λ k. pair_cmp p (pair_of k)) m
+abbrev pub place_of : BTreeMap Capability ℕ → CapabilityValue → Option ℕ
+place_of m p = get_by (λ k. pair_cmp p (capability_of k)) m
 
 -- `IsFound ps at i p` holds if `at` records an index for the pair `p`, the recorded index is at most `i`, and `p` is at
 -- the recorded index of the stack `ps`.
-pub record IsFound (ps : List PairValue) (at : PairValue → Option ℕ) (i : ℕ) (p : PairValue) : Type 0 where
+pub record IsFound (ps : List CapabilityValue) (at : CapabilityValue → Option ℕ) (i : ℕ) (p : CapabilityValue)
+    : Type 0 where
   pub place : ℕ
   pub noted : at p ≡ Some place
   pub low : place ≤ i
   pub there : slice_get ps place ≡ Some p
 
 -- `AreFound ps at` holds if `at` records, for each pair of the stack `ps`, the lowest index of that pair in `ps`.
-abbrev pub AreFound : List PairValue → (PairValue → Option ℕ) → Type 0
-AreFound ps at = (i : ℕ) (p : PairValue) → slice_get ps i ≡ Some p → IsFound ps at i p
+abbrev pub AreFound : List CapabilityValue → (CapabilityValue → Option ℕ) → Type 0
+AreFound ps at = (i : ℕ) (p : CapabilityValue) → slice_get ps i ≡ Some p → IsFound ps at i p

@@ -3,7 +3,7 @@ ghost use Rattle.std.specs.Prelude.{◌≡◌, ◌<◌, ◌↔◌, ℕ, [], ◌�
 ghost use Rattle.std.specs.Prelude.{cond};
 ghost use Rattle.std.specs.List.{slice_get};
 ghost use Rattle.std.specs.Ordering.{is_eq};
-ghost use Rattle.type_capabilities.specs.Pairs.{PairValue, pair_of, pairs, pair_cmp};
+ghost use Rattle.type_capabilities.specs.CapabilityList.{CapabilityValue, capability_of, capabilities, pair_cmp};
 ghost use Rattle.type_capabilities.specs.Stacks.{AreFound, place_of};
 
 use crate::pair::{Capability, is_same};
@@ -28,24 +28,24 @@ pub struct Capabilities<'a> {
 
 impl<'a> Model for Capabilities<'a> {
     ghost use Rattle.std.specs.Prelude.{◌≤◌, List, take, length};
-    ghost use Rattle.type_capabilities.specs.Pairs.{PairValue, pairs};
+    ghost use Rattle.type_capabilities.specs.CapabilityList.{CapabilityValue, capabilities};
     ghost use Rattle.type_capabilities.specs.Stacks.{AreFound, place_of};
     ghost use Rattle.std.specs.Coded.{codes};
     ghost use Rattle.grammar_core.specs.contracts.expr.Expr as e;
 
-    ghost Value = { List PairValue };
+    ghost Value = { List CapabilityValue };
 
     ghost coded = { Prim.hlevel (codes, e.the_row.coded) };
 
-    ghost view = { λ k. take k.height (pairs k.stack.items) };
+    ghost view = { λ k. take k.height (capabilities k.stack.items) };
 
     ghost invariant = { λ k. (k.height ≤ length k.stack.items)
-        × AreFound (pairs k.stack.items) (λ p. place_of k.places p) };
+        × AreFound (capabilities k.stack.items) (λ p. place_of k.places p) };
 }
 
 /// Returns whether a pair is at an index of the stack.
 fn is_pair_at(stack: &[Capability<'_>], at: usize, pair: &Capability<'_>) -> bool
-    ensures { IsTrue result ↔ (slice_get (pairs stack.now) at ≡ Some (pair_of pair.now)) }
+    ensures { IsTrue result ↔ (slice_get (capabilities stack.now) at ≡ Some (capability_of pair.now)) }
 {
     match stack.get(at) {
         Some(found) => is_same(found, pair),
@@ -60,8 +60,8 @@ fn is_pair_below<'a>(
     pair: &Capability<'a>,
     height: usize,
 ) -> bool
-    ensures { AreFound (pairs stack.now) (λ p. place_of places.now p)
-        → (IsTrue result ↔ Contains (take height (pairs stack.now)) (pair_of pair.now)) }
+    ensures { AreFound (capabilities stack.now) (λ p. place_of places.now p)
+        → (IsTrue result ↔ Contains (take height (capabilities stack.now)) (capability_of pair.now)) }
 {
     match places.get(pair) {
         Some(at) => *at < height && is_pair_at(stack, *at, pair),
@@ -75,9 +75,9 @@ fn note<'a>(
     pair: Capability<'a>,
     at: usize,
 ) -> Result<(), NoMemory>
-    ensures ok { OnOk result ((p : PairValue) → place_of places.new p
-        ≡ cond (is_eq (pair_cmp (pair_of pair.entry) p)) (Some at) (place_of places.old p)) }
-    ensures err { OnErr result ((p : PairValue) → place_of places.new p ≡ place_of places.old p) }
+    ensures ok { OnOk result ((p : CapabilityValue) → place_of places.new p
+        ≡ cond (is_eq (pair_cmp (capability_of pair.entry) p)) (Some at) (place_of places.old p)) }
+    ensures err { OnErr result ((p : CapabilityValue) → place_of places.new p ≡ place_of places.old p) }
 {
     places.insert(pair, at)?;
     Ok(())
@@ -89,9 +89,9 @@ fn put_new<'a>(
     places: &mut BTreeMap<Capability<'a>, usize>,
     pair: Capability<'a>,
 ) -> Result<(), NoMemory>
-    ensures found { AreFound (pairs stack.old.items) (λ p. place_of places.old p)
-        → ¬ Contains (pairs stack.old.items) (pair_of pair.entry)
-        → AreFound (pairs stack.new.items) (λ p. place_of places.new p) }
+    ensures found { AreFound (capabilities stack.old.items) (λ p. place_of places.old p)
+        → ¬ Contains (capabilities stack.old.items) (capability_of pair.entry)
+        → AreFound (capabilities stack.new.items) (λ p. place_of places.new p) }
     ensures ok { OnOk result (stack.new.items ≡ stack.old.items ++ pair.entry ∷ []) }
     ensures err { OnErr result (stack.new.items ≡ stack.old.items) }
 {
@@ -106,8 +106,8 @@ fn put<'a>(
     places: &mut BTreeMap<Capability<'a>, usize>,
     pair: Capability<'a>,
 ) -> Result<(), NoMemory>
-    ensures found { AreFound (pairs stack.old.items) (λ p. place_of places.old p)
-        → AreFound (pairs stack.new.items) (λ p. place_of places.new p) }
+    ensures found { AreFound (capabilities stack.old.items) (λ p. place_of places.old p)
+        → AreFound (capabilities stack.new.items) (λ p. place_of places.new p) }
     ensures ok { OnOk result (stack.new.items ≡ stack.old.items ++ pair.entry ∷ []) }
     ensures err { OnErr result (stack.new.items ≡ stack.old.items) }
 {
@@ -140,7 +140,7 @@ impl<'a> Capabilities<'a> {
     /// Returns whether a pair is in the stack. Takes O(log n) comparisons, where n counts all pairs that were ever
     /// pushed. Does not allocate.
     pub fn knows(&self, pair: &Capability<'a>) -> bool
-        ensures { IsTrue result ↔ Contains self.now (pair_of pair.now) }
+        ensures { IsTrue result ↔ Contains self.now (capability_of pair.now) }
     {
         is_pair_below(self.stack.as_slice(), &self.places, pair, self.height)
     }
@@ -150,7 +150,7 @@ impl<'a> Capabilities<'a> {
     ///
     /// After `NoMemory` the stack is unchanged.
     pub fn push(&mut self, pair: Capability<'a>) -> Result<(), NoMemory>
-        ensures ok { OnOk result (self.new ≡ self.old ++ pair_of pair.entry ∷ []) }
+        ensures ok { OnOk result (self.new ≡ self.old ++ capability_of pair.entry ∷ []) }
         ensures err { OnErr result (self.new ≡ self.old) }
     {
         if is_pair_at(self.stack.as_slice(), self.height, &pair) {
@@ -166,9 +166,9 @@ impl<'a> Capabilities<'a> {
     /// Pushes these pairs, in order. After `NoMemory` the first n of them are pushed, where n is less than their
     /// number.
     pub fn push_all(&mut self, these: &[Capability<'a>]) -> Result<(), NoMemory>
-        ensures ok { OnOk result (self.new ≡ self.old ++ pairs these.now) }
+        ensures ok { OnOk result (self.new ≡ self.old ++ capabilities these.now) }
         ensures err { OnErr result
-            ((n : ℕ) × (n < length these.now) × (self.new ≡ self.old ++ pairs (take n these.now))) }
+            ((n : ℕ) × (n < length these.now) × (self.new ≡ self.old ++ capabilities (take n these.now))) }
     {
         for pair in these {
             self.push(*pair)?;

@@ -3,7 +3,7 @@ ghost use Rattle.std.specs.Prelude.{◌≡◌, ◌↔◌, IsTrue, Some, refl};
 ghost use Rattle.std.specs.Ordering.{is_eq};
 ghost use Rattle.std.specs.Cmp.{partial_equiv_from_equiv, partial_order_from_agreeing_total};
 ghost use Rattle.std.proofs.lemmas.Cmp.{eq_by_cmp_equiv};
-ghost use Rattle.type_capabilities.specs.Pairs.{pair_of, borrowed_cmp, borrowed_cmp-IsTotalOrder};
+ghost use Rattle.type_capabilities.specs.CapabilityList.{capability_of, borrowed_cmp, borrowed_cmp-IsTotalOrder};
 
 use crate::compared::compare;
 use grammar_core::Expr;
@@ -22,7 +22,7 @@ pub struct Capability<'a> {
 
 /// Returns whether two pairs are equal.
 pub(crate) fn is_same(one: &Capability<'_>, other: &Capability<'_>) -> bool
-    ensures { IsTrue result ↔ (pair_of one.now ≡ pair_of other.now) }
+    ensures { IsTrue result ↔ (capability_of one.now ≡ capability_of other.now) }
 {
     one.cmp(other).is_eq()
 }

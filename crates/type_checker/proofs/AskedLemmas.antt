@@ -12,7 +12,7 @@ use Rattle.grammar_core.specs.declared.expr.Expr.TheViews.{out-Expr}
 use Rattle.grammar_core.specs.declared.expr.Expr.TheOpen.{Expr-F}
 use Rattle.typing.specs.Types as types
 use Rattle.typing.specs.Environment.{Environment, unexpected}
-use Rattle.typing.specs.Gained.{Pairs}
+use Rattle.typing.specs.Gained.{CapabilityList}
 use Rattle.typing.specs.Rows.{Row, MayBeTrue, unary_type}
 use Rattle.typing.specs.Typing as typing
 use Rattle.typing.specs.Typing.{Types}
@@ -20,29 +20,29 @@ use Rattle.typing.specs.Faults.{Faults}
 use Rattle.type_checker.specs.Views.{static_view, fault_view}
 use Rattle.type_checker.specs.declared.fault.ExpressionFault.{ExpressionFault}
 use Rattle.type_checker.specs.declared.typed.Typed.{Typed}
-use Rattle.type_capabilities.specs.Pairs.{pairs}
+use Rattle.type_capabilities.specs.CapabilityList.{capabilities}
 use Rattle.type_checker.specs.inner.Judged.{Judged, JudgedUnder}
 use Rattle.type_checker.specs.inner.RepeatedOperand.{MayBeTrueResult}
 
 -- ---- what an operator with one operand says of it
 
 module _ (env : Environment) where
-  pub record OneHas (K : Pairs) (op : Unary) (a : Expr) (t : types.StaticType) (L : Pairs) : Type 0 where
+  pub record OneHas (K : CapabilityList) (op : Unary) (a : Expr) (t : types.StaticType) (L : CapabilityList) : Type 0 where
     pub kind : types.StaticType
-    pub learned : Pairs
+    pub learned : CapabilityList
     pub has_type : Types env K a kind learned
     pub row : unary_type op kind ≡ Ok t
     pub nothing : L ≡ []
 
-  abbrev LayerHas : Expr-F Expr → Pairs → types.StaticType → Pairs → Type 0
+  abbrev LayerHas : Expr-F Expr → CapabilityList → types.StaticType → CapabilityList → Type 0
   LayerHas (Expr-F.Unary op a) K t L = OneHas K op a t L
   LayerHas y K t L = ⊤
 
-  at_layer : (x : Expr) (y : Expr-F Expr) (K : Pairs) (t : types.StaticType) (L : Pairs) → out-Expr x ≡ y → LayerHas y K t L
+  at_layer : (x : Expr) (y : Expr-F Expr) (K : CapabilityList) (t : types.StaticType) (L : CapabilityList) → out-Expr x ≡ y → LayerHas y K t L
       → LayerHas (out-Expr x) K t L
   at_layer x y K t L e h = subst (λ z. LayerHas z K t L) (sym e) h
 
-  layer_has : {K L : Pairs} {x : Expr} {t : types.StaticType} → Types env K x t L → LayerHas (out-Expr x) K t L
+  layer_has : {K L : CapabilityList} {x : Expr} {t : types.StaticType} → Types env K x t L → LayerHas (out-Expr x) K t L
   layer_has (typing.types_literal l) = at_layer (form.Literal l) _ _ _ _ (form.outs-Literal l) tt
   layer_has (typing.types_variable x) = at_layer (form.Variable x) _ _ _ _ (form.outs-Variable x) tt
   layer_has (typing.types_unary {K} {L} op a {s} {t} h e) =
@@ -66,7 +66,7 @@ module _ (env : Environment) where
   layer_has (typing.types_address_test called a i h e) = at_layer (form.UnaryCall called a) _ _ _ _ (form.outs-UnaryCall called a) tt
   layer_has (typing.types_call called a b h g e) = at_layer (form.BinaryCall called a b) _ _ _ _ (form.outs-BinaryCall called a b) tt
 
-  pub one_has : {K L : Pairs} {t : types.StaticType} (op : Unary) (a : Expr) → Types env K (form.Unary op a) t L → OneHas K op a t L
+  pub one_has : {K L : CapabilityList} {t : types.StaticType} (op : Unary) (a : Expr) → Types env K (form.Unary op a) t L → OneHas K op a t L
   one_has {K} {L} {t} op a h = subst (λ z. LayerHas z K t L) (form.outs-Unary op a) (layer_has h)
 
 -- ---- rows
@@ -79,9 +79,9 @@ no_row = Err unexpected
 
 -- ---- a test for the type n that may be true is True, and its operand is of that type
 
-pub record Found (env : Environment) (K : Pairs) (n : List ℕ) (x : Expr) (s : types.StaticType) : Type 0 where
+pub record Found (env : Environment) (K : CapabilityList) (n : List ℕ) (x : Expr) (s : types.StaticType) : Type 0 where
   pub is_true : s ≡ types.true_type
-  pub learned : Pairs
+  pub learned : CapabilityList
   pub operand : Types env K x (types.entity_type n) learned
 
 ok_is : {s t : types.StaticType} → one_row s ≡ one_row t → s ≡ t
@@ -93,8 +93,8 @@ no_ok e = absurd (cc e)
 no_false : {s : types.StaticType} → s ≡ types.false_type → MayBeTrue s → ⊥
 no_false e m = elim (subst MayBeTrue e m) [ ]
 
-module _ (env : Environment) (K : Pairs) (n : List ℕ) (x : Expr) where
-  found_at : (m : List ℕ) (M : Pairs) (b : Bool) {s : types.StaticType} → Types env K x (types.entity_type m) M
+module _ (env : Environment) (K : CapabilityList) (n : List ℕ) (x : Expr) where
+  found_at : (m : List ℕ) (M : CapabilityList) (b : Bool) {s : types.StaticType} → Types env K x (types.entity_type m) M
       → bytes_eq m n ≡ b → types.truth_type b ≡ s → MayBeTrue s → Found env K n x s
   found_at m M true h i e t = record {
     is_true = sym e;
@@ -103,35 +103,35 @@ module _ (env : Environment) (K : Pairs) (n : List ℕ) (x : Expr) where
   }
   found_at m M false h i e t = absurd (no_false (sym e) t)
 
-  found_by : (k : types.StaticType) (M : Pairs) {s : types.StaticType} → Types env K x k M → unary_type (Is n) k ≡ one_row s
+  found_by : (k : types.StaticType) (M : CapabilityList) {s : types.StaticType} → Types env K x k M → unary_type (Is n) k ≡ one_row s
       → MayBeTrue s → Found env K n x s
   found_by (types.entity_type m) M h e t = found_at m M (bytes_eq m n) h refl (ok_is e) t
   found_by k M h e t = absurd (no_ok e)
 
-  pub found : {s : types.StaticType} {L : Pairs} → OneHas env K (Is n) x s L → MayBeTrue s → Found env K n x s
+  pub found : {s : types.StaticType} {L : CapabilityList} → OneHas env K (Is n) x s L → MayBeTrue s → Found env K n x s
   found o t = found_by o.kind o.learned o.has_type o.row t
 
 -- ---- the right behind it
 
 -- the same where nothing more is known
-pub behind_nothing : (env : Environment) (K after : Pairs) (b : Expr) (r : Result Typed ExpressionFault) → Judged env K b r after
+pub behind_nothing : (env : Environment) (K after : CapabilityList) (b : Expr) (r : Result Typed ExpressionFault) → Judged env K b r after
     → JudgedUnder env K [] b r after
 behind_nothing env K after b (Ok t) h =
-    let L = pairs t.learns.items in
+    let L = capabilities t.gains.items in
     (h.0, (L, subst (λ M. Types env M b (static_view t.kind) L) (sym (append-nil K)) h.1, refl))
 behind_nothing env K after b (Err f) h = λ n. subst (λ M. Faults env M b (fault_view f)) (sym (append-nil K)) (h n)
 
 -- what `&&` needs of a left that asks of the operand of its right
-pub record AskedSo (env : Environment) (K mid : Pairs) (a x : Expr) (n : List ℕ) : Type 0 where
+pub record AskedSo (env : Environment) (K mid : CapabilityList) (a x : Expr) (n : List ℕ) : Type 0 where
   pub same : mid ≡ K
   pub is_true : Types env K a types.true_type []
-  pub learned : Pairs
+  pub learned : CapabilityList
   pub has_type : Types env K x (types.entity_type n) learned
 
-pub asked_so : (env : Environment) (K mid : Pairs) (a x : Expr) (n : List ℕ) (r : Result Typed ExpressionFault)
+pub asked_so : (env : Environment) (K mid : CapabilityList) (a x : Expr) (n : List ℕ) (r : Result Typed ExpressionFault)
     → a ≡ form.Unary (Is n) x → MayBeTrueResult r → Judged env K a r mid → AskedSo env K mid a x n
 asked_so env K mid a x n (Ok t) e m h =
-    let L = pairs t.learns.items in
+    let L = capabilities t.gains.items in
     let s = static_view t.kind in
     let o = one_has env (Is n) x (subst (λ z. Types env K z s L) e h.1) in
     let f = found env K n x o m in

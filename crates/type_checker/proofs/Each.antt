@@ -6,7 +6,7 @@ use Rattle.grammar_core.specs.declared.expr.Expr.{Expr}
 use Rattle.typing.specs.Types as types
 use Rattle.typing.specs.Environment as environment
 use Rattle.typing.specs.Environment.{Environment}
-use Rattle.typing.specs.Gained.{Pairs}
+use Rattle.typing.specs.Gained.{CapabilityList}
 use Rattle.typing.specs.Typing as typing
 use Rattle.typing.specs.Typing.{Types, TypesEach}
 use Rattle.typing.specs.Faults as faults
@@ -16,8 +16,8 @@ use Rattle.type_checker.specs.declared.static_type.StaticType.{StaticType}
 use Rattle.type_checker.specs.declared.fault.ExpressionFault.{ExpressionFault}
 use Rattle.type_capabilities.specs.declared.pair.Capability.{Capability}
 use Rattle.type_checker.specs.declared.typed.Typed.{Typed}
-use Rattle.type_capabilities.specs.Pairs.{pair_of, pairs}
-use Rattle.type_checker.specs.inner.Judged.{Judged, JudgedUnder, AddsLearned, IsNext}
+use Rattle.type_capabilities.specs.CapabilityList.{capability_of, capabilities}
+use Rattle.type_checker.specs.inner.Judged.{Judged, JudgedUnder, AddsGained, IsNext}
 use Rattle.type_checker.proofs.Learning.{back_again}
 use Rattle.type_checker.proofs.Carrying.{typed_so, faulty_so}
 
@@ -41,8 +41,8 @@ parted xs i x at =
 
 -- ---- what is judged of several
 
-module _ (env : Environment) (K : Pairs) where
-  pub each_more : {xs : List Expr} {ts : List types.StaticType} {x : Expr} {t : types.StaticType} {L : Pairs}
+module _ (env : Environment) (K : CapabilityList) where
+  pub each_more : {xs : List Expr} {ts : List types.StaticType} {x : Expr} {t : types.StaticType} {L : CapabilityList}
       → TypesEach env K xs ts → Types env K x t L → TypesEach env K (xs ++ x ∷ []) (ts ++ t ∷ [])
   each_more typing.types_none h = typing.types_more h typing.types_none
   each_more (typing.types_more g gs) h = typing.types_more g (each_more gs h)
@@ -53,7 +53,7 @@ module _ (env : Environment) (K : Pairs) where
   each_stops ys (typing.types_more g gs) h = faults.fault_later g (each_stops ys gs h)
 
   -- one type more is put behind those of several
-  pub put_so : {x : Expr} {L : Pairs} (ts us : List StaticType) (k : StaticType) → Types env K x (static_view k) L
+  pub put_so : {x : Expr} {L : CapabilityList} (ts us : List StaticType) (k : StaticType) → Types env K x (static_view k) L
       → us ≡ ts ++ k ∷ [] → IsNext env K x ts us
   put_so {L} ts us k h e = (static_view k, L, h, ap (map static_view) e ∙ map-append static_view ts (k ∷ []))
 
@@ -76,16 +76,16 @@ module _ (env : Environment) (K : Pairs) where
       (sym (map-append value (take i xs) (x ∷ [])) ∙ ap (map value) (with_it xs i x at)) (each_more g h))
 
 -- one behind pairs that were put on top of those that were known
-pub behind_judged : (env : Environment) (x : Expr) (K : Pairs) (ls : List Capability) (M : Pairs) (typed r : Result Typed ExpressionFault)
-    → Judged env (K ++ pairs ls) x typed M → AddsLearned ls typed r
-    → JudgedUnder env K (pairs ls) x r (take (length K) M)
+pub behind_judged : (env : Environment) (x : Expr) (K : CapabilityList) (ls : List Capability) (M : CapabilityList) (typed r : Result Typed ExpressionFault)
+    → Judged env (K ++ capabilities ls) x typed M → AddsGained ls typed r
+    → JudgedUnder env K (capabilities ls) x r (take (length K) M)
 behind_judged env x K ls M typed (Ok t) h (u, e, k, l) =
-    let s = typed_so env (K ++ pairs ls) M x e h in (
-      back_again K (pairs ls) M s.0,
+    let s = typed_so env (K ++ capabilities ls) M x e h in (
+      back_again K (capabilities ls) M s.0,
       (
-        pairs u.learns.items,
-        subst (λ y. Types env (K ++ pairs ls) x (static_view y) (pairs u.learns.items)) (sym k) s.1,
-        ap pairs l ∙ map-append pair_of ls u.learns.items,
+        capabilities u.gains.items,
+        subst (λ y. Types env (K ++ capabilities ls) x (static_view y) (capabilities u.gains.items)) (sym k) s.1,
+        ap capabilities l ∙ map-append capability_of ls u.gains.items,
       ),
     )
-behind_judged env x K ls M typed (Err f) h e = λ n. faulty_so env (K ++ pairs ls) M x (e n) h n
+behind_judged env x K ls M typed (Err f) h e = λ n. faulty_so env (K ++ capabilities ls) M x (e n) h n

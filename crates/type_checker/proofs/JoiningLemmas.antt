@@ -9,7 +9,7 @@ use Rattle.grammar_core.specs.declared.expr.Expr.TheVariants as form
 use Rattle.typing.specs.Types as types
 use Rattle.typing.specs.Types.{IsBoolean}
 use Rattle.typing.specs.Environment.{Environment, unexpected}
-use Rattle.typing.specs.Gained.{Pairs}
+use Rattle.typing.specs.Gained.{CapabilityList}
 use Rattle.typing.specs.Rows.{and_type, MayBeTrue}
 use Rattle.typing.specs.Rows as rows
 use Rattle.typing.specs.Typing as typing
@@ -22,8 +22,8 @@ use Rattle.type_checker.specs.declared.fault.ExpressionFault.TheVariants.{NoMemo
 use Rattle.type_checker.specs.declared.static_type.BooleanType.{BooleanType}
 use Rattle.type_checker.specs.declared.static_type.StaticType.{StaticType}
 use Rattle.type_checker.specs.declared.typed.Typed.{Typed}
-use Rattle.type_checker.specs.Joined.{joined}
-use Rattle.type_capabilities.specs.Pairs.{pairs}
+use Rattle.type_checker.specs.Conjunctions.{joined}
+use Rattle.type_capabilities.specs.CapabilityList.{capabilities}
 use Rattle.type_checker.specs.inner.Joining as joining
 use Rattle.type_checker.specs.inner.Joining.{and_so_far, IsSide, Leads}
 use Rattle.type_checker.proofs.Carrying.{boolean_so}
@@ -61,7 +61,7 @@ module _ (env : Environment) where
   }
 
   -- one more, which may be true
-  pub leads_on : (s : Option types.StaticType) (K L : Pairs) (x y whole : Expr) (t : types.StaticType)
+  pub leads_on : (s : Option types.StaticType) (K L : CapabilityList) (x y whole : Expr) (t : types.StaticType)
       → Leads env s K (form.And x y) whole → Types env K x t L → MayBeTrue t
       → Leads env (Some (and_so_far s t)) (K ++ L) y whole
   leads_on None K L x y whole t h g m = record {
@@ -70,8 +70,8 @@ module _ (env : Environment) where
     faults = λ n k. h.faults n (faults.fault_right_of_and x y g m k);
   }
     where
-      on_types : (u : types.StaticType) (M : Pairs) → Types env (K ++ L) y u M → IsSide (Some t) u
-          → (N : Pairs) × Types env [] whole (and_type t u) N
+      on_types : (u : types.StaticType) (M : CapabilityList) → Types env (K ++ L) y u M → IsSide (Some t) u
+          → (N : CapabilityList) × Types env [] whole (and_type t u) N
       on_types u M k (joining.behind i) = h.types (and_type t u) (L ++ M) (typing.and_of_both x y g m k i) joining.alone
   leads_on (Some s) K L x y whole t h g m = record {
     types = on_types;
@@ -79,30 +79,30 @@ module _ (env : Environment) where
     faults = λ n k. h.faults n (faults.fault_right_of_and x y g m k);
   }
     where
-      on_types : (u : types.StaticType) (M : Pairs) → Types env (K ++ L) y u M → IsSide (Some (and_type s t)) u
-          → (N : Pairs) × Types env [] whole (and_type (and_type s t) u) N
+      on_types : (u : types.StaticType) (M : CapabilityList) → Types env (K ++ L) y u M → IsSide (Some (and_type s t)) u
+          → (N : CapabilityList) × Types env [] whole (and_type (and_type s t) u) N
       on_types u M k (joining.behind i) =
           let w = h.types (and_type t u) (L ++ M) (typing.and_of_both x y g m k i) (joining.behind (and_is_boolean t m i)) in
           (w.0, subst (λ v. Types env [] whole v w.0) (and_and s m i) w.1)
 
   -- one that is False: the whole is
-  pub leads_to_false : (s : Option types.StaticType) (K L : Pairs) (x y whole : Expr) → Leads env s K (form.And x y) whole
-      → Types env K x types.false_type L → (M : Pairs) × Types env [] whole types.false_type M
+  pub leads_to_false : (s : Option types.StaticType) (K L : CapabilityList) (x y whole : Expr) → Leads env s K (form.And x y) whole
+      → Types env K x types.false_type L → (M : CapabilityList) × Types env [] whole types.false_type M
   leads_to_false None K L x y whole h g = h.types types.false_type [] (typing.and_of_false x y g) joining.alone
   leads_to_false (Some s) K L x y whole h g =
       h.types types.false_type [] (typing.and_of_false x y g) (joining.behind types.is_false)
 
 -- which type of booleans a left of `&&` has, by its type
-pub left_so : (env : Environment) (K : Pairs) (a : Expr) (t : Typed) (mid after : Pairs)
-    (r : Result BooleanType fault.ExpressionFault) → mid ≡ K → Types env K a (static_view t.kind) (pairs t.learns.items)
-    → MatchResult r (λ b. (static_view t.kind ≡ boolean_view b) × (after ≡ mid ++ pairs t.learns.items))
+pub left_so : (env : Environment) (K : CapabilityList) (a : Expr) (t : Typed) (mid after : CapabilityList)
+    (r : Result BooleanType fault.ExpressionFault) → mid ≡ K → Types env K a (static_view t.kind) (capabilities t.gains.items)
+    → MatchResult r (λ b. (static_view t.kind ≡ boolean_view b) × (after ≡ mid ++ capabilities t.gains.items))
     (λ f. f ≢ NoMemory → (f ≡ Unexpected) × ¬ IsBoolean (static_view t.kind))
-    → MatchResult r (λ b. (L : Pairs) × Types env K a (boolean_view b) L × (after ≡ K ++ L))
+    → MatchResult r (λ b. (L : CapabilityList) × Types env K a (boolean_view b) L × (after ≡ K ++ L))
     (λ f. f ≢ NoMemory → (b : Expr) → Faults env K (form.And a b) (fault_view f))
 left_so env K a t mid after (Ok b) same h (e, g) = (
-  pairs t.learns.items,
-  subst (λ s. Types env K a s (pairs t.learns.items)) e h,
-  g ∙ ap (λ M. M ++ pairs t.learns.items) same,
+  capabilities t.gains.items,
+  subst (λ s. Types env K a s (capabilities t.gains.items)) e h,
+  g ∙ ap (λ M. M ++ capabilities t.gains.items) same,
 )
 left_so env K a t mid after (Err f) same h g = λ n b.
     let w = g n in
@@ -122,7 +122,7 @@ alone_so o t e =
     subst (λ p. IsSide (option_map boolean_view p) t × (t ≡ and_so_far (option_map boolean_view p) t)) (sym e)
     (joining.alone, refl)
 
-module _ (env : Environment) (s : Option types.StaticType) (K : Pairs) (parts : List Expr) (last whole : Expr) (i : ℕ) where
+module _ (env : Environment) (s : Option types.StaticType) (K : CapabilityList) (parts : List Expr) (last whole : Expr) (i : ℕ) where
   -- the loop stands at a part
   pub at_part : (x : Expr) → i < length parts → x ≡ get_or parts i x → Leads env s K (joined (drop i parts) last) whole
       → Leads env s K (form.And x (joined (drop (i + 1) parts) last)) whole
@@ -132,16 +132,16 @@ module _ (env : Environment) (s : Option types.StaticType) (K : Pairs) (parts : 
   pub at_last : length parts ≤ i → Leads env s K (joined (drop i parts) last) whole → Leads env s K last whole
   at_last le h = subst (λ xs. Leads env s K (joined xs last) whole) (drop_all i parts le) h
 
-pub last_typed : (env : Environment) (s : Option types.StaticType) (K L : Pairs) (x whole : Expr) (t : types.StaticType)
+pub last_typed : (env : Environment) (s : Option types.StaticType) (K L : CapabilityList) (x whole : Expr) (t : types.StaticType)
     (r : Result StaticType fault.ExpressionFault) → Leads env s K x whole → Types env K x t L
     → MatchResult r (λ u. IsSide s t × (static_view u ≡ and_so_far s t)) (λ f. (f ≡ Unexpected) × ¬ IsSide s t)
-    → IfOk r (λ u. (M : Pairs) × Types env [] whole (static_view u) M)
+    → IfOk r (λ u. (M : CapabilityList) × Types env [] whole (static_view u) M)
 last_typed env s K L x whole t (Ok u) h g (i, e) =
     let w = h.types t L g i in
     (w.0, subst (λ v. Types env [] whole v w.0) (sym e) w.1)
 last_typed env s K L x whole t (Err f) h g e = tt
 
-pub last_faulty : (env : Environment) (s : Option types.StaticType) (K L : Pairs) (x whole : Expr) (t : types.StaticType)
+pub last_faulty : (env : Environment) (s : Option types.StaticType) (K L : CapabilityList) (x whole : Expr) (t : types.StaticType)
     (r : Result StaticType fault.ExpressionFault) → Leads env s K x whole → Types env K x t L
     → MatchResult r (λ u. IsSide s t × (static_view u ≡ and_so_far s t)) (λ f. (f ≡ Unexpected) × ¬ IsSide s t)
     → IfErr r (λ f. f ≢ NoMemory → Faults env [] whole (fault_view f))

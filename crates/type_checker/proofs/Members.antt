@@ -7,7 +7,7 @@ use Rattle.grammar_core.specs.declared.expr.Expr.{Expr}
 use Rattle.typing.specs.Types as types
 use Rattle.typing.specs.Environment as environment
 use Rattle.typing.specs.Environment.{Environment}
-use Rattle.typing.specs.Gained.{Pairs}
+use Rattle.typing.specs.Gained.{CapabilityList}
 use Rattle.typing.specs.Rows.{set_literal_type}
 use Rattle.typing.specs.Typing as typing
 use Rattle.typing.specs.Typing.{Types, TypesEach}
@@ -19,20 +19,20 @@ use Rattle.type_checker.proofs.Each.{StandsAt, with_it, parted, each_more, each_
 use Rattle.type_checker.proofs.Repeating.{repeated, adding_alike}
 
 -- the last of the types is that of the expression, where there is one
-abbrev pub EndsWith : Environment → Pairs → Option (Bor Expr) → List types.StaticType → Type 0
+abbrev pub EndsWith : Environment → CapabilityList → Option (Bor Expr) → List types.StaticType → Type 0
 EndsWith env K None us = ⊤
 EndsWith env K (Some b) us =
-    (vs : List types.StaticType) × (t : types.StaticType) × (L : Pairs) × (us ≡ vs ++ t ∷ []) × Types env K b.now t L
+    (vs : List types.StaticType) × (t : types.StaticType) × (L : CapabilityList) × (us ≡ vs ++ t ∷ []) × Types env K b.now t L
 
 -- Members that were looked at, the last that was not passed over, and the types that were kept: a set of these has the
 -- type that it has of all.
-pub record SoFar (env : Environment) (K : Pairs) (xs : List Expr) (before : Option (Bor Expr)) (ts : List types.StaticType) : Type 0 where
+pub record SoFar (env : Environment) (K : CapabilityList) (xs : List Expr) (before : Option (Bor Expr)) (ts : List types.StaticType) : Type 0 where
   pub all : List types.StaticType
   pub typed : TypesEach env K xs all
   pub same : set_literal_type all ≡ set_literal_type ts
   pub last : EndsWith env K before all
 
-module _ (env : Environment) (K : Pairs) where
+module _ (env : Environment) (K : CapabilityList) where
   pub none_yet : (ts : List StaticType) → ts ≡ [] → SoFar env K [] None (map static_view ts)
   none_yet ts e = record {
     all = [];

@@ -2,7 +2,7 @@ pub mod FromSchemas
 pub mod Laws
 pub mod Views
 pub mod inner
-pub mod Joined
+pub mod Conjunctions
 -- Specifications of lower crates, re-exported.
 pub use Rattle.entities.specs as entities
 pub use Rattle.entities.specs.policy_grammar

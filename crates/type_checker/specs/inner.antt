@@ -6,4 +6,4 @@ pub mod RepeatedOperand
 pub mod Joining
 pub mod Judged
 pub mod Literals
-pub mod Pairs
+pub mod CapabilityList

@@ -8,10 +8,10 @@ ghost use Rattle.grammar_core.specs.declared.expr.Expr.TheVariants as form;
 ghost use Rattle.typing.specs.Types.{false_type, boolean_type};
 ghost use Rattle.typing.specs.Rows.{MayBeTrue, and_type, or_type};
 ghost use Rattle.typing.specs.Environment as environment;
-ghost use Rattle.typing.specs.Gained.{Pairs, InBoth, OrGains};
+ghost use Rattle.typing.specs.Gained.{CapabilityList, InBoth, OrGains};
 ghost use Rattle.typing.specs.Typing.{Types};
 ghost use Rattle.type_checker.specs.Views.{boolean_view};
-ghost use Rattle.type_capabilities.specs.Pairs.{pairs};
+ghost use Rattle.type_capabilities.specs.CapabilityList.{capabilities};
 ghost use Rattle.type_checker.specs.inner.Judged.{Judged, JudgedUnder, ThenTyped};
 
 use crate::common_types::common;
@@ -44,7 +44,8 @@ pub(crate) fn and_typed<'a>(
     left: BooleanType,
     right: Result<Typed<'a>, ExpressionFault>,
 ) -> Result<Typed<'a>, ExpressionFault>
-    ensures { (env : environment.Environment) (K L after : Pairs) (a b : Expr) → Types env K a (boolean_view left) L
+    ensures { (env : environment.Environment) (K L after : CapabilityList) (a b : Expr)
+        → Types env K a (boolean_view left) L
         → MayBeTrue (boolean_view left) → JudgedUnder env K L b right.entry after
         → Judged env K (form.And a b) result after }
 {
@@ -57,7 +58,7 @@ pub(crate) fn and_typed<'a>(
             drop(right.kind);
             Ok(Typed {
                 kind: StaticType::boolean(and_truth(left, truth)),
-                learns: right.learns,
+                gains: right.gains,
             })
         }
         None => {
@@ -71,7 +72,7 @@ pub(crate) fn and_typed<'a>(
 pub(crate) fn or_behind_false<'a>(
     right: Result<Typed<'a>, ExpressionFault>,
 ) -> Result<Typed<'a>, ExpressionFault>
-    ensures { (env : environment.Environment) (K L after : Pairs) (a b : Expr) → Types env K a false_type L
+    ensures { (env : environment.Environment) (K L after : CapabilityList) (a b : Expr) → Types env K a false_type L
         → Judged env K b right.entry after → Judged env K (form.Or a b) result after }
 {
     let right = match right {
@@ -101,14 +102,14 @@ fn or_truth(right: BooleanType) -> BooleanType
 /// Returns the capabilities that `||` gains if its left side has the type Bool, given the type of its right side and
 /// the capabilities that its sides gain.
 #[tactic(auto, using(crate::proofs::Sides::or_none, crate::proofs::Sides::or_left, crate::proofs::Sides::or_both))]
-fn or_learns<'a>(
+fn or_gains<'a>(
     alloc: Global,
     right: BooleanType,
     of_left: Vec<Capability<'a>>,
     of_right: &Vec<Capability<'a>>,
 ) -> Result<Vec<Capability<'a>>, NoMemory>
-    ensures { IfOk result (λ both. OrGains (boolean_view right) (pairs of_left.entry.items)
-        (pairs of_right.now.items) (pairs both.items)) }
+    ensures { IfOk result (λ both. OrGains (boolean_view right) (capabilities of_left.entry.items)
+        (capabilities of_right.now.items) (capabilities both.items)) }
 {
     match right {
         BooleanType::True => Ok(Vec::new(alloc)),
@@ -124,8 +125,8 @@ pub(crate) fn or_typed<'a>(
     left: Vec<Capability<'a>>,
     right: Result<Typed<'a>, ExpressionFault>,
 ) -> Result<Typed<'a>, ExpressionFault>
-    ensures { (env : environment.Environment) (K after : Pairs) (a b : Expr)
-        → Types env K a boolean_type (pairs left.entry.items) → Judged env K b right.entry after
+    ensures { (env : environment.Environment) (K after : CapabilityList) (a b : Expr)
+        → Types env K a boolean_type (capabilities left.entry.items) → Judged env K b right.entry after
         → Judged env K (form.Or a b) result after }
 {
     let right = match right {
@@ -137,12 +138,12 @@ pub(crate) fn or_typed<'a>(
     };
     match right.kind.as_boolean() {
         Some(truth) => {
-            let learns = or_learns(alloc, truth, left, &right.learns);
+            let gains = or_gains(alloc, truth, left, &right.gains);
             drop(right);
-            match learns {
-                Ok(learns) => Ok(Typed {
+            match gains {
+                Ok(gains) => Ok(Typed {
                     kind: StaticType::boolean(or_truth(truth)),
-                    learns,
+                    gains,
                 }),
                 Err(_) => Err(ExpressionFault::NoMemory),
             }
@@ -179,12 +180,12 @@ fn with_both<'a>(
 ) -> Result<Typed<'a>, ExpressionFault>
     ensures { MatchResult result
         (λ t. (kind.entry ≡ Ok t.kind)
-        × InBoth (pairs alternative.now.items) (pairs consequent.now.items) (pairs t.learns.items))
+        × InBoth (capabilities alternative.now.items) (capabilities consequent.now.items) (capabilities t.gains.items))
         (λ f. f ≢ ExpressionFault.NoMemory → kind.entry ≡ Err f) }
 {
     match kind {
         Ok(kind) => match in_both_lists(alloc, alternative, consequent) {
-            Ok(learns) => Ok(Typed { kind, learns }),
+            Ok(gains) => Ok(Typed { kind, gains }),
             Err(_) => Err(ExpressionFault::NoMemory),
         },
         Err(fault) => Err(fault),
@@ -198,7 +199,7 @@ pub(crate) fn branches<'a>(
     then: Typed<'a>,
     other: Result<Typed<'a>, ExpressionFault>,
 ) -> Result<Typed<'a>, ExpressionFault>
-    ensures { (env : environment.Environment) (K after : Pairs) (a b c : Expr)
+    ensures { (env : environment.Environment) (K after : CapabilityList) (a b c : Expr)
         → ThenTyped env K a b boolean_type then.entry → Judged env K c other.entry after
         → Judged env K (form.If a b c) result after }
 {
@@ -210,7 +211,7 @@ pub(crate) fn branches<'a>(
         }
     };
     let kind = branch_type(common(alloc, &then.kind, &other.kind));
-    let row = with_both(alloc, kind, &then.learns, &other.learns);
+    let row = with_both(alloc, kind, &then.gains, &other.gains);
     drop(then);
     drop(other);
     row

@@ -7,13 +7,13 @@ ghost use Rattle.grammar_core.specs.declared.expr.Expr.{Expr};
 ghost use Rattle.grammar_core.specs.declared.expr.Expr.TheVariants as form;
 ghost use Rattle.typing.specs.Environment as environment;
 ghost use Rattle.typing.specs.Gained as gained;
-ghost use Rattle.typing.specs.Gained.{Pairs, has_gains};
+ghost use Rattle.typing.specs.Gained.{CapabilityList, has_gains};
 ghost use Rattle.typing.specs.Literals.{UndecidedByLiterals};
 ghost use Rattle.typing.specs.Typing.{Types};
 ghost use Rattle.typing.specs.Faults.{Faults};
 ghost use Rattle.type_checker.specs.Views.{static_view, fault_view, typing_environment};
-ghost use Rattle.type_capabilities.specs.Pairs.{pairs};
-ghost use Rattle.type_checker.specs.inner.Pairs.{if_learned};
+ghost use Rattle.type_capabilities.specs.CapabilityList.{capabilities};
+ghost use Rattle.type_checker.specs.inner.CapabilityList.{if_gained};
 ghost use Rattle.type_checker.specs.inner.Judged.{Judged, JudgedEach, JudgedMembers, IsHasRow, IsNext};
 
 use crate::calls::unary_call_type;
@@ -36,7 +36,7 @@ pub(crate) fn unary_typed<'a>(
     operator: &Unary,
     operand: Result<Typed<'a>, ExpressionFault>,
 ) -> Result<Typed<'a>, ExpressionFault>
-    ensures { (env : environment.Environment) (K after : Pairs) (a : Expr) → Judged env K a operand.entry after
+    ensures { (env : environment.Environment) (K after : CapabilityList) (a : Expr) → Judged env K a operand.entry after
         → Judged env K (form.Unary operator.now a) result after }
 {
     let operand = match operand {
@@ -56,8 +56,9 @@ pub(crate) fn binary_typed<'a>(
     right: Result<Typed<'a>, ExpressionFault>,
 ) -> Result<Typed<'a>, ExpressionFault>
     ensures { let E = typing_environment env.entry in
-        (K after : Pairs) (a b : Expr) → UndecidedByLiterals E operator a b
-        → Types E K a (static_view left.entry.kind) (pairs left.entry.learns.items) → Judged E K b right.entry after
+        (K after : CapabilityList) (a b : Expr) → UndecidedByLiterals E operator a b
+        → Types E K a (static_view left.entry.kind) (capabilities left.entry.gains.items)
+        → Judged E K b right.entry after
         → Judged E K (form.Binary operator a b) result after }
 {
     let right = match right {
@@ -80,8 +81,8 @@ pub(crate) fn call_typed<'a>(
     left: Typed<'a>,
     right: Result<Typed<'a>, ExpressionFault>,
 ) -> Result<Typed<'a>, ExpressionFault>
-    ensures { (env : environment.Environment) (K after : Pairs) (a b : Expr)
-        → Types env K a (static_view left.entry.kind) (pairs left.entry.learns.items)
+    ensures { (env : environment.Environment) (K after : CapabilityList) (a b : Expr)
+        → Types env K a (static_view left.entry.kind) (capabilities left.entry.gains.items)
         → Judged env K b right.entry after → Judged env K (form.BinaryCall called a b) result after }
 {
     let right = match right {
@@ -101,7 +102,7 @@ pub(crate) fn unary_call_typed<'a>(
     operand: &Expr,
     typed: Result<Typed<'a>, ExpressionFault>,
 ) -> Result<Typed<'a>, ExpressionFault>
-    ensures { (env : environment.Environment) (K after : Pairs) → Judged env K operand.now typed.entry after
+    ensures { (env : environment.Environment) (K after : CapabilityList) → Judged env K operand.now typed.entry after
         → Judged env K (form.UnaryCall called operand.now) result after }
 {
     let typed = match typed {
@@ -121,7 +122,7 @@ pub(crate) fn field_typed<'a>(
     typed: Result<Typed<'a>, ExpressionFault>,
 ) -> Result<Typed<'a>, ExpressionFault>
     ensures { let E = typing_environment env.entry in
-        (K : Pairs) → Judged E K owner.entry.now typed.entry known.now
+        (K : CapabilityList) → Judged E K owner.entry.now typed.entry known.now
         → Judged E K (form.Field owner.entry.now name.entry.now) result known.now }
 {
     let typed = match typed {
@@ -136,8 +137,8 @@ pub(crate) fn field_typed<'a>(
 
 /// Returns whether a `has` of the type `kind` gains its capability: whether `kind` is Bool.
 #[tactic(auto, using(crate::proofs::Carrying::none_learned))]
-fn is_learned(kind: &StaticType<'_>) -> bool
-    ensures { (p : gained.Capability) → has_gains (static_view kind.now) p ≡ if_learned result p }
+fn is_gained(kind: &StaticType<'_>) -> bool
+    ensures { (p : gained.Capability) → has_gains (static_view kind.now) p ≡ if_gained result p }
 {
     match kind.as_boolean() {
         Some(BooleanType::Either) => true,
@@ -154,14 +155,14 @@ fn learned<'a>(
     owner: &'a Expr,
     name: &'a str,
 ) -> Result<Vec<Capability<'a>>, NoMemory>
-    ensures { IfOk result (λ ps. pairs ps.items
+    ensures { IfOk result (λ ps. capabilities ps.items
         ≡ has_gains (static_view kind.now) (owner.entry.now, name.entry.now)) }
 {
-    let mut learns = Vec::new(alloc);
-    if is_learned(kind) {
-        learns.push(Capability { whole: owner, name })?;
+    let mut gains = Vec::new(alloc);
+    if is_gained(kind) {
+        gains.push(Capability { whole: owner, name })?;
     }
-    Ok(learns)
+    Ok(gains)
 }
 
 /// Returns the type of `owner has name` in `row`, with the capabilities that it gains, or the error in `row`.
@@ -175,7 +176,7 @@ fn has_row<'a>(
 {
     match row {
         Ok(kind) => match learned(alloc, &kind, owner, name) {
-            Ok(learns) => Ok(Typed { kind, learns }),
+            Ok(gains) => Ok(Typed { kind, gains }),
             Err(_) => Err(ExpressionFault::NoMemory),
         },
         Err(fault) => Err(fault),
@@ -192,7 +193,7 @@ pub(crate) fn has_typed<'a>(
     typed: Result<Typed<'a>, ExpressionFault>,
 ) -> Result<Typed<'a>, ExpressionFault>
     ensures { let E = typing_environment env.entry in
-        (K : Pairs) → Judged E K owner.entry.now typed.entry known.now
+        (K : CapabilityList) → Judged E K owner.entry.now typed.entry known.now
         → Judged E K (form.Has owner.entry.now name.entry.now) result known.now }
 {
     let typed = match typed {
@@ -211,7 +212,7 @@ pub(crate) fn set_typed<'a>(
     alloc: Global,
     types: Result<Vec<StaticType<'a>>, ExpressionFault>,
 ) -> Result<Typed<'a>, ExpressionFault>
-    ensures { (env : environment.Environment) (K after : Pairs) (xs : List Expr)
+    ensures { (env : environment.Environment) (K after : CapabilityList) (xs : List Expr)
         → JudgedMembers env K xs types.entry after → Judged env K (form.Set xs) result after }
 {
     let types = match types {
@@ -227,7 +228,7 @@ pub(crate) fn record_typed<'a>(
     fields: &'a [Named<Expr>],
     types: Result<Vec<StaticType<'a>>, ExpressionFault>,
 ) -> Result<Typed<'a>, ExpressionFault>
-    ensures { (env : environment.Environment) (K after : Pairs)
+    ensures { (env : environment.Environment) (K after : CapabilityList)
         → JudgedEach env K (map (λ f. f.value) fields.entry.now) types.entry after
         → Judged env K (form.Record fields.entry.now) result after }
 {
@@ -246,7 +247,7 @@ pub(crate) fn put_type<'a>(
     types: &mut Vec<StaticType<'a>>,
     typed: Result<Typed<'a>, ExpressionFault>,
 ) -> Result<(), ExpressionFault>
-    ensures { (env : environment.Environment) (K after : Pairs) (x : Expr) → Judged env K x typed.entry after
+    ensures { (env : environment.Environment) (K after : CapabilityList) (x : Expr) → Judged env K x typed.entry after
         → MatchResult result (λ _. (after ≡ K) × IsNext env K x types.old.items types.new.items)
         (λ f. f ≢ ExpressionFault.NoMemory → Faults env K x (fault_view f)) }
 {

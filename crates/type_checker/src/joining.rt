@@ -3,11 +3,11 @@ ghost use Rattle.std.specs.Prelude.{◌≡◌, ◌≢◌, ◌++◌, Some, option
 ghost use Rattle.grammar_core.specs.declared.expr.Expr.{Expr};
 ghost use Rattle.grammar_core.specs.declared.expr.Expr.TheVariants as form;
 ghost use Rattle.typing.specs.Types.{IsBoolean};
-ghost use Rattle.typing.specs.Gained.{Pairs};
+ghost use Rattle.typing.specs.Gained.{CapabilityList};
 ghost use Rattle.typing.specs.Typing.{Types};
 ghost use Rattle.typing.specs.Faults.{Faults};
 ghost use Rattle.type_checker.specs.Views.{boolean_view, static_view, fault_view, typing_environment};
-ghost use Rattle.type_capabilities.specs.Pairs.{pairs};
+ghost use Rattle.type_capabilities.specs.CapabilityList.{capabilities};
 ghost use Rattle.type_checker.specs.inner.Joining.{and_so_far, IsSide};
 
 use crate::branching::and_truth;
@@ -29,12 +29,12 @@ fn known_left<'a>(
 ) -> Result<BooleanType, ExpressionFault>
     ensures { MatchResult result
         (λ b. (static_view typed.now.kind ≡ boolean_view b)
-        × (known.new ≡ known.old ++ pairs typed.now.learns.items))
+        × (known.new ≡ known.old ++ capabilities typed.now.gains.items))
         (λ f. f ≢ ExpressionFault.NoMemory
         → (f ≡ ExpressionFault.Unexpected) × ¬ IsBoolean (static_view typed.now.kind)) }
 {
     match typed.kind.as_boolean() {
-        Some(truth) => match know_too(known, &typed.learns) {
+        Some(truth) => match know_too(known, &typed.gains) {
             Ok(()) => Ok(truth),
             Err(_) => Err(ExpressionFault::NoMemory),
         },
@@ -51,7 +51,7 @@ pub(crate) fn left_type<'a>(
     known: &mut Capabilities<'a>,
 ) -> Result<BooleanType, ExpressionFault>
     ensures { let E = typing_environment env.entry in MatchResult result
-        (λ b. (L : Pairs) × Types E known.old left.entry.now (boolean_view b) L
+        (λ b. (L : CapabilityList) × Types E known.old left.entry.now (boolean_view b) L
         × (known.new ≡ known.old ++ L))
         (λ f. f ≢ ExpressionFault.NoMemory
         → (b : Expr) → Faults E known.old (form.And left.entry.now b) (fault_view f)) }

@@ -2,10 +2,10 @@
 ghost use Rattle.std.specs.Prelude.{map};
 ghost use Rattle.grammar_core.specs.declared.expr.Expr.{Expr};
 ghost use Rattle.grammar_core.specs.declared.expr.Expr.TheVariants as form;
-ghost use Rattle.typing.specs.Gained.{Pairs};
+ghost use Rattle.typing.specs.Gained.{CapabilityList};
 ghost use Rattle.typing.specs.Literals.{UndecidedByLiterals};
 ghost use Rattle.type_checker.specs.Views.{typing_environment};
-ghost use Rattle.type_capabilities.specs.Pairs.{pairs};
+ghost use Rattle.type_capabilities.specs.CapabilityList.{capabilities};
 ghost use Rattle.type_checker.specs.inner.Judged.{Judged, JudgedUnder, JudgedEach, JudgedMembers, ThenJudged};
 
 use crate::branching::{and_typed, branches, or_behind_false, or_typed};
@@ -18,7 +18,7 @@ use crate::finishing::{
 };
 use crate::known::know_too;
 use crate::literal_types::literal_type;
-use crate::literals::settled;
+use crate::literals::decided_by_literals;
 use crate::repeated_operand::{repeated_operand_typed, tested_operand_type};
 use crate::static_type::{BooleanType, StaticType};
 use crate::typed::{Then, Typed, both, gained_too, is_right_checked, only, plain, truth_type};
@@ -79,8 +79,8 @@ pub(crate) fn type_of<'a>(
     }
 }
 
-/// Returns the judgement on an expression under the capabilities `known` and then `learns`; the capabilities that it
-/// gains follow those of `learns`.
+/// Returns the judgement on an expression under the capabilities `known` and then `gains`; the capabilities that it
+/// gains follow those of `gains`.
 #[cycle(judge)]
 #[inline(never)]
 fn type_under_gained<'a>(
@@ -88,17 +88,17 @@ fn type_under_gained<'a>(
     expr: &'a Shared<Expr>,
     env: TypingEnvironment<'a>,
     known: &mut Capabilities<'a>,
-    learns: Vec<Capability<'a>>,
+    gains: Vec<Capability<'a>>,
 ) -> Result<Typed<'a>, ExpressionFault>
-    ensures { JudgedUnder (typing_environment env.entry) known.old (pairs learns.entry.items)
+    ensures { JudgedUnder (typing_environment env.entry) known.old (capabilities gains.entry.items)
         expr.entry.now result known.new }
 {
     let height = known.len();
-    match know_too(known, &learns) {
+    match know_too(known, &gains) {
         Ok(()) => {
             let typed = type_of(alloc, expr, env, known);
             known.truncate_to(height);
-            gained_too(learns, typed)
+            gained_too(gains, typed)
         }
         Err(_) => Err(ExpressionFault::NoMemory),
     }
@@ -166,7 +166,7 @@ fn type_binary<'a>(
     ensures { Judged (typing_environment env.entry) known.old
         (form.Binary operator left.entry.now right.entry.now) result known.new }
 {
-    match settled(env, operator, left, right) {
+    match decided_by_literals(env, operator, left, right) {
         Some(truth) => Ok(plain(alloc, StaticType::boolean(truth_type(truth)))),
         None => {
             let left = type_of(alloc, left, env, known);
@@ -185,7 +185,8 @@ fn second_conjunct<'a>(
     known: &mut Capabilities<'a>,
     left: Result<Typed<'a>, ExpressionFault>,
 ) -> Result<Typed<'a>, ExpressionFault>
-    ensures { let E = typing_environment env.entry in (K : Pairs) (a : Expr) → Judged E K a left.entry known.old
+    ensures { let E = typing_environment env.entry in (K : CapabilityList) (a : Expr)
+        → Judged E K a left.entry known.old
         → Judged E K (form.And a right.entry.now) result known.new }
 {
     match left {
@@ -195,7 +196,7 @@ fn second_conjunct<'a>(
                     drop(left);
                     return Ok(plain(alloc, StaticType::boolean(BooleanType::False)));
                 }
-                let right = type_under_gained(alloc, right, env, known, left.learns);
+                let right = type_under_gained(alloc, right, env, known, left.gains);
                 and_typed(truth, right)
             }
             None => {
@@ -217,7 +218,8 @@ fn second_disjunct<'a>(
     known: &mut Capabilities<'a>,
     left: Result<Typed<'a>, ExpressionFault>,
 ) -> Result<Typed<'a>, ExpressionFault>
-    ensures { let E = typing_environment env.entry in (K : Pairs) (a : Expr) → Judged E K a left.entry known.old
+    ensures { let E = typing_environment env.entry in (K : CapabilityList) (a : Expr)
+        → Judged E K a left.entry known.old
         → Judged E K (form.Or a right.entry.now) result known.new }
 {
     match left {
@@ -234,7 +236,7 @@ fn second_disjunct<'a>(
             Some(BooleanType::Either) => {
                 drop(left.kind);
                 let right = type_of(alloc, right, env, known);
-                or_typed(alloc, left.learns, right)
+                or_typed(alloc, left.gains, right)
             }
             None => {
                 drop(left);
@@ -256,14 +258,15 @@ fn type_then<'a>(
     known: &mut Capabilities<'a>,
     test: Result<Typed<'a>, ExpressionFault>,
 ) -> Result<Then<'a>, ExpressionFault>
-    ensures { let E = typing_environment env.entry in (K : Pairs) (a : Expr) → Judged E K a test.entry known.old
+    ensures { let E = typing_environment env.entry in (K : CapabilityList) (a : Expr)
+        → Judged E K a test.entry known.old
         → ThenJudged E K a consequent.entry.now result known.new }
 {
     match test {
         Ok(test) => match test.kind.as_boolean() {
             Some(BooleanType::True) => {
                 drop(test.kind);
-                only(type_under_gained(alloc, consequent, env, known, test.learns))
+                only(type_under_gained(alloc, consequent, env, known, test.gains))
             }
             Some(BooleanType::False) => {
                 drop(test);
@@ -271,7 +274,7 @@ fn type_then<'a>(
             }
             Some(BooleanType::Either) => {
                 drop(test.kind);
-                both(type_under_gained(alloc, consequent, env, known, test.learns))
+                both(type_under_gained(alloc, consequent, env, known, test.gains))
             }
             None => {
                 drop(test);
@@ -293,7 +296,7 @@ fn type_else<'a>(
     then: Result<Then<'a>, ExpressionFault>,
 ) -> Result<Typed<'a>, ExpressionFault>
     ensures { let E = typing_environment env.entry in
-        (K : Pairs) (a b : Expr) → ThenJudged E K a b then.entry known.old
+        (K : CapabilityList) (a b : Expr) → ThenJudged E K a b then.entry known.old
         → Judged E K (form.If a b alternative.entry.now) result known.new }
 {
     match then {
@@ -319,7 +322,8 @@ fn second_operand<'a>(
     left: Result<Typed<'a>, ExpressionFault>,
 ) -> Result<Typed<'a>, ExpressionFault>
     ensures { let E = typing_environment env.entry in
-        (K : Pairs) (a : Expr) → UndecidedByLiterals E operator a right.entry.now → Judged E K a left.entry known.old
+        (K : CapabilityList) (a : Expr) → UndecidedByLiterals E operator a right.entry.now
+        → Judged E K a left.entry known.old
         → Judged E K (form.Binary operator a right.entry.now) result known.new }
 {
     match left {
@@ -342,7 +346,8 @@ fn second_called<'a>(
     called: BinaryCall,
     left: Result<Typed<'a>, ExpressionFault>,
 ) -> Result<Typed<'a>, ExpressionFault>
-    ensures { let E = typing_environment env.entry in (K : Pairs) (a : Expr) → Judged E K a left.entry known.old
+    ensures { let E = typing_environment env.entry in (K : CapabilityList) (a : Expr)
+        → Judged E K a left.entry known.old
         → Judged E K (form.BinaryCall called a right.entry.now) result known.new }
 {
     match left {

@@ -1,7 +1,7 @@
 //! Operations on known and gained capabilities.
 ghost use Rattle.std.specs.Prelude.{◌≡◌, ◌↔◌, ◌∷◌, [], ◌++◌, IsTrue, IfOk, Contains};
-ghost use Rattle.typing.specs.Gained.{Pairs, InBoth};
-ghost use Rattle.type_capabilities.specs.Pairs.{pair_of, pairs};
+ghost use Rattle.typing.specs.Gained.{CapabilityList, InBoth};
+ghost use Rattle.type_capabilities.specs.CapabilityList.{capability_of, capabilities};
 
 use grammar_core::Expr;
 use plain::NoMemory;
@@ -21,8 +21,8 @@ fn keep<'a>(
     pair: Capability<'a>,
     right: &Capabilities<'a>,
 ) -> Result<(), NoMemory>
-    ensures { (L : Pairs) → InBoth L right.now (pairs both.old.items)
-        → IfOk result (λ _. InBoth (L ++ pair_of pair.entry ∷ []) right.now (pairs both.new.items)) }
+    ensures { (L : CapabilityList) → InBoth L right.now (capabilities both.old.items)
+        → IfOk result (λ _. InBoth (L ++ capability_of pair.entry ∷ []) right.now (capabilities both.new.items)) }
 {
     if !right.knows(&pair) {
         return Ok(());
@@ -37,7 +37,7 @@ fn known_of<'a>(
     these: &[Capability<'a>],
     known: &Capabilities<'a>,
 ) -> Result<Vec<Capability<'a>>, NoMemory>
-    ensures { IfOk result (λ both. InBoth (pairs these.now) known.now (pairs both.items)) }
+    ensures { IfOk result (λ both. InBoth (capabilities these.now) known.now (capabilities both.items)) }
 {
     let mut both = Vec::new(alloc);
     for pair in these {
@@ -51,7 +51,7 @@ pub(crate) fn stacked<'a>(
     alloc: Global,
     these: &[Capability<'a>],
 ) -> Result<Capabilities<'a>, NoMemory>
-    ensures { IfOk result (λ known. known ≡ pairs these.now) }
+    ensures { IfOk result (λ known. known ≡ capabilities these.now) }
 {
     let mut known = Capabilities::new(alloc);
     known.push_all(these)?;
@@ -64,7 +64,7 @@ pub(crate) fn in_both<'a>(
     left: &[Capability<'a>],
     right: &[Capability<'a>],
 ) -> Result<Vec<Capability<'a>>, NoMemory>
-    ensures { IfOk result (λ both. InBoth (pairs left.now) (pairs right.now) (pairs both.items)) }
+    ensures { IfOk result (λ both. InBoth (capabilities left.now) (capabilities right.now) (capabilities both.items)) }
 {
     let known = stacked(alloc, right)?;
     known_of(alloc, left, &known)
@@ -76,7 +76,8 @@ pub(crate) fn in_both_lists<'a>(
     left: &Vec<Capability<'a>>,
     right: &Vec<Capability<'a>>,
 ) -> Result<Vec<Capability<'a>>, NoMemory>
-    ensures { IfOk result (λ both. InBoth (pairs left.now.items) (pairs right.now.items) (pairs both.items)) }
+    ensures { IfOk result
+        (λ both. InBoth (capabilities left.now.items) (capabilities right.now.items) (capabilities both.items)) }
 {
     in_both(alloc, left.as_slice(), right.as_slice())
 }
@@ -84,21 +85,21 @@ pub(crate) fn in_both_lists<'a>(
 /// Pushes gained capabilities onto the known ones.
 pub(crate) fn know_too<'a>(
     known: &mut Capabilities<'a>,
-    learns: &Vec<Capability<'a>>,
+    gains: &Vec<Capability<'a>>,
 ) -> Result<(), NoMemory>
-    ensures { IfOk result (λ _. known.new ≡ known.old ++ pairs learns.now.items) }
+    ensures { IfOk result (λ _. known.new ≡ known.old ++ capabilities gains.now.items) }
 {
-    known.push_all(learns.as_slice())?;
+    known.push_all(gains.as_slice())?;
     Ok(())
 }
 
 /// Appends gained capabilities to those gained before.
 pub(crate) fn gain_too<'a>(
-    learns: &mut Vec<Capability<'a>>,
+    gains: &mut Vec<Capability<'a>>,
     own: &Vec<Capability<'a>>,
 ) -> Result<(), NoMemory>
-    ensures { IfOk result (λ _. learns.new.items ≡ learns.old.items ++ own.now.items) }
+    ensures { IfOk result (λ _. gains.new.items ≡ gains.old.items ++ own.now.items) }
 {
-    learns.extend_from_slice(own.as_slice())?;
+    gains.extend_from_slice(own.as_slice())?;
     Ok(())
 }

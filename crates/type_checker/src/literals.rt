@@ -80,7 +80,11 @@ fn as_entity<'a>(env: TypingEnvironment<'a>, expr: &'a Expr) -> Option<&'a Entit
 }
 
 /// Returns the result of `==` if both sides are literals, else `None`.
-fn settled_equal<'a>(env: TypingEnvironment<'a>, left: &'a Expr, right: &'a Expr) -> Option<bool>
+fn equal_decided_by_literals<'a>(
+    env: TypingEnvironment<'a>,
+    left: &'a Expr,
+    right: &'a Expr,
+) -> Option<bool>
     ensures { MatchOption result (UndecidedByLiterals (typing_environment env.entry) binary.Equal left.now right.now)
         (λ r. DecidedByLiterals (typing_environment env.entry) binary.Equal left.now right.now r) }
 {
@@ -154,7 +158,11 @@ fn in_listed<'a>(env: TypingEnvironment<'a>, action: &EntityUid, listed: &'a Exp
 
 /// Returns the result of `in` if the left side is an action's literal and the right side lists entity literals, else
 /// `None`.
-fn settled_in<'a>(env: TypingEnvironment<'a>, left: &'a Expr, right: &'a Expr) -> Option<bool>
+fn in_decided_by_literals<'a>(
+    env: TypingEnvironment<'a>,
+    left: &'a Expr,
+    right: &'a Expr,
+) -> Option<bool>
     ensures { MatchOption result (UndecidedByLiterals (typing_environment env.entry) binary.In left.now right.now)
         (λ r. DecidedByLiterals (typing_environment env.entry) binary.In left.now right.now r) }
 {
@@ -172,7 +180,7 @@ fn settled_in<'a>(env: TypingEnvironment<'a>, left: &'a Expr, right: &'a Expr) -
 }
 
 /// Returns the result of an operator if literals decide it, before any type is checked, else `None`.
-pub(crate) fn settled<'a>(
+pub(crate) fn decided_by_literals<'a>(
     env: TypingEnvironment<'a>,
     operator: Binary,
     left: &'a Expr,
@@ -182,8 +190,8 @@ pub(crate) fn settled<'a>(
         (λ r. DecidedByLiterals (typing_environment env.entry) operator left.now right.now r) }
 {
     match operator {
-        Binary::Equal => settled_equal(env, left, right),
-        Binary::In => settled_in(env, left, right),
+        Binary::Equal => equal_decided_by_literals(env, left, right),
+        Binary::In => in_decided_by_literals(env, left, right),
         Binary::Less
         | Binary::LessOrEqual
         | Binary::Add

@@ -4,7 +4,7 @@ ghost use Rattle.grammar_core.specs.declared.expr.Expr.{Expr};
 ghost use Rattle.grammar_core.specs.declared.expr.Expr.TheVariants as form;
 ghost use Rattle.typing.specs.Types as types;
 ghost use Rattle.typing.specs.Rows.{MayBeTrue};
-ghost use Rattle.typing.specs.Gained.{Pairs};
+ghost use Rattle.typing.specs.Gained.{CapabilityList};
 ghost use Rattle.typing.specs.Literals.{UndecidedByLiterals};
 ghost use Rattle.typing.specs.Typing.{Types};
 ghost use Rattle.type_checker.specs.Views.{static_view, typing_environment};
@@ -14,7 +14,7 @@ ghost use Rattle.type_checker.specs.inner.RepeatedOperand.{RepeatsTestedOperand,
 use crate::environment::TypingEnvironment;
 use crate::equal::same_expr;
 use crate::fault::ExpressionFault;
-use crate::literals::settled;
+use crate::literals::decided_by_literals;
 use crate::operators::binary_type;
 use crate::static_type::{Leaf, StaticType};
 use crate::typed::{Typed, typed_row};
@@ -41,7 +41,7 @@ fn is_undecided_by_literals<'a>(
 ) -> bool
     ensures { IsTrue result → UndecidedByLiterals (typing_environment env.entry) operator left.now right.now }
 {
-    match settled(env, operator, left, right) {
+    match decided_by_literals(env, operator, left, right) {
         Some(_) => false,
         None => true,
     }
@@ -113,7 +113,7 @@ pub(crate) fn repeated_operand_typed<'a>(
     other: Result<Typed<'a>, ExpressionFault>,
 ) -> Result<Typed<'a>, ExpressionFault>
     ensures { let E = typing_environment env.entry in
-        (K L after : Pairs) (a b : Expr) → UndecidedByLiterals E operator a b
+        (K L after : CapabilityList) (a b : Expr) → UndecidedByLiterals E operator a b
         → Types E K a (types.entity_type name.entry.now) L → Judged E K b other.entry after
         → Judged E K (form.Binary operator a b) result after }
 {

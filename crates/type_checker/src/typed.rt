@@ -3,7 +3,7 @@ ghost use Rattle.std.specs.Prelude.{◌≡◌, ◌↔◌, [], IsTrue, Ok, Err};
 ghost use Rattle.typing.specs.Types as types;
 ghost use Rattle.typing.specs.Rows.{MayBeTrue};
 ghost use Rattle.type_checker.specs.Views.{boolean_view};
-ghost use Rattle.type_checker.specs.inner.Judged.{IsRow, AddsLearned, IsBranch};
+ghost use Rattle.type_checker.specs.inner.Judged.{IsRow, AddsGained, IsBranch};
 
 use crate::fault::ExpressionFault;
 use crate::known::gain_too;
@@ -17,7 +17,7 @@ pub struct Typed<'a> {
     /// The type of the expression.
     pub kind: StaticType<'a>,
     /// The capabilities that are known if the expression is true.
-    pub learns: Vec<Capability<'a>>,
+    pub gains: Vec<Capability<'a>>,
 }
 
 /// The judgement on an `if` up to its `then`.
@@ -52,11 +52,11 @@ pub(crate) fn is_right_checked(left: BooleanType) -> bool
 /// Returns a type without gained capabilities.
 pub(crate) fn plain<'a>(alloc: Global, kind: StaticType<'a>) -> Typed<'a>
     ensures kind { result.kind ≡ kind.entry }
-    ensures learns { result.learns.items ≡ [] }
+    ensures gains { result.gains.items ≡ [] }
 {
     Typed {
         kind,
-        learns: Vec::new(alloc),
+        gains: Vec::new(alloc),
     }
 }
 
@@ -73,17 +73,17 @@ pub(crate) fn typed_row<'a>(
     }
 }
 
-/// Returns the judgement `typed` with the capabilities `learns` in front of its own.
+/// Returns the judgement `typed` with the capabilities `gains` in front of its own.
 pub(crate) fn gained_too<'a>(
-    learns: Vec<Capability<'a>>,
+    gains: Vec<Capability<'a>>,
     typed: Result<Typed<'a>, ExpressionFault>,
 ) -> Result<Typed<'a>, ExpressionFault>
-    ensures { AddsLearned learns.entry.items typed.entry result }
+    ensures { AddsGained gains.entry.items typed.entry result }
 {
-    let Typed { kind, learns: own } = typed?;
-    let mut learns = learns;
-    gain_too(&mut learns, &own)?;
-    Ok(Typed { kind, learns })
+    let Typed { kind, gains: own } = typed?;
+    let mut gains = gains;
+    gain_too(&mut gains, &own)?;
+    Ok(Typed { kind, gains })
 }
 
 /// Returns the judgement on `then` as that of the only branch that is checked.

@@ -3,7 +3,7 @@ ghost use Rattle.std.specs.Prelude.{◌≢◌, IfOk, IfErr};
 ghost use Rattle.typing.specs.Typing.{Types};
 ghost use Rattle.typing.specs.Faults.{Faults};
 ghost use Rattle.type_checker.specs.Views.{static_view, fault_view, typing_environment};
-ghost use Rattle.type_capabilities.specs.Pairs.{pairs};
+ghost use Rattle.type_capabilities.specs.CapabilityList.{capabilities};
 
 use crate::environment::TypingEnvironment;
 use crate::fault::ExpressionFault;
@@ -28,10 +28,10 @@ pub fn judge_under<'a>(
     known: &[Capability<'a>],
     expr: &'a Expr,
 ) -> Result<Typed<'a>, ExpressionFault>
-    ensures typed { IfOk result (λ t. Types (typing_environment env.entry) (pairs known.now) expr.entry.now
-        (static_view t.kind) (pairs t.learns.items)) }
+    ensures typed { IfOk result (λ t. Types (typing_environment env.entry) (capabilities known.now) expr.entry.now
+        (static_view t.kind) (capabilities t.gains.items)) }
     ensures faulty { IfErr result (λ f. f ≢ ExpressionFault.NoMemory
-        → Faults (typing_environment env.entry) (pairs known.now) expr.entry.now (fault_view f)) }
+        → Faults (typing_environment env.entry) (capabilities known.now) expr.entry.now (fault_view f)) }
 {
     let mut stack = stacked(alloc, known)?;
     type_of(alloc, expr, env, &mut stack)

@@ -1,10 +1,10 @@
 //! The type of a conjunction of expressions, without known capabilities.
 ghost use Rattle.std.specs.Prelude.{◌≢◌, [], IfOk, IfErr};
-ghost use Rattle.typing.specs.Gained.{Pairs};
+ghost use Rattle.typing.specs.Gained.{CapabilityList};
 ghost use Rattle.typing.specs.Typing.{Types};
 ghost use Rattle.typing.specs.Faults.{Faults};
 ghost use Rattle.type_checker.specs.Views.{static_view, fault_view, typing_environment};
-ghost use Rattle.type_checker.specs.Joined.{joined};
+ghost use Rattle.type_checker.specs.Conjunctions.{joined};
 
 use crate::environment::TypingEnvironment;
 use crate::fault::ExpressionFault;
@@ -37,7 +37,7 @@ pub fn judge_all<'a>(
     parts: &'a [Expr],
     last: &'a Expr,
 ) -> Result<StaticType<'a>, ExpressionFault>
-    ensures typed { IfOk result (λ t. (L : Pairs)
+    ensures typed { IfOk result (λ t. (L : CapabilityList)
         × Types (typing_environment env.entry) [] (joined parts.entry.now last.entry.now) (static_view t) L) }
     ensures faulty { IfErr result (λ f. f ≢ ExpressionFault.NoMemory
         → Faults (typing_environment env.entry) [] (joined parts.entry.now last.entry.now) (fault_view f)) }

@@ -15,7 +15,7 @@ use Rattle.typing.specs.Types
 use Rattle.typing.specs.Types.{StaticType, IsBoolean}
 use Rattle.typing.specs.Environment
 use Rattle.typing.specs.Environment.{Environment, ExpressionFault}
-use Rattle.typing.specs.Gained.{Pairs, has_gains}
+use Rattle.typing.specs.Gained.{CapabilityList, has_gains}
 use Rattle.typing.specs.Literals
 use Rattle.typing.specs.Literals.{UndecidedByLiterals, ReadsLiteral, TakesText}
 use Rattle.typing.specs.Rows
@@ -44,38 +44,38 @@ no_boolean_is Types.false_type n r = absurd (n Types.is_false)
 no_boolean_is Types.boolean_type n r = absurd (n Types.is_either)
 no_boolean_is t n r = refl
 
-and_left_is : {s : StaticType} → Rows.MayBeTrue s → (L : Pairs) (r : Judgement) → Judging.and_typed s L r ≡ Judging.and_right s L r
+and_left_is : {s : StaticType} → Rows.MayBeTrue s → (L : CapabilityList) (r : Judgement) → Judging.and_typed s L r ≡ Judging.and_right s L r
 and_left_is Rows.surely L r = refl
 and_left_is Rows.perhaps L r = refl
 
-and_no_left_is : (s : StaticType) → ¬ IsBoolean s → (L : Pairs) (r : Judgement) → Judging.and_typed s L r ≡ faulty Environment.unexpected
+and_no_left_is : (s : StaticType) → ¬ IsBoolean s → (L : CapabilityList) (r : Judgement) → Judging.and_typed s L r ≡ faulty Environment.unexpected
 and_no_left_is Types.true_type n L r = absurd (n Types.is_true)
 and_no_left_is Types.false_type n L r = absurd (n Types.is_false)
 and_no_left_is Types.boolean_type n L r = absurd (n Types.is_either)
 and_no_left_is s n L r = refl
 
-or_no_left_is : (s : StaticType) → ¬ IsBoolean s → (L : Pairs) (r : Judgement) → Judging.or_typed s L r ≡ faulty Environment.unexpected
+or_no_left_is : (s : StaticType) → ¬ IsBoolean s → (L : CapabilityList) (r : Judgement) → Judging.or_typed s L r ≡ faulty Environment.unexpected
 or_no_left_is Types.true_type n L r = absurd (n Types.is_true)
 or_no_left_is Types.false_type n L r = absurd (n Types.is_false)
 or_no_left_is Types.boolean_type n L r = absurd (n Types.is_either)
 or_no_left_is s n L r = refl
 
-or_fault_is : {s : StaticType} → Rows.MayBeFalse s → (L : Pairs) (n : ExpressionFault) → Judging.or_typed s L (faulty n) ≡ faulty n
+or_fault_is : {s : StaticType} → Rows.MayBeFalse s → (L : CapabilityList) (n : ExpressionFault) → Judging.or_typed s L (faulty n) ≡ faulty n
 or_fault_is Rows.surely_not L n = refl
 or_fault_is Rows.perhaps_not L n = refl
 
-or_no_right_is : {s : StaticType} (t : StaticType) → Rows.MayBeFalse s → ¬ IsBoolean t → (L M : Pairs)
+or_no_right_is : {s : StaticType} (t : StaticType) → Rows.MayBeFalse s → ¬ IsBoolean t → (L M : CapabilityList)
     → Judging.or_typed s L (typed t M) ≡ faulty Environment.unexpected
 or_no_right_is t Rows.surely_not b L M = no_boolean_is t b (typed t M)
 or_no_right_is t Rows.perhaps_not b L M = no_boolean_is t b (typed (Rows.or_type t) (KnownPairs.or_learns t L M))
 
-if_no_test_is : (s : StaticType) → ¬ IsBoolean s → (L : Pairs) (r p : Judgement) → Judging.if_typed s L r p ≡ faulty Environment.unexpected
+if_no_test_is : (s : StaticType) → ¬ IsBoolean s → (L : CapabilityList) (r p : Judgement) → Judging.if_typed s L r p ≡ faulty Environment.unexpected
 if_no_test_is Types.true_type n L r p = absurd (n Types.is_true)
 if_no_test_is Types.false_type n L r p = absurd (n Types.is_false)
 if_no_test_is Types.boolean_type n L r p = absurd (n Types.is_either)
 if_no_test_is s n L r p = refl
 
-if_fault_is : {s : StaticType} → Rows.MayBeTrue s → (L : Pairs) (n : ExpressionFault) (p : Judgement) → Judging.if_typed s L (faulty n) p ≡ faulty n
+if_fault_is : {s : StaticType} → Rows.MayBeTrue s → (L : CapabilityList) (n : ExpressionFault) (p : Judgement) → Judging.if_typed s L (faulty n) p ≡ faulty n
 if_fault_is Rows.surely L n p = refl
 if_fault_is Rows.perhaps L n p = refl
 
@@ -114,54 +114,54 @@ address_is unary_call.Decimal b s h = absurd h
 address_is called b s h = refl
 
 module _ (env : Environment) where
-  abbrev all : Pairs → Expr → Judgement
+  abbrev all : CapabilityList → Expr → Judgement
   all = of env
 
-  abbrev typed_row : (StaticType → Pairs) → Row → Judgement
+  abbrev typed_row : (StaticType → CapabilityList) → Row → Judgement
   typed_row f r = Judging.row r f
 
   -- what each form's judgement is, where its first operand's is r
-  and_from : (K : Pairs) (a b : Expr) (r : Judgement) → all K a ≡ r → all K (form.And a b) ≡ Judging.and_with env K (λ M. all M b) r
+  and_from : (K : CapabilityList) (a b : Expr) (r : Judgement) → all K a ≡ r → all K (form.And a b) ≡ Judging.and_with env K (λ M. all M b) r
   and_from K a b r e = Judging.at_and env K a b ∙ ap (Judging.and_with env K (λ M. all M b)) e
 
-  or_from : (K : Pairs) (a b : Expr) (r : Judgement) → all K a ≡ r → all K (form.Or a b) ≡ Judging.or_with env (all K b) r
+  or_from : (K : CapabilityList) (a b : Expr) (r : Judgement) → all K a ≡ r → all K (form.Or a b) ≡ Judging.or_with env (all K b) r
   or_from K a b r e = Judging.at_or env K a b ∙ ap (Judging.or_with env (all K b)) e
 
-  if_from : (K : Pairs) (a b c : Expr) (r : Judgement) → all K a ≡ r → all K (form.If a b c) ≡ Judging.if_with env K (λ M. all M b) (all K c) r
+  if_from : (K : CapabilityList) (a b c : Expr) (r : Judgement) → all K a ≡ r → all K (form.If a b c) ≡ Judging.if_with env K (λ M. all M b) (all K c) r
   if_from K a b c r e = Judging.at_if env K a b c ∙ ap (Judging.if_with env K (λ M. all M b) (all K c)) e
 
-  unary_from : (K : Pairs) (op : Unary) (a : Expr) (r : Judgement) → all K a ≡ r → all K (form.Unary op a) ≡ Judging.unary_with env op r
+  unary_from : (K : CapabilityList) (op : Unary) (a : Expr) (r : Judgement) → all K a ≡ r → all K (form.Unary op a) ≡ Judging.unary_with env op r
   unary_from K op a r e = Judging.at_unary env K op a ∙ ap (Judging.unary_with env op) e
 
-  settled_from : (K : Pairs) (op : Binary) (a b : Expr) (i : Option Bool) → Tests.settlement env op a b ≡ i
+  settled_from : (K : CapabilityList) (op : Binary) (a b : Expr) (i : Option Bool) → Tests.settlement env op a b ≡ i
       → all K (form.Binary op a b) ≡ Judging.settled_or i (Judging.operands_with env op (all K a) (all K b))
   settled_from K op a b i e = Judging.at_binary env K op a b ∙ ap (λ j. Judging.settled_or j (Judging.operands_with env op (all K a) (all K b))) e
 
-  operands_from : (K : Pairs) (op : Binary) (a b : Expr) (r : Judgement) → UndecidedByLiterals env op a b → all K a ≡ r
+  operands_from : (K : CapabilityList) (op : Binary) (a b : Expr) (r : Judgement) → UndecidedByLiterals env op a b → all K a ≡ r
       → all K (form.Binary op a b) ≡ Judging.operands_with env op r (all K b)
   operands_from K op a b r n e = settled_from K op a b None (Tests.no_settlement env n) ∙ ap (λ x. Judging.operands_with env op x (all K b)) e
 
-  field_from : (K : Pairs) (a : Expr) (k : List ℕ) (is_known : Bool) (r : Judgement) → Decides is_known (Contains K (a, k)) → all K a ≡ r
+  field_from : (K : CapabilityList) (a : Expr) (k : List ℕ) (is_known : Bool) (r : Judgement) → Decides is_known (Contains K (a, k)) → all K a ≡ r
       → all K (form.Field a k) ≡ Judging.field_with env is_known k r
   field_from K a k is_known r d e = Judging.at_field env K a k
       ∙ (ap (λ b. Judging.field_with env b k (all K a)) (KnownPairs.knows_is K (a, k) is_known d) ∙ ap (Judging.field_with env is_known k) e)
 
-  has_from : (K : Pairs) (a : Expr) (k : List ℕ) (is_known : Bool) (r : Judgement) → Decides is_known (Contains K (a, k)) → all K a ≡ r
+  has_from : (K : CapabilityList) (a : Expr) (k : List ℕ) (is_known : Bool) (r : Judgement) → Decides is_known (Contains K (a, k)) → all K a ≡ r
       → all K (form.Has a k) ≡ Judging.has_with env is_known a k r
   has_from K a k is_known r d e = Judging.at_has env K a k
       ∙ (ap (λ b. Judging.has_with env b a k (all K a)) (KnownPairs.knows_is K (a, k) is_known d) ∙ ap (Judging.has_with env is_known a k) e)
 
-  unary_call_from : (K : Pairs) (called : UnaryCall) (a : Expr) (r : Judgement) → all K a ≡ r
+  unary_call_from : (K : CapabilityList) (called : UnaryCall) (a : Expr) (r : Judgement) → all K a ≡ r
       → all K (form.UnaryCall called a) ≡ Judging.unary_call_with env called (Tests.reads called a) r
   unary_call_from K called a r e = Judging.at_unary_call env K called a ∙ ap (Judging.unary_call_with env called (Tests.reads called a)) e
 
-  call_from : (K : Pairs) (called : BinaryCall) (a b : Expr) (r : Judgement) → all K a ≡ r
+  call_from : (K : CapabilityList) (called : BinaryCall) (a b : Expr) (r : Judgement) → all K a ≡ r
       → all K (form.BinaryCall called a b) ≡ Judging.call_with env called r (all K b)
   call_from K called a b r e = Judging.at_call env K called a b ∙ ap (λ x. Judging.call_with env called x (all K b)) e
 
   mutual
     -- the function gives the type that the rules do
-    pub types_is : {K L : Pairs} {x : Expr} {t : StaticType} → Types env K x t L → all K x ≡ typed t L
+    pub types_is : {K L : CapabilityList} {x : Expr} {t : StaticType} → Types env K x t L → all K x ≡ typed t L
     types_is (Typing.types_literal {K} l) = Judging.at_literal env K l
     types_is (Typing.types_variable {K} x) = Judging.at_variable env K x
     types_is (Typing.types_unary {K} op a h e) = unary_from K op a _ (types_is h) ∙ ap (typed_row Judging.learns_none) e
@@ -191,14 +191,14 @@ module _ (env : Environment) where
     types_is (Typing.types_call {K} {L} called a b {s} h g e) =
         call_from K called a b _ (types_is h) ∙ (ap (Judging.call_with env called (typed s L)) (types_is g) ∙ ap (typed_row Judging.learns_none) e)
 
-    each_is : {K : Pairs} {xs : List Expr} {ts : List StaticType} → TypesEach env K xs ts → Judging.each_of env (map (all K) xs) ≡ Ok ts
+    each_is : {K : CapabilityList} {xs : List Expr} {ts : List StaticType} → TypesEach env K xs ts → Judging.each_of env (map (all K) xs) ≡ Ok ts
     each_is Typing.types_none = refl
     each_is (Typing.types_more {K} {L} {x} {xs} {t} h hs) =
         ap (λ r. Judging.member_type r (Judging.each_of env (map (all K) xs))) (types_is h) ∙ ap (Judging.member_type (typed t L)) (each_is hs)
 
   mutual
     -- the function gives the fault that the rules do
-    pub faults_is : {K : Pairs} {x : Expr} {n : ExpressionFault} → Faults env K x n → all K x ≡ faulty n
+    pub faults_is : {K : CapabilityList} {x : Expr} {n : ExpressionFault} → Faults env K x n → all K x ≡ faulty n
     faults_is (Faults.fault_in_operand {K} (Faults.of_unary op a) (Faults.fault_here h)) = unary_from K op a _ (faults_is h)
     faults_is (Faults.fault_in_operand {K} (Faults.of_binary op a b n) (Faults.fault_here h)) = operands_from K op a b _ n (faults_is h)
     faults_is (Faults.fault_in_operand {K} (Faults.of_binary op a b n) (Faults.fault_later {L} {t = s} h (Faults.fault_here g))) =
@@ -250,12 +250,12 @@ module _ (env : Environment) where
     faults_is (Faults.fault_of_call {K} {L} called a b {s} h g e) =
         call_from K called a b _ (types_is h) ∙ (ap (Judging.call_with env called (typed s L)) (types_is g) ∙ ap (typed_row Judging.learns_none) e)
 
-    each_faults_is : {K : Pairs} {xs : List Expr} {n : ExpressionFault} → FaultsEach env K xs n → Judging.each_of env (map (all K) xs) ≡ Err n
+    each_faults_is : {K : CapabilityList} {xs : List Expr} {n : ExpressionFault} → FaultsEach env K xs n → Judging.each_of env (map (all K) xs) ≡ Err n
     each_faults_is (Faults.fault_here {K} {x} {xs} h) = ap (λ r. Judging.member_type r (Judging.each_of env (map (all K) xs))) (faults_is h)
     each_faults_is (Faults.fault_later {K} {L} {x} {xs} {t} h hs) =
         ap (λ r. Judging.member_type r (Judging.each_of env (map (all K) xs))) (types_is h) ∙ ap (Judging.member_type (typed t L)) (each_faults_is hs)
 
   -- what the rules judge is what the function does
-  pub judged_is : (K : Pairs) (x : Expr) (s : Judgement) → Judges env K x s → s ≡ all K x
+  pub judged_is : (K : CapabilityList) (x : Expr) (s : Judgement) → Judges env K x s → s ≡ all K x
   judged_is K x (typed t L) h = sym (types_is h)
   judged_is K x (faulty n) h = sym (faults_is h)

@@ -6,17 +6,17 @@ use Rattle.evaluator.specs.grammar_core.declared.expr.Expr.{Expr}
 use Rattle.typing.specs.Types.{StaticType}
 use Rattle.typing.specs.Environment.{Environment, ExpressionFault}
 use Rattle.typing.specs.Gained
-use Rattle.typing.specs.Gained.{Capability, Pairs, InBoth, OrGains, has_gains}
+use Rattle.typing.specs.Gained.{Capability, CapabilityList, InBoth, OrGains, has_gains}
 use Rattle.typing.specs.Typing
 use Rattle.typing.specs.Typing.{Types, TypesEach}
 use Rattle.typing.specs.Faults
 use Rattle.typing.specs.Faults.{Faults, FaultsEach}
-use Rattle.typing.specs.Laws.{AreSamePairs, CapabilitiesAreASet}
+use Rattle.typing.specs.Laws.{AreSameCapabilities, CapabilitiesAreASet}
 use Rattle.std.proofs.lemmas.List.Elements.{Contains-append_cases}
 use Rattle.plain.proofs.Members.{Contains-here, Contains-there, Contains-cases, Contains-none}
 use Rattle.typing.proofs.KnownPairs.{in_both, in_both_holds}
 
-pub both_members : {L M N : Pairs} → InBoth L M N → (p : Capability) → Contains N p → Contains L p × Contains M p
+pub both_members : {L M N : CapabilityList} → InBoth L M N → (p : Capability) → Contains N p → Contains L p × Contains M p
 both_members Gained.both_none p c = Contains-none p c
 both_members (Gained.both_kept {p = x} {left = L} {right = M} {both = N} m h) p c = elim (Contains-cases x N p c) [
   | inl e ↦ (subst (λ y. Contains (x ∷ L) y) e (Contains-here x L), subst (λ y. Contains M y) e m)
@@ -24,7 +24,7 @@ both_members (Gained.both_kept {p = x} {left = L} {right = M} {both = N} m h) p 
 ]
 both_members (Gained.both_dropped {p = x} {left = L} {right = M} {both = N} n h) p c = let r = both_members h p c in (Contains-there x L p r.0, r.1)
 
-members_both : {L M N : Pairs} → InBoth L M N → (p : Capability) → Contains L p → Contains M p → Contains N p
+members_both : {L M N : CapabilityList} → InBoth L M N → (p : Capability) → Contains L p → Contains M p → Contains N p
 members_both Gained.both_none p c d = c
 members_both (Gained.both_kept {p = x} {left = L} {right = M} {both = N} m h) p c d = elim (Contains-cases x L p c) [
   | inl e ↦ subst (λ y. Contains (x ∷ N) y) e (Contains-here x N)
@@ -35,18 +35,18 @@ members_both (Gained.both_dropped {p = x} {left = L} {right = M} {both = N} n h)
   | inr l ↦ members_both h p l d
 ]
 
-joined_first : (K L : Pairs) (p : Capability) → Contains K p → Contains (K ++ L) p
+joined_first : (K L : CapabilityList) (p : Capability) → Contains K p → Contains (K ++ L) p
 joined_first [] L p c = Contains-none p c
 joined_first (x ∷ K) L p c = elim (Contains-cases x K p c) [
   | inl e ↦ subst (λ y. Contains (x ∷ (K ++ L)) y) e (Contains-here x (K ++ L))
   | inr m ↦ Contains-there x (K ++ L) p (joined_first K L p m)
 ]
 
-joined_second : (K L : Pairs) (p : Capability) → Contains L p → Contains (K ++ L) p
+joined_second : (K L : CapabilityList) (p : Capability) → Contains L p → Contains (K ++ L) p
 joined_second [] L p c = c
 joined_second (x ∷ K) L p c = Contains-there x (K ++ L) p (joined_second K L p c)
 
-one_way : (K L M N : Pairs) → ((p : Capability) → Contains K p → Contains M p) → ((p : Capability) → Contains L p → Contains N p)
+one_way : (K L M N : CapabilityList) → ((p : Capability) → Contains K p → Contains M p) → ((p : Capability) → Contains L p → Contains N p)
     → (p : Capability) → Contains (K ++ L) p → Contains (M ++ N) p
 one_way K L M N f g p c = elim (Contains-append_cases K L p c) [
   | inl k ↦ joined_first M N p (f p k)
@@ -55,33 +55,33 @@ one_way K L M N f g p c = elim (Contains-append_cases K L p c) [
 
 -- the same pairs
 
-itself : (K : Pairs) → AreSamePairs K K
+itself : (K : CapabilityList) → AreSameCapabilities K K
 itself K = record { there = λ p c. c; back = λ p c. c }
 
-joined : {K L M N : Pairs} → AreSamePairs K M → AreSamePairs L N → AreSamePairs (K ++ L) (M ++ N)
+joined : {K L M N : CapabilityList} → AreSameCapabilities K M → AreSameCapabilities L N → AreSameCapabilities (K ++ L) (M ++ N)
 joined {K} {L} {M} {N} s t = record { there = one_way K L M N s.there t.there; back = one_way M N K L s.back t.back }
 
-in_both_alike : {L M N P Q : Pairs} → AreSamePairs L P → AreSamePairs M Q → InBoth L M N → AreSamePairs N (in_both P Q)
+in_both_alike : {L M N P Q : CapabilityList} → AreSameCapabilities L P → AreSameCapabilities M Q → InBoth L M N → AreSameCapabilities N (in_both P Q)
 in_both_alike {P} {Q} s t h = record {
   there = λ p c. let m = both_members h p c in members_both (in_both_holds P Q) p (s.there p m.0) (t.there p m.1);
   back = λ p c. let m = both_members (in_both_holds P Q) p c in members_both h p (s.back p m.0) (t.back p m.1);
 }
 
-or_alike : {t : StaticType} {L M N P Q : Pairs} → AreSamePairs L P → AreSamePairs M Q → OrGains t L M N
-    → (B : Pairs) × AreSamePairs N B × OrGains t P Q B
+or_alike : {t : StaticType} {L M N P Q : CapabilityList} → AreSameCapabilities L P → AreSameCapabilities M Q → OrGains t L M N
+    → (B : CapabilityList) × AreSameCapabilities N B × OrGains t P Q B
 or_alike s t Gained.or_gains_none = ([], itself [], Gained.or_gains_none)
 or_alike {P} s t Gained.or_gains_left = (P, s, Gained.or_gains_left)
 or_alike {P} {Q} s t (Gained.or_gains_both h) = (in_both P Q, in_both_alike s t h, Gained.or_gains_both (in_both_holds P Q))
 
-known_alike : {K M : Pairs} (p : Capability) (r : Bool) → AreSamePairs K M → Decides r (Contains K p) → Decides r (Contains M p)
+known_alike : {K M : CapabilityList} (p : Capability) (r : Bool) → AreSameCapabilities K M → Decides r (Contains K p) → Decides r (Contains M p)
 known_alike p r s d = (λ e. s.there p (d.0 e), λ c. d.1 (s.back p c))
 
 module _ (env : Environment) where
-  abbrev Alike : Pairs → Expr → StaticType → Pairs → Type 0
-  Alike M x t L = (N : Pairs) × AreSamePairs L N × Types env M x t N
+  abbrev Alike : CapabilityList → Expr → StaticType → CapabilityList → Type 0
+  Alike M x t L = (N : CapabilityList) × AreSameCapabilities L N × Types env M x t N
 
   mutual
-    types_alike : {K M L : Pairs} {x : Expr} {t : StaticType} → AreSamePairs K M → Types env K x t L → Alike M x t L
+    types_alike : {K M L : CapabilityList} {x : Expr} {t : StaticType} → AreSameCapabilities K M → Types env K x t L → Alike M x t L
     types_alike s (Typing.types_literal l) = ([], itself [], Typing.types_literal l)
     types_alike s (Typing.types_variable x) = ([], itself [], Typing.types_variable x)
     types_alike s (Typing.types_unary op a h e) = ([], itself [], Typing.types_unary op a (types_alike s h).2 e)
@@ -121,12 +121,12 @@ module _ (env : Environment) where
     types_alike s (Typing.types_address_test called a i h e) = ([], itself [], Typing.types_address_test called a i (types_alike s h).2 e)
     types_alike s (Typing.types_call called a b h g e) = ([], itself [], Typing.types_call called a b (types_alike s h).2 (types_alike s g).2 e)
 
-    each_alike : {K M : Pairs} {xs : List Expr} {ts : List StaticType} → AreSamePairs K M → TypesEach env K xs ts → TypesEach env M xs ts
+    each_alike : {K M : CapabilityList} {xs : List Expr} {ts : List StaticType} → AreSameCapabilities K M → TypesEach env K xs ts → TypesEach env M xs ts
     each_alike s Typing.types_none = Typing.types_none
     each_alike s (Typing.types_more h hs) = Typing.types_more (types_alike s h).2 (each_alike s hs)
 
   mutual
-    faults_alike : {K M : Pairs} {x : Expr} {n : ExpressionFault} → AreSamePairs K M → Faults env K x n → Faults env M x n
+    faults_alike : {K M : CapabilityList} {x : Expr} {n : ExpressionFault} → AreSameCapabilities K M → Faults env K x n → Faults env M x n
     faults_alike s (Faults.fault_in_operand o h) = Faults.fault_in_operand o (faults_each_alike s h)
     faults_alike s (Faults.fault_of_unary op a h e) = Faults.fault_of_unary op a (types_alike s h).2 e
     faults_alike s (Faults.fault_of_binary op a b n h g e) = Faults.fault_of_binary op a b n (types_alike s h).2 (types_alike s g).2 e
@@ -156,7 +156,7 @@ module _ (env : Environment) where
     faults_alike s (Faults.branches_differ a b c h g i e) =
         let f = types_alike s h in Faults.branches_differ a b c f.2 (types_alike (joined s f.1) g).2 (types_alike s i).2 e
 
-    faults_each_alike : {K M : Pairs} {xs : List Expr} {n : ExpressionFault} → AreSamePairs K M → FaultsEach env K xs n → FaultsEach env M xs n
+    faults_each_alike : {K M : CapabilityList} {xs : List Expr} {n : ExpressionFault} → AreSameCapabilities K M → FaultsEach env K xs n → FaultsEach env M xs n
     faults_each_alike s (Faults.fault_here h) = Faults.fault_here (faults_alike s h)
     faults_each_alike s (Faults.fault_later h g) = Faults.fault_later (types_alike s h).2 (faults_each_alike s g)
 

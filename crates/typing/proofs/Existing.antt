@@ -16,7 +16,7 @@ use Rattle.typing.specs.Types
 use Rattle.typing.specs.Types.{StaticType, IsBoolean}
 use Rattle.typing.specs.Environment
 use Rattle.typing.specs.Environment.{Environment, ExpressionFault}
-use Rattle.typing.specs.Gained.{Pairs, has_gains}
+use Rattle.typing.specs.Gained.{CapabilityList, has_gains}
 use Rattle.typing.specs.Literals.{ReadsLiteral, TakesText}
 use Rattle.typing.specs.Rows
 use Rattle.typing.specs.Rows.{Row}
@@ -33,23 +33,23 @@ use Rattle.typing.proofs.Judging.{of}
 use Rattle.typing.proofs.Agreeing.{judged_is}
 
 module _ (env : Environment) where
-  abbrev all : Pairs → Expr → Judgement
+  abbrev all : CapabilityList → Expr → Judgement
   all = of env
 
-  abbrev Holds : Pairs → Expr → Judgement → Type 0
+  abbrev Holds : CapabilityList → Expr → Judgement → Type 0
   Holds = Judges env
 
-  row_case : (K : Pairs) (x : Expr) (f : StaticType → Pairs) (r : Row) → ((t : StaticType) → r ≡ Ok t → Types env K x t (f t))
+  row_case : (K : CapabilityList) (x : Expr) (f : StaticType → CapabilityList) (r : Row) → ((t : StaticType) → r ≡ Ok t → Types env K x t (f t))
       → ((n : ExpressionFault) → r ≡ Err n → Faults env K x n) → Holds K x (Judging.row r f)
   row_case K x f (Ok t) g h = g t refl
   row_case K x f (Err n) g h = h n refl
 
-  unary_case : (K : Pairs) (op : Unary) (a : Expr) (r : Judgement) → Holds K a r → Holds K (form.Unary op a) (Judging.unary_with env op r)
+  unary_case : (K : CapabilityList) (op : Unary) (a : Expr) (r : Judgement) → Holds K a r → Holds K (form.Unary op a) (Judging.unary_with env op r)
   unary_case K op a (typed s L) h =
       row_case K (form.Unary op a) Judging.learns_none (Rows.unary_type op s) (λ t e. Typing.types_unary op a h e) (λ n e. Faults.fault_of_unary op a h e)
   unary_case K op a (faulty n) h = Faults.fault_in_operand (Faults.of_unary op a) (Faults.fault_here h)
 
-  field_case : (K : Pairs) (a : Expr) (k : List ℕ) (r : Judgement) → Holds K a r
+  field_case : (K : CapabilityList) (a : Expr) (k : List ℕ) (r : Judgement) → Holds K a r
       → Holds K (form.Field a k) (Judging.field_with env (KnownPairs.knows K (a, k)) k r)
   field_case K a k (typed s L) h =
       let d = KnownPairs.knows_holds K (a, k) in
@@ -57,7 +57,7 @@ module _ (env : Environment) where
       (λ t e. Typing.types_field a k h d e) (λ n e. Faults.fault_of_field a k h d e)
   field_case K a k (faulty n) h = Faults.fault_in_operand (Faults.of_field a k) (Faults.fault_here h)
 
-  has_case : (K : Pairs) (a : Expr) (k : List ℕ) (r : Judgement) → Holds K a r
+  has_case : (K : CapabilityList) (a : Expr) (k : List ℕ) (r : Judgement) → Holds K a r
       → Holds K (form.Has a k) (Judging.has_with env (KnownPairs.knows K (a, k)) a k r)
   has_case K a k (typed s L) h =
       let d = KnownPairs.knows_holds K (a, k) in
@@ -65,7 +65,7 @@ module _ (env : Environment) where
       (λ t e. Typing.types_has a k h d e) (λ n e. Faults.fault_of_has a k h d e)
   has_case K a k (faulty n) h = Faults.fault_in_operand (Faults.of_has a k) (Faults.fault_here h)
 
-  binary_case : (K : Pairs) (op : Binary) (a b : Expr) (i : Option Bool) (r p : Judgement) → Tests.settlement env op a b ≡ i
+  binary_case : (K : CapabilityList) (op : Binary) (a b : Expr) (i : Option Bool) (r p : Judgement) → Tests.settlement env op a b ≡ i
       → Holds K a r → Holds K b p → Holds K (form.Binary op a b) (Judging.settled_or i (Judging.operands_with env op r p))
   binary_case K op a b (Some i) r p e h g = Typing.types_settled op a b (Tests.settlement_holds env op a b i e)
   binary_case K op a b None (typed s L) (typed t M) e h g =
@@ -76,132 +76,132 @@ module _ (env : Environment) where
   binary_case K op a b None (faulty n) p e h g = Faults.fault_in_operand (Faults.of_binary op a b (Tests.none_settled env op a b e)) (Faults.fault_here h)
 
   -- a side of `&&` or `||`, which has to be a boolean
-  test_case : (K : Pairs) (x : Expr) (t u : StaticType) (L : Pairs) → (IsBoolean t → Types env K x u L)
+  test_case : (K : CapabilityList) (x : Expr) (t u : StaticType) (L : CapabilityList) → (IsBoolean t → Types env K x u L)
       → (¬ IsBoolean t → Faults env K x Environment.unexpected) → Holds K x (Judging.test_of t (typed u L))
   test_case K x Types.true_type u L g h = g Types.is_true
   test_case K x Types.false_type u L g h = g Types.is_false
   test_case K x Types.boolean_type u L g h = g Types.is_either
   test_case K x t u L g h = h (λ i. elim i [ ])
 
-  and_right_case : (K : Pairs) (a b : Expr) (s : StaticType) (L : Pairs) (r : Judgement) → Rows.MayBeTrue s → Types env K a s L
+  and_right_case : (K : CapabilityList) (a b : Expr) (s : StaticType) (L : CapabilityList) (r : Judgement) → Rows.MayBeTrue s → Types env K a s L
       → Holds (K ++ L) b r → Holds K (form.And a b) (Judging.and_right s L r)
   and_right_case K a b s L (typed t M) p h g =
       test_case K (form.And a b) t (Rows.and_type s t) (L ++ M) (λ i. Typing.and_of_both a b h p g i) (λ i. Faults.right_of_and_no_boolean a b h p g i)
   and_right_case K a b s L (faulty n) p h g = Faults.fault_right_of_and a b h p g
 
-  and_left_case : (K : Pairs) (a b : Expr) (s : StaticType) (L : Pairs) (r : Judgement) → Types env K a s L → Holds (K ++ L) b r
+  and_left_case : (K : CapabilityList) (a b : Expr) (s : StaticType) (L : CapabilityList) (r : Judgement) → Types env K a s L → Holds (K ++ L) b r
       → Holds K (form.And a b) (Judging.and_typed s L r)
   and_left_case K a b Types.true_type L r h g = and_right_case K a b Types.true_type L r Rows.surely h g
   and_left_case K a b Types.false_type L r h g = Typing.and_of_false a b h
   and_left_case K a b Types.boolean_type L r h g = and_right_case K a b Types.boolean_type L r Rows.perhaps h g
   and_left_case K a b s L r h g = Faults.left_of_and_no_boolean a b h (λ i. elim i [ ])
 
-  and_case : (K : Pairs) (a b : Expr) (r : Judgement) → Holds K a r → ((M : Pairs) → Holds M b (all M b))
+  and_case : (K : CapabilityList) (a b : Expr) (r : Judgement) → Holds K a r → ((M : CapabilityList) → Holds M b (all M b))
       → Holds K (form.And a b) (Judging.and_with env K (λ M. all M b) r)
   and_case K a b (typed s L) h g = and_left_case K a b s L (all (K ++ L) b) h (g (K ++ L))
   and_case K a b (faulty n) h g = Faults.fault_left_of_and a b h
 
-  or_false_case : (K : Pairs) (a b : Expr) (L : Pairs) (r : Judgement) → Types env K a Types.false_type L → Holds K b r
+  or_false_case : (K : CapabilityList) (a b : Expr) (L : CapabilityList) (r : Judgement) → Types env K a Types.false_type L → Holds K b r
       → Holds K (form.Or a b) (Judging.or_typed Types.false_type L r)
   or_false_case K a b L (typed t M) h g =
       test_case K (form.Or a b) t t M (λ i. Typing.or_of_false a b h g i) (λ i. Faults.right_of_or_no_boolean a b h Rows.surely_not g i)
   or_false_case K a b L (faulty n) h g = Faults.fault_right_of_or a b h Rows.surely_not g
 
-  or_both_case : (K : Pairs) (a b : Expr) (L : Pairs) (r : Judgement) → Types env K a Types.boolean_type L → Holds K b r
+  or_both_case : (K : CapabilityList) (a b : Expr) (L : CapabilityList) (r : Judgement) → Types env K a Types.boolean_type L → Holds K b r
       → Holds K (form.Or a b) (Judging.or_typed Types.boolean_type L r)
   or_both_case K a b L (typed t M) h g =
       test_case K (form.Or a b) t (Rows.or_type t) (KnownPairs.or_learns t L M)
       (λ i. Typing.or_of_both a b h g i (KnownPairs.or_learns_holds L M i)) (λ i. Faults.right_of_or_no_boolean a b h Rows.perhaps_not g i)
   or_both_case K a b L (faulty n) h g = Faults.fault_right_of_or a b h Rows.perhaps_not g
 
-  or_left_case : (K : Pairs) (a b : Expr) (s : StaticType) (L : Pairs) (r : Judgement) → Types env K a s L → Holds K b r
+  or_left_case : (K : CapabilityList) (a b : Expr) (s : StaticType) (L : CapabilityList) (r : Judgement) → Types env K a s L → Holds K b r
       → Holds K (form.Or a b) (Judging.or_typed s L r)
   or_left_case K a b Types.true_type L r h g = Typing.or_of_true a b h
   or_left_case K a b Types.false_type L r h g = or_false_case K a b L r h g
   or_left_case K a b Types.boolean_type L r h g = or_both_case K a b L r h g
   or_left_case K a b s L r h g = Faults.left_of_or_no_boolean a b h (λ i. elim i [ ])
 
-  or_case : (K : Pairs) (a b : Expr) (r : Judgement) → Holds K a r → Holds K b (all K b) → Holds K (form.Or a b) (Judging.or_with env (all K b) r)
+  or_case : (K : CapabilityList) (a b : Expr) (r : Judgement) → Holds K a r → Holds K b (all K b) → Holds K (form.Or a b) (Judging.or_with env (all K b) r)
   or_case K a b (typed s L) h g = or_left_case K a b s L (all K b) h g
   or_case K a b (faulty n) h g = Faults.fault_left_of_or a b h
 
-  if_true_case : (K : Pairs) (a b c : Expr) (L : Pairs) (r p : Judgement) → Types env K a Types.true_type L → Holds (K ++ L) b r
+  if_true_case : (K : CapabilityList) (a b c : Expr) (L : CapabilityList) (r p : Judgement) → Types env K a Types.true_type L → Holds (K ++ L) b r
       → Holds K (form.If a b c) (Judging.if_typed Types.true_type L r p)
   if_true_case K a b c L (typed t M) p h g = Typing.if_of_true a b c h g
   if_true_case K a b c L (faulty n) p h g = Faults.fault_in_then a b c h Rows.surely g
 
-  if_false_case : (K : Pairs) (a b c : Expr) (L : Pairs) (p : Judgement) → Types env K a Types.false_type L → Holds K c p
+  if_false_case : (K : CapabilityList) (a b c : Expr) (L : CapabilityList) (p : Judgement) → Types env K a Types.false_type L → Holds K c p
       → Holds K (form.If a b c) p
   if_false_case K a b c L (typed t M) h g = Typing.if_of_false a b c h g
   if_false_case K a b c L (faulty n) h g = Faults.fault_in_only_else a b c h g
 
-  branches_case : (K : Pairs) (a b c : Expr) (s t : StaticType) (L M N : Pairs) (o : Option StaticType) → Types.common s t ≡ o
+  branches_case : (K : CapabilityList) (a b c : Expr) (s t : StaticType) (L M N : CapabilityList) (o : Option StaticType) → Types.common s t ≡ o
       → Types env K a Types.boolean_type L → Types env (K ++ L) b s M → Types env K c t N
       → Holds K (form.If a b c) (Judging.branches o (KnownPairs.in_both N (L ++ M)))
   branches_case K a b c s t L M N None e h g i = Faults.branches_differ a b c h g i e
   branches_case K a b c s t L M N (Some u) e h g i = Typing.if_of_both a b c h g i e (KnownPairs.in_both_holds N (L ++ M))
 
-  if_both_case : (K : Pairs) (a b c : Expr) (L : Pairs) (r p : Judgement) → Types env K a Types.boolean_type L → Holds (K ++ L) b r
+  if_both_case : (K : CapabilityList) (a b c : Expr) (L : CapabilityList) (r p : Judgement) → Types env K a Types.boolean_type L → Holds (K ++ L) b r
       → Holds K c p → Holds K (form.If a b c) (Judging.if_typed Types.boolean_type L r p)
   if_both_case K a b c L (typed s M) (typed t N) h g i = branches_case K a b c s t L M N (Types.common s t) refl h g i
   if_both_case K a b c L (typed s M) (faulty n) h g i = Faults.fault_in_else a b c h g i
   if_both_case K a b c L (faulty n) p h g i = Faults.fault_in_then a b c h Rows.perhaps g
 
-  if_test_case : (K : Pairs) (a b c : Expr) (s : StaticType) (L : Pairs) (r p : Judgement) → Types env K a s L → Holds (K ++ L) b r
+  if_test_case : (K : CapabilityList) (a b c : Expr) (s : StaticType) (L : CapabilityList) (r p : Judgement) → Types env K a s L → Holds (K ++ L) b r
       → Holds K c p → Holds K (form.If a b c) (Judging.if_typed s L r p)
   if_test_case K a b c Types.true_type L r p h g i = if_true_case K a b c L r p h g
   if_test_case K a b c Types.false_type L r p h g i = if_false_case K a b c L p h i
   if_test_case K a b c Types.boolean_type L r p h g i = if_both_case K a b c L r p h g i
   if_test_case K a b c s L r p h g i = Faults.test_no_boolean a b c h (λ j. elim j [ ])
 
-  if_case : (K : Pairs) (a b c : Expr) (r : Judgement) → Holds K a r → ((M : Pairs) → Holds M b (all M b)) → Holds K c (all K c)
+  if_case : (K : CapabilityList) (a b c : Expr) (r : Judgement) → Holds K a r → ((M : CapabilityList) → Holds M b (all M b)) → Holds K c (all K c)
       → Holds K (form.If a b c) (Judging.if_with env K (λ M. all M b) (all K c) r)
   if_case K a b c (typed s L) h g i = if_test_case K a b c s L (all (K ++ L) b) (all K c) h (g (K ++ L)) i
   if_case K a b c (faulty n) h g i = Faults.fault_in_test a b c h
 
-  HoldsEach : Pairs → List Expr → Result (List StaticType) ExpressionFault → Type 0
+  HoldsEach : CapabilityList → List Expr → Result (List StaticType) ExpressionFault → Type 0
   HoldsEach K xs (Ok ts) = TypesEach env K xs ts
   HoldsEach K xs (Err n) = FaultsEach env K xs n
 
-  each_case : (K : Pairs) (x : Expr) (xs : List Expr) (r : Judgement) (p : Result (List StaticType) ExpressionFault) → Holds K x r
+  each_case : (K : CapabilityList) (x : Expr) (xs : List Expr) (r : Judgement) (p : Result (List StaticType) ExpressionFault) → Holds K x r
       → HoldsEach K xs p → HoldsEach K (x ∷ xs) (Judging.member_type r p)
   unfolding HoldsEach
   each_case K x xs (typed t L) (Ok ts) h g = Typing.types_more h g
   each_case K x xs (typed t L) (Err n) h g = Faults.fault_later h g
   each_case K x xs (faulty n) p h g = Faults.fault_here h
 
-  set_case : (K : Pairs) (xs : List Expr) (p : Result (List StaticType) ExpressionFault) → HoldsEach K xs p
+  set_case : (K : CapabilityList) (xs : List Expr) (p : Result (List StaticType) ExpressionFault) → HoldsEach K xs p
       → Holds K (form.Set xs) (Judging.members_type p)
   unfolding HoldsEach
   set_case K xs (Ok ts) h =
       row_case K (form.Set xs) Judging.learns_none (Rows.set_literal_type ts) (λ t e. Typing.types_set xs h e) (λ n e. Faults.fault_of_set xs h e)
   set_case K xs (Err n) h = Faults.fault_in_operand (Faults.of_set xs) h
 
-  record_case : (K : Pairs) (xs : List (Named Expr)) (p : Result (List StaticType) ExpressionFault) → HoldsEach K (Judging.values env xs) p
+  record_case : (K : CapabilityList) (xs : List (Named Expr)) (p : Result (List StaticType) ExpressionFault) → HoldsEach K (Judging.values env xs) p
       → Holds K (form.Record xs) (Judging.record_typed (Judging.names env xs) p)
   unfolding HoldsEach
   record_case K xs (Ok ts) h = Typing.types_record xs h
   record_case K xs (Err n) h = Faults.fault_in_operand (Faults.of_record xs) h
 
-  reading_case : (K : Pairs) (called : UnaryCall) (a : Expr) (s : StaticType) (L : Pairs) (d : Decided (ReadsLiteral called a (Tests.type_read called)))
+  reading_case : (K : CapabilityList) (called : UnaryCall) (a : Expr) (s : StaticType) (L : CapabilityList) (d : Decided (ReadsLiteral called a (Tests.type_read called)))
       → TakesText called → Types env K a s L → Holds K (form.UnaryCall called a) (Judging.row (Judging.literal_call called (is_proved d)) Judging.learns_none)
   reading_case K called a s L (inl h) i g = Typing.types_literal_call called a g h
   reading_case K called a s L (inr n) i g = Faults.no_literal called a i g (λ t h. n (subst (λ u. ReadsLiteral called a u) (sym (Tests.reading_type h)) h))
 
-  address_case : (K : Pairs) (called : UnaryCall) (a : Expr) (s : StaticType) (L : Pairs) → TakesAddress called → Types env K a s L
+  address_case : (K : CapabilityList) (called : UnaryCall) (a : Expr) (s : StaticType) (L : CapabilityList) → TakesAddress called → Types env K a s L
       → Holds K (form.UnaryCall called a) (Judging.row (Rows.address_test_type s) Judging.learns_none)
   address_case K called a s L i h =
       row_case K (form.UnaryCall called a) Judging.learns_none (Rows.address_test_type s)
       (λ t e. Typing.types_address_test called a i h e) (λ n e. Faults.fault_of_address_test called a i h e)
 
-  unary_call_case : (K : Pairs) (called : UnaryCall) (a : Expr) (r : Judgement) → Holds K a r
+  unary_call_case : (K : CapabilityList) (called : UnaryCall) (a : Expr) (r : Judgement) → Holds K a r
       → Holds K (form.UnaryCall called a) (Judging.unary_call_with env called (Tests.reads called a) r)
   unary_call_case K called a (faulty n) h = Faults.fault_in_operand (Faults.of_unary_call called a) (Faults.fault_here h)
   unary_call_case K unary_call.Ip a (typed s L) h = reading_case K unary_call.Ip a s L (Tests.reading_known unary_call.Ip a) tt h
   unary_call_case K unary_call.Decimal a (typed s L) h = reading_case K unary_call.Decimal a s L (Tests.reading_known unary_call.Decimal a) tt h
   unary_call_case K called a (typed s L) h = address_case K called a s L tt h
 
-  call_case : (K : Pairs) (called : BinaryCall) (a b : Expr) (r p : Judgement) → Holds K a r → Holds K b p
+  call_case : (K : CapabilityList) (called : BinaryCall) (a b : Expr) (r p : Judgement) → Holds K a r → Holds K b p
       → Holds K (form.BinaryCall called a b) (Judging.call_with env called r p)
   call_case K called a b (typed s L) (typed t M) h g =
       row_case K (form.BinaryCall called a b) Judging.learns_none (Rows.call_type called s t)
@@ -212,12 +212,12 @@ module _ (env : Environment) where
   -- ---- all forms
 
   IsJudged : Expr → Type 0
-  IsJudged x = (K : Pairs) → Holds K x (all K x)
+  IsJudged x = (K : CapabilityList) → Holds K x (all K x)
 
-  by_equation : (K : Pairs) (x : Expr) (r : Judgement) → all K x ≡ r → Holds K x r → Holds K x (all K x)
+  by_equation : (K : CapabilityList) (x : Expr) (r : Judgement) → all K x ≡ r → Holds K x r → Holds K x (all K x)
   by_equation K x r e h = subst (λ r. Holds K x r) (sym e) h
 
-  each_judged : (K : Pairs) (xs : List Expr) → Every IsJudged xs → HoldsEach K xs (Judging.each_of env (map (all K) xs))
+  each_judged : (K : CapabilityList) (xs : List Expr) → Every IsJudged xs → HoldsEach K xs (Judging.each_of env (map (all K) xs))
   unfolding IsJudged HoldsEach
   each_judged K [] h = Typing.types_none
   each_judged K (x ∷ xs) h = each_case K x xs (all K x) (Judging.each_of env (map (all K) xs)) (h.0 K) (each_judged K xs h.1)
@@ -246,7 +246,7 @@ module _ (env : Environment) where
   }
 
   -- the rules judge what the function does
-  pub judges : (K : Pairs) (x : Expr) → Judges env K x (of env K x)
+  pub judges : (K : CapabilityList) (x : Expr) → Judges env K x (of env K x)
   unfolding IsJudged
   judges K x = by_forms IsJudged judged_cases x K
 

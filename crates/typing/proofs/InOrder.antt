@@ -25,7 +25,7 @@ use Rattle.typing.specs.Types.{StaticType, FieldTypes, Declared, IsBoolean, comm
 use Rattle.typing.specs.Types.{declared_as, field_declared_at, put_required, put_each, field_before, same_requirement}
 use Rattle.typing.specs.Types.{truth_type}
 use Rattle.typing.specs.Environment.{Environment}
-use Rattle.typing.specs.Gained.{Pairs}
+use Rattle.typing.specs.Gained.{CapabilityList}
 use Rattle.typing.specs.Literals
 use Rattle.typing.specs.Literals.{ReadsLiteral}
 use Rattle.typing.specs.Rows
@@ -321,7 +321,7 @@ module _ (env : Environment) (o : HasOrderedTypes env) where
   mutual
     unfolding EachOrdered
 
-    ordered : {K L : Pairs} {x : Expr} {t : StaticType} → Types env K x t L → IsOrdered t
+    ordered : {K L : CapabilityList} {x : Expr} {t : StaticType} → Types env K x t L → IsOrdered t
     ordered (Typing.types_literal l) = literal_ordered l
     ordered (Typing.types_variable x) = variable_ordered x
     ordered (Typing.types_unary op a {s} {t} h e) = row_of (Rows.unary_type op s) t (unary_ordered op s) e
@@ -343,7 +343,7 @@ module _ (env : Environment) (o : HasOrderedTypes env) where
     ordered (Typing.types_address_test called a {s} {t} i h e) = row_of (Rows.address_test_type s) t (address_ordered s) e
     ordered (Typing.types_call called a b {s} {t} {u} h g e) = row_of (Rows.call_type called s t) u (call_ordered called s t) e
 
-    each_ordered : {K : Pairs} {xs : List Expr} {ts : List StaticType} → TypesEach env K xs ts → EachOrdered ts
+    each_ordered : {K : CapabilityList} {xs : List Expr} {ts : List StaticType} → TypesEach env K xs ts → EachOrdered ts
     each_ordered Typing.types_none = tt
     each_ordered (Typing.types_more h hs) = (ordered h, each_ordered hs)
 

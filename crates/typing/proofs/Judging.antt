@@ -22,7 +22,7 @@ use Rattle.typing.specs.Types
 use Rattle.typing.specs.Types.{StaticType}
 use Rattle.typing.specs.Environment
 use Rattle.typing.specs.Environment.{Environment, ExpressionFault}
-use Rattle.typing.specs.Gained.{Pairs, has_gains}
+use Rattle.typing.specs.Gained.{CapabilityList, has_gains}
 use Rattle.typing.specs.Rows
 use Rattle.typing.specs.Rows.{Row}
 use Rattle.typing.specs.Judgement.{Judgement, typed, faulty}
@@ -30,16 +30,16 @@ use Rattle.typing.proofs.Same.{two, three}
 use Rattle.typing.proofs.KnownPairs.{knows, in_both, or_learns}
 use Rattle.typing.proofs.Tests.{settlement, type_read, reads}
 
-abbrev pub on_typed : Judgement → (StaticType → Pairs → Judgement) → Judgement
+abbrev pub on_typed : Judgement → (StaticType → CapabilityList → Judgement) → Judgement
 on_typed (typed t L) f = f t L
 on_typed (faulty n) f = faulty n
 
 -- a row's type, which learns these pairs
-abbrev pub row : Row → (StaticType → Pairs) → Judgement
+abbrev pub row : Row → (StaticType → CapabilityList) → Judgement
 row (Ok t) f = typed t (f t)
 row (Err n) f = faulty n
 
-abbrev pub learns_none : StaticType → Pairs
+abbrev pub learns_none : StaticType → CapabilityList
 learns_none t = []
 
 -- r, where t is a boolean type
@@ -49,25 +49,25 @@ test_of Types.false_type r = r
 test_of Types.boolean_type r = r
 test_of t r = faulty Environment.unexpected
 
-abbrev pub and_right : StaticType → Pairs → Judgement → Judgement
+abbrev pub and_right : StaticType → CapabilityList → Judgement → Judgement
 and_right s L r = on_typed r (λ t M. test_of t (typed (Rows.and_type s t) (L ++ M)))
 
 -- `&&`, by the left's type and what it learns
-abbrev pub and_typed : StaticType → Pairs → Judgement → Judgement
+abbrev pub and_typed : StaticType → CapabilityList → Judgement → Judgement
 and_typed Types.false_type L r = typed Types.false_type []
 and_typed s L r = test_of s (and_right s L r)
 
-abbrev pub or_typed : StaticType → Pairs → Judgement → Judgement
+abbrev pub or_typed : StaticType → CapabilityList → Judgement → Judgement
 or_typed Types.true_type L r = typed Types.true_type []
 or_typed Types.false_type L r = on_typed r (λ t M. test_of t (typed t M))
 or_typed Types.boolean_type L r = on_typed r (λ t M. test_of t (typed (Rows.or_type t) (or_learns t L M)))
 or_typed s L r = faulty Environment.unexpected
 
-abbrev pub branches : Option StaticType → Pairs → Judgement
+abbrev pub branches : Option StaticType → CapabilityList → Judgement
 branches None L = faulty Environment.no_common_type
 branches (Some u) L = typed u L
 
-abbrev pub if_typed : StaticType → Pairs → Judgement → Judgement → Judgement
+abbrev pub if_typed : StaticType → CapabilityList → Judgement → Judgement → Judgement
 if_typed Types.true_type L r p = on_typed r (λ t M. typed t (L ++ M))
 if_typed Types.false_type L r p = p
 if_typed Types.boolean_type L r p =
@@ -105,7 +105,7 @@ unary_call_type called is_literal s = Rows.address_test_type s
 
 -- what is judged of an expression, by what is known
 abbrev pub Judging : Type 0
-Judging = Pairs → Judgement
+Judging = CapabilityList → Judgement
 
 -- the expression, and what is judged of it
 abbrev pub Judged : Type 0
@@ -114,13 +114,13 @@ Judged = Expr × Judging
 module _ (env : Environment) where
   -- ---- each form's judgement, by its operands'
 
-  abbrev pub and_with : Pairs → Judging → Judgement → Judgement
+  abbrev pub and_with : CapabilityList → Judging → Judgement → Judgement
   and_with K b r = on_typed r (λ s L. and_typed s L (b (K ++ L)))
 
   abbrev pub or_with : Judgement → Judgement → Judgement
   or_with p r = on_typed r (λ s L. or_typed s L p)
 
-  abbrev pub if_with : Pairs → Judging → Judgement → Judgement → Judgement
+  abbrev pub if_with : CapabilityList → Judging → Judgement → Judgement → Judgement
   if_with K b p r = on_typed r (λ s L. if_typed s L (b (K ++ L)) p)
 
   abbrev pub unary_with : Unary → Judgement → Judgement
@@ -148,10 +148,10 @@ module _ (env : Environment) where
   each_of [] = Ok []
   each_of (r ∷ rs) = member_type r (each_of rs)
 
-  abbrev pub at : Pairs → Judged → Judgement
+  abbrev pub at : CapabilityList → Judged → Judgement
   at K a = a.1 K
 
-  abbrev pub value_at : Pairs → Named Judged → Judgement
+  abbrev pub value_at : CapabilityList → Named Judged → Judgement
   value_at K f = f.value.1 K
 
   abbrev pub judging : Expr-F Judged → Judging
@@ -179,7 +179,7 @@ module _ (env : Environment) where
   whole = fold-Expr Judged step
 
   -- what is judged of an expression
-  abbrev pub of : Pairs → Expr → Judgement
+  abbrev pub of : CapabilityList → Expr → Judgement
   of K x = (whole x).1 K
 
   -- ---- the expression stays what it is
@@ -231,35 +231,35 @@ module _ (env : Environment) where
 
   -- ---- what is judged of each form
 
-  pub at_literal : (K : Pairs) (l : Literal) → of K (form.Literal l) ≡ typed (Rows.literal_type l) []
+  pub at_literal : (K : CapabilityList) (l : Literal) → of K (form.Literal l) ≡ typed (Rows.literal_type l) []
   at_literal K l = ap (λ p. p.1 K) (fold_literal Judged step l)
 
-  pub at_variable : (K : Pairs) (x : Variable) → of K (form.Variable x) ≡ typed (Rows.variable_type env x) []
+  pub at_variable : (K : CapabilityList) (x : Variable) → of K (form.Variable x) ≡ typed (Rows.variable_type env x) []
   at_variable K x = ap (λ p. p.1 K) (fold_variable Judged step x)
 
-  pub at_if : (K : Pairs) (a b c : Expr) → of K (form.If a b c) ≡ if_with K (λ M. of M b) (of K c) (of K a)
+  pub at_if : (K : CapabilityList) (a b c : Expr) → of K (form.If a b c) ≡ if_with K (λ M. of M b) (of K c) (of K a)
   at_if K a b c = ap (λ p. p.1 K) (fold_if Judged step a b c)
 
-  pub at_and : (K : Pairs) (a b : Expr) → of K (form.And a b) ≡ and_with K (λ M. of M b) (of K a)
+  pub at_and : (K : CapabilityList) (a b : Expr) → of K (form.And a b) ≡ and_with K (λ M. of M b) (of K a)
   at_and K a b = ap (λ p. p.1 K) (fold_and Judged step a b)
 
-  pub at_or : (K : Pairs) (a b : Expr) → of K (form.Or a b) ≡ or_with (of K b) (of K a)
+  pub at_or : (K : CapabilityList) (a b : Expr) → of K (form.Or a b) ≡ or_with (of K b) (of K a)
   at_or K a b = ap (λ p. p.1 K) (fold_or Judged step a b)
 
-  pub at_unary : (K : Pairs) (op : Unary) (a : Expr) → of K (form.Unary op a) ≡ unary_with op (of K a)
+  pub at_unary : (K : CapabilityList) (op : Unary) (a : Expr) → of K (form.Unary op a) ≡ unary_with op (of K a)
   at_unary K op a = ap (λ p. p.1 K) (fold_unary Judged step op a)
 
-  pub at_binary : (K : Pairs) (op : Binary) (a b : Expr) → of K (form.Binary op a b) ≡ binary_with op a b (of K a) (of K b)
+  pub at_binary : (K : CapabilityList) (op : Binary) (a b : Expr) → of K (form.Binary op a b) ≡ binary_with op a b (of K a) (of K b)
   at_binary K op a b = ap (λ p. p.1 K) (fold_binary Judged step op a b)
       ∙ two (λ x y. binary_with op x y (of K a) (of K b)) (stays a) (stays b)
 
-  pub at_field : (K : Pairs) (a : Expr) (k : List ℕ) → of K (form.Field a k) ≡ field_with (knows K (a, k)) k (of K a)
+  pub at_field : (K : CapabilityList) (a : Expr) (k : List ℕ) → of K (form.Field a k) ≡ field_with (knows K (a, k)) k (of K a)
   at_field K a k = ap (λ p. p.1 K) (fold_field Judged step a k) ∙ ap (λ x. field_with (knows K (x, k)) k (of K a)) (stays a)
 
-  pub at_has : (K : Pairs) (a : Expr) (k : List ℕ) → of K (form.Has a k) ≡ has_with (knows K (a, k)) a k (of K a)
+  pub at_has : (K : CapabilityList) (a : Expr) (k : List ℕ) → of K (form.Has a k) ≡ has_with (knows K (a, k)) a k (of K a)
   at_has K a k = ap (λ p. p.1 K) (fold_has Judged step a k) ∙ ap (λ x. has_with (knows K (x, k)) x k (of K a)) (stays a)
 
-  each_same : (K : Pairs) (xs : List Expr) → map (at K) (map whole xs) ≡ map (of K) xs
+  each_same : (K : CapabilityList) (xs : List Expr) → map (at K) (map whole xs) ≡ map (of K) xs
   each_same K [] = refl
   each_same K (x ∷ xs) = ap (λ (rs : List Judgement). of K x ∷ rs) (each_same K xs)
 
@@ -273,23 +273,23 @@ module _ (env : Environment) where
   names_same [] = refl
   names_same (f ∷ fs) = ap (λ (ks : List (List ℕ)). f.name ∷ ks) (names_same fs)
 
-  values_same : (K : Pairs) (fs : List (Named Expr)) → map (value_at K) (map field_whole fs) ≡ map (of K) (values fs)
+  values_same : (K : CapabilityList) (fs : List (Named Expr)) → map (value_at K) (map field_whole fs) ≡ map (of K) (values fs)
   values_same K [] = refl
   values_same K (f ∷ fs) = ap (λ (rs : List Judgement). of K f.value ∷ rs) (values_same K fs)
 
-  pub at_set : (K : Pairs) (xs : List Expr) → of K (form.Set xs) ≡ members_type (each_of (map (of K) xs))
+  pub at_set : (K : CapabilityList) (xs : List Expr) → of K (form.Set xs) ≡ members_type (each_of (map (of K) xs))
   at_set K xs = ap (λ p. p.1 K) (fold_set Judged step xs) ∙ ap (λ rs. members_type (each_of rs)) (each_same K xs)
 
-  pub at_record : (K : Pairs) (fs : List (Named Expr))
+  pub at_record : (K : CapabilityList) (fs : List (Named Expr))
       → of K (form.Record fs) ≡ record_typed (names fs) (each_of (map (of K) (values fs)))
   at_record K fs = ap (λ p. p.1 K) (fold_record Judged step fs)
       ∙ two (λ ks rs. record_typed ks (each_of rs)) (names_same fs) (values_same K fs)
 
-  pub at_unary_call : (K : Pairs) (called : UnaryCall) (a : Expr)
+  pub at_unary_call : (K : CapabilityList) (called : UnaryCall) (a : Expr)
       → of K (form.UnaryCall called a) ≡ unary_call_with called (reads called a) (of K a)
   at_unary_call K called a = ap (λ p. p.1 K) (fold_unary_call Judged step called a)
       ∙ ap (λ x. unary_call_with called (reads called x) (of K a)) (stays a)
 
-  pub at_call : (K : Pairs) (called : BinaryCall) (a b : Expr)
+  pub at_call : (K : CapabilityList) (called : BinaryCall) (a b : Expr)
       → of K (form.BinaryCall called a b) ≡ call_with called (of K a) (of K b)
   at_call K called a b = ap (λ p. p.1 K) (fold_binary_call Judged step called a b)

@@ -28,7 +28,7 @@ use Rattle.typing.specs.Membership
 use Rattle.typing.specs.Membership.{Of}
 use Rattle.typing.specs.Environment.{Environment}
 use Rattle.typing.specs.Gained
-use Rattle.typing.specs.Gained.{Pairs, InBoth, OrGains, has_gains}
+use Rattle.typing.specs.Gained.{CapabilityList, InBoth, OrGains, has_gains}
 use Rattle.typing.specs.Rows
 use Rattle.typing.specs.Rows.{Row}
 use Rattle.typing.specs.Typing
@@ -82,34 +82,34 @@ may_be_boolean Rows.surely = Types.is_true
 may_be_boolean Rows.perhaps = Types.is_either
 
 module _ (env : Environment) (W : Entities) (q : Request) (C : Conforms env W q) (one : (x : Expr) → HasOneOutcome W q x) where
-  abbrev Present : Pairs → Type 0
+  abbrev Present : CapabilityList → Type 0
   Present K = ArePresent W q K
 
-  abbrev Right : StaticType → Pairs → EvaluationResult → Type 0
+  abbrev Right : StaticType → CapabilityList → EvaluationResult → Type 0
   Right t L r = IsSoundOutcome W q t L r
 
   -- whatever the expression gives goes right
-  abbrev Goes : Expr → StaticType → Pairs → Type 0
+  abbrev Goes : Expr → StaticType → CapabilityList → Type 0
   Goes x t L = (r : EvaluationResult) → EvaluatesTo W q x r → Right t L r
 
   pub nothing : Present []
   nothing = record { each = λ p c. Contains-none p c }
 
-  present_joined : (K L : Pairs) → Present K → Present L → Present (K ++ L)
+  present_joined : (K L : CapabilityList) → Present K → Present L → Present (K ++ L)
   present_joined K L h g = record { each = λ p c. elim (Contains-append_cases K L p c) [ inl k ↦ h.each p k | inr l ↦ g.each p l ] }
 
-  both_left : {L M N : Pairs} → InBoth L M N → Present L → Present N
+  both_left : {L M N : CapabilityList} → InBoth L M N → Present L → Present N
   both_left h l = record { each = λ p c. l.each p (both_members h p c).0 }
 
-  both_right : {L M N : Pairs} → InBoth L M N → Present M → Present N
+  both_right : {L M N : CapabilityList} → InBoth L M N → Present M → Present N
   both_right h m = record { each = λ p c. m.each p (both_members h p c).1 }
 
-  or_left_learns : {t : StaticType} {L M N : Pairs} → OrGains t L M N → Present L → Present N
+  or_left_learns : {t : StaticType} {L M N : CapabilityList} → OrGains t L M N → Present L → Present N
   or_left_learns Gained.or_gains_none l = nothing
   or_left_learns Gained.or_gains_left l = l
   or_left_learns (Gained.or_gains_both h) l = both_left h l
 
-  or_right_learns : {t : StaticType} {L M N : Pairs} → OrGains t L M N → Of (boolean true) t → Present M → Present N
+  or_right_learns : {t : StaticType} {L M N : CapabilityList} → OrGains t L M N → Of (boolean true) t → Present M → Present N
   or_right_learns Gained.or_gains_none h m = nothing
   or_right_learns Gained.or_gains_left h m = elim h [ ]
   or_right_learns (Gained.or_gains_both g) h m = both_right g m
@@ -121,26 +121,26 @@ module _ (env : Environment) (W : Entities) (q : Request) (C : Conforms env W q)
   learns_nothing : {t : StaticType} {r : EvaluationResult} → Fits t r → Right t [] r
   learns_nothing h = record { fits = h; learned = λ e. nothing }
 
-  harmless : {t : StaticType} {L : Pairs} {e : EvalFault} → IsPermittedError e → Right t L (Err e)
+  harmless : {t : StaticType} {L : CapabilityList} {e : EvalFault} → IsPermittedError e → Right t L (Err e)
   harmless h = record { fits = h; learned = λ e. never e }
 
-  is_false : {t : StaticType} {L : Pairs} → Of (boolean false) t → Right t L (Ok (boolean false))
+  is_false : {t : StaticType} {L : CapabilityList} → Of (boolean false) t → Right t L (Ok (boolean false))
   is_false h = record { fits = h; learned = λ e. not_true e }
 
   -- a test that fails errs harmlessly
-  test_fails : {a : Expr} {s : StaticType} {L : Pairs} {e : EvalFault} → IsBoolean s → Goes a s L → TestFails W q a e → IsPermittedError e
+  test_fails : {a : Expr} {s : StaticType} {L : CapabilityList} {e : EvalFault} → IsBoolean s → Goes a s L → TestFails W q a e → IsPermittedError e
   test_fails i f (rule.test_errs g) = (f _ g).fits
   test_fails i f (rule.no_boolean g n) = no_test i (f _ g).fits n
 
   -- ---- `&&`, `||` and `if`
 
-  and_false_goes : {a b : Expr} {L : Pairs} {r : EvaluationResult} → Goes a Types.false_type L → AndGives W q a b r → Right Types.false_type [] r
+  and_false_goes : {a b : Expr} {L : CapabilityList} {r : EvaluationResult} → Goes a Types.false_type L → AndGives W q a b r → Right Types.false_type [] r
   and_false_goes f (gives.left_false g) = is_false Membership.of_false
   and_false_goes f (gives.both_give g h) = let i = (f _ g).fits in elim i [ ]
   and_false_goes f (gives.and_left g) = harmless (test_fails Types.is_false f g)
   and_false_goes f (gives.and_right g h) = let i = (f _ g).fits in elim i [ ]
 
-  and_goes : {a b : Expr} {s t : StaticType} {L M : Pairs} {r : EvaluationResult} → Goes a s L → Rows.MayBeTrue s → (Present L → Goes b t M) → IsBoolean t
+  and_goes : {a b : Expr} {s t : StaticType} {L M : CapabilityList} {r : EvaluationResult} → Goes a s L → Rows.MayBeTrue s → (Present L → Goes b t M) → IsBoolean t
       → AndGives W q a b r → Right (Rows.and_type s t) (L ++ M) r
   and_goes f p k i (gives.left_false g) = is_false (and_false_fits p i (f _ g).fits)
   and_goes {L} {M} f p k i (gives.both_give g h) =
@@ -148,13 +148,13 @@ module _ (env : Environment) (W : Entities) (q : Request) (C : Conforms env W q)
   and_goes f p k i (gives.and_left g) = harmless (test_fails (may_be_boolean p) f g)
   and_goes f p k i (gives.and_right g h) = harmless (test_fails i (k ((f _ g).learned refl)) h)
 
-  or_true_goes : {a b : Expr} {L : Pairs} {r : EvaluationResult} → Goes a Types.true_type L → OrGives W q a b r → Right Types.true_type [] r
+  or_true_goes : {a b : Expr} {L : CapabilityList} {r : EvaluationResult} → Goes a Types.true_type L → OrGives W q a b r → Right Types.true_type [] r
   or_true_goes f (gives.left_true g) = learns_nothing Membership.of_true
   or_true_goes f (gives.right_gives g h) = let i = (f _ g).fits in elim i [ ]
   or_true_goes f (gives.or_left g) = harmless (test_fails Types.is_true f g)
   or_true_goes f (gives.or_right g h) = let i = (f _ g).fits in elim i [ ]
 
-  or_false_goes : {a b : Expr} {t : StaticType} {L M : Pairs} {r : EvaluationResult} → Goes a Types.false_type L → Goes b t M → IsBoolean t
+  or_false_goes : {a b : Expr} {t : StaticType} {L M : CapabilityList} {r : EvaluationResult} → Goes a Types.false_type L → Goes b t M → IsBoolean t
       → OrGives W q a b r → Right t M r
   or_false_goes f k i (gives.left_true g) = let j = (f _ g).fits in elim j [ ]
   or_false_goes f k i (gives.right_gives g h) = k _ h
@@ -164,20 +164,20 @@ module _ (env : Environment) (W : Entities) (q : Request) (C : Conforms env W q)
   right_true : {t : StaticType} {b : Bool} → Of (boolean b) t → (let m : EvaluationResult = Ok (boolean b) in m ≡ Ok (boolean true)) → Of (boolean true) t
   right_true {t} h e = subst (λ v. Of v t) (Ok-same e) h
 
-  or_goes : {a b : Expr} {t : StaticType} {L M N : Pairs} {r : EvaluationResult} → Goes a Types.boolean_type L → Goes b t M → IsBoolean t → OrGains t L M N
+  or_goes : {a b : Expr} {t : StaticType} {L M N : CapabilityList} {r : EvaluationResult} → Goes a Types.boolean_type L → Goes b t M → IsBoolean t → OrGains t L M N
       → OrGives W q a b r → Right (Rows.or_type t) N r
   or_goes f k i l (gives.left_true g) = record { fits = or_true_fits i; learned = λ e. or_left_learns l ((f _ g).learned refl) }
   or_goes f k i l (gives.right_gives g h) = let b = k _ h in record { fits = or_fits i b.fits; learned = λ e. or_right_learns l (right_true b.fits e) (b.learned e) }
   or_goes f k i l (gives.or_left g) = harmless (test_fails Types.is_either f g)
   or_goes f k i l (gives.or_right g h) = harmless (test_fails i k h)
 
-  if_true_goes : {a b c : Expr} {t : StaticType} {L M : Pairs} {r : EvaluationResult} → Goes a Types.true_type L → (Present L → Goes b t M)
+  if_true_goes : {a b c : Expr} {t : StaticType} {L M : CapabilityList} {r : EvaluationResult} → Goes a Types.true_type L → (Present L → Goes b t M)
       → IfGives W q a b c r → Right t (L ++ M) r
   if_true_goes {L} {M} f k (gives.then_gives g h) = let l = (f _ g).learned refl in let b = k l _ h in record { fits = b.fits; learned = λ e. present_joined L M l (b.learned e) }
   if_true_goes f k (gives.else_gives g h) = let i = (f _ g).fits in elim i [ ]
   if_true_goes f k (gives.test_fails g) = harmless (test_fails Types.is_true f g)
 
-  if_false_goes : {a b c : Expr} {t : StaticType} {L M : Pairs} {r : EvaluationResult} → Goes a Types.false_type L → Goes c t M
+  if_false_goes : {a b c : Expr} {t : StaticType} {L M : CapabilityList} {r : EvaluationResult} → Goes a Types.false_type L → Goes c t M
       → IfGives W q a b c r → Right t M r
   if_false_goes f k (gives.then_gives g h) = let i = (f _ g).fits in elim i [ ]
   if_false_goes f k (gives.else_gives g h) = k _ h
@@ -187,7 +187,7 @@ module _ (env : Environment) (W : Entities) (q : Request) (C : Conforms env W q)
   fits_more (Ok v) f h = f v h
   fits_more (Err e) f h = h
 
-  if_goes : {a b c : Expr} (s t u : StaticType) {L M N B : Pairs} {r : EvaluationResult} → Goes a Types.boolean_type L → (Present L → Goes b s M) → Goes c t N
+  if_goes : {a b c : Expr} (s t u : StaticType) {L M N B : CapabilityList} {r : EvaluationResult} → Goes a Types.boolean_type L → (Present L → Goes b s M) → Goes c t N
       → common s t ≡ Some u → InBoth N (L ++ M) B → IfGives W q a b c r → Right u B r
   if_goes s t u {L} {M} {r} f k m e i (gives.then_gives g h) =
       let l = (f _ g).learned refl in
@@ -199,12 +199,12 @@ module _ (env : Environment) (W : Entities) (q : Request) (C : Conforms env W q)
 
   -- ---- operands
 
-  one_goes : {a : Expr} {R : PlainValue → EvaluationResult → Type 0} (s : StaticType) (row : Row) (t : StaticType) {L : Pairs} {r : EvaluationResult} → Goes a s L → row ≡ Ok t
+  one_goes : {a : Expr} {R : PlainValue → EvaluationResult → Type 0} (s : StaticType) (row : Row) (t : StaticType) {L : CapabilityList} {r : EvaluationResult} → Goes a s L → row ≡ Ok t
       → ((v : PlainValue) → EvaluatesTo W q a (Ok v) → Of v s → (m : EvaluationResult) → R v m → FitsRow row m) → OneGives W q a R r → Fits t r
   one_goes s row t f e k (gives.one_value {v} {r} g u) = subst (λ x. FitsRow x r) e (k v g (f _ g).fits r u)
   one_goes s row t f e k (gives.one_fails g) = (f _ g).fits
 
-  two_goes : {a b : Expr} {R : PlainValue → PlainValue → EvaluationResult → Type 0} (s t : StaticType) (row : Row) (u : StaticType) {L M : Pairs} {r : EvaluationResult} → Goes a s L → Goes b t M
+  two_goes : {a b : Expr} {R : PlainValue → PlainValue → EvaluationResult → Type 0} (s t : StaticType) (row : Row) (u : StaticType) {L M : CapabilityList} {r : EvaluationResult} → Goes a s L → Goes b t M
       → row ≡ Ok u → ((v w : PlainValue) → Of v s → Of w t → (m : EvaluationResult) → R v w m → FitsRow row m) → TwoGive W q a b R r → Fits u r
   two_goes s t row u f h e k (gives.two_values {v} {w} {r} g i j) = subst (λ x. FitsRow x r) e (k v w (f _ g).fits (h _ i).fits r j)
   two_goes s t row u f h e k (gives.left_fails g) = (f _ g).fits
@@ -214,7 +214,7 @@ module _ (env : Environment) (W : Entities) (q : Request) (C : Conforms env W q)
   value_has : {a : Expr} {v : PlainValue} {k : List ℕ} → EvaluatesTo W q a (Ok v) → OneGives W q a (HasGives W k) (Ok (boolean true)) → HasGives W k v (Ok (boolean true))
   value_has {k} g (gives.one_value h u) = subst (λ w. HasGives W k w (Ok (boolean true))) (Ok-same (same_outcome h g)) u
 
-  known_has : {K : Pairs} (a : Expr) (k : List ℕ) (b : Bool) {v : PlainValue} → Present K → Decides b (Contains K (a, k)) → EvaluatesTo W q a (Ok v)
+  known_has : {K : CapabilityList} (a : Expr) (k : List ℕ) (b : Bool) {v : PlainValue} → Present K → Decides b (Contains K (a, k)) → EvaluatesTo W q a (Ok v)
       → b ≡ true → HasGives W k v (Ok (boolean true))
   known_has a k b h d g e = value_has g (layer W q (Expr-F.Has a k) (form.outs-Has a k) (h.each (a, k) (d.0 e)))
 
@@ -291,7 +291,7 @@ module _ (env : Environment) (W : Entities) (q : Request) (C : Conforms env W q)
     unfolding EachFit
 
     -- whatever a typed expression gives goes right
-    pub is_sound : {K L : Pairs} {x : Expr} {t : StaticType} → Present K → Types env K x t L → Goes x t L
+    pub is_sound : {K L : CapabilityList} {x : Expr} {t : StaticType} → Present K → Types env K x t L → Goes x t L
     is_sound k (Typing.types_literal l) r g = value_goes (literal_of l) (layer W q (Expr-F.Literal l) (form.outs-Literal l) g)
     is_sound k (Typing.types_variable x) r g = value_goes (variable_of x) (layer W q (Expr-F.Variable x) (form.outs-Variable x) g)
     is_sound k (Typing.types_unary op a {s} {t} h e) r g =
@@ -329,7 +329,7 @@ module _ (env : Environment) (W : Entities) (q : Request) (C : Conforms env W q)
         learns_nothing (two_goes s t (Rows.call_type called s t) u (is_sound k h) (is_sound k f) e (λ v w i j m l. call_fits called i j l)
         (layer W q (Expr-F.BinaryCall called a b) (form.outs-BinaryCall called a b) g))
 
-    each_is_sound : {K : Pairs} {xs : List Expr} {ts : List StaticType} → Present K → TypesEach env K xs ts
+    each_is_sound : {K : CapabilityList} {xs : List Expr} {ts : List StaticType} → Present K → TypesEach env K xs ts
         → (m : Result (List PlainValue) EvalFault) → EachEvaluatesTo W q xs m → EachFit ts m
     each_is_sound k Typing.types_none _ rule.each_none = tt
     each_is_sound k (Typing.types_more h hs) _ (rule.each_more g gs) = ((is_sound k h _ g).fits, each_is_sound k hs _ gs)

@@ -18,7 +18,7 @@ use Rattle.evaluator.specs.Evaluation.{EvaluatesTo}
 use Rattle.typing.specs.Types.{StaticType, record_type}
 use Rattle.typing.specs.Membership.{Of}
 use Rattle.typing.specs.Environment.{Environment}
-use Rattle.typing.specs.Gained.{Capability, Pairs}
+use Rattle.typing.specs.Gained.{Capability, CapabilityList}
 
 -- `Conforms env W q` holds if the request `q` and the entity data `W` conform to the environment `env`. The request has
 -- the action of `env` and its types of principal, resource and context. The attributes of each stored entity are of the
@@ -53,12 +53,12 @@ abbrev pub IsPresent : Entities → Request → Capability → Type 0
 IsPresent W q p = EvaluatesTo W q (form.Has p.0 p.1) (Ok (boolean true))
 
 -- `ArePresent W q K` holds if `IsPresent W q p` holds for each capability `p` of `K`.
-pub record ArePresent (W : Entities) (q : Request) (K : Pairs) : Type 0 where
+pub record ArePresent (W : Entities) (q : Request) (K : CapabilityList) : Type 0 where
   pub each : (p : Capability) → Contains K p → IsPresent W q p
 
 -- `IsSoundOutcome W q t L r` holds if `r` fits the type `t` and, if `r` is true, the fields of the capabilities `L` are
 -- present for the request `q` over the entity data `W`.
-pub record IsSoundOutcome (W : Entities) (q : Request) (t : StaticType) (L : Pairs) (r : EvaluationResult)
+pub record IsSoundOutcome (W : Entities) (q : Request) (t : StaticType) (L : CapabilityList) (r : EvaluationResult)
     : Type 0 where
   pub fits : Fits t r
   pub learned : r ≡ Ok (boolean true) → ArePresent W q L

@@ -12,7 +12,7 @@ use Rattle.evaluator.specs.Operators.{Entities}
 use Rattle.evaluator.specs.Evaluation.{EvaluatesTo}
 use Rattle.typing.specs.Types.{StaticType, false_type, boolean_type, IsBoolean}
 use Rattle.typing.specs.Environment.{Environment, ExpressionFault, attribute_may_be_missing}
-use Rattle.typing.specs.Gained.{Capability, Pairs}
+use Rattle.typing.specs.Gained.{Capability, CapabilityList}
 use Rattle.typing.specs.Ordered.{IsOrdered, HasOrderedTypes}
 use Rattle.typing.specs.Typing.{Types}
 use Rattle.typing.specs.Faults.{Faults}
@@ -23,37 +23,39 @@ use Rattle.typing.specs.Conforming.{Conforms, Fits, ArePresent, IsSoundOutcome}
 -- `HaveOneJudgement`: whatever capabilities are known, each expression has exactly one judgement: a type with the
 -- capabilities that it gains, or an error.
 abbrev pub HaveOneJudgement : Type 0
-HaveOneJudgement = (env : Environment) (K : Pairs) (x : Expr)
+HaveOneJudgement = (env : Environment) (K : CapabilityList) (x : Expr)
     → (r : Judgement) × Judges env K x r × ((s : Judgement) → Judges env K x s → s ≡ r)
 
--- `AreSamePairs K M` holds if `K` and `M` have the same capabilities.
-pub record AreSamePairs (K M : Pairs) : Type 0 where
+-- `AreSameCapabilities K M` holds if `K` and `M` have the same capabilities.
+pub record AreSameCapabilities (K M : CapabilityList) : Type 0 where
   pub there : (p : Capability) → Contains K p → Contains M p
   pub back : (p : Capability) → Contains M p → Contains K p
 
 -- `CapabilitiesAreASet`: judgements depend on the known capabilities only as a set: whatever their order and repeats,
 -- an expression has the same type or the same error, and gains the same set of capabilities.
 abbrev pub CapabilitiesAreASet : Type 0
-CapabilitiesAreASet = (env : Environment) (K M : Pairs) (x : Expr) → AreSamePairs K M
-    → ((t : StaticType) (L : Pairs) → Types env K x t L → (N : Pairs) × AreSamePairs L N × Types env M x t N)
+CapabilitiesAreASet = (env : Environment) (K M : CapabilityList) (x : Expr) → AreSameCapabilities K M
+    → ((t : StaticType) (L : CapabilityList) → Types env K x t L → (N : CapabilityList) × AreSameCapabilities L N
+    × Types env M x t N)
     × ((n : ExpressionFault) → Faults env K x n → Faults env M x n)
 
 -- `TypesAreOrdered`: if the keys of an environment's record types ascend, those of each expression's type do; so record
 -- types with the same keys have them in the same order.
 abbrev pub TypesAreOrdered : Type 0
-TypesAreOrdered = (env : Environment) → HasOrderedTypes env → (K L : Pairs) (x : Expr) (t : StaticType)
+TypesAreOrdered = (env : Environment) → HasOrderedTypes env → (K L : CapabilityList) (x : Expr) (t : StaticType)
     → Types env K x t L → IsOrdered t
 
 -- `AreSoundIn W` holds if typing is sound over the entity data `W`. Let a request and `W` conform, and the fields of
 -- the known capabilities be present. Each outcome of an expression of type `t` is a value of `t` or a permitted error.
 -- If the outcome is true, the fields of the gained capabilities are present.
 abbrev pub AreSoundIn : Entities → Type 0
-AreSoundIn W = (env : Environment) (q : Request) → Conforms env W q → (K L : Pairs) (x : Expr) (t : StaticType)
+AreSoundIn W = (env : Environment) (q : Request) → Conforms env W q → (K L : CapabilityList) (x : Expr) (t : StaticType)
     → ArePresent W q K → Types env K x t L → (r : EvaluationResult) → EvaluatesTo W q x r → IsSoundOutcome W q t L r
 
 -- `TypedIsSound`: typing is sound if a test decides the ancestor relation.
 abbrev pub TypedIsSound : Type 0
-TypedIsSound = (W : Entities) (above : EntityUid → EntityUid → Bool) → Decides W.parents above → AreSoundIn W
+TypedIsSound = (W : Entities) (ancestor_test : EntityUid → EntityUid → Bool) → Decides W.parents ancestor_test
+    → AreSoundIn W
 
 -- `TypedIsSoundInFiniteHierarchies`: typing is sound if finitely many entities have parents.
 abbrev pub TypedIsSoundInFiniteHierarchies : Type 0
@@ -64,8 +66,9 @@ TypedIsSoundInFiniteHierarchies = (W : Entities) (stored : List EntityUid) → H
 -- environment. An expression that has a boolean type there, without known capabilities, gives only a boolean or a
 -- permitted error. If its type is False, it never gives true.
 abbrev pub PoliciesAreSound : Type 0
-PoliciesAreSound = (W : Entities) (above : EntityUid → EntityUid → Bool) → Decides W.parents above
-    → (env : Environment) (q : Request) → Conforms env W q → (x : Expr) (t : StaticType) (L : Pairs) → IsBoolean t
+PoliciesAreSound = (W : Entities) (ancestor_test : EntityUid → EntityUid → Bool) → Decides W.parents ancestor_test
+    → (env : Environment) (q : Request) → Conforms env W q → (x : Expr) (t : StaticType) (L : CapabilityList)
+    → IsBoolean t
     → Types env [] x t L
     → (r : EvaluationResult) → EvaluatesTo W q x r → Fits boolean_type r × (t ≡ false_type → r ≢ Ok (boolean true))
 

@@ -1,4 +1,4 @@
-pub mod Blamed
+pub mod BlamedExpressions
 pub mod Conforming
 pub mod Environment
 pub mod Example

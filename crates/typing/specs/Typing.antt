@@ -18,7 +18,7 @@ use Rattle.evaluator.specs.Operators.{TakesAddress}
 use Rattle.typing.specs.Types.{StaticType, true_type, false_type, boolean_type, record_type}
 use Rattle.typing.specs.Types.{no_field_types, put_each, truth_type, IsBoolean, common}
 use Rattle.typing.specs.Environment.{Environment}
-use Rattle.typing.specs.Gained.{Pairs, InBoth, OrGains, has_gains}
+use Rattle.typing.specs.Gained.{CapabilityList, InBoth, OrGains, has_gains}
 use Rattle.typing.specs.Literals.{DecidedByLiterals, UndecidedByLiterals, ReadsLiteral}
 use Rattle.typing.specs.Rows.{literal_type, variable_type, unary_type, binary_type, MayBeTrue, and_type, or_type}
 use Rattle.typing.specs.Rows.{field_type_of, has_type, set_literal_type, address_test_type, call_type}
@@ -26,58 +26,63 @@ use Rattle.typing.specs.Rows.{field_type_of, has_type, set_literal_type, address
 mutual
   -- `Types env K x t L` holds if, in the environment `env`, `x` has the type `t` and gains the capabilities `L`, where
   -- the capabilities `K` are known.
-  pub data Types (env : Environment) : Pairs → Expr → StaticType → Pairs → Type 0 where
-    types_literal : {K : Pairs} (l : Literal) → Types env K (form.Literal l) (literal_type l) []
-    types_variable : {K : Pairs} (x : Variable) → Types env K (form.Variable x) (variable_type env x) []
-    types_unary : {K L : Pairs} (op : Unary) (a : Expr) {s t : StaticType} → Types env K a s L
+  pub data Types (env : Environment) : CapabilityList → Expr → StaticType → CapabilityList → Type 0 where
+    types_literal : {K : CapabilityList} (l : Literal) → Types env K (form.Literal l) (literal_type l) []
+    types_variable : {K : CapabilityList} (x : Variable) → Types env K (form.Variable x) (variable_type env x) []
+    types_unary : {K L : CapabilityList} (op : Unary) (a : Expr) {s t : StaticType} → Types env K a s L
         → unary_type op s ≡ Ok t → Types env K (form.Unary op a) t []
     -- the left side is False: the right side is not checked
-    and_of_false : {K L : Pairs} (a b : Expr) → Types env K a false_type L → Types env K (form.And a b) false_type []
-    and_of_both : {K L M : Pairs} (a b : Expr) {s t : StaticType} → Types env K a s L → MayBeTrue s
+    and_of_false : {K L : CapabilityList} (a b : Expr) → Types env K a false_type L
+        → Types env K (form.And a b) false_type []
+    and_of_both : {K L M : CapabilityList} (a b : Expr) {s t : StaticType} → Types env K a s L → MayBeTrue s
         → Types env (K ++ L) b t M → IsBoolean t → Types env K (form.And a b) (and_type s t) (L ++ M)
     -- the left side is True: the right side is not checked
-    or_of_true : {K L : Pairs} (a b : Expr) → Types env K a true_type L → Types env K (form.Or a b) true_type []
-    or_of_false : {K L M : Pairs} (a b : Expr) {t : StaticType} → Types env K a false_type L → Types env K b t M
+    or_of_true : {K L : CapabilityList} (a b : Expr) → Types env K a true_type L
+        → Types env K (form.Or a b) true_type []
+    or_of_false : {K L M : CapabilityList} (a b : Expr) {t : StaticType} → Types env K a false_type L
+        → Types env K b t M
         → IsBoolean t → Types env K (form.Or a b) t M
-    or_of_both : {K L M N : Pairs} (a b : Expr) {t : StaticType} → Types env K a boolean_type L
+    or_of_both : {K L M N : CapabilityList} (a b : Expr) {t : StaticType} → Types env K a boolean_type L
         → Types env K b t M → IsBoolean t → OrGains t L M N → Types env K (form.Or a b) (or_type t) N
     -- the test is True or False: the other branch is not checked
-    if_of_true : {K L M : Pairs} (a b c : Expr) {t : StaticType} → Types env K a true_type L
+    if_of_true : {K L M : CapabilityList} (a b c : Expr) {t : StaticType} → Types env K a true_type L
         → Types env (K ++ L) b t M → Types env K (form.If a b c) t (L ++ M)
-    if_of_false : {K L M : Pairs} (a b c : Expr) {t : StaticType} → Types env K a false_type L
+    if_of_false : {K L M : CapabilityList} (a b c : Expr) {t : StaticType} → Types env K a false_type L
         → Types env K c t M → Types env K (form.If a b c) t M
     -- the whole gains `B`: the capabilities `N` of `else` that the test and `then` together (`L ++ M`) gain too
-    if_of_both : {K L M N B : Pairs} (a b c : Expr) {s t u : StaticType} → Types env K a boolean_type L
+    if_of_both : {K L M N B : CapabilityList} (a b c : Expr) {s t u : StaticType} → Types env K a boolean_type L
         → Types env (K ++ L) b s M → Types env K c t N → common s t ≡ Some u → InBoth N (L ++ M) B
         → Types env K (form.If a b c) u B
     -- literals decide the result: the operands are not typed
-    types_settled : {K : Pairs} (op : Binary) (a b : Expr) {r : Bool} → DecidedByLiterals env op a b r
+    types_settled : {K : CapabilityList} (op : Binary) (a b : Expr) {r : Bool} → DecidedByLiterals env op a b r
         → Types env K (form.Binary op a b) (truth_type r) []
-    types_binary : {K L M : Pairs} (op : Binary) (a b : Expr) {s t u : StaticType} → UndecidedByLiterals env op a b
+    types_binary : {K L M : CapabilityList} (op : Binary) (a b : Expr) {s t u : StaticType}
+        → UndecidedByLiterals env op a b
         → Types env K a s L → Types env K b t M → binary_type env op s t ≡ Ok u
         → Types env K (form.Binary op a b) u []
-    types_field : {K L : Pairs} (a : Expr) (k : List ℕ) {is_known : Bool} {s t : StaticType} → Types env K a s L
+    types_field : {K L : CapabilityList} (a : Expr) (k : List ℕ) {is_known : Bool} {s t : StaticType}
+        → Types env K a s L
         → Decides is_known (Contains K (a, k)) → field_type_of env is_known k s ≡ Ok t
         → Types env K (form.Field a k) t []
-    types_has : {K L : Pairs} (a : Expr) (k : List ℕ) {is_known : Bool} {s t : StaticType} → Types env K a s L
+    types_has : {K L : CapabilityList} (a : Expr) (k : List ℕ) {is_known : Bool} {s t : StaticType} → Types env K a s L
         → Decides is_known (Contains K (a, k)) → has_type env is_known k s ≡ Ok t
         → Types env K (form.Has a k) t (has_gains t (a, k))
-    types_set : {K : Pairs} (xs : List Expr) {ts : List StaticType} {t : StaticType} → TypesEach env K xs ts
+    types_set : {K : CapabilityList} (xs : List Expr) {ts : List StaticType} {t : StaticType} → TypesEach env K xs ts
         → set_literal_type ts ≡ Ok t → Types env K (form.Set xs) t []
     -- all fields are required
-    types_record : {K : Pairs} (xs : List (Named Expr)) {ts : List StaticType}
+    types_record : {K : CapabilityList} (xs : List (Named Expr)) {ts : List StaticType}
         → TypesEach env K (map (λ x. x.value) xs) ts
         → Types env K (form.Record xs) (record_type (put_each (map (λ x. x.name) xs) ts no_field_types)) []
-    types_literal_call : {K L : Pairs} (called : UnaryCall) (a : Expr) {s t : StaticType} → Types env K a s L
+    types_literal_call : {K L : CapabilityList} (called : UnaryCall) (a : Expr) {s t : StaticType} → Types env K a s L
         → ReadsLiteral called a t → Types env K (form.UnaryCall called a) t []
-    types_address_test : {K L : Pairs} (called : UnaryCall) (a : Expr) {s t : StaticType} → TakesAddress called
+    types_address_test : {K L : CapabilityList} (called : UnaryCall) (a : Expr) {s t : StaticType} → TakesAddress called
         → Types env K a s L → address_test_type s ≡ Ok t → Types env K (form.UnaryCall called a) t []
-    types_call : {K L M : Pairs} (called : BinaryCall) (a b : Expr) {s t u : StaticType} → Types env K a s L
+    types_call : {K L M : CapabilityList} (called : BinaryCall) (a b : Expr) {s t u : StaticType} → Types env K a s L
         → Types env K b t M → call_type called s t ≡ Ok u → Types env K (form.BinaryCall called a b) u []
 
   -- `TypesEach env K xs ts` holds if `ts` are the types of `xs` in `env`, in order, where the capabilities `K` are
   -- known.
-  pub data TypesEach (env : Environment) : Pairs → List Expr → List StaticType → Type 0 where
-    types_none : {K : Pairs} → TypesEach env K [] []
-    types_more : {K L : Pairs} {x : Expr} {xs : List Expr} {t : StaticType} {ts : List StaticType}
+  pub data TypesEach (env : Environment) : CapabilityList → List Expr → List StaticType → Type 0 where
+    types_none : {K : CapabilityList} → TypesEach env K [] []
+    types_more : {K L : CapabilityList} {x : Expr} {xs : List Expr} {t : StaticType} {ts : List StaticType}
         → Types env K x t L → TypesEach env K xs ts → TypesEach env K (x ∷ xs) (t ∷ ts)

@@ -4,10 +4,10 @@ use Rattle.std.specs.Bool.{Decides}
 use Rattle.std.proofs.Common.{ap, ◌∙◌, subst, inl, inr}
 use Rattle.grammar_core.specs.declared.expr.Expr.{Expr}
 use Rattle.type_checker.specs.policy_grammar.declared.policy.Policy.{Policy}
-use Rattle.type_checker.specs.policy_grammar.Whole.{expression_of}
+use Rattle.type_checker.specs.policy_grammar.PolicyExpression.{expression_of}
 use Rattle.type_checker.specs.typing.Types.{StaticType, false_type}
 use Rattle.type_checker.specs.typing.Environment.{Environment}
-use Rattle.type_checker.specs.typing.Gained.{Pairs}
+use Rattle.type_checker.specs.typing.Gained.{CapabilityList}
 use Rattle.type_checker.specs.typing.Typing.{Types}
 use Rattle.type_checker.specs.typing.Faults.{Faults}
 use Rattle.type_checker.specs.typing.Laws.{HaveOneJudgement}
@@ -15,7 +15,7 @@ use Rattle.type_checker.specs.declared.fault.ExpressionFault as at_hand
 use Rattle.type_checker.specs.declared.fault.ExpressionFault.TheVariants as fault
 use Rattle.type_checker.specs.declared.static_type.StaticType as at_hand_type
 use Rattle.type_checker.specs.Views.{static_view, fault_view}
-use Rattle.type_checker.specs.Joined.{joined}
+use Rattle.type_checker.specs.Conjunctions.{joined}
 use Rattle.validator.specs.declared.fault.TypeFault.{TypeFault}
 use Rattle.validator.specs.declared.fault.TypeFault.TheVariants.{NoMemory}
 use Rattle.validator.specs.Faults.{of_typing, of_types}
@@ -33,7 +33,7 @@ module _ (one : HaveOneJudgement) (policy : Policy) (parts : List Expr) (are : p
   boolean_there t h (inl b) = b
   boolean_there t h (inr f) = absurd (typed_or_faulty one (expression_of policy) e t f.0 h f.1)
 
-  pub judged_typed : (t : StaticType) (L : Pairs) → Types env [] (joined parts policy.condition) t L → (b : Bool)
+  pub judged_typed : (t : StaticType) (L : CapabilityList) → Types env [] (joined parts policy.condition) t L → (b : Bool)
       → Decides b (t ≡ false_type) → IsJudged e (expression_of policy) (Ok b)
   judged_typed t L h b d =
       let typed : HasType (expression_of policy) t e = (L, subst (λ v. Types v [] (expression_of policy) t L) same (subst (λ x. Types env [] x t L) whole h)) in (
@@ -63,7 +63,7 @@ module _ (one : HaveOneJudgement) (policy : Policy) (parts : List Expr) (are : p
       )
 
   pub judged : (r : Result at_hand_type.StaticType at_hand.ExpressionFault)
-      → IfOk r (λ t. (L : Pairs) × Types env [] (joined parts policy.condition) (static_view t) L)
+      → IfOk r (λ t. (L : CapabilityList) × Types env [] (joined parts policy.condition) (static_view t) L)
       → IfErr r (λ f. f ≢ fault.NoMemory → Faults env [] (joined parts policy.condition) (fault_view f))
       → (told : Result Bool TypeFault) → ReportsFalse r told → IsJudged e (expression_of policy) told
   judged (Ok t) h g (Ok b) d = judged_typed (static_view t) h.0 h.1 b d

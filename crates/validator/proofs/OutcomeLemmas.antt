@@ -7,12 +7,12 @@ use Rattle.std.proofs.lemmas.List.Elements.{All-nil, All-cons, All-head, All-tai
 use Rattle.grammar_core.specs.declared.expr.Expr.{Expr}
 use Rattle.grammar_core.specs.declared.expr.Expr.TheVariants as form
 use Rattle.type_checker.specs.policy_grammar.declared.policy.Policy.{Policy}
-use Rattle.type_checker.specs.policy_grammar.Whole.{expression_of}
+use Rattle.type_checker.specs.policy_grammar.PolicyExpression.{expression_of}
 use Rattle.type_checker.specs.schema.Schemas.{StatedSchema}
 use Rattle.type_checker.specs.typing.Types
 use Rattle.type_checker.specs.typing.Types.{StaticType, IsBoolean, false_type}
 use Rattle.type_checker.specs.typing.Environment.{Environment, ExpressionFault, unexpected}
-use Rattle.type_checker.specs.typing.Gained.{Pairs}
+use Rattle.type_checker.specs.typing.Gained.{CapabilityList}
 use Rattle.type_checker.specs.typing.Rows
 use Rattle.type_checker.specs.typing.Rows.{MayBeTrue}
 use Rattle.type_checker.specs.typing.Typing
@@ -60,7 +60,7 @@ abbrev pub IsTest : Environment → Expr → Type 0
 IsTest env x = HasBooleanType x env ⊎ ((n : ExpressionFault) × Faults env [] x n)
 
 module _ (one : HaveOneJudgement) (env : Environment) (a b : Expr) where
-  right_case : (s : StaticType) (L : Pairs) → Types env [] a s L → MayBeTrue s → (r : Judgement) → Judges env ([] ++ L) b r
+  right_case : (s : StaticType) (L : CapabilityList) → Types env [] a s L → MayBeTrue s → (r : Judgement) → Judges env ([] ++ L) b r
       → IsTest env (form.And a b)
   right_case s L h m (typed t M) g = elim (boolean_or_not t) [
     | inl i ↦ inl (Rows.and_type s t, and_boolean m i, (L ++ M, Typing.and_of_both a b h m g i))
@@ -68,10 +68,10 @@ module _ (one : HaveOneJudgement) (env : Environment) (a b : Expr) where
   ]
   right_case s L h m (faulty n) g = inr (n, Faults.fault_right_of_and a b h m g)
 
-  on_right : (s : StaticType) (L : Pairs) → Types env [] a s L → MayBeTrue s → IsTest env (form.And a b)
+  on_right : (s : StaticType) (L : CapabilityList) → Types env [] a s L → MayBeTrue s → IsTest env (form.And a b)
   on_right s L h m = let r = one env ([] ++ L) b in right_case s L h m r.0 r.1
 
-  left_typed : (s : StaticType) (L : Pairs) → Types env [] a s L → IsBoolean s → IsTest env (form.And a b)
+  left_typed : (s : StaticType) (L : CapabilityList) → Types env [] a s L → IsBoolean s → IsTest env (form.And a b)
   left_typed s L h Types.is_true = on_right s L h Rows.surely
   left_typed s L h Types.is_false = inl (false_type, Types.is_false, ([], Typing.and_of_false a b h))
   left_typed s L h Types.is_either = on_right s L h Rows.perhaps
@@ -88,13 +88,13 @@ module _ (one : HaveOneJudgement) (env : Environment) (a b : Expr) where
 
 -- ---- one judgement at most
 
-typed_same : {s t : StaticType} {L M : Pairs} → typed s L ≡ typed t M → s ≡ t
+typed_same : {s t : StaticType} {L M : CapabilityList} → typed s L ≡ typed t M → s ≡ t
 typed_same e = cc
 
 faulty_same : {m n : ExpressionFault} → faulty m ≡ faulty n → m ≡ n
 faulty_same e = cc
 
-typed_not_faulty : {t : StaticType} {L : Pairs} {n : ExpressionFault} → typed t L ≡ faulty n → ⊥
+typed_not_faulty : {t : StaticType} {L : CapabilityList} {n : ExpressionFault} → typed t L ≡ faulty n → ⊥
 typed_not_faulty e = cc
 
 module _ (one : HaveOneJudgement) (x : Expr) where

@@ -14,7 +14,7 @@ use Rattle.grammar_core.specs.declared.expr.Expr.{Expr}
 use Rattle.grammar_core.specs.declared.expr.Expr.TheOpen.{Expr-F}
 use Rattle.grammar_core.specs.declared.expr.Expr.TheFolds.{fold-Expr}
 use Rattle.type_checker.specs.policy_grammar.declared.policy.Policy.{Policy}
-use Rattle.type_checker.specs.policy_grammar.Whole.{expression_of}
+use Rattle.type_checker.specs.policy_grammar.PolicyExpression.{expression_of}
 
 -- A `Name` is a name in a policy that a schema has to declare.
 pub data Name : Type 0 where

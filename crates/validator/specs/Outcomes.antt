@@ -5,7 +5,7 @@ use Rattle.values.specs.declared.request.Request.{Request}
 use Rattle.values.specs.Values.{boolean}
 use Rattle.type_checker.specs.ancestor_search.Decided as hierarchy
 use Rattle.type_checker.specs.policy_grammar.declared.policy.Policy.{Policy}
-use Rattle.type_checker.specs.policy_grammar.Whole.{expression_of}
+use Rattle.type_checker.specs.policy_grammar.PolicyExpression.{expression_of}
 use Rattle.type_checker.specs.schema.Schemas.{StatedSchema}
 use Rattle.type_checker.specs.evaluator.Operators.{Entities}
 use Rattle.type_checker.specs.evaluator.Outcomes as evaluation
@@ -49,7 +49,7 @@ NoEnvironmentIsImpossible = (s : StatedSchema) (policy : Policy) → s.environme
 -- `EntityDoesNotExist` or `ArithBoundsError`; if the policy is impossible, no result is true.
 abbrev pub PassingPoliciesAreSound : Type 0
 PassingPoliciesAreSound = (s : StatedSchema) (policy : Policy) → Passes s policy
-    → (W : Entities) (above : EntityUid → EntityUid → Bool) → hierarchy.Decides W.parents above
+    → (W : Entities) (ancestor_test : EntityUid → EntityUid → Bool) → hierarchy.Decides W.parents ancestor_test
     → (env : Environment) → Contains (environments_of s) env → (q : Request) → Conforms env W q
     → (r : evaluation.EvaluationResult) → EvaluatesTo W q (expression_of policy) r
     → Fits boolean_type r × (IsImpossible s policy → r ≢ Ok (boolean true))

@@ -7,11 +7,11 @@
 use Rattle.std.specs.Prelude.{◌↔◌, List, [], ◌∷◌, map, All, Bool, IsTrue}
 use Rattle.grammar_core.specs.declared.expr.Expr.{Expr}
 use Rattle.type_checker.specs.policy_grammar.declared.policy.Policy.{Policy}
-use Rattle.type_checker.specs.policy_grammar.Whole.{expression_of}
+use Rattle.type_checker.specs.policy_grammar.PolicyExpression.{expression_of}
 use Rattle.type_checker.specs.schema.Schemas.{StatedSchema}
 use Rattle.type_checker.specs.typing.Types.{StaticType, false_type, IsBoolean}
 use Rattle.type_checker.specs.typing.Environment.{Environment, ExpressionFault}
-use Rattle.type_checker.specs.typing.Gained.{Pairs}
+use Rattle.type_checker.specs.typing.Gained.{CapabilityList}
 use Rattle.type_checker.specs.typing.Typing.{Types}
 use Rattle.type_checker.specs.typing.Faults.{Faults}
 use Rattle.type_checker.specs.FromSchemas.{typing_environment_of}
@@ -27,7 +27,7 @@ environments_of s = map (typing_environment_of s) s.environments
 
 -- `HasType x t env` holds if `x` has the type `t` in `env`, without known capabilities.
 abbrev pub HasType : Expr → StaticType → Environment → Type 0
-HasType x t env = (L : Pairs) × Types env [] x t L
+HasType x t env = (L : CapabilityList) × Types env [] x t L
 
 -- `HasBooleanType x env` holds if `x` has a boolean type (True, False or Bool) in `env`.
 abbrev pub HasBooleanType : Expr → Environment → Type 0

@@ -1,6 +1,6 @@
 //! Validation of a policy under a schema.
 ghost use Rattle.std.specs.Prelude.{◌≡◌, ◌≢◌, IfOk, IfErr, true};
-ghost use Rattle.type_checker.specs.policy_grammar.Whole.{expression_of};
+ghost use Rattle.type_checker.specs.policy_grammar.PolicyExpression.{expression_of};
 ghost use Rattle.type_checker.specs.schema.Views.{schema_view, environment_view};
 ghost use Rattle.type_checker.specs.FromSchemas.{typing_environment_of};
 ghost use Rattle.validator.specs.Passing.{IsVerdict, IsCheckRefused};

@@ -2,8 +2,9 @@
 ghost use Rattle.std.specs.Prelude.{◌≡◌, map, IfOk};
 ghost use Rattle.grammar_core.specs.declared.leaf.Variable.TheVariants.{Resource};
 ghost use Rattle.grammar_core.specs.declared.expr.Expr.TheVariants as form;
-ghost use Rattle.type_checker.specs.policy_grammar.Whole.{entity_literal, is_equal, is_in, entity_part, action_part};
-ghost use Rattle.type_checker.specs.policy_grammar.Whole.{expression_of};
+ghost use Rattle.type_checker.specs.policy_grammar.PolicyExpression.{entity_literal, is_equal, is_in, entity_part};
+ghost use Rattle.type_checker.specs.policy_grammar.PolicyExpression.{action_part};
+ghost use Rattle.type_checker.specs.policy_grammar.PolicyExpression.{expression_of};
 ghost use Rattle.validator.specs.inner.Checking.{scope_parts};
 
 use grammar_core::{Binary, Expr, Literal, Unary, Variable};

@@ -13,7 +13,7 @@ use Rattle.entities.specs.Typing.{with_or}
 use Rattle.entities.specs.declared.fault.EntityFault.{EntityFault}
 use Rattle.entities.specs.declared.fault.EntityFault.TheVariants.{BadShape}
 use Rattle.entities.specs.declared.stated.StatedEntity.{StatedEntity}
-use Rattle.entities.specs.Stated.{is_absent_or_object, stated_uid, uids_of, stated_parents, has_objects, stated_in}
+use Rattle.entities.specs.EntityForms.{is_absent_or_object, stated_uid, uids_of, stated_parents, has_objects, stated_in}
 use Rattle.value_paths.specs.declared.steps.Step.{Step}
 use Rattle.value_paths.specs.EntityPaths.{to_key, first_unmet, is_uid, is_absent_or_array, items_at, parent_demands, parents_demands, form_demands}
 
@@ -117,11 +117,11 @@ are_parents None us e = subst (AreUids no_items) (ok_is [] us e) tt
 are_parents (Some d) us e = are_array_uids (as_array d) us e
 
 -- the uid and the parents of an entity
-pub record States (d : Data) (e : StatedEntity) : Type 0 where
+pub record Describes (d : Data) (e : StatedEntity) : Type 0 where
   pub uid : option_and_then uid_in (get (codes "uid") d) ≡ Some e.uid
   pub parents : AreUids (items_at (get (codes "parents") d)) e.parents
 
-pub stated_parts : (d : Data) (e : StatedEntity) → stated_in d ≡ done e → States d e
+pub stated_parts : (d : Data) (e : StatedEntity) → stated_in d ≡ done e → Describes d e
 unfolding stated_in
 stated_parts d e is =
     let a = bind_ok (or_fault BadShape (get (codes "uid") d)) (λ name. stated_uid name >>= λ uid. demand BadShape (has_objects d) >>= λ objects. stated_parents (get (codes "parents") d) >>= λ parents. Ok (record { uid = uid; parents = parents })) e is in
@@ -130,7 +130,7 @@ stated_parts d e is =
     let p = bind_ok (stated_parents (get (codes "parents") d)) (λ parents. Ok (record { uid = b.0; parents = parents })) e c.2 in
     let made : StatedEntity = record { uid = b.0; parents = p.0 } in
     let found : get (codes "uid") d ≡ Some a.0 = some_of BadShape (get (codes "uid") d) a.0 a.1 in
-    subst (States d) (ok_is made e p.2) (record {
+    subst (Describes d) (ok_is made e p.2) (record {
       uid = ap (option_and_then uid_in) found ∙ some_of BadShape (uid_in a.0) b.0 b.1;
       parents = are_parents (get (codes "parents") d) p.0 p.1;
     })

@@ -19,7 +19,7 @@ use Rattle.entities.specs.declared.fault.EntityFault.{EntityFault}
 use Rattle.entities.specs.declared.fault.EntityFault.TheVariants.{NoMemory, BadShape, UnknownType, ActionEntity, Undeclared, Missing, WrongType, BadParent, SelfParent, TagsLeftOut, NotApplicable}
 use Rattle.entities.specs.declared.stated.StatedEntity.{StatedEntity}
 use Rattle.entities.specs.Faults.{of_value, with_entity_fault}
-use Rattle.entities.specs.Stated.{is_absent_or_empty, or_empty, stated_in}
+use Rattle.entities.specs.EntityForms.{is_absent_or_empty, or_empty, stated_in}
 use Rattle.entities.specs.Entities.{is_action_type, shape_of, attributes_in, parent_fits, parents_fit, parents_in, entity_stated_in}
 use Rattle.value_paths.specs.declared.steps.Step.{Step}
 use Rattle.value_paths.specs.declared.steps.Step.TheVariants.{Key, Index}
@@ -30,7 +30,7 @@ use Rattle.value_paths.specs.Laws.{HasPathOf, EntitiesHavePaths}
 use Rattle.value_paths.specs.inner.FoundPaths.{under, record_path}
 use Rattle.value_paths.specs.inner.FoundParts.{fits, unfit_path, attributes_path, parents_path, path_of}
 use Rattle.value_paths.proofs.Agreeing.{Found, some_is, record_is_found, record_path_only}
-use Rattle.value_paths.proofs.EntityForms.{HasForm, form_found, AreUids, States, stated_parts}
+use Rattle.value_paths.proofs.EntityForms.{HasForm, form_found, AreUids, Describes, stated_parts}
 
 -- ---- parents
 
@@ -113,7 +113,7 @@ unfit_only s uid i us j (says.later_parent k u vs l fit rest) (item d ds) h =
     ∙ ap (λ (b : Bool). if b then unfit_path s uid (k + 1) ds else Some (to_parent k)) (judged_true (parent_fits s uid u) (fits s uid u) (parent_judged s uid u) fit)
     ∙ unfit_only s uid (k + 1) vs l rest ds h.1
 
-parents_path_is : (s : StatedSchema) (d : Data) (e : StatedEntity) → States d e → parents_path s d ≡ unfit_path s e.uid 0 (items_at (get (codes "parents") d))
+parents_path_is : (s : StatedSchema) (d : Data) (e : StatedEntity) → Describes d e → parents_path s d ≡ unfit_path s e.uid 0 (items_at (get (codes "parents") d))
 unfolding parents_path
 parents_path_is s d e h = ap (λ (o : Option EntityUid). with_or o (λ uid. unfit_path s uid 0 (items_at (get (codes "parents") d))) None) h.uid
 
@@ -148,7 +148,7 @@ parents_placed s d e make is =
     parents_placed_by s d e (parents_fit s e.uid e.parents) (unfit_path s e.uid 0 (items_at (get (codes "parents") d))) make (uid_set e.parents) is (parents_path_is s d e h)
     (unfit_found s e.uid 0 (items_at (get (codes "parents") d)) e.parents h.parents)
 
-attributes_path_is : (s : StatedSchema) (d : Data) (e : StatedEntity) (shape : Cedar) → States d e → s.shape e.uid.type_name ≡ Some shape
+attributes_path_is : (s : StatedSchema) (d : Data) (e : StatedEntity) (shape : Cedar) → Describes d e → s.shape e.uid.type_name ≡ Some shape
     → attributes_path s d ≡ under (Key (codes "attrs")) (record_path shape (or_empty (get (codes "attrs") d)))
 unfolding attributes_path
 attributes_path_is s d e shape h declared =

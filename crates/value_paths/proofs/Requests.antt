@@ -17,7 +17,7 @@ use Rattle.entities.specs.declared.fault.EntityFault.{EntityFault}
 use Rattle.entities.specs.declared.fault.EntityFault.TheVariants.{NoMemory, BadShape, UnknownType, ActionEntity, Undeclared, Missing, WrongType, BadParent, SelfParent, TagsLeftOut, NotApplicable}
 use Rattle.entities.specs.declared.requests.Asked.{Asked}
 use Rattle.entities.specs.Faults.{with_entity_fault}
-use Rattle.entities.specs.Stated.{is_absent_or_object, or_empty}
+use Rattle.entities.specs.EntityForms.{is_absent_or_object, or_empty}
 use Rattle.entities.specs.Requests.{Asks, RequestRefused, context_asked}
 use Rattle.entities.specs.Requests as request
 use Rattle.value_paths.specs.declared.steps.Step.{Step}

@@ -8,7 +8,7 @@ use Rattle.entities.specs.schema.Schemas.{StatedSchema}
 use Rattle.entities.specs.declared.fault.EntityFault.{EntityFault}
 use Rattle.entities.specs.declared.fault.EntityFault.TheVariants.{NoMemory}
 use Rattle.entities.specs.Entities.{entity_stated_in}
-use Rattle.entities.specs.Requests.{StatesRequest, RequestRefused}
+use Rattle.entities.specs.Requests.{ParsesRequest, RequestRefused}
 use Rattle.value_paths.specs.declared.steps.Step.{Step}
 use Rattle.value_paths.specs.declared.placed.PlacedFault.{PlacedFault}
 use Rattle.value_paths.specs.EntityPaths.{IsPathOf}
@@ -60,7 +60,7 @@ entity_refused s d (Err g) f reads h =
     let same : g ≡ f = fault_is {A = Entity} g f h.0 in
     subst (λ (k : EntityFault). entity_stated_in s d ≡ Err k) same (reads (λ memory. h.1 (sym same ∙ memory)))
 
-pub request_read : (s : StatedSchema) (d : Data) (r : Result Request EntityFault) → IfOk r (StatesRequest s d) → IsFaultOf r None → IsRequestFault s d None
+pub request_read : (s : StatedSchema) (d : Data) (r : Result Request EntityFault) → IfOk r (ParsesRequest s d) → IsFaultOf r None → IsRequestFault s d None
 request_read s d (Ok q) states h = (q, states)
 request_read s d (Err f) states h = let never : Err f ≡ Ok h.0 = h.1 in absurd cc
 

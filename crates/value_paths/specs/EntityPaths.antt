@@ -17,7 +17,7 @@ use Rattle.entities.specs.declared.fault.EntityFault.{EntityFault}
 use Rattle.entities.specs.declared.fault.EntityFault.TheVariants.{BadShape, UnknownType, ActionEntity, TagsLeftOut}
 use Rattle.entities.specs.declared.fault.EntityFault.TheVariants.{BadParent, SelfParent}
 use Rattle.entities.specs.declared.stated.StatedEntity.{StatedEntity}
-use Rattle.entities.specs.Stated.{is_absent_or_object, or_empty, stated_in}
+use Rattle.entities.specs.EntityForms.{is_absent_or_object, or_empty, stated_in}
 use Rattle.entities.specs.Entities.{parent_fits}
 use Rattle.value_paths.specs.declared.steps.Step.{Step}
 use Rattle.value_paths.specs.declared.steps.Step.TheVariants.{Key, Index}

@@ -7,7 +7,7 @@ use Rattle.values.specs.declared.request.Request.{Request}
 use Rattle.entities.specs.entity_data.declared.entity.Entity.{Entity}
 use Rattle.entities.specs.schema.Schemas.{StatedSchema}
 use Rattle.entities.specs.Entities.{entity_stated_in}
-use Rattle.entities.specs.Requests.{StatesRequest, RequestRefused}
+use Rattle.entities.specs.Requests.{ParsesRequest, RequestRefused}
 use Rattle.value_paths.specs.declared.placed.PlacedFault.{PlacedFault}
 use Rattle.value_paths.specs.EntityPaths.{IsPathOf}
 use Rattle.value_paths.specs.RequestPaths.{IsRequestPathOf}
@@ -21,5 +21,5 @@ IsEntityFault s d o = MatchOption o ((e : Entity) × (entity_stated_in s d ≡ O
 -- `IsRequestFault s d o` holds if `o` is the error of `d` as a request under the schema `s`, with the path to the part
 -- at fault; or if `o` is `None`, and `d` describes a request.
 abbrev pub IsRequestFault : StatedSchema → Data → Option PlacedFault → Type 0
-IsRequestFault s d o = MatchOption o ((q : Request) × StatesRequest s d q)
+IsRequestFault s d o = MatchOption o ((q : Request) × ParsesRequest s d q)
     (λ x. RequestRefused s d x.fault × IsRequestPathOf s d x.fault x.path)

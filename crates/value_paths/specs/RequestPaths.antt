@@ -12,7 +12,7 @@ use Rattle.entities.specs.schema.Schemas.{StatedSchema}
 use Rattle.entities.specs.declared.fault.EntityFault.{EntityFault}
 use Rattle.entities.specs.declared.fault.EntityFault.TheVariants.{BadShape, NotApplicable}
 use Rattle.entities.specs.declared.requests.Asked.{Asked}
-use Rattle.entities.specs.Stated.{is_absent_or_object, or_empty}
+use Rattle.entities.specs.EntityForms.{is_absent_or_object, or_empty}
 use Rattle.entities.specs.Contexts.{context_where, is_place}
 use Rattle.entities.specs.Requests.{NamesAt, Asks}
 use Rattle.value_paths.specs.declared.steps.Step.{Step}

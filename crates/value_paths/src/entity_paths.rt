@@ -4,7 +4,7 @@ ghost use Rattle.serde_json.specs.View.{view};
 ghost use Rattle.schema_types.specs.CedarViews.{cedar_view};
 ghost use Rattle.entities.specs.schema.Views.{schema_view};
 ghost use Rattle.entities.specs.Entities.{entity_stated_in};
-ghost use Rattle.entities.specs.Stated.{or_empty};
+ghost use Rattle.entities.specs.EntityForms.{or_empty};
 ghost use Rattle.value_paths.specs.Outcomes.{IsEntityFault};
 ghost use Rattle.value_paths.specs.inner.FoundPaths.{record_path, under};
 ghost use Rattle.value_paths.specs.EntityPaths.{shape_at};

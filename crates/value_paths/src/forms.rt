@@ -2,7 +2,7 @@
 ghost use Rattle.std.specs.Prelude.{◌≡◌, ◌∷◌, [], IfOk, Some, codes, is_some, option_map};
 ghost use Rattle.serde_json.specs.Find.{as_object};
 ghost use Rattle.serde_json.specs.View.{view, items_view};
-ghost use Rattle.entities.specs.Stated.{is_absent_or_object};
+ghost use Rattle.entities.specs.EntityForms.{is_absent_or_object};
 ghost use Rattle.value_paths.specs.EntityPaths.{is_uid, to_parent, parent_demands, parents_demands, form_demands};
 ghost use Rattle.value_paths.specs.EntityPaths.{first_unmet};
 

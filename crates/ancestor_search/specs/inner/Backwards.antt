@@ -35,10 +35,11 @@ AreChildrenAmong us parents children = (x y : EntityUid) →
 abbrev pub AreChildren : Parents → (EntityUid → List EntityUid) → Type 0
 AreChildren parents children = (x y : EntityUid) → Contains (children x) y ↔ Contains (parents y) x
 
--- `AddsChild ps y children children'` holds if `children'` is `children` with `y` as a further child of each of `ps`.
-abbrev pub AddsChild : List EntityUid → EntityUid → (EntityUid → List EntityUid) →
+-- `AddsToChildren ps y children children'` holds if `children'` is `children` with `y` as a further child of each of
+-- `ps`.
+abbrev pub AddsToChildren : List EntityUid → EntityUid → (EntityUid → List EntityUid) →
     (EntityUid → List EntityUid) → Type 0
-AddsChild ps y children children' = (x z : EntityUid) →
+AddsToChildren ps y children children' = (x z : EntityUid) →
     Contains (children' x) z ↔ (Contains (children x) z ⊎ (Contains ps x × (y ≡ z)))
 
 -- ---- distances

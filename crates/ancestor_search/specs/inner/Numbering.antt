@@ -18,9 +18,9 @@ NumbersAmong us ps ns = (j : ℕ) → Contains ns j ↔ ((x : EntityUid) × Cont
 abbrev pub AreNumbered : Parents → List EntityUid → ℕ → List (Vec ℕ Global) → Type 0
 AreNumbered p us k es = (i : ℕ) (x : EntityUid) → i < k → IsNumber us i x → NumbersAmong us (p x) (edges_of es i)
 
--- `IsNoNumber us x` holds if `x` is not in `us`, and so has no number.
-abbrev pub IsNoNumber : List EntityUid → EntityUid → Type 0
-IsNoNumber us x = Contains us x → ⊥
+-- `HasNoNumber us x` holds if `x` is not in `us`, and so has no number.
+abbrev pub HasNoNumber : List EntityUid → EntityUid → Type 0
+HasNoNumber us x = Contains us x → ⊥
 
 -- `MarkedBefore us marks k found` holds if `found` are those of the first `k` entities of `us` whose numbers are marked
 -- in `marks`.

@@ -79,20 +79,22 @@ pub record AreAscending (s : RequestEntities) : Type 0 where
   pub action : IsAscending (names s.action.ancestors.items)
   pub resource : IsAscending (names s.resource.ancestors.items)
 
--- `HasAllAbove parents o` holds if the memoized entity `o` has all its ancestors in the hierarchy `parents`, ascending.
-pub record HasAllAbove (parents : Parents) (o : MemoEntry) : Type 0 where
+-- `HasAllAncestors parents o` holds if the memoized entity `o` has all its ancestors in the hierarchy `parents`,
+-- ascending.
+pub record HasAllAncestors (parents : Parents) (o : MemoEntry) : Type 0 where
   pub all : AreAllAncestorsOf parents o.uid (names o.ancestors.items)
   pub ascending : IsAscending (names o.ancestors.items)
 
--- `HaveAllAbove parents others` holds if each entity of the memo `others` has all its ancestors in the hierarchy
+-- `HaveAllAncestors parents others` holds if each entity of the memo `others` has all its ancestors in the hierarchy
 -- `parents`, ascending.
-abbrev pub HaveAllAbove : Parents → AncestorMemo → Type 0
-HaveAllAbove parents others = All (HasAllAbove parents) others.kept.items
+abbrev pub HaveAllAncestors : Parents → AncestorMemo → Type 0
+HaveAllAncestors parents others = All (HasAllAncestors parents) others.kept.items
 
--- `IsKnown W q s others` holds if the three entities `s` of the request `q` and the memo `others` have the data of `W`.
-pub record IsKnown (W : Entities) (q : Request) (s : RequestEntities) (others : AncestorMemo) : Type 0 where
+-- `HaveDataOf W q s others` holds if the three entities `s` of the request `q` and the memo `others` have the data of
+-- `W`.
+pub record HaveDataOf (W : Entities) (q : Request) (s : RequestEntities) (others : AncestorMemo) : Type 0 where
   pub three : AreLookedUp W q s
-  pub rest : HaveAllAbove W.parents others
+  pub rest : HaveAllAncestors W.parents others
 
 -- `IsTrueOf scope s` holds if `scope` is true of the request with the entities `s`, by their looked-up ancestors.
 abbrev pub IsTrueOf : Scope → RequestEntities → Type 0

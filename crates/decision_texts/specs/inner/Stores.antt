@@ -9,7 +9,7 @@ use Rattle.entity_data.specs.ancestor_search.Decided.{is_same}
 use Rattle.entity_data.specs.evaluator.Operators.{Entities}
 use Rattle.entity_data.specs.declared.entity.Entity.{Entity}
 use Rattle.entity_data.specs.Entities.{with_actions, entity_data_in}
-use Rattle.entity_data.specs.Keeping.{Entries, kept_in}
+use Rattle.entity_data.specs.EntityStores.{Entries, kept_in}
 use Rattle.answer_lines.specs.authoriser.declared.answer.Answer.{Answer}
 use Rattle.answer_lines.specs.authoriser.Answers.{NamedPolicy}
 use Rattle.answer_lines.specs.declared.refusal.Refusal.{Refusal}

@@ -5,7 +5,7 @@ use Rattle.values.specs.Uids.{text_cmp}
 use Rattle.schema_types.specs.Cedar.{CedarFields}
 use Rattle.entities.specs.Parts.{declared_at}
 
--- `StateAlikeFrom name fs gs` holds if `fs` and `gs` declare the same type, or none, for each name not less than
+-- `DeclareAlikeFrom name fs gs` holds if `fs` and `gs` declare the same type, or none, for each name not less than
 -- `name`.
-abbrev pub StateAlikeFrom : List ℕ → CedarFields → CedarFields → Type 0
-StateAlikeFrom name fs gs = (k : List ℕ) → (text_cmp k name ≡ Less → ⊥) → declared_at k fs ≡ declared_at k gs
+abbrev pub DeclareAlikeFrom : List ℕ → CedarFields → CedarFields → Type 0
+DeclareAlikeFrom name fs gs = (k : List ℕ) → (text_cmp k name ≡ Less → ⊥) → declared_at k fs ≡ declared_at k gs

@@ -6,17 +6,17 @@ use Rattle.evaluator.proofs.+evaluate.Goals as goal
 
 pub testing::binary_test-returns-in-Less : goal.testing::binary_test-returns-in-Less
 testing::binary_test-returns-in-Less g t c =
-    let E = decided_entities (g.L.Lookup.stored c.args.store.now) (g.L.Ancestry.above c.args.store.now) in
-    let a = meaning (g.L.EvalEnv.asked c.args.store.now) E c.args.left.now in
-    let b = meaning (g.L.EvalEnv.asked c.args.store.now) E c.args.right.now in
+    let E = decided_entities (g.L.Lookup.stored c.args.env.now) (g.L.Ancestry.ancestor_test c.args.env.now) in
+    let a = meaning (g.L.EvalEnv.request_of c.args.env.now) E c.args.left.now in
+    let b = meaning (g.L.EvalEnv.request_of c.args.env.now) E c.args.right.now in
     subst (λ (op : Binary). Answers c.is_less.result (as_test (and_then a (λ v. and_then b (apply_binary E op v))))) (sym c.in-Less.is)
     (c.is_less.ensures E a b c.two_numbers.ensures)
 
 pub testing::binary_test-returns-in-LessOrEqual : goal.testing::binary_test-returns-in-LessOrEqual
 testing::binary_test-returns-in-LessOrEqual g t c =
-    let E = decided_entities (g.L.Lookup.stored c.args.store.now) (g.L.Ancestry.above c.args.store.now) in
-    let a = meaning (g.L.EvalEnv.asked c.args.store.now) E c.args.left.now in
-    let b = meaning (g.L.EvalEnv.asked c.args.store.now) E c.args.right.now in
+    let E = decided_entities (g.L.Lookup.stored c.args.env.now) (g.L.Ancestry.ancestor_test c.args.env.now) in
+    let a = meaning (g.L.EvalEnv.request_of c.args.env.now) E c.args.left.now in
+    let b = meaning (g.L.EvalEnv.request_of c.args.env.now) E c.args.right.now in
     subst (λ (op : Binary). Answers c.is_less_or_equal.result (as_test (and_then a (λ v. and_then b (apply_binary E op v))))) (sym c.in-LessOrEqual.is)
     (c.is_less_or_equal.ensures E a b c.two_numbers-in-LessOrEqual.ensures)
 

@@ -5,12 +5,12 @@ use Rattle.evaluator.proofs.+evaluate.Given as goal
 
 abbrev pub invariant-evaluating::set_of-loop-member : goal.invariant-evaluating::set_of-loop-member
 invariant-evaluating::set_of-loop-member g l =
-    let gives = meaning (g.L.EvalEnv.asked l.store) (decided_entities (g.L.Lookup.stored l.store) (g.L.Ancestry.above l.store)) in
+    let gives = meaning (g.L.EvalEnv.request_of l.env) (decided_entities (g.L.Lookup.stored l.env) (g.L.Ancestry.ancestor_test l.env)) in
     each (map gives l.members) ≡ and_then (each (map gives (drop l.member-index l.members))) (λ rest. Ok (l.values.items ++ rest))
 
 abbrev pub invariant-evaluating::record_of-loop-field : goal.invariant-evaluating::record_of-loop-field
 invariant-evaluating::record_of-loop-field g l =
-    let gives = named_meaning (g.L.EvalEnv.asked l.store) (decided_entities (g.L.Lookup.stored l.store) (g.L.Ancestry.above l.store)) in
+    let gives = named_meaning (g.L.EvalEnv.request_of l.env) (decided_entities (g.L.Lookup.stored l.env) (g.L.Ancestry.ancestor_test l.env)) in
     each_field (map gives l.fields) [] ≡ each_field (map gives (drop l.field-index l.fields)) l.record
 
 -- What goes down two or three operands is as deep as the deepest of them.

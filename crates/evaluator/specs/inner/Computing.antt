@@ -51,12 +51,12 @@ use Rattle.evaluator.specs.Evaluation.{literal_value, variable_value}
 -- relation.
 pub record DecidedEntities : Type 0 where
   pub stored : EntityUid → Option (List Field)
-  pub above : EntityUid → EntityUid → Bool
+  pub ancestor_test : EntityUid → EntityUid → Bool
 
--- `decided_entities stored above` is the entity data with the attributes `stored` and the test `above`. For two
--- entities `a` and `b`, `above a b` tests whether `a` is an ancestor of `b`.
+-- `decided_entities stored ancestor_test` is the entity data with the attributes `stored` and the test `ancestor_test`.
+-- For two entities `a` and `b`, `ancestor_test a b` tests whether `a` is an ancestor of `b`.
 abbrev pub decided_entities : (EntityUid → Option (List Field)) → (EntityUid → EntityUid → Bool) → DecidedEntities
-decided_entities stored above = record { stored = stored; above = above }
+decided_entities stored ancestor_test = record { stored = stored; ancestor_test = ancestor_test }
 
 -- `and_then r f` is `f` of the value in `r`, or the error in `r`.
 abbrev pub and_then : {A B : Type 0} → Result A EvalFault → (A → Result B EvalFault) → Result B EvalFault
@@ -96,12 +96,12 @@ apply_unary Negate v = and_then (demanded (long_in v)) (λ z. bounded (neg_ℤ z
 apply_unary (Like pattern) v = and_then (demanded (text_in v)) (λ t. truth (is_match pattern t))
 apply_unary (Is name) v = and_then (demanded (entity_uid_in v)) (λ u. truth (bytes_eq u.type_name name))
 
--- `is_in E a b` tests whether `a` is `b` or, by the test `E.above`, a descendant of `b`.
+-- `is_in E a b` tests whether `a` is `b` or, by the test `E.ancestor_test`, a descendant of `b`.
 abbrev pub is_in : DecidedEntities → EntityUid → EntityUid → Bool
-is_in E a b = is_eq (uid_cmp a b) || E.above b a
+is_in E a b = is_eq (uid_cmp a b) || E.ancestor_test b a
 
--- `in_members E a vs` tests whether `a` is a member of `vs` or, by the test `E.above`, a descendant of one; it gives
--- `TypeError` if a member is not an entity.
+-- `in_members E a vs` tests whether `a` is a member of `vs` or, by the test `E.ancestor_test`, a descendant of one; it
+-- gives `TypeError` if a member is not an entity.
 abbrev pub in_members : DecidedEntities → EntityUid → List PlainValue → Result Bool EvalFault
 in_members E a [] = Ok false
 in_members E a (v ∷ vs) =

@@ -17,6 +17,6 @@ pub record GivesOnly (W : Entities) (q : Request) (x : Expr) (m : EvaluationResu
 -- `MeaningsAreGiven`: if a test decides the ancestor relation, the outcome that `meaning` computes with it is the only
 -- outcome of the expression.
 abbrev pub MeaningsAreGiven : Type 0
-MeaningsAreGiven = (W : Entities) (above : EntityUid → EntityUid → Bool) → Decides W.parents above
+MeaningsAreGiven = (W : Entities) (ancestor_test : EntityUid → EntityUid → Bool) → Decides W.parents ancestor_test
     → (q : Request) (x : Expr) →
-    GivesOnly W q x (meaning q (decided_entities W.stored above) x)
+    GivesOnly W q x (meaning q (decided_entities W.stored ancestor_test) x)

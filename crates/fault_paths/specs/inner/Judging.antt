@@ -10,7 +10,7 @@ use Rattle.type_checker.specs.declared.typed.Typed.{Typed}
 use Rattle.type_checker.specs.declared.fault.ExpressionFault as at_hand
 use Rattle.type_checker.specs.declared.fault.ExpressionFault.TheVariants.{NoMemory}
 use Rattle.validator.specs.Passing.{HasType}
-use Rattle.typing.specs.Blamed.{blamed}
+use Rattle.typing.specs.BlamedExpressions.{blamed}
 use Rattle.fault_paths.specs.Views.{place_view}
 use Rattle.fault_paths.specs.declared.blaming.TypeBlame.{TypeBlame}
 

@@ -5,25 +5,25 @@ use Rattle.grammar_core.specs.Size.{height}
 use Rattle.grammar_core.specs.declared.expr.Expr.{Expr}
 use Rattle.validator.specs.typing.Types as types
 use Rattle.validator.specs.typing.Environment.{Environment, ExpressionFault}
-use Rattle.validator.specs.typing.Gained.{Pairs}
+use Rattle.validator.specs.typing.Gained.{CapabilityList}
 use Rattle.validator.specs.typing.Typing.{Types, TypesEach}
 use Rattle.validator.specs.typing.Faults.{Faults}
 use Rattle.type_checker.specs.Views.{static_view}
-use Rattle.type_checker.specs.type_capabilities.Pairs.{pairs}
+use Rattle.type_checker.specs.type_capabilities.CapabilityList.{capabilities}
 use Rattle.type_checker.specs.declared.static_type.StaticType.{StaticType}
 use Rattle.type_checker.specs.declared.typed.Typed.{Typed}
 use Rattle.type_checker.specs.declared.fault.ExpressionFault.{ExpressionFault as ExpressionFaultAtHand}
 use Rattle.type_checker.specs.declared.fault.ExpressionFault.TheVariants.{NoMemory}
 use Rattle.fault_paths.specs.declared.steps.Step.{Step}
 use Rattle.fault_paths.specs.declared.steps.Step.TheVariants as step
-use Rattle.typing.specs.Blamed.{Blame, under, blamed}
+use Rattle.typing.specs.BlamedExpressions.{Blame, under, blamed}
 use Rattle.typing.specs.Places.{operands_of}
 
 -- `IsFound env K x o` holds if `o` is the type of `x` under the capabilities `K`, with the capabilities that `x` gains;
 -- or if `o` is `None`, and `x` has an error.
-abbrev pub IsFound : Environment → Pairs → Expr → Option Typed → Type 0
+abbrev pub IsFound : Environment → CapabilityList → Expr → Option Typed → Type 0
 IsFound env K x o = MatchOption o ((n : ExpressionFault) × Faults env K x n)
-    (λ t. Types env K x (static_view t.kind) (pairs t.learns.items))
+    (λ t. Types env K x (static_view t.kind) (capabilities t.gains.items))
 
 -- `last_of o` is the last part of a path: the index `o` of the blamed operand, or nothing if the form itself is blamed.
 abbrev pub last_of : Option ℕ → List ℕ
@@ -38,7 +38,7 @@ stopped x o ts = record { path = last_of o; form = x; types = map static_view ts
 -- gives. `Stop o ts` gives the operand `o` of `x`, or `x` itself if `o` is `None`, with the types `ts`. `Down i y`,
 -- where `y` has a smaller height than `x`, gives what a derivation of the same error of `y` under the capabilities `J`
 -- blames, with the index `i` in front of its path.
-abbrev pub IsStep : Environment → Pairs → Expr → Pairs → Step → Type 0
+abbrev pub IsStep : Environment → CapabilityList → Expr → CapabilityList → Step → Type 0
 IsStep env K x J (step.Down i y) = (height y.now < height x)
     × ((n : ExpressionFault) (h : Faults env K x n) → (g : Faults env J y.now n) × (blamed h ≡ under i (blamed g)))
 IsStep env K x J (step.Stop o ts) = (n : ExpressionFault) (h : Faults env K x n) → blamed h ≡ stopped x o ts.items
@@ -46,7 +46,7 @@ IsStep env K x J (step.Stop o ts) = (n : ExpressionFault) (h : Faults env K x n)
 -- `IsStepAmong env K x o step` holds if `step` goes down to the first operand of `x` that has an error; or if all
 -- operands have types, and `step` stops at the operand `o`, or at `x` itself if `o` is `None`, with the types of all
 -- operands.
-abbrev pub IsStepAmong : Environment → Pairs → Expr → Option ℕ → Step → Type 0
+abbrev pub IsStepAmong : Environment → CapabilityList → Expr → Option ℕ → Step → Type 0
 IsStepAmong env K x o (step.Down i y) = (before : List Expr) × (rest : List Expr) × (ts : List types.StaticType)
     × (n : ExpressionFault)
     × (operands_of x ≡ before ++ y.now ∷ rest) × (length before ≡ i) × TypesEach env K before ts × Faults env K y.now n
@@ -75,7 +75,7 @@ below p b = record { path = p ++ b.path; form = b.form; types = b.types }
 
 -- `Reaches env whole p K x` holds if each derivation of an error of `whole`, without known capabilities, blames what a
 -- derivation of the same error of `x`, under the capabilities `K`, blames, with the path `p` in front of its path.
-abbrev pub Reaches : Environment → Expr → List ℕ → Pairs → Expr → Type 0
+abbrev pub Reaches : Environment → Expr → List ℕ → CapabilityList → Expr → Type 0
 Reaches env whole p K x = (n : ExpressionFault) (h : Faults env [] whole n)
     → (g : Faults env K x n) × (blamed h ≡ below p (blamed g))
 

@@ -6,7 +6,7 @@ use Rattle.stamped_store.specs.EntryOrder.{body_bytes}
 use Rattle.stamped_store.specs.Reading.{IsBodyRead}
 use Rattle.stamped_store.specs.Store.{Update as PlainUpdate, issued}
 use Rattle.message_format.specs.declared.fault.MessageFault.{MessageFault}
-use Rattle.message_format.specs.Summaries.{judged}
+use Rattle.message_format.specs.Summaries.{checked_stamp}
 use Rattle.message_format.specs.declared.bodies.BodyFault.{BodyFault}
 use Rattle.message_format.specs.declared.stated.ReadEntry.{ReadEntry}
 use Rattle.message_format.specs.declared.update.Update.{Update}
@@ -28,25 +28,26 @@ module _ {P E : Type 0} (Policies : List ℕ → List ℕ → P → Type 0) (Ent
     pub shown : plain_update r ≡ u
     pub is_read : IsUpdateRead Policies Entities r
 
-  -- `IsTaken place u r` holds if the update `u`, at the index `place`, is in its ranges, and `r` is `u` together with a
-  -- value of its text.
-  pub record IsTaken (place : ℕ) (u : PlainUpdate) (r : Update P E) : Type 0 where
-    pub passed : judged place (stamped u) ≡ Ok (stamped u)
+  -- `IsReadInRange place u r` holds if the update `u`, at the index `place`, is in its ranges, and `r` is `u` together
+  -- with a value of its text.
+  pub record IsReadInRange (place : ℕ) (u : PlainUpdate) (r : Update P E) : Type 0 where
+    pub passed : checked_stamp place (stamped u) ≡ Ok (stamped u)
     pub taken : IsReadAs u r
 
-  -- `AreTaken place us rs` holds if each of the updates `us` is in its ranges, and `rs` are these updates together with
-  -- values of their texts. The first of `us` has the index `place`.
-  abbrev pub AreTaken : ℕ → List PlainUpdate → List (Update P E) → Type 0
-  AreTaken place [] [] = Unit {0}
-  AreTaken place [] (r ∷ rs) = ⊥
-  AreTaken place (u ∷ us) [] = ⊥
-  AreTaken place (u ∷ us) (r ∷ rs) = IsTaken place u r × AreTaken (suc place) us rs
+  -- `AreReadInRange place us rs` holds if each of the updates `us` is in its ranges, and `rs` are these updates
+  -- together with values of their texts. The first of `us` has the index `place`.
+  abbrev pub AreReadInRange : ℕ → List PlainUpdate → List (Update P E) → Type 0
+  AreReadInRange place [] [] = Unit {0}
+  AreReadInRange place [] (r ∷ rs) = ⊥
+  AreReadInRange place (u ∷ us) [] = ⊥
+  AreReadInRange place (u ∷ us) (r ∷ rs) = IsReadInRange place u r × AreReadInRange (suc place) us rs
 
 module _ {P E : Type 0} (Policies : List ℕ → List ℕ → P → Type 0) (Entities : EntityUid → List ℕ → E → Type 0)
     (NoPolicies : List ℕ → List ℕ → BodyFault → Type 0) (NoEntities : EntityUid → List ℕ → BodyFault → Type 0) where
-  -- `Stops place us why` holds if `why` is the error of one of the updates `us`, and those before it pass the checks of
-  -- ranges and are valid. The first of `us` has the index `place`.
-  abbrev pub Stops : ℕ → List PlainUpdate → MessageFault → Type 0
-  Stops place [] why = ⊥
-  Stops place (u ∷ us) why = IsFaultAt NoPolicies NoEntities place u why
-      ⊎ ((judged place (stamped u) ≡ Ok (stamped u)) × IsValid Policies Entities u × Stops (suc place) us why)
+  -- `IsFirstUpdateFault place us why` holds if `why` is the error of one of the updates `us`, and those before it pass
+  -- the checks of ranges and are valid. The first of `us` has the index `place`.
+  abbrev pub IsFirstUpdateFault : ℕ → List PlainUpdate → MessageFault → Type 0
+  IsFirstUpdateFault place [] why = ⊥
+  IsFirstUpdateFault place (u ∷ us) why = IsFaultAt NoPolicies NoEntities place u why
+      ⊎ ((checked_stamp place (stamped u) ≡ Ok (stamped u)) × IsValid Policies Entities u
+      × IsFirstUpdateFault (suc place) us why)

@@ -10,7 +10,7 @@ use Rattle.stamped_store.specs.declared.entry.Entry.{Entry}
 use Rattle.stamped_store.specs.Abstraction.{abstract_entries}
 use Rattle.stamped_store.specs.Deltas.{Summary}
 use Rattle.stamped_store.specs.Store.{Update}
-use Rattle.stamped_store.specs.Stored.{value_at}
+use Rattle.stamped_store.specs.JoinMaps.{value_at}
 use Rattle.message_format.specs.Summaries.{ascend}
 use Rattle.entity_uids.specs.Tokens.{AppendsAll}
 use Rattle.message_format.specs.inner.Writing.{all_missing_json}

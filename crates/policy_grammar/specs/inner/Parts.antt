@@ -7,9 +7,9 @@ use Rattle.grammar_desugaring.specs.grammar_tokens.Lexing.{quote, backslash}
 use Rattle.grammar_policies.specs.declared.tree.Condition.{Condition}
 use Rattle.grammar_policies.specs.declared.tree.PolicyTree.{PolicyTree}
 use Rattle.grammar_desugaring.specs.Faults.{faults_of}
-use Rattle.grammar_desugaring.specs.Refused.{least}
+use Rattle.grammar_desugaring.specs.ReportedErrors.{least}
 use Rattle.grammar_desugaring.specs.Repeats.{NameAt}
-use Rattle.policy_grammar.specs.declared.verdict.Verdict.{Verdict}
+use Rattle.policy_grammar.specs.declared.tree_check.TreeCheck.{TreeCheck}
 use Rattle.policy_grammar.specs.Limits.{IsSmallTree}
 use Rattle.policy_grammar.specs.PolicyText.{tree_faults}
 use Rattle.policy_grammar.specs.CoreOf.{is_id}
@@ -50,17 +50,17 @@ names_to_compare text wide (name ∷ names) (tree ∷ trees) =
 abbrev pub AreSound : List ℕ → List Condition → Type 0
 AreSound text = AllByRecursion (λ c. faults_of text c.expression ≡ [])
 
--- `ReportsPolicy text tree verdict` holds if `verdict` has the reported error of `tree`, a policy's tree, and says
--- whether the policy is within the limits.
-pub record ReportsPolicy (text : List ℕ) (tree : PolicyTree) (verdict : Verdict) : Type 0 where
-  pub fault : verdict.fault ≡ least (tree_faults text tree)
-  pub small : IsTrue verdict.small ↔ IsSmallTree text tree
+-- `ReportsPolicy text tree tree_check` holds if `tree_check` has the reported error of `tree`, a policy's tree, and
+-- says whether the policy is within the limits.
+pub record ReportsPolicy (text : List ℕ) (tree : PolicyTree) (tree_check : TreeCheck) : Type 0 where
+  pub fault : tree_check.fault ≡ least (tree_faults text tree)
+  pub small : IsTrue tree_check.small ↔ IsSmallTree text tree
 
--- `ReportsFile text trees verdict` holds if `verdict` has the reported error of `trees`, the trees of a file, without
--- errors of repeated policy names, and says whether all policies are within the limits.
-pub record ReportsFile (text : List ℕ) (trees : List PolicyTree) (verdict : Verdict) : Type 0 where
-  pub fault : verdict.fault ≡ least (flat_map (tree_faults text) trees)
-  pub small : IsTrue verdict.small ↔ AllByRecursion (IsSmallTree text) trees
+-- `ReportsFile text trees tree_check` holds if `tree_check` has the reported error of `trees`, the trees of a file,
+-- without errors of repeated policy names, and says whether all policies are within the limits.
+pub record ReportsFile (text : List ℕ) (trees : List PolicyTree) (tree_check : TreeCheck) : Type 0 where
+  pub fault : tree_check.fault ≡ least (flat_map (tree_faults text) trees)
+  pub small : IsTrue tree_check.small ↔ AllByRecursion (IsSmallTree text) trees
 
 -- `IsWrittenPlainly text name id` holds if `text` is `name::"id"` with nothing between its tokens, and each byte of
 -- `id` denotes itself.

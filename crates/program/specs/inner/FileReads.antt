@@ -24,9 +24,9 @@ module _ {L : Type 0} where
   IsUnread name events end = (fault : FileFault) × (rest : List (Event L)) × (events ≡ read name (Err fault) ∷ rest)
       × IsFileReported name fault rest end
 
-  -- `IsUnreadThere name`: the file exists and was not read, and the run reports that.
-  abbrev pub IsUnreadThere : List ℕ → Course L
-  IsUnreadThere name events end = (fault : FileFault) × (rest : List (Event L)) × (fault ≡ Missing → ⊥)
+  -- `IsUnreadExisting name`: the file exists and was not read, and the run reports that.
+  abbrev pub IsUnreadExisting : List ℕ → Course L
+  IsUnreadExisting name events end = (fault : FileFault) × (rest : List (Event L)) × (fault ≡ Missing → ⊥)
       × (events ≡ read name (Err fault) ∷ rest) × IsFileReported name fault rest end
 
   -- `IsUnreadIfNamed name`: the file is named and was not read, and the run reports that.

@@ -3,7 +3,7 @@ use Rattle.std.specs.Prelude.{List, Result, Ok, Err, codes, string_bytes}
 use Rattle.std.specs.declared.alloc.Global.{Global}
 use Rattle.std.specs.declared.string.String.{String}
 use Rattle.program.specs.Events.{Event}
-use Rattle.program.specs.Explained.{IsLineWritten, IsTextWritten}
+use Rattle.program.specs.ExplainOption.{IsLineWritten, IsTextWritten}
 
 -- `IsMadeWritten made events` holds if `events` write the text `made` or, if `made` is an error, the line that the
 -- explanation could not be allocated.

@@ -1,6 +1,6 @@
--- Defines how the code builds the parts of a schema, one after another. Each relation `Adds..` holds if the map `new`
--- is the map `old` with the entries that the comment of the relation names; `..May` holds of the entries that may be
--- added, `..Must` of the keys that must be there afterwards (Filling). `commons` are the declared common types.
+-- Defines how the code builds the parts of a schema, one after another. Each relation `AddsEntries..` holds if the map
+-- `new` is the map `old` with the entries that the comment of the relation names; `..May` holds of the entries that may
+-- be added, `..Must` of the keys that must be there afterwards (Filling). `commons` are the declared common types.
 use Rattle.std.specs.Prelude.{◌≡◌, ⊤, ℕ, List, Contains, Option, Some, None, option_map}
 use Rattle.std.specs.BTreeMap.{BTreeMap, get}
 use Rattle.values.specs.declared.entity_uid.EntityUid.{EntityUid}
@@ -14,12 +14,12 @@ use Rattle.schema_types.specs.Mentions.{IsClosed}
 use Rattle.schema_types.specs.Outcome.{TypeRefused}
 use Rattle.schema_types.specs.declared.fault.SchemaFault.{SchemaFault}
 use Rattle.schema_types.specs.declared.cedar.CedarType.{CedarType}
-use Rattle.schema_names.specs.Qualifying.{ResolvedEntityType, ResolvedUse, ResolvedAction}
+use Rattle.schema_names.specs.Qualifying.{ResolvedEntityType, ResolvedAppliesTo, ResolvedAction}
 use Rattle.schema.specs.declared.parts.EnvironmentKey.{EnvironmentKey}
 use Rattle.schema.specs.declared.parts.EntityDecl.{EntityDecl}
 use Rattle.schema.specs.Places.{place_cmp, place_of}
 use Rattle.schema.specs.Schemas.{IsRecordOf, IsWritten}
-use Rattle.schema.specs.inner.Filling.{Adds, AddsEach, SomeMay, SomeMust, HoldsForEach}
+use Rattle.schema.specs.inner.Filling.{AddsEntries, AddsEach, SomeMay, SomeMust, HoldsForEach}
 
 -- ---- expanded types
 
@@ -62,7 +62,7 @@ ShapeMust e n = e.name ≡ n
 abbrev pub AddsShape : Declarations → ResolvedEntityType → BTreeMap (List ℕ) EntityDecl → BTreeMap (List ℕ) EntityDecl
     → Type 0
 AddsShape commons e old new =
-    Adds (ShapeMay commons e) (ShapeMust e) (IsWrittenAt commons e.shape) (get text_cmp old) (get text_cmp new)
+    AddsEntries (ShapeMay commons e) (ShapeMust e) (IsWrittenAt commons e.shape) (get text_cmp old) (get text_cmp new)
 
 -- `AddsShapes commons es old new` holds if the shapes of `es` were added, within the limits.
 abbrev pub AddsShapes : Declarations → List ResolvedEntityType → BTreeMap (List ℕ) EntityDecl
@@ -103,7 +103,7 @@ PlaceMust action principal resource p = place_of action principal resource ≡ p
 -- added, with the context type `context`.
 abbrev pub AddsPlace : EntityUid → CedarType → List ℕ → List ℕ → Places → Places → Type 0
 AddsPlace action context principal resource old new =
-    Adds (PlaceMay action context principal resource) (PlaceMust action principal resource) ⊤
+    AddsEntries (PlaceMay action context principal resource) (PlaceMust action principal resource) ⊤
     (get place_cmp old) (get place_cmp new)
 
 -- `AddsResources action context resources principal old new` holds if the places of `action`, `principal` and each of
@@ -121,45 +121,46 @@ AddsPrincipals action context resources principals old new =
     (λ p. HoldsForEach (λ r. ⊤) resources) principals (get place_cmp old) (get place_cmp new)
 
 -- `UseMust action u p` holds if `p` is a place of `action` with types that `u`, the `appliesTo` of the action, lists.
-abbrev pub UseMust : EntityUid → ResolvedUse → EnvironmentKey → Type 0
+abbrev pub UseMust : EntityUid → ResolvedAppliesTo → EnvironmentKey → Type 0
 UseMust action u p = (action ≡ p.action) × Contains u.principals p.principal × Contains u.resources p.resource
 
 -- `UseMay commons action u p c` holds if `UseMust action u p` holds, and `c` is the context of `u`, expanded.
-abbrev pub UseMay : Declarations → EntityUid → ResolvedUse → EnvironmentKey → CedarType → Type 0
+abbrev pub UseMay : Declarations → EntityUid → ResolvedAppliesTo → EnvironmentKey → CedarType → Type 0
 UseMay commons action u p c = UseMust action u p × IsRecordOf commons u.context (cedar_view c)
 
 -- `AddsUse commons action u old new` holds if the places of `action` with the types that `u` lists were added, with the
 -- context of `u`, expanded, within the limits.
-abbrev pub AddsUse : Declarations → EntityUid → ResolvedUse → Places → Places → Type 0
+abbrev pub AddsUse : Declarations → EntityUid → ResolvedAppliesTo → Places → Places → Type 0
 AddsUse commons action u old new =
-    Adds (UseMay commons action u) (UseMust action u) (IsWrittenAt commons u.context)
+    AddsEntries (UseMay commons action u) (UseMust action u) (IsWrittenAt commons u.context)
     (get place_cmp old) (get place_cmp new)
 
 -- `ActionMust a p` holds if `p` is a place of the action `a`.
 abbrev pub ActionMust : ResolvedAction → EnvironmentKey → Type 0
-ActionMust a p = (u : ResolvedUse) × (a.applies_to ≡ Some u) × UseMust a.uid u p
+ActionMust a p = (u : ResolvedAppliesTo) × (a.applies_to ≡ Some u) × UseMust a.uid u p
 
 -- `ActionMay commons a p c` holds if `p` is a place of the action `a`, and `c` is the action's context, expanded.
 abbrev pub ActionMay : Declarations → ResolvedAction → EnvironmentKey → CedarType → Type 0
-ActionMay commons a p c = (u : ResolvedUse) × (a.applies_to ≡ Some u) × UseMay commons a.uid u p c
+ActionMay commons a p c = (u : ResolvedAppliesTo) × (a.applies_to ≡ Some u) × UseMay commons a.uid u p c
 
 -- `IsContextWritten commons a` holds if the context of `a`, if it has one, has an expansion within the limits.
 abbrev pub IsContextWritten : Declarations → ResolvedAction → Type 0
-IsContextWritten commons a = (u : ResolvedUse) → a.applies_to ≡ Some u → IsWrittenAt commons u.context
+IsContextWritten commons a = (u : ResolvedAppliesTo) → a.applies_to ≡ Some u → IsWrittenAt commons u.context
 
 -- `IsContextClosed commons a` holds if each common type that the context of `a` names is declared in `commons`.
 abbrev pub IsContextClosed : Declarations → ResolvedAction → Type 0
-IsContextClosed commons a = (u : ResolvedUse) → a.applies_to ≡ Some u → IsClosedAt commons u.context
+IsContextClosed commons a = (u : ResolvedAppliesTo) → a.applies_to ≡ Some u → IsClosedAt commons u.context
 
 -- `IsContextRefused commons a f` holds if `f` is the error of expanding the context of `a`.
 abbrev pub IsContextRefused : Declarations → ResolvedAction → SchemaFault → Type 0
-IsContextRefused commons a f = (u : ResolvedUse) × (a.applies_to ≡ Some u) × IsRefusedAt commons u.context f
+IsContextRefused commons a f = (u : ResolvedAppliesTo) × (a.applies_to ≡ Some u) × IsRefusedAt commons u.context f
 
 -- `AddsAction commons a old new` holds if the places of `a` were added, with the context of `a`, expanded, within the
 -- limits.
 abbrev pub AddsAction : Declarations → ResolvedAction → Places → Places → Type 0
 AddsAction commons a old new =
-    Adds (ActionMay commons a) (ActionMust a) (IsContextWritten commons a) (get place_cmp old) (get place_cmp new)
+    AddsEntries (ActionMay commons a) (ActionMust a) (IsContextWritten commons a) (get place_cmp old)
+    (get place_cmp new)
 
 -- `AddsActions commons us old new` holds if the places of the actions `us` were added, with their contexts, expanded,
 -- within the limits.
@@ -195,7 +196,7 @@ MemberMust a u = a.uid ≡ u
 abbrev pub AddsMember : Parents → ResolvedAction → BTreeMap EntityUid (List EntityUid)
     → BTreeMap EntityUid (List EntityUid) → Type 0
 AddsMember parents a old new =
-    Adds (MemberMay parents a) (MemberMust a) ⊤ (get uid_cmp old) (get uid_cmp new)
+    AddsEntries (MemberMay parents a) (MemberMust a) ⊤ (get uid_cmp old) (get uid_cmp new)
 
 -- `AddsMembers parents us old new` holds if the parents of the actions `us` under `parents` were added.
 abbrev pub AddsMembers : Parents → List ResolvedAction → BTreeMap EntityUid (List EntityUid)

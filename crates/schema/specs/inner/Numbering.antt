@@ -12,7 +12,7 @@ use Rattle.schema.specs.LookUps.{has_number_at}
 use Rattle.schema.specs.declared.numbering.Numbered.{Numbered}
 use Rattle.schema.specs.declared.type_numbers.TypeNumbers.{TypeNumbers}
 use Rattle.schema.specs.Schemas.{type_uid}
-use Rattle.schema.specs.inner.Filling.{Adds, AddsEach}
+use Rattle.schema.specs.inner.Filling.{AddsEntries, AddsEach}
 
 -- ---- numbers
 
@@ -115,7 +115,7 @@ NameMust at u n = (u.type_name ≡ n) × IsSome (at u)
 
 -- `AddsName at u old new` holds if `new` is the map `old` with the number of `u`, if it has one, under the type of `u`.
 abbrev pub AddsName : Numbers → EntityUid → BTreeMap (List ℕ) ℕ → BTreeMap (List ℕ) ℕ → Type 0
-AddsName at u old new = Adds (NameMay at u) (NameMust at u) ⊤ (get text_cmp old) (get text_cmp new)
+AddsName at u old new = AddsEntries (NameMay at u) (NameMust at u) ⊤ (get text_cmp old) (get text_cmp new)
 
 -- `AddsNames at us old new` holds if `new` is the map `old` with the numbers of the entities `us` under their types.
 abbrev pub AddsNames : Numbers → List EntityUid → (List ℕ → Option ℕ) → (List ℕ → Option ℕ) → Type 0

@@ -23,10 +23,10 @@ has_name s q = contains_text s q
 abbrev pub has_uid : BTreeSet EntityUid → EntityUid → Bool
 has_uid s u = contains uid_cmp s u
 
--- `Adds has test old new` holds if the set `new` has exactly the members of `old` and the values for which `test` is
--- true; `has` tests for membership.
-abbrev pub Adds : {S X : Type 0} → (S → X → Bool) → (X → Bool) → S → S → Type 0
-Adds {X = X} has test old new = (q : X) → has new q ≡ (test q || has old q)
+-- `IsUnionWith has test old new` holds if the set `new` has exactly the members of `old` and the values for which
+-- `test` is true; `has` tests for membership.
+abbrev pub IsUnionWith : {S X : Type 0} → (S → X → Bool) → (X → Bool) → S → S → Type 0
+IsUnionWith {X = X} has test old new = (q : X) → has new q ≡ (test q || has old q)
 
 -- `any_common cs q` tests whether one of the common types `cs` has the full name `q`.
 abbrev pub any_common : List CommonOf → List ℕ → Bool
@@ -42,16 +42,17 @@ any_uid us u = list_any (λ a. is_eq (uid_cmp a u)) us
 
 -- `AddsNamespace n old new` holds if `new` has the names of `old` and the declarations of the namespace `n`.
 pub record AddsNamespace (n : NamespaceOf) (old new : Names) : Type 0 where
-  pub commons : Adds has_name (any_common (map (λ c. common_in n.name c) n.commons)) old.commons new.commons
-  pub entities : Adds has_name (any_name (map (λ e. full_name n.name e.name) n.entity_types)) old.entities new.entities
-  pub actions : Adds has_uid (any_uid (map (λ a. action_uid (action_type n.name) a.id) n.actions)) old.actions
+  pub commons : IsUnionWith has_name (any_common (map (λ c. common_in n.name c) n.commons)) old.commons new.commons
+  pub entities : IsUnionWith has_name
+      (any_name (map (λ e. full_name n.name e.name) n.entity_types)) old.entities new.entities
+  pub actions : IsUnionWith has_uid (any_uid (map (λ a. action_uid (action_type n.name) a.id) n.actions)) old.actions
       new.actions
 
 -- `AddsAll ns old new` holds if `new` has the names of `old` and the declarations of the namespaces `ns`.
 pub record AddsAll (ns : List NamespaceOf) (old new : Names) : Type 0 where
-  pub commons : Adds has_name (any_common (commons_declared ns)) old.commons new.commons
-  pub entities : Adds has_name (any_name (entity_types_declared ns)) old.entities new.entities
-  pub actions : Adds has_uid (any_uid (actions_declared ns)) old.actions new.actions
+  pub commons : IsUnionWith has_name (any_common (commons_declared ns)) old.commons new.commons
+  pub entities : IsUnionWith has_name (any_name (entity_types_declared ns)) old.entities new.entities
+  pub actions : IsUnionWith has_uid (any_uid (actions_declared ns)) old.actions new.actions
 
 -- `Declares ns names` holds if `names` has exactly the declarations of the namespaces `ns`.
 pub record Declares (ns : List NamespaceOf) (names : Names) : Type 0 where

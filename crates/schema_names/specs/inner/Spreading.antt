@@ -6,7 +6,7 @@ use Rattle.std.specs.BTreeSet.{BTreeSet, btree_set_len}
 use Rattle.std.specs.declared.alloc.Global.{Global}
 use Rattle.schema_types.specs.Raw.{Raw}
 use Rattle.schema_types.specs.Names.{Scope}
-use Rattle.schema_file.specs.FileForm.{EntityTypeOf, UseOf, ActionOf, NamespaceOf}
+use Rattle.schema_file.specs.FileForm.{EntityTypeOf, AppliesToOf, ActionOf, NamespaceOf}
 use Rattle.schema_names.specs.Qualifying.{CommonOf, commons_declared, scope_in}
 use Rattle.schema_names.specs.Records.{common_meant, is_no_record, MeansNoRecord, SomeIsNoRecord}
 use Rattle.schema_names.specs.inner.Adding.{has_name}
@@ -90,7 +90,7 @@ is_record_at known s own (Some r) = not (is_known_non_record known s own r)
 
 -- `is_record_in known s own o` tests the same (`is_record_at`) of the context of an action that applies to what is in
 -- `o`; it is true if the action applies to nothing (`None`).
-abbrev pub is_record_in : (List ℕ → Bool) → Scope → Option (List ℕ) → Option UseOf → Bool
+abbrev pub is_record_in : (List ℕ → Bool) → Scope → Option (List ℕ) → Option AppliesToOf → Bool
 is_record_in known s own None = true
 is_record_in known s own (Some u) = is_record_at known s own u.context
 

@@ -16,9 +16,9 @@ leaf_size = record { parts = 1; deep = 1 }
 abbrev pub no_size : Extent
 no_size = record { parts = 0; deep = 0 }
 
--- `above s` is the size of a node whose parts together have the size `s`.
-abbrev pub above : Extent → Extent
-above s = record { parts = min (s.parts + 1) 10001; deep = min (s.deep + 1) 65 }
+-- `node_size s` is the size of a node whose parts together have the size `s`.
+abbrev pub node_size : Extent → Extent
+node_size s = record { parts = min (s.parts + 1) 10001; deep = min (s.deep + 1) 65 }
 
 -- `side_by_side s t` is the size of parts of the sizes `s` and `t` together.
 abbrev pub side_by_side : Extent → Extent → Extent
@@ -33,8 +33,8 @@ unfoldable mutual
   size_in known qualified.boolean = Some leaf_size
   size_in known qualified.decimal = Some leaf_size
   size_in known qualified.ipaddr = Some leaf_size
-  size_in known (qualified.set r) = option_map above (size_in known r)
-  size_in known (qualified.record_of rs) = option_map above (sizes_in known no_size rs)
+  size_in known (qualified.set r) = option_map node_size (size_in known r)
+  size_in known (qualified.record_of rs) = option_map node_size (sizes_in known no_size rs)
   size_in known (qualified.entity n) = Some leaf_size
   size_in known (qualified.common q) = option_map (λ k. k.size) (known q)
 

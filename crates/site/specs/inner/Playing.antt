@@ -12,7 +12,7 @@ use Rattle.site.specs.declared.event.Event.{Event}
 use Rattle.site.specs.declared.event.EventReply.{EventReply}
 use Rattle.site.specs.Sites.{SiteName, World}
 use Rattle.site.specs.Worlds.{Happens, input_by}
-use Rattle.site.specs.Played.{IsViewOf}
+use Rattle.site.specs.SystemViews.{IsViewOf}
 
 -- `input_among messages summaries d` is the input that the operation `d` gives its site, where `messages` and
 -- `summaries` are the bytes of those made so far; `None` if the one that `d` names does not exist.

@@ -71,9 +71,10 @@ abbrev pub IsNoRequestFault : StatedSchema → Option Data → SiteFault → Typ
 IsNoRequestFault schema json (fault.Request f) = IsNoRequest schema json f
 IsNoRequestFault schema json _ = ⊥
 
--- `IsJudged schema id text b impossible` holds if `b` has the text `text`, the policy in `b` may be put under `id`, and
--- `impossible` is whether this policy is impossible.
-pub record IsJudged (schema : StatedSchema) (id text : List ℕ) (b : ReadText Policy) (impossible : Bool) : Type 0 where
+-- `IsCheckedPolicy schema id text b impossible` holds if `b` has the text `text`, the policy in `b` may be put under
+-- `id`, and `impossible` is whether this policy is impossible.
+pub record IsCheckedPolicy (schema : StatedSchema) (id text : List ℕ) (b : ReadText Policy) (impossible : Bool)
+    : Type 0 where
   pub same : b.text ≡ text
   pub admitted : IsAdmitted schema id text b.read
   pub told : IsTrue impossible ↔ IsImpossible schema b.read

@@ -3,7 +3,7 @@ use Rattle.values.specs.declared.entity_uid.EntityUid.{EntityUid}
 use Rattle.ancestor_closure.specs.declared.ancestor_cache.AncestorCache.{AncestorCache}
 use Rattle.ancestor_closure.specs.CacheOf.{IsStaleAt}
 use Rattle.site_meaning.specs.schema.Schemas.{StatedSchema}
-use Rattle.site_store.specs.Kept.{EntityEntries, edges_under}
+use Rattle.site_store.specs.CacheValidity.{EntityEntries, edges_under}
 
 -- `AreAncestorsBut uid schema entries held` holds if `held` is the ancestor cache of a parent relation that differs
 -- from that of `entries` and the actions of `schema` at most in the parents of `uid`.

@@ -3,7 +3,7 @@ use Rattle.std.specs.Prelude.{[], Option, Some, None}
 use Rattle.grammar_core.specs.declared.expr.Expr.{Expr}
 use Rattle.typing.specs.Types.{StaticType, IsBoolean}
 use Rattle.typing.specs.Environment.{Environment, ExpressionFault, unexpected}
-use Rattle.typing.specs.Gained.{Pairs}
+use Rattle.typing.specs.Gained.{CapabilityList}
 use Rattle.typing.specs.Rows.{and_type}
 use Rattle.typing.specs.Typing.{Types}
 use Rattle.typing.specs.Faults.{Faults}
@@ -23,8 +23,9 @@ pub data IsSide : Option StaticType → StaticType → Type 0 where
 -- `Leads env s K x whole` holds if, in the environment `env`, the judgement on the rest `x` of the conjunction `whole`
 -- gives the judgement on `whole`. For `x` the capabilities `K` are known, for `whole` none. The conjunction of the
 -- parts before `x` has the type `s`, which is `None` if there are no parts.
-pub record Leads (env : Environment) (s : Option StaticType) (K : Pairs) (x whole : Expr) : Type 0 where
-  pub types : (t : StaticType) (L : Pairs) → Types env K x t L → IsSide s t
-      → (M : Pairs) × Types env [] whole (and_so_far s t) M
-  pub no_side : (t : StaticType) (L : Pairs) → Types env K x t L → ¬ IsSide s t → Faults env [] whole unexpected
+pub record Leads (env : Environment) (s : Option StaticType) (K : CapabilityList) (x whole : Expr) : Type 0 where
+  pub types : (t : StaticType) (L : CapabilityList) → Types env K x t L → IsSide s t
+      → (M : CapabilityList) × Types env [] whole (and_so_far s t) M
+  pub no_side : (t : StaticType) (L : CapabilityList) → Types env K x t L → ¬ IsSide s t
+      → Faults env [] whole unexpected
   pub faults : (n : ExpressionFault) → Faults env K x n → Faults env [] whole n

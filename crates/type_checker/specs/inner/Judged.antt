@@ -9,7 +9,7 @@ use Rattle.typing.specs.Types.{StaticType, true_type, false_type, boolean_type}
 use Rattle.typing.specs.evaluator.Operators.{TakesAddress}
 use Rattle.typing.specs.Environment.{Environment, bad_extension_literal}
 use Rattle.typing.specs.Gained as gained
-use Rattle.typing.specs.Gained.{Pairs, has_gains}
+use Rattle.typing.specs.Gained.{CapabilityList, has_gains}
 use Rattle.typing.specs.Literals.{ReadsLiteral, TakesText}
 use Rattle.typing.specs.Rows.{address_test_type, set_literal_type}
 use Rattle.typing.specs.Typing.{Types, TypesEach}
@@ -22,79 +22,81 @@ use Rattle.type_capabilities.specs.declared.pair.Capability.{Capability}
 use Rattle.type_checker.specs.declared.typed.Typed.{Typed}
 use Rattle.type_checker.specs.declared.typed.Then.{Then}
 use Rattle.type_checker.specs.declared.typed.Then.TheVariants as then
-use Rattle.type_capabilities.specs.Pairs.{pairs}
+use Rattle.type_capabilities.specs.CapabilityList.{capabilities}
 use Rattle.std.specs.declared.alloc.Global.{Global}
 
 -- `Judged env K x r after` holds if `r` is the type of `x` with the capabilities that it gains, and `after` is `K`; or
 -- if `r` is the error of `x`.
-abbrev pub Judged : Environment → Pairs → Expr → Result Typed ExpressionFault → Pairs → Type 0
+abbrev pub Judged : Environment → CapabilityList → Expr → Result Typed ExpressionFault → CapabilityList → Type 0
 Judged env K x r after =
-    MatchResult r (λ t. (after ≡ K) × Types env K x (static_view t.kind) (pairs t.learns.items))
+    MatchResult r (λ t. (after ≡ K) × Types env K x (static_view t.kind) (capabilities t.gains.items))
     (λ f. f ≢ NoMemory → Faults env K x (fault_view f))
 
 -- `JudgedUnder env K L x r after` holds if `r` is the type of `x` with the capabilities `L` and then those that `x`
 -- gains, and `after` is `K`; or if `r` is the error of `x`. Here the capabilities `K` and then `L` are known.
-abbrev pub JudgedUnder : Environment → Pairs → Pairs → Expr → Result Typed ExpressionFault → Pairs → Type 0
+abbrev pub JudgedUnder : Environment → CapabilityList → CapabilityList → Expr → Result Typed ExpressionFault
+    → CapabilityList → Type 0
 JudgedUnder env K L x r after =
-    MatchResult r (λ t. (after ≡ K) × ((M : Pairs) × Types env (K ++ L) x (static_view t.kind) M
-    × (pairs t.learns.items ≡ L ++ M)))
+    MatchResult r (λ t. (after ≡ K) × ((M : CapabilityList) × Types env (K ++ L) x (static_view t.kind) M
+    × (capabilities t.gains.items ≡ L ++ M)))
     (λ f. f ≢ NoMemory → Faults env (K ++ L) x (fault_view f))
 
 -- `JudgedEach env K xs r after` holds if `r` has the types of the expressions `xs`, in order, and `after` is `K`; or if
 -- `r` is the error of the first expression that has one.
-abbrev pub JudgedEach : Environment → Pairs → List Expr
-    → Result (Vec built.StaticType Global) ExpressionFault → Pairs → Type 0
+abbrev pub JudgedEach : Environment → CapabilityList → List Expr
+    → Result (Vec built.StaticType Global) ExpressionFault → CapabilityList → Type 0
 JudgedEach env K xs r after =
     MatchResult r (λ ts. (after ≡ K) × TypesEach env K xs (map static_view ts.items))
     (λ f. f ≢ NoMemory → FaultsEach env K xs (fault_view f))
 
 -- `IsNext env K x ts us` holds if `us` are the types `ts`, followed by the type of `x`.
-abbrev pub IsNext : Environment → Pairs → Expr → List built.StaticType → List built.StaticType → Type 0
+abbrev pub IsNext : Environment → CapabilityList → Expr → List built.StaticType → List built.StaticType → Type 0
 IsNext env K x ts us =
-    (t : StaticType) × (L : Pairs) × Types env K x t L × (map static_view us ≡ map static_view ts ++ t ∷ [])
+    (t : StaticType) × (L : CapabilityList) × Types env K x t L × (map static_view us ≡ map static_view ts ++ t ∷ [])
 
 -- `MembersHave env K xs ts` holds if a set literal whose members have the types `ts` has the type or error of the set
 -- literal with the members `xs`. A member that repeats the previous one needs no type in `ts`.
-abbrev pub MembersHave : Environment → Pairs → List Expr → List StaticType → Type 0
+abbrev pub MembersHave : Environment → CapabilityList → List Expr → List StaticType → Type 0
 MembersHave env K xs ts =
     (us : List StaticType) × TypesEach env K xs us × (set_literal_type us ≡ set_literal_type ts)
 
 -- `JudgedMembers env K xs r after` holds if `r` has types that the members `xs` have by `MembersHave`, and `after` is
 -- `K`; or if `r` is the error of the first member that has one.
-abbrev pub JudgedMembers : Environment → Pairs → List Expr
-    → Result (Vec built.StaticType Global) ExpressionFault → Pairs → Type 0
+abbrev pub JudgedMembers : Environment → CapabilityList → List Expr
+    → Result (Vec built.StaticType Global) ExpressionFault → CapabilityList → Type 0
 JudgedMembers env K xs r after =
     MatchResult r (λ ts. (after ≡ K) × MembersHave env K xs (map static_view ts.items))
     (λ f. f ≢ NoMemory → FaultsEach env K xs (fault_view f))
 
 -- `ThenTyped env K a b s t` holds if the test `a` has the type `s`, and `t` is the type of the branch `b`, with the
 -- capabilities that `a` and then `b` gain.
-abbrev pub ThenTyped : Environment → Pairs → Expr → Expr → StaticType → Typed → Type 0
+abbrev pub ThenTyped : Environment → CapabilityList → Expr → Expr → StaticType → Typed → Type 0
 ThenTyped env K a b s t =
-    (L : Pairs) × (M : Pairs) × Types env K a s L × Types env (K ++ L) b (static_view t.kind) M
-    × (pairs t.learns.items ≡ L ++ M)
+    (L : CapabilityList) × (M : CapabilityList) × Types env K a s L × Types env (K ++ L) b (static_view t.kind) M
+    × (capabilities t.gains.items ≡ L ++ M)
 
 -- `ThenIs env K a b t` holds if `t` is the judgement on `if a then b`, which skips `b` if `a` has the type False.
-abbrev pub ThenIs : Environment → Pairs → Expr → Expr → Then → Type 0
-ThenIs env K a b then.Skipped = (L : Pairs) × Types env K a false_type L
+abbrev pub ThenIs : Environment → CapabilityList → Expr → Expr → Then → Type 0
+ThenIs env K a b then.Skipped = (L : CapabilityList) × Types env K a false_type L
 ThenIs env K a b (then.Only t) = ThenTyped env K a b true_type t
 ThenIs env K a b (then.Both t) = ThenTyped env K a b boolean_type t
 
 -- `ThenJudged env K a b r after` holds if `r` is the judgement on `if a then b` (`ThenIs`), and `after` is `K`; or if
 -- `r` is the error of each expression `if a then b else c`.
-abbrev pub ThenJudged : Environment → Pairs → Expr → Expr → Result Then ExpressionFault → Pairs → Type 0
+abbrev pub ThenJudged : Environment → CapabilityList → Expr → Expr → Result Then ExpressionFault → CapabilityList
+    → Type 0
 ThenJudged env K a b r after =
     MatchResult r (λ t. (after ≡ K) × ThenIs env K a b t)
     (λ f. f ≢ NoMemory → (c : Expr) → Faults env K (form.If a b c) (fault_view f))
 
 -- `IsRow row r` holds if `r` is the type of `row` without gained capabilities, or the error of `row`.
 abbrev pub IsRow : Result built.StaticType ExpressionFault → Result Typed ExpressionFault → Type 0
-IsRow row r = MatchResult r (λ t. (row ≡ Ok t.kind) × (t.learns.items ≡ [])) (λ f. row ≡ Err f)
+IsRow row r = MatchResult r (λ t. (row ≡ Ok t.kind) × (t.gains.items ≡ [])) (λ f. row ≡ Err f)
 
--- `AddsLearned L typed r` holds if `r` is `typed` with the capabilities `L` in front of those that it gains.
-abbrev pub AddsLearned : List Capability → Result Typed ExpressionFault → Result Typed ExpressionFault → Type 0
-AddsLearned L typed r =
-    MatchResult r (λ t. (u : Typed) × (typed ≡ Ok u) × (t.kind ≡ u.kind) × (t.learns.items ≡ L ++ u.learns.items))
+-- `AddsGained L typed r` holds if `r` is `typed` with the capabilities `L` in front of those that it gains.
+abbrev pub AddsGained : List Capability → Result Typed ExpressionFault → Result Typed ExpressionFault → Type 0
+AddsGained L typed r =
+    MatchResult r (λ t. (u : Typed) × (typed ≡ Ok u) × (t.kind ≡ u.kind) × (t.gains.items ≡ L ++ u.gains.items))
     (λ f. f ≢ NoMemory → typed ≡ Err f)
 
 -- `IsBranch branch typed r` holds if `r` is `branch` of the type in `typed`, or the error in `typed`.
@@ -116,5 +118,5 @@ CallTyped called x s r =
 abbrev pub IsHasRow : gained.Capability → Result built.StaticType ExpressionFault
     → Result Typed ExpressionFault → Type 0
 IsHasRow p row r =
-    MatchResult r (λ t. (row ≡ Ok t.kind) × (pairs t.learns.items ≡ has_gains (static_view t.kind) p))
+    MatchResult r (λ t. (row ≡ Ok t.kind) × (capabilities t.gains.items ≡ has_gains (static_view t.kind) p))
     (λ f. f ≢ NoMemory → row ≡ Err f)

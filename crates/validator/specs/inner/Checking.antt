@@ -5,7 +5,7 @@ use Rattle.std.specs.Bool.{Decides}
 use Rattle.grammar_core.specs.declared.leaf.Variable.TheVariants.{Principal, Resource}
 use Rattle.grammar_core.specs.declared.expr.Expr.{Expr}
 use Rattle.type_checker.specs.policy_grammar.declared.policy.Scope.{Scope}
-use Rattle.type_checker.specs.policy_grammar.Whole.{entity_part, action_part}
+use Rattle.type_checker.specs.policy_grammar.PolicyExpression.{entity_part, action_part}
 use Rattle.type_checker.specs.schema.declared.parts.Environment as given
 use Rattle.type_checker.specs.schema.Schemas.{StatedSchema}
 use Rattle.type_checker.specs.schema.Views.{environment_view}

@@ -9,7 +9,7 @@ use Rattle.entities.specs.Typing.{with_or}
 use Rattle.entities.specs.schema.Schemas.{StatedSchema}
 use Rattle.entities.specs.declared.fault.EntityFault.{EntityFault}
 use Rattle.entities.specs.declared.requests.Asked.{Asked}
-use Rattle.entities.specs.Stated.{is_absent_or_object, or_empty}
+use Rattle.entities.specs.EntityForms.{is_absent_or_object, or_empty}
 use Rattle.entities.specs.Requests.{Asks, RequestRefused}
 use Rattle.value_paths.specs.declared.steps.Step.{Step}
 use Rattle.value_paths.specs.declared.steps.Step.TheVariants.{Key}

@@ -1,7 +1,7 @@
 use Rattle.std.proofs.Common.{sym, subst}
 use Rattle.std.specs.Prelude.{Contains, OnOk}
 use Rattle.values.specs.declared.entity_uid.EntityUid.{EntityUid}
-use Rattle.ancestor_closure.specs.Lists.{children_in, AddsChild, IsThere}
+use Rattle.ancestor_closure.specs.Lists.{children_in, AddsChild, HasEntry}
 use Rattle.ancestor_closure.specs.inner.OneChange.{Enters, ListsAscend, IsInOwn}
 use Rattle.ancestor_closure.proofs.Following.{ok_always}
 use Rattle.ancestor_closure.proofs.OneByOne.{adds_none}
@@ -17,7 +17,7 @@ pub returns-in_err-enter_all-clause-enters : goal.returns-in_err-enter_all-claus
 returns-in_err-enter_all-clause-enters c = subst (λ l. Enters l c.args.cyclic.now.keys c.enter_all.new.cyclic.keys) c.deref.ensures.value c.enter_all.ensures.enters
 
 pub add_to_all-requires : goal.add_to_all-requires
-add_to_all-requires c = subst (λ l. (x : EntityUid) → Contains l x → IsThere c.args.relatives.now x) (sym c.deref-2.ensures.value) c.requires.there
+add_to_all-requires c = subst (λ l. (x : EntityUid) → Contains l x → HasEntry c.args.relatives.now x) (sym c.deref-2.ensures.value) c.requires.there
 
 pub returns-clause-adds : goal.returns-clause-adds
 returns-clause-adds c =

@@ -1,7 +1,7 @@
 use Rattle.std.proofs.Common.{◌≡◌, ◌∙◌, ap, sym, subst, inl, inr, refl}
 use Rattle.values.specs.declared.entity_uid.EntityUid.{EntityUid}
 use Rattle.ancestor_search.specs.Hierarchy.{IsAscending}
-use Rattle.ancestor_closure.specs.Lists.{ancestors_in, children_in, IsThere}
+use Rattle.ancestor_closure.specs.Lists.{ancestors_in, children_in, HasEntry}
 use Rattle.ancestor_closure.specs.inner.OneChange.{Leaves, written}
 use Rattle.ancestor_closure.proofs.Following.{lists_right, whose, made, taken_back, kept-same}
 use Rattle.ancestor_closure.proofs.Updates.{is_there}
@@ -27,7 +27,7 @@ finish-requires-clause-there g c = λ q h.
     let m = c.args.relatives.now in
     let u = c.args.uid.now in
     c.begin.ensures.stay q (elim (whose u but.before (g.G.ParentsOf.parents c.args.graph.now) but.others (ancestors_in m) (children_in m) c.args.cyclic.now.keys but.kept c.in_ok-change.change c.in_ok-change.ensures q h) [
-      | inl same ↦ subst (λ z. IsThere m z) same c.requires.there
+      | inl same ↦ subst (λ z. HasEntry m z) same c.requires.there
       | inr above ↦ is_there m q u above
     ])
 

@@ -5,7 +5,7 @@ use Rattle.std.proofs.lemmas.List.Elements.{Contains-push_cases}
 use Rattle.ancestor_search.specs.Hierarchy.{names}
 use Rattle.ancestor_search.specs.Deciding.{Contains-none}
 use Rattle.ancestor_search.proofs.Members.{names-push}
-use Rattle.ancestor_closure.specs.Lists.{IsThere}
+use Rattle.ancestor_closure.specs.Lists.{HasEntry}
 use Rattle.ancestor_closure.proofs.changing.reserve_all.Goals as goal
 
 pub loop-uid-init : goal.loop-uid-init
@@ -31,7 +31,7 @@ loop-uid-preserved c =
       stay = λ q h. c.reserve.ensures.stay q (c.loop-uid.invariant.stay q h);
       there = λ x h. elim (Contains-push_cases (names ps) p.now x (subst (λ l. Contains l x) more h)) [
         | inl t ↦ c.reserve.ensures.stay x (c.loop-uid.invariant.there x t)
-        | inr same ↦ subst (λ z. IsThere c.reserve.new.relatives z) same c.in_ok-reserve.ensures.there
+        | inr same ↦ subst (λ z. HasEntry c.reserve.new.relatives z) same c.in_ok-reserve.ensures.there
       ];
     }
 

@@ -4,7 +4,7 @@ use Rattle.std.specs.Option.{option_copied_mut}
 use Rattle.std.specs.BTreeMap.{get}
 use Rattle.values.specs.Names.{uid_cmp, uid_cmp-IsAntisymmetric}
 use Rattle.ancestor_search.proofs.Members.{insert_key-kept, insert_key-from, insert_key-here}
-use Rattle.ancestor_closure.specs.Lists.{ancestors_in, children_in, ancestors_or_none, children_or_none, IsThere}
+use Rattle.ancestor_closure.specs.Lists.{ancestors_in, children_in, ancestors_or_none, children_or_none, HasEntry}
 use Rattle.ancestor_closure.specs.declared.relatives.Relatives.{Relatives}
 use Rattle.ancestor_closure.proofs.Updates.{same_lists, stay, adds, child_there, none_there}
 use Rattle.ancestor_closure.proofs.OneByOne.{adds_as}
@@ -86,7 +86,7 @@ pub returns-in-None-clause-lists : goal.returns-in-None-clause-lists
 returns-in-None-clause-lists c = λ q. ap (λ m. ancestors_in m q) c.get_mut.follows.holds-at-none
 
 pub returns-in-None-clause-stay : goal.returns-in-None-clause-stay
-returns-in-None-clause-stay c = λ q h. subst (λ m. IsThere m q) (sym c.get_mut.follows.holds-at-none) h
+returns-in-None-clause-stay c = λ q h. subst (λ m. HasEntry m q) (sym c.get_mut.follows.holds-at-none) h
 
 pub returns-in-None-clause-adds : goal.returns-in-None-clause-adds
 returns-in-None-clause-adds c = adds_as (c.args.parent.now ∷ []) c.args.child (children_in c.args.relatives.now) _ (λ q. ap (λ m. children_in m q) c.get_mut.follows.holds-at-none)

@@ -3,7 +3,7 @@ use Rattle.std.specs.Prelude.{Contains}
 use Rattle.std.proofs.lemmas.List.{take_more, take_all}
 use Rattle.std.proofs.lemmas.List.Elements.{Contains-push_cases}
 use Rattle.ancestor_search.specs.Deciding.{Contains-none}
-use Rattle.ancestor_closure.specs.Lists.{children_in, IsThere}
+use Rattle.ancestor_closure.specs.Lists.{children_in, HasEntry}
 use Rattle.ancestor_closure.proofs.OneByOne.{adds_none, adds_more, adds_at}
 use Rattle.ancestor_closure.proofs.children.add_to_all.Goals as goal
 
@@ -17,7 +17,7 @@ loop-parent-init c = record {
 
 pub add_child-requires : goal.add_child-requires
 add_child-requires c =
-    subst (λ z. IsThere c.loop-parent.relatives z) (sym c.deref.ensures)
+    subst (λ z. HasEntry c.loop-parent.relatives z) (sym c.deref.ensures)
     (c.loop-parent.invariant.stay c.parent-item.result (c.requires c.parent-item.result (c.loop-parent.parent-index, c.loop-parent-test.true, sym c.parent-item.is)))
 
 pub returns-in_err-add_child-clause-lists : goal.returns-in_err-add_child-clause-lists

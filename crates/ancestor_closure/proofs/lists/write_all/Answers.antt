@@ -1,7 +1,7 @@
 use Rattle.std.proofs.Common.{◌≡◌, ◌∙◌, refl, subst, cond, sym}
 use Rattle.values.specs.declared.entity_uid.EntityUid.{EntityUid}
 use Rattle.ancestor_search.specs.Decided.{is_same}
-use Rattle.ancestor_closure.specs.Lists.{ancestors_in, IsThere}
+use Rattle.ancestor_closure.specs.Lists.{ancestors_in, HasEntry}
 use Rattle.ancestor_closure.proofs.Written.{Writing-step, Writing-last}
 use Rattle.ancestor_closure.proofs.lists.write_all.Goals as goal
 
@@ -10,7 +10,7 @@ loop-entity-init c = record { writing = record { known = c.requires; same = λ q
 
 pub write_list-requires : goal.write_list-requires
 write_list-requires c =
-    subst (λ z. IsThere c.loop-entity.relatives z) (sym c.deref.ensures)
+    subst (λ z. HasEntry c.loop-entity.relatives z) (sym c.deref.ensures)
     (Writing-last c.loop-entity.relatives _ _ _ c.in-Some.entity c.in-Some.list c.loop-entity.invariant.writing c.in-Some.ensures.items)
 
 pub loop-entity-preserved : goal.loop-entity-preserved

@@ -2,7 +2,7 @@ use Rattle.std.proofs.Common.{◌≡◌, ◌∙◌, sym, ap, subst, false, is_so
 use Rattle.std.specs.BTreeMap.{get}
 use Rattle.values.specs.Names.{uid_cmp}
 use Rattle.ancestor_search.proofs.Levels.{none_from_test}
-use Rattle.ancestor_closure.specs.Lists.{ancestors_in, children_in, ancestors_or_none, children_or_none, IsThere}
+use Rattle.ancestor_closure.specs.Lists.{ancestors_in, children_in, ancestors_or_none, children_or_none, HasEntry}
 use Rattle.ancestor_closure.proofs.Updates.{same_lists, same_children, stay, there}
 use Rattle.ancestor_closure.proofs.relatives.reserve.Goals as goal
 
@@ -25,4 +25,4 @@ returns-in_ok-insert-clause-stay c = stay c.args.relatives.now c.insert.new.self
 
 pub returns-in_ok-insert-clause-there : goal.returns-in_ok-insert-clause-there
 returns-in_ok-insert-clause-there c =
-    subst (λ z. IsThere c.insert.new.self z) c.in_ok-name.ensures (there c.args.relatives.now c.insert.new.self c.in_ok-name.name c.in_ok-without_relatives.field-0 c.in_ok-insert.ensures.updates.0)
+    subst (λ z. HasEntry c.insert.new.self z) c.in_ok-name.ensures (there c.args.relatives.now c.insert.new.self c.in_ok-name.name c.in_ok-without_relatives.field-0 c.in_ok-insert.ensures.updates.0)

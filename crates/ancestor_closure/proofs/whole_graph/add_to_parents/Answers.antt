@@ -2,7 +2,7 @@ use Rattle.std.proofs.Common.{◌∙◌, sym, subst}
 use Rattle.std.specs.Prelude.{Contains, OnOk}
 use Rattle.values.specs.declared.entity_uid.EntityUid.{EntityUid}
 use Rattle.ancestor_search.specs.Hierarchy.{names}
-use Rattle.ancestor_closure.specs.Lists.{children_in, AddsChild, IsThere}
+use Rattle.ancestor_closure.specs.Lists.{children_in, AddsChild, HasEntry}
 use Rattle.ancestor_closure.proofs.Whole.{adds_none}
 use Rattle.ancestor_closure.proofs.whole_graph.add_to_parents.Goals as goal
 
@@ -13,7 +13,7 @@ pub returns-in_err-after-clause-adds : goal.returns-in_err-after-clause-adds
 returns-in_err-after-clause-adds c = adds_none (names c.args.parents.now) c.args.uid.now (children_in c.args.relatives.now)
 
 pub add_to_all-requires : goal.add_to_all-requires
-add_to_all-requires c = subst (λ l. (x : EntityUid) → Contains l x → IsThere c.args.relatives.now x) (sym (c.deref.ensures.value ∙ c.in_ok-after.ensures)) c.requires
+add_to_all-requires c = subst (λ l. (x : EntityUid) → Contains l x → HasEntry c.args.relatives.now x) (sym (c.deref.ensures.value ∙ c.in_ok-after.ensures)) c.requires
 
 pub returns-clause-adds : goal.returns-clause-adds
 returns-clause-adds c =

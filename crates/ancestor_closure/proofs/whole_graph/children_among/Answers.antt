@@ -9,7 +9,7 @@ use Rattle.ancestor_search.specs.Hierarchy.{names}
 use Rattle.ancestor_search.specs.Deciding.{Contains-none}
 use Rattle.ancestor_search.specs.inner.Backwards.{AreChildrenAmong}
 use Rattle.ancestor_search.proofs.Members.{names-push}
-use Rattle.ancestor_closure.specs.Lists.{ancestors_or_none, children_or_none, children_in, IsThere}
+use Rattle.ancestor_closure.specs.Lists.{ancestors_or_none, children_or_none, children_in, HasEntry}
 use Rattle.ancestor_closure.proofs.Whole.{children_more}
 use Rattle.ancestor_closure.proofs.whole_graph.children_among.Goals as goal
 
@@ -33,7 +33,7 @@ loop-uid-preserved g c =
       lists = λ q. c.add_edges.ensures.lists q ∙ c.loop-uid.invariant.lists q;
       there = λ q h. elim (Contains-push_cases (names ps) p.now q (subst (λ l. Contains l q) more h)) [
         | inl t ↦ c.add_edges.ensures.stay q (c.loop-uid.invariant.there q t)
-        | inr same ↦ subst (λ z. IsThere now z) same c.in_ok-add_edges.ensures.there
+        | inr same ↦ subst (λ z. HasEntry now z) same c.in_ok-add_edges.ensures.there
       ];
       children = subst (λ l. AreChildrenAmong l (g.G.ParentsOf.parents c.args.graph.now) (children_in now)) (sym more)
           (children_more (g.G.ParentsOf.parents c.args.graph.now) (names ps) (children_in c.loop-uid.relatives) (children_in now) p.now c.loop-uid.invariant.children c.in_ok-add_edges.ensures.adds);

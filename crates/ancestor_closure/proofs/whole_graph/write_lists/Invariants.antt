@@ -1,6 +1,6 @@
 use Rattle.std.proofs.Common.{take}
 use Rattle.ancestor_search.specs.Hierarchy.{names}
-use Rattle.ancestor_closure.specs.Lists.{ancestors_in, SameChildren, StayThere}
+use Rattle.ancestor_closure.specs.Lists.{ancestors_in, SameChildren, KeepEntries}
 use Rattle.ancestor_closure.specs.inner.WholeGraph.{AreListsOf}
 use Rattle.ancestor_closure.proofs.whole_graph.write_lists.Given as goal
 
@@ -8,5 +8,5 @@ abbrev pub invariant-loop-uid : goal.invariant-loop-uid
 invariant-loop-uid g l = record {
   lists : AreListsOf (g.G.ParentsOf.parents l.graph) (names (take l.uid-index l.uids)) (ancestors_in l.relatives);
   children : SameChildren l.fn.relatives l.relatives;
-  stay : StayThere l.fn.relatives l.relatives;
+  stay : KeepEntries l.fn.relatives l.relatives;
 }

@@ -1,7 +1,7 @@
 use Rattle.std.proofs.Common.{[], ◌∷◌, ◌++◌, take, ap, sym, subst, ◌∙◌}
 use Rattle.std.proofs.lemmas.List.{take_more, take_all}
 use Rattle.ancestor_search.specs.Hierarchy.{names}
-use Rattle.ancestor_search.specs.inner.Backwards.{AddsChild, AreChildrenAmong, children_of}
+use Rattle.ancestor_search.specs.inner.Backwards.{AddsToChildren, AreChildrenAmong, children_of}
 use Rattle.ancestor_search.proofs.Members.{names-push}
 use Rattle.ancestor_search.proofs.Turned.{Among-more}
 use Rattle.ancestor_search.proofs.named_cycle.children_among.Goals as goal
@@ -16,7 +16,7 @@ loop-uid-preserved g c =
     let kids' = children_of c.add_child.new.children in
     subst (λ l. AreChildrenAmong l p kids') (sym (ap names more ∙ names-push us u))
     (Among-more (names us) u.now p kids kids' c.loop-uid.invariant
-    (subst (λ l. AddsChild l u.now kids kids') c.parents_of.ensures c.in_ok-add_child.ensures))
+    (subst (λ l. AddsToChildren l u.now kids kids') c.parents_of.ensures c.in_ok-add_child.ensures))
 
 pub returns : goal.returns
 returns g c =

@@ -3,9 +3,9 @@ use Rattle.std.proofs.lemmas.List.{take_more, take_all}
 use Rattle.std.specs.BTreeSet.{insert_key}
 use Rattle.values.specs.Names.{uid_cmp, uid_cmp-IsAntisymmetric}
 use Rattle.ancestor_search.specs.Hierarchy.{names}
-use Rattle.ancestor_search.specs.Search.{Adds}
+use Rattle.ancestor_search.specs.Search.{AddsUnseen}
 use Rattle.ancestor_search.proofs.Members.{names-insert_key, names-push, length-names, insert_key-here}
-use Rattle.ancestor_search.proofs.Steps.{Adds-seen, Adds-new}
+use Rattle.ancestor_search.proofs.Steps.{AddsUnseen-seen, AddsUnseen-new}
 use Rattle.ancestor_search.proofs.search.add_parents.Goals as goal
 use Rattle.ancestor_search.proofs.search.add_parents.Goals.{then-branch+in_ok-push, else-branch}
 
@@ -22,13 +22,13 @@ loop-parent-preserved c =
     let same = c.in_ok-insert.ensures.unchanged in
     rw more (elim c.if-branch.branch [
       | then-branch+in_ok-push w ↦
-          Adds-new ps _ _ s1 w1 c.loop-parent.invariant p s2 _ inserted
+          AddsUnseen-new ps _ _ s1 w1 c.loop-parent.invariant p s2 _ inserted
           (ap (λ v. names v.items) w.work-is ∙ ap names w.in_ok-push.ensures.items ∙ names-push c.loop-parent.work.items _)
           (rw (length-names, length-names) (rw w.if-branch.true at longer))
       | else-branch w ↦
           let e : s1 ≡ s2 = ap names (sym (rw w.if-branch.false at same)) in
           let v : w1 ≡ names c.if-branch.work.items = ap (λ v. names v.items) (sym w.work-is) in
-          Adds-seen ps _ _ s2 _ (subst (λ y. Adds ps (names c.args.seen.now.keys) (names c.args.work.now.items) s2 y) v (subst (λ y. Adds ps (names c.args.seen.now.keys) (names c.args.work.now.items) y w1) e c.loop-parent.invariant)) p
+          AddsUnseen-seen ps _ _ s2 _ (subst (λ y. AddsUnseen ps (names c.args.seen.now.keys) (names c.args.work.now.items) s2 y) v (subst (λ y. AddsUnseen ps (names c.args.seen.now.keys) (names c.args.work.now.items) y w1) e c.loop-parent.invariant)) p
           (rw inserted (insert_key-here uid_cmp uid_cmp-IsAntisymmetric s1 p))
     ])
 

@@ -33,4 +33,4 @@ returns g c =
     let none = names-none c.loop-next.work.items (omega (arith, empty)) in
     let all = Searching-end _ _ _ (subst (λ w. Searching (g.G.ParentsOf.parents c.args.graph.now) c.args.b.now (names c.loop-next.seen.keys) w) none c.loop-next.invariant) c.args.a.now in
     let found = found_iff c.loop-next.seen.keys c.args.a.now c.contains.result c.contains.ensures in
-    (λ t. all.0 (found.0 t), λ above. found.1 (all.1 above))
+    (λ t. all.0 (found.0 t), λ ancestor_set. found.1 (all.1 ancestor_set))

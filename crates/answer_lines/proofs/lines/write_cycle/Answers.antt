@@ -1,5 +1,5 @@
 use Rattle.entity_uids.specs.Uids.{uid_json}
-use Rattle.entity_uids.specs.Tokens.{Adds, tokens_of}
+use Rattle.entity_uids.specs.Tokens.{AppendsTokens, tokens_of}
 use Rattle.entity_uids.proofs.Adding.{one, alike, opened, one_more, whole}
 use Rattle.answer_lines.proofs.lines.write_cycle.Goals as goal
 

@@ -1,5 +1,5 @@
 use Rattle.answer_lines.specs.Lines.{erring_json}
-use Rattle.entity_uids.specs.Tokens.{Adds, tokens_of}
+use Rattle.entity_uids.specs.Tokens.{AppendsTokens, tokens_of}
 use Rattle.entity_uids.proofs.Adding.{one, alike, opened, one_more, whole}
 use Rattle.answer_lines.proofs.lines.write_errors.Goals as goal
 

@@ -1,6 +1,6 @@
 use Rattle.std.proofs.Common.{ap, List, ℕ}
 use Rattle.serde_json.specs.Data.{string}
-use Rattle.entity_uids.specs.Tokens.{Adds, tokens_of}
+use Rattle.entity_uids.specs.Tokens.{AppendsTokens, tokens_of}
 use Rattle.entity_uids.proofs.Adding.{one, alike, opened, one_more, whole}
 use Rattle.answer_lines.proofs.lines.write_reason.Goals as goal
 

@@ -24,5 +24,5 @@ returns-else-is_scope_true g c =
     let k = c.args.known.now in
     let W = entities_with (g.L.Lookup.stored k.0) (g.L.Ancestry.parents k.0) in
     let s = c.request_entities.result.now in
-    other_scope c.scopes_do_not_err.ensures.idle W (g.L.Ancestry.above k.0) (g.met.L.Ancestry.above_is k.0) k.1 s c.args.policy.now c.request_entities.ensures
+    other_scope c.scopes_do_not_err.ensures.idle W (g.L.Ancestry.ancestor_test k.0) (g.met.L.Ancestry.ancestor_test_decides k.0) k.1 s c.args.policy.now c.request_entities.ensures
     (λ h. let t = c.if-is_scope_true.ensures.1 (subst (λ (x : Scope). IsTrueOf x s) (sym c.deref.ensures) h) in cc t)

@@ -3,7 +3,7 @@ use Rattle.std.specs.Prelude.{IfOk}
 use Rattle.answer_lines.specs.authoriser.Answers.{IsAnswer}
 use Rattle.answer_lines.specs.authoriser.Views.{named}
 use Rattle.entity_data.specs.Entities.{Actions, with_actions, entity_data_in}
-use Rattle.entity_data.specs.Keeping.{kept_in}
+use Rattle.entity_data.specs.EntityStores.{kept_in}
 use Rattle.decision_texts.proofs.deciding.answer_over.Goals as goal
 
 pub returns : goal.returns

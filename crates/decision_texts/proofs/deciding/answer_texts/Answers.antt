@@ -9,5 +9,5 @@ returns-clause-answered g c = IfOk-weaker c.line_to.result _ _
 
 pub returns-clause-refused : goal.returns-clause-refused
 returns-clause-refused g c = IfErr-weaker c.line_to.result _ _
-    (λ refusal due. unanswered (g.S.Setting.reading c.args.setting.now) c.args.entities.now c.args.request.now c.in_ok-store.store refusal c.in_ok-store.ensures due)
+    (λ refusal is_fault. unanswered (g.S.Setting.reading c.args.setting.now) c.args.entities.now c.args.request.now c.in_ok-store.store refusal c.in_ok-store.ensures is_fault)
     c.line_to.ensures.refused

@@ -10,5 +10,5 @@ returns-in_err-policies-clause-refused g c =
 
 pub returns-clause-refused : goal.returns-clause-refused
 returns-clause-refused g c = IfErr-weaker c.answer_texts.result _ _
-    (λ refusal due. no_question (g.S.Setting.reading c.args.setting.now) c.args.policies.now c.args.entities.now c.args.request.now _ _ refusal c.in_ok-policies.ensures.admitted due)
+    (λ refusal is_fault. no_question (g.S.Setting.reading c.args.setting.now) c.args.policies.now c.args.entities.now c.args.request.now _ _ refusal c.in_ok-policies.ensures.admitted is_fault)
     c.answer_texts.ensures.refused

@@ -2,7 +2,7 @@ use Rattle.std.proofs.Common.{◌≡◌, ◌∙◌, sym, ap, true, false, not, E
 use Rattle.std.proofs.lemmas.Result.{err_from_is_err_and}
 use Rattle.std.specs.Prelude.{is_some}
 use Rattle.serde_json.specs.View.{view}
-use Rattle.entity_data.specs.Keeping.{kept_in}
+use Rattle.entity_data.specs.EntityStores.{kept_in}
 use Rattle.answer_lines.specs.Refusals.{no_memory}
 use Rattle.decision_texts.specs.inner.Stores.{is_among}
 use Rattle.decision_texts.proofs.ArrayLemmas.{after_new, after_again, after_fault, had}

@@ -10,5 +10,5 @@ returns-in-Ok-clause-admitted g c =
 pub returns-in-Ok-clause-refused : goal.returns-in-Ok-clause-refused
 returns-in-Ok-clause-refused g c =
     refused_on c.in-Ok.policies c.check_policies-judged.result c.where_admitted.result c.where_admitted.ensures _ _
-    (λ refusal due. not_admitted (g.S.Setting.reading c.args.setting.now) c.args.bytes.now c.in-Ok.policies.items c.deref.result.now c.deref.ensures.value c.in-Ok.ensures.read refusal due)
+    (λ refusal is_fault. not_admitted (g.S.Setting.reading c.args.setting.now) c.args.bytes.now c.in-Ok.policies.items c.deref.result.now c.deref.ensures.value c.in-Ok.ensures.read refusal is_fault)
     c.check_policies-judged.ensures.refused

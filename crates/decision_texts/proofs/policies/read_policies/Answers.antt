@@ -9,5 +9,5 @@ pub returns-in-Ok-clause-refused : goal.returns-in-Ok-clause-refused
 returns-in-Ok-clause-refused c =
     let text = c.in-Ok.ensures.cases in
     IfErr-weaker c.parse_policies.result _ _ (weaker (IsFileRefused c.in-Ok.text.now) (IsFileFault c.args.bytes.now)
-    (λ fault due. inr (inr (c.if-bytes-gt-MOST_FILE_BYTES.false, text.1, subst (λ (bytes : List ℕ). IsFileRefused bytes fault) text.0 due))))
+    (λ fault is_fault. inr (inr (c.if-bytes-gt-MOST_FILE_BYTES.false, text.1, subst (λ (bytes : List ℕ). IsFileRefused bytes fault) text.0 is_fault))))
     c.parse_policies.ensures.refused

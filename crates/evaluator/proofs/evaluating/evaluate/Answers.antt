@@ -7,20 +7,20 @@ pub returns-clause-given : goal.returns-clause-given
 returns-clause-given g c =
     let store = c.args.store.now in
     let W = entities_with (g.L.Lookup.stored store) (g.L.Ancestry.parents store) in
-    let above = g.L.Ancestry.above store in
+    let ancestor_test = g.L.Ancestry.ancestor_test store in
     let q = c.args.request.now in
     let x = c.args.expr.now in
-    let given = c.meanings_are_given.ensures W above (g.met.L.Ancestry.above_is store) q x in
-    let m = meaning q (decided_entities W.stored above) x in
+    let given = c.meanings_are_given.ensures W ancestor_test (g.met.L.Ancestry.ancestor_test_decides store) q x in
+    let m = meaning q (decided_entities W.stored ancestor_test) x in
     answers_what_is_given W q x m given c.owned.result (c.owned.ensures m c.outcome_of.ensures)
 
 pub returns-clause-all : goal.returns-clause-all
 returns-clause-all g c =
     let store = c.args.store.now in
     let W = entities_with (g.L.Lookup.stored store) (g.L.Ancestry.parents store) in
-    let above = g.L.Ancestry.above store in
+    let ancestor_test = g.L.Ancestry.ancestor_test store in
     let q = c.args.request.now in
     let x = c.args.expr.now in
-    let given = c.meanings_are_given.ensures W above (g.met.L.Ancestry.above_is store) q x in
-    let m = meaning q (decided_entities W.stored above) x in
+    let given = c.meanings_are_given.ensures W ancestor_test (g.met.L.Ancestry.ancestor_test_decides store) q x in
+    let m = meaning q (decided_entities W.stored ancestor_test) x in
     answers_all_that_is_given W q x m given c.owned.result (c.owned.ensures m c.outcome_of.ensures)

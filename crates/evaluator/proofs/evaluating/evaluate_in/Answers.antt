@@ -5,20 +5,20 @@ use Rattle.evaluator.proofs.evaluating.evaluate_in.Goals as goal
 
 pub returns-clause-given : goal.returns-clause-given
 returns-clause-given g c =
-    let store = c.args.store.now in
-    let W = entities_with (g.L.Lookup.stored store) (g.L.Ancestry.parents store) in
-    let above = g.L.Ancestry.above store in
-    let q = g.L.EvalEnv.asked store in
+    let env = c.args.env.now in
+    let W = entities_with (g.L.Lookup.stored env) (g.L.Ancestry.parents env) in
+    let ancestor_test = g.L.Ancestry.ancestor_test env in
+    let q = g.L.EvalEnv.request_of env in
     let x = c.args.expr.now in
-    let given = c.meanings_are_given.ensures W above (g.met.L.Ancestry.above_is store) q x in
-    answers_what_is_given W q x (meaning q (decided_entities W.stored above) x) given c.outcome_of.result c.outcome_of.ensures
+    let given = c.meanings_are_given.ensures W ancestor_test (g.met.L.Ancestry.ancestor_test_decides env) q x in
+    answers_what_is_given W q x (meaning q (decided_entities W.stored ancestor_test) x) given c.outcome_of.result c.outcome_of.ensures
 
 pub returns-clause-all : goal.returns-clause-all
 returns-clause-all g c =
-    let store = c.args.store.now in
-    let W = entities_with (g.L.Lookup.stored store) (g.L.Ancestry.parents store) in
-    let above = g.L.Ancestry.above store in
-    let q = g.L.EvalEnv.asked store in
+    let env = c.args.env.now in
+    let W = entities_with (g.L.Lookup.stored env) (g.L.Ancestry.parents env) in
+    let ancestor_test = g.L.Ancestry.ancestor_test env in
+    let q = g.L.EvalEnv.request_of env in
     let x = c.args.expr.now in
-    let given = c.meanings_are_given.ensures W above (g.met.L.Ancestry.above_is store) q x in
-    answers_all_that_is_given W q x (meaning q (decided_entities W.stored above) x) given c.outcome_of.result c.outcome_of.ensures
+    let given = c.meanings_are_given.ensures W ancestor_test (g.met.L.Ancestry.ancestor_test_decides env) q x in
+    answers_all_that_is_given W q x (meaning q (decided_entities W.stored ancestor_test) x) given c.outcome_of.result c.outcome_of.ensures

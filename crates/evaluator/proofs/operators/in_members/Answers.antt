@@ -12,18 +12,18 @@ use Rattle.evaluator.proofs.operators.in_members.Goals.{then-not-found, else-not
 pub loop-member-preserved : goal.loop-member-preserved
 loop-member-preserved g c =
     let store = c.args.store.now in
-    let above = g.L.Ancestry.above store in
+    let ancestor_test = g.L.Ancestry.ancestor_test store in
     let W = entities_with (g.L.Lookup.stored store) (g.L.Ancestry.parents store) in
     let a = c.args.a.now in
     let b = c.in_ok-b.b.now in
-    let E = decided_entities (g.L.Lookup.stored store) above in
+    let E = decided_entities (g.L.Lookup.stored store) ancestor_test in
     member_judged E a c.args.members.now c.loop-member.member-index c.member-item.result b c.loop-member.found c.if-not-found.found
     c.loop-member-test.true c.member-item.is c.in_ok-b.ensures
     (elim c.if-not-found.branch [
       | then-not-found w ↦
           let told = subst (λ (us : List (Bor EntityUid)). IsTrue w.is_within-found.result ↔ ((a ≡ b) ⊎ Contains (names us) b)) w.deref.ensures.value w.is_within-found.ensures in
           newly_found c.loop-member.found c.if-not-found.found (is_in E a b) w.if-not-found.true
-          (w.found-is ∙ within_is W above (g.met.L.Ancestry.above_is store) a b (names c.in_ok-ancestors.ancestors.items) c.in_ok-ancestors.ensures.all w.is_within-found.result told)
+          (w.found-is ∙ within_is W ancestor_test (g.met.L.Ancestry.ancestor_test_decides store) a b (names c.in_ok-ancestors.ancestors.items) c.in_ok-ancestors.ensures.all w.is_within-found.result told)
       | else-not-found w ↦ found_before c.loop-member.found c.if-not-found.found (is_in E a b) w.if-not-found.false w.found-is
     ])
     c.loop-member.invariant

@@ -1,5 +1,5 @@
 use Rattle.std.proofs.Common.{◌≡◌, ℕ, List, ◌++◌, append_assoc, refl, string_bytes}
-use Rattle.explanation_texts.specs.Explained.{says_line, place_text, detail_line, hint_line}
+use Rattle.explanation_texts.specs.ExplanationText.{says_line, place_text, detail_line, hint_line}
 use Rattle.explanation_texts.proofs.Joined.{on_ok}
 use Rattle.explanation_texts.proofs.source.push_at.Goals as goal
 

@@ -1,5 +1,5 @@
 use Rattle.std.proofs.Common.{refl}
-use Rattle.explanation_texts.specs.Explained.{source_text, span_between}
+use Rattle.explanation_texts.specs.ExplanationText.{source_text, span_between}
 use Rattle.explanation_texts.proofs.Joined.{on_ok}
 use Rattle.explanation_texts.proofs.source.push_source.Goals as goal
 

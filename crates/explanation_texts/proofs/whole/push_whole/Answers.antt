@@ -1,5 +1,5 @@
 use Rattle.std.proofs.Common.{refl}
-use Rattle.explanation_texts.specs.Explained.{whole_text}
+use Rattle.explanation_texts.specs.ExplanationText.{whole_text}
 use Rattle.explanation_texts.proofs.Joined.{on_ok}
 use Rattle.explanation_texts.proofs.whole.push_whole.Goals as goal
 

@@ -1,7 +1,7 @@
 use Rattle.std.proofs.Common.{ℕ, List, IfErr, subst}
-use Rattle.plain.specs.Refused.{OrNoMemory}
+use Rattle.plain.specs.AllocationErrors.{OrNoMemory}
 use Rattle.schema_decisions.specs.answer_lines.Refusals.{no_memory}
-use Rattle.explanations.specs.Others.{AreBareTextsRefused}
+use Rattle.explanations.specs.EntitiesAndRequests.{AreBareTextsRefused}
 use Rattle.explanations.proofs.others.check_array.Goals as goal
 
 pub returns-in-None-clause-refused : goal.returns-in-None-clause-refused

@@ -1,6 +1,6 @@
 use Rattle.std.proofs.Common.{option_map, string_bytes}
 use Rattle.schema_decisions.specs.schema.Views.{schema_view}
-use Rattle.explanations.specs.Others.{IsEntityPartNamed}
+use Rattle.explanations.specs.EntitiesAndRequests.{IsEntityPartNamed}
 use Rattle.explanations.proofs.Joining.{nothing_given, judged_so}
 use Rattle.explanations.proofs.others.explain_array.Goals as goal
 

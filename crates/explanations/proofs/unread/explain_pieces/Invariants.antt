@@ -1,6 +1,6 @@
 use Rattle.std.proofs.Common.{take, string_bytes, option_map}
 use Rattle.schema_decisions.specs.schema.Views.{schema_view}
-use Rattle.explanations.specs.Unread.{ArePiecesExplained, AppendsExplained}
+use Rattle.explanations.specs.UnparsedFiles.{ArePiecesExplained, AppendsExplained}
 use Rattle.explanations.proofs.unread.explain_pieces.Given as goal
 
 -- the pieces up to here are explained

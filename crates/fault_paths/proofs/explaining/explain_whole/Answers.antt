@@ -1,6 +1,6 @@
 use Rattle.type_checker.specs.schema.Views.{schema_view}
 use Rattle.validator.specs.Passing.{Passes}
-use Rattle.fault_paths.specs.Refused.{IsBlame}
+use Rattle.fault_paths.specs.PolicyReports.{IsBlame}
 use Rattle.fault_paths.proofs.Telling.{some_told, none_told}
 use Rattle.fault_paths.proofs.explaining.explain_whole.Goals as goal
 

@@ -9,4 +9,4 @@ pub returns : goal.returns
 returns c =
     let E = typing_environment c.args.env in
     subst (λ K. IfOk c.judge.result (IsFound E K c.args.expr.now))
-    (pairs_append c.args.known.now.items c.args.learns.now.items _ c.in_ok-known.ensures) c.judge.ensures
+    (pairs_append c.args.known.now.items c.args.gains.now.items _ c.in_ok-known.ensures) c.judge.ensures

@@ -1,6 +1,6 @@
 use Rattle.std.specs.Prelude.{All}
 use Rattle.type_checker.specs.schema.Views.{schema_view}
-use Rattle.type_checker.specs.policy_grammar.Whole.{expression_of}
+use Rattle.type_checker.specs.policy_grammar.PolicyExpression.{expression_of}
 use Rattle.validator.specs.Passing.{environments_of, HasBooleanType}
 use Rattle.fault_paths.specs.FirstTypingError.{IsTypeBlame}
 use Rattle.fault_paths.proofs.Telling.{told_typing, told_passes, some_told, none_told}

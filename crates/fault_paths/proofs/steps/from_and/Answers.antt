@@ -1,7 +1,7 @@
 use Rattle.grammar_core.specs.declared.expr.Expr.TheVariants as form
 use Rattle.std.proofs.lemmas.Result.{IfOk-weaker}
 use Rattle.type_checker.specs.Views.{typing_environment}
-use Rattle.type_checker.specs.type_capabilities.Pairs.{pairs}
+use Rattle.type_checker.specs.type_capabilities.CapabilityList.{capabilities}
 use Rattle.fault_paths.proofs.Finding.{boolean_so}
 use Rattle.fault_paths.proofs.Stepping.{stop_is, and_stop_left}
 use Rattle.fault_paths.proofs.steps.from_and.Goals as goal
@@ -13,7 +13,7 @@ returns-in-Some c =
 pub returns : goal.returns
 returns c =
     let E = typing_environment c.args.env in
-    let K = pairs c.args.known.now.items in
+    let K = capabilities c.args.known.now.items in
     let one = c.expressions_have_one_judgement.ensures in
     let b = c.args.right.now in
     IfOk-weaker c.stop_at.result _ _

@@ -3,14 +3,14 @@ use Rattle.grammar_core.specs.declared.expr.Expr.TheVariants as form
 use Rattle.grammar_core.specs.declared.expr.Expr.TheViews.{out-Expr}
 use Rattle.std.proofs.lemmas.Result.{IfOk-weaker}
 use Rattle.type_checker.specs.Views.{typing_environment}
-use Rattle.type_checker.specs.type_capabilities.Pairs.{pairs}
+use Rattle.type_checker.specs.type_capabilities.CapabilityList.{capabilities}
 use Rattle.fault_paths.proofs.Stepping.{among_is, step_at}
 use Rattle.fault_paths.proofs.steps.step_from.Goals as goal
 
 pub returns-in-Literal : goal.returns-in-Literal
 returns-in-Literal c =
     let E = typing_environment c.args.env in
-    let K = pairs c.args.known.now.items in
+    let K = capabilities c.args.known.now.items in
     let one = c.expressions_have_one_judgement.ensures in
     let x = c.args.expr.now in
     IfOk-weaker c.from_operands.result _ _
@@ -20,7 +20,7 @@ returns-in-Literal c =
 pub returns-in-Variable : goal.returns-in-Variable
 returns-in-Variable c =
     let E = typing_environment c.args.env in
-    let K = pairs c.args.known.now.items in
+    let K = capabilities c.args.known.now.items in
     let one = c.expressions_have_one_judgement.ensures in
     let x = c.args.expr.now in
     IfOk-weaker c.from_operands-in-Variable.result _ _
@@ -30,7 +30,7 @@ returns-in-Variable c =
 pub returns-in-Unary : goal.returns-in-Unary
 returns-in-Unary c =
     let E = typing_environment c.args.env in
-    let K = pairs c.args.known.now.items in
+    let K = capabilities c.args.known.now.items in
     let one = c.expressions_have_one_judgement.ensures in
     let x = c.args.expr.now in
     IfOk-weaker c.from_operands-in-Unary.result _ _
@@ -40,7 +40,7 @@ returns-in-Unary c =
 pub returns-in-Binary : goal.returns-in-Binary
 returns-in-Binary c =
     let E = typing_environment c.args.env in
-    let K = pairs c.args.known.now.items in
+    let K = capabilities c.args.known.now.items in
     let one = c.expressions_have_one_judgement.ensures in
     let x = c.args.expr.now in
     IfOk-weaker c.from_operands-in-Binary.result _ _
@@ -50,7 +50,7 @@ returns-in-Binary c =
 pub returns-in-Field : goal.returns-in-Field
 returns-in-Field c =
     let E = typing_environment c.args.env in
-    let K = pairs c.args.known.now.items in
+    let K = capabilities c.args.known.now.items in
     let one = c.expressions_have_one_judgement.ensures in
     let x = c.args.expr.now in
     IfOk-weaker c.from_operands-in-Field.result _ _
@@ -60,7 +60,7 @@ returns-in-Field c =
 pub returns-in-Has : goal.returns-in-Has
 returns-in-Has c =
     let E = typing_environment c.args.env in
-    let K = pairs c.args.known.now.items in
+    let K = capabilities c.args.known.now.items in
     let one = c.expressions_have_one_judgement.ensures in
     let x = c.args.expr.now in
     IfOk-weaker c.from_operands-in-Has.result _ _
@@ -70,7 +70,7 @@ returns-in-Has c =
 pub returns-in-Set : goal.returns-in-Set
 returns-in-Set c =
     let E = typing_environment c.args.env in
-    let K = pairs c.args.known.now.items in
+    let K = capabilities c.args.known.now.items in
     let one = c.expressions_have_one_judgement.ensures in
     let x = c.args.expr.now in
     IfOk-weaker c.from_operands-in-Set.result _ _
@@ -80,7 +80,7 @@ returns-in-Set c =
 pub returns-in-Record : goal.returns-in-Record
 returns-in-Record c =
     let E = typing_environment c.args.env in
-    let K = pairs c.args.known.now.items in
+    let K = capabilities c.args.known.now.items in
     let one = c.expressions_have_one_judgement.ensures in
     let x = c.args.expr.now in
     IfOk-weaker c.from_operands-in-Record.result _ _
@@ -90,7 +90,7 @@ returns-in-Record c =
 pub returns-in-UnaryCall : goal.returns-in-UnaryCall
 returns-in-UnaryCall c =
     let E = typing_environment c.args.env in
-    let K = pairs c.args.known.now.items in
+    let K = capabilities c.args.known.now.items in
     let one = c.expressions_have_one_judgement.ensures in
     let x = c.args.expr.now in
     IfOk-weaker c.from_operands-in-UnaryCall.result _ _
@@ -100,7 +100,7 @@ returns-in-UnaryCall c =
 pub returns-in-BinaryCall : goal.returns-in-BinaryCall
 returns-in-BinaryCall c =
     let E = typing_environment c.args.env in
-    let K = pairs c.args.known.now.items in
+    let K = capabilities c.args.known.now.items in
     let one = c.expressions_have_one_judgement.ensures in
     let x = c.args.expr.now in
     IfOk-weaker c.from_operands-in-BinaryCall.result _ _
@@ -110,20 +110,20 @@ returns-in-BinaryCall c =
 pub returns-in-If : goal.returns-in-If
 returns-in-If c =
     let E = typing_environment c.args.env in
-    let K = pairs c.args.known.now.items in
+    let K = capabilities c.args.known.now.items in
     let one = c.expressions_have_one_judgement.ensures in
     IfOk-weaker c.step_if.result _ _ (λ st h. step_at E K _ st c.in-If.is h) c.step_if.ensures
 
 pub returns-in-And : goal.returns-in-And
 returns-in-And c =
     let E = typing_environment c.args.env in
-    let K = pairs c.args.known.now.items in
+    let K = capabilities c.args.known.now.items in
     let one = c.expressions_have_one_judgement.ensures in
     IfOk-weaker c.step_and.result _ _ (λ st h. step_at E K _ st c.in-And.is h) c.step_and.ensures
 
 pub returns-in-Or : goal.returns-in-Or
 returns-in-Or c =
     let E = typing_environment c.args.env in
-    let K = pairs c.args.known.now.items in
+    let K = capabilities c.args.known.now.items in
     let one = c.expressions_have_one_judgement.ensures in
     IfOk-weaker c.step_or.result _ _ (λ st h. step_at E K _ st c.in-Or.is h) c.step_or.ensures

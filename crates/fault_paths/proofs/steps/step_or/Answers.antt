@@ -2,7 +2,7 @@ use Rattle.std.proofs.Common.{sym, ap}
 use Rattle.grammar_core.specs.declared.expr.Expr.TheVariants as form
 use Rattle.std.proofs.lemmas.Result.{IfOk-weaker}
 use Rattle.type_checker.specs.Views.{typing_environment}
-use Rattle.type_checker.specs.type_capabilities.Pairs.{pairs}
+use Rattle.type_checker.specs.type_capabilities.CapabilityList.{capabilities}
 use Rattle.fault_paths.proofs.Finding.{some_found, none_found}
 use Rattle.fault_paths.proofs.Stepping.{or_at, or_down_left}
 use Rattle.fault_paths.proofs.steps.step_or.Goals as goal
@@ -10,7 +10,7 @@ use Rattle.fault_paths.proofs.steps.step_or.Goals as goal
 pub returns-in-Some : goal.returns-in-Some
 returns-in-Some c =
     let E = typing_environment c.args.env in
-    let K = pairs c.args.known.now.items in
+    let K = capabilities c.args.known.now.items in
     let one = c.expressions_have_one_judgement.ensures in
     let a = c.deref-left.result.now in
     IfOk-weaker c.from_or.result _ _
@@ -20,7 +20,7 @@ returns-in-Some c =
 pub returns-in-None : goal.returns-in-None
 returns-in-None c =
     let E = typing_environment c.args.env in
-    let K = pairs c.args.known.now.items in
+    let K = capabilities c.args.known.now.items in
     let one = c.expressions_have_one_judgement.ensures in
     let r = c.args.right.now in
     let y = c.deref-left.result in

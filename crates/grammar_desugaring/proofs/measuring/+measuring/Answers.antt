@@ -2,13 +2,13 @@ use Rattle.std.proofs.Common.{rules, refl, ◌≡◌, ◌∙◌, ap, sym, subst,
 use Rattle.std.proofs.lemmas.List.{at_drop_all}
 use Rattle.std.specs.List.{AllByRecursion, fold}
 use Rattle.grammar_trees.specs.declared.tree.ExprTree.{the_lemmas}
-use Rattle.grammar_desugaring.specs.Refused.{least}
+use Rattle.grammar_desugaring.specs.ReportedErrors.{least}
 use Rattle.grammar_desugaring.specs.Repeats.{repeat_faults}
 use Rattle.grammar_desugaring.specs.Faults.{key_of, function_faults}
 use Rattle.grammar_desugaring.specs.inner.Giving.{Gave}
 use Rattle.grammar_desugaring.specs.inner.WellFormed.{WellFormed, AllWellFormed, WellFormedEntry, WellFormedTerm, WellFormedAccess}
-use Rattle.grammar_desugaring.specs.Measured.{measured, measured_negated}
-use Rattle.grammar_desugaring.specs.Sums.{nothing, above, side_by_side, paired, called, with_fault, measured_all, measured_chain, measured_term, measured_entry, measured_access, measured_compared}
+use Rattle.grammar_desugaring.specs.TreeMeasures.{measured, measured_negated}
+use Rattle.grammar_desugaring.specs.Sums.{nothing, node_measure, side_by_side, paired, called, with_fault, measured_all, measured_chain, measured_term, measured_entry, measured_access, measured_compared}
 use Rattle.grammar_desugaring.proofs.Lists.{all-at, stepped}
 use Rattle.grammar_desugaring.proofs.Gaving.{one, two, three}
 use Rattle.grammar_desugaring.proofs.PartsOf.{of-Number, of-Call, of-Parentheses, of-Not, of-Minus, of-Set, of-Record, of-Member, of-Product, of-Sum, of-Compare, of-Has, of-Like, of-Is, of-IsIn, of-And, of-Or, of-If}
@@ -105,24 +105,24 @@ measure_tree-returns-in-Call t c =
     (subst (λ o. IfOk c.call.result (λ j. Gave c.measure_all.result (λ i. j ≡ called o (with_fault o i)))) (c.function_fault.ensures ∙ ap (λ n. least (function_faults c.args.text.now c.in-Call.path n)) c.len.ensures) c.call.ensures) (sym (measured-Call c.args.text.now c.in-Call.path c.in-Call.arguments) ∙ ap (measured c.args.text.now) (sym c.in-Call.is))
 
 pub measure_tree-returns-in-Set : goal.measure_tree-returns-in-Set
-measure_tree-returns-in-Set t c = one above (measured_all c.args.text.now c.in-Set.members) (measured c.args.text.now c.args.tree.now) c.measure_all-in-Set.result c.above.result (subst (λ ys. IfOk c.measure_all-in-Set.result (λ j. j ≡ measured_all c.args.text.now ys)) c.as_slice-in-Set.ensures c.measure_all-in-Set.ensures) c.above.ensures (sym (measured-Set c.args.text.now c.in-Set.members) ∙ ap (measured c.args.text.now) (sym c.in-Set.is))
+measure_tree-returns-in-Set t c = one node_measure (measured_all c.args.text.now c.in-Set.members) (measured c.args.text.now c.args.tree.now) c.measure_all-in-Set.result c.node_measure.result (subst (λ ys. IfOk c.measure_all-in-Set.result (λ j. j ≡ measured_all c.args.text.now ys)) c.as_slice-in-Set.ensures c.measure_all-in-Set.ensures) c.node_measure.ensures (sym (measured-Set c.args.text.now c.in-Set.members) ∙ ap (measured c.args.text.now) (sym c.in-Set.is))
 
 pub measure_tree-returns-in-Record : goal.measure_tree-returns-in-Record
 measure_tree-returns-in-Record t c =
-    two (λ o i. above (with_fault o i)) (least (repeat_faults (map (key_of c.args.text.now) c.in-Record.entries))) (fold (measured_entry c.args.text.now) nothing c.in-Record.entries) (measured c.args.text.now c.args.tree.now) c.repeated_key.result c.measure_entries.result c.record.result
+    two (λ o i. node_measure (with_fault o i)) (least (repeat_faults (map (key_of c.args.text.now) c.in-Record.entries))) (fold (measured_entry c.args.text.now) nothing c.in-Record.entries) (measured c.args.text.now c.args.tree.now) c.repeated_key.result c.measure_entries.result c.record.result
     (subst (λ es. IfOk c.repeated_key.result (λ o. o ≡ least (repeat_faults (map (key_of c.args.text.now) es)))) c.as_slice-in-Record.ensures c.repeated_key.ensures) (subst (λ ys. IfOk c.measure_entries.result (λ j. j ≡ fold (measured_entry c.args.text.now) nothing ys)) c.as_slice-in-Record-2.ensures c.measure_entries.ensures) c.record.ensures (sym (measured-Record c.args.text.now c.in-Record.entries) ∙ ap (measured c.args.text.now) (sym c.in-Record.is))
 
 pub measure_tree-returns-in-Not : goal.measure_tree-returns-in-Not
-measure_tree-returns-in-Not t c = one above (measured c.args.text.now c.in-Not.inner) (measured c.args.text.now c.args.tree.now) c.measure_tree-in-Not.result c.above-in-Not.result (subst (λ y. IfOk c.measure_tree-in-Not.result (λ j. j ≡ measured c.args.text.now y)) c.deref-in-Not.ensures c.measure_tree-in-Not.ensures) c.above-in-Not.ensures (sym (measured-Not c.args.text.now c.in-Not.inner) ∙ ap (measured c.args.text.now) (sym c.in-Not.is))
+measure_tree-returns-in-Not t c = one node_measure (measured c.args.text.now c.in-Not.inner) (measured c.args.text.now c.args.tree.now) c.measure_tree-in-Not.result c.node_measure-in-Not.result (subst (λ y. IfOk c.measure_tree-in-Not.result (λ j. j ≡ measured c.args.text.now y)) c.deref-in-Not.ensures c.measure_tree-in-Not.ensures) c.node_measure-in-Not.ensures (sym (measured-Not c.args.text.now c.in-Not.inner) ∙ ap (measured c.args.text.now) (sym c.in-Not.is))
 
 pub measure_tree-returns-in-Has : goal.measure_tree-returns-in-Has
-measure_tree-returns-in-Has t c = one above (measured c.args.text.now c.in-Has.inner) (measured c.args.text.now c.args.tree.now) c.measure_tree-in-Has.result c.above-in-Has.result (subst (λ y. IfOk c.measure_tree-in-Has.result (λ j. j ≡ measured c.args.text.now y)) c.deref-in-Has.ensures c.measure_tree-in-Has.ensures) c.above-in-Has.ensures (sym (measured-Has c.args.text.now c.in-Has.inner c.in-Has.field-1) ∙ ap (measured c.args.text.now) (sym c.in-Has.is))
+measure_tree-returns-in-Has t c = one node_measure (measured c.args.text.now c.in-Has.inner) (measured c.args.text.now c.args.tree.now) c.measure_tree-in-Has.result c.node_measure-in-Has.result (subst (λ y. IfOk c.measure_tree-in-Has.result (λ j. j ≡ measured c.args.text.now y)) c.deref-in-Has.ensures c.measure_tree-in-Has.ensures) c.node_measure-in-Has.ensures (sym (measured-Has c.args.text.now c.in-Has.inner c.in-Has.field-1) ∙ ap (measured c.args.text.now) (sym c.in-Has.is))
 
 pub measure_tree-returns-in-Like : goal.measure_tree-returns-in-Like
-measure_tree-returns-in-Like t c = one above (measured c.args.text.now c.in-Like.inner) (measured c.args.text.now c.args.tree.now) c.measure_tree-in-Like.result c.above-in-Like.result (subst (λ y. IfOk c.measure_tree-in-Like.result (λ j. j ≡ measured c.args.text.now y)) c.deref-in-Like.ensures c.measure_tree-in-Like.ensures) c.above-in-Like.ensures (sym (measured-Like c.args.text.now c.in-Like.inner c.in-Like.field-1) ∙ ap (measured c.args.text.now) (sym c.in-Like.is))
+measure_tree-returns-in-Like t c = one node_measure (measured c.args.text.now c.in-Like.inner) (measured c.args.text.now c.args.tree.now) c.measure_tree-in-Like.result c.node_measure-in-Like.result (subst (λ y. IfOk c.measure_tree-in-Like.result (λ j. j ≡ measured c.args.text.now y)) c.deref-in-Like.ensures c.measure_tree-in-Like.ensures) c.node_measure-in-Like.ensures (sym (measured-Like c.args.text.now c.in-Like.inner c.in-Like.field-1) ∙ ap (measured c.args.text.now) (sym c.in-Like.is))
 
 pub measure_tree-returns-in-Is : goal.measure_tree-returns-in-Is
-measure_tree-returns-in-Is t c = one above (measured c.args.text.now c.in-Is.inner) (measured c.args.text.now c.args.tree.now) c.measure_tree-in-Is.result c.above-in-Is.result (subst (λ y. IfOk c.measure_tree-in-Is.result (λ j. j ≡ measured c.args.text.now y)) c.deref-in-Is.ensures c.measure_tree-in-Is.ensures) c.above-in-Is.ensures (sym (measured-Is c.args.text.now c.in-Is.inner c.in-Is.field-1) ∙ ap (measured c.args.text.now) (sym c.in-Is.is))
+measure_tree-returns-in-Is t c = one node_measure (measured c.args.text.now c.in-Is.inner) (measured c.args.text.now c.args.tree.now) c.measure_tree-in-Is.result c.node_measure-in-Is.result (subst (λ y. IfOk c.measure_tree-in-Is.result (λ j. j ≡ measured c.args.text.now y)) c.deref-in-Is.ensures c.measure_tree-in-Is.ensures) c.node_measure-in-Is.ensures (sym (measured-Is c.args.text.now c.in-Is.inner c.in-Is.field-1) ∙ ap (measured c.args.text.now) (sym c.in-Is.is))
 
 pub measure_tree-returns-in-Member : goal.measure_tree-returns-in-Member
 measure_tree-returns-in-Member t c = subst (λ y. IfOk c.measure_accesses.result (λ j. j ≡ y)) (sym (measured-Member c.args.text.now c.in-Member.inner c.in-Member.accesses) ∙ ap (measured c.args.text.now) (sym c.in-Member.is)) c.measure_accesses.ensures
@@ -146,12 +146,12 @@ measure_tree-returns-in-Compare t c =
 
 pub measure_tree-returns-in-IsIn : goal.measure_tree-returns-in-IsIn
 measure_tree-returns-in-IsIn t c =
-    one (λ pair. paired (above pair.0) (paired pair.0 pair.1)) (measured c.args.text.now c.in-IsIn.inner, measured c.args.text.now c.in-IsIn.outer) (measured c.args.text.now c.args.tree.now) c.measure_both-in-IsIn.result c.is_in.result
+    one (λ pair. paired (node_measure pair.0) (paired pair.0 pair.1)) (measured c.args.text.now c.in-IsIn.inner, measured c.args.text.now c.in-IsIn.outer) (measured c.args.text.now c.args.tree.now) c.measure_both-in-IsIn.result c.is_in.result
     c.measure_both-in-IsIn.ensures c.is_in.ensures (sym (measured-IsIn c.args.text.now c.in-IsIn.inner c.in-IsIn.field-1 c.in-IsIn.outer) ∙ ap (measured c.args.text.now) (sym c.in-IsIn.is))
 
 pub measure_tree-returns-in-If : goal.measure_tree-returns-in-If
 measure_tree-returns-in-If t c =
-    three (λ i k l. above (side_by_side i (side_by_side k l))) (measured c.args.text.now c.in-If.test) (measured c.args.text.now c.in-If.consequent) (measured c.args.text.now c.in-If.alternative) (measured c.args.text.now c.args.tree.now) c.measure_tree-first.result c.measure_tree-second.result c.measure_tree-third.result c.if_then_else.result
+    three (λ i k l. node_measure (side_by_side i (side_by_side k l))) (measured c.args.text.now c.in-If.test) (measured c.args.text.now c.in-If.consequent) (measured c.args.text.now c.in-If.alternative) (measured c.args.text.now c.args.tree.now) c.measure_tree-first.result c.measure_tree-second.result c.measure_tree-third.result c.if_then_else.result
     (subst (λ y. IfOk c.measure_tree-first.result (λ j. j ≡ measured c.args.text.now y)) c.deref-in-If.ensures c.measure_tree-first.ensures) (subst (λ y. IfOk c.measure_tree-second.result (λ j. j ≡ measured c.args.text.now y)) c.deref-in-If-2.ensures c.measure_tree-second.ensures) (subst (λ y. IfOk c.measure_tree-third.result (λ j. j ≡ measured c.args.text.now y)) c.deref-in-If-3.ensures c.measure_tree-third.ensures) c.if_then_else.ensures (sym (measured-If c.args.text.now c.in-If.test c.in-If.consequent c.in-If.alternative) ∙ ap (measured c.args.text.now) (sym c.in-If.is))
 
 pub measure_behind_minus-returns-in-Number : goal.measure_behind_minus-returns-in-Number
@@ -161,7 +161,7 @@ measure_behind_minus-returns-in-Number t c =
     ∙ ap (measured_negated c.args.text.now) (sym c.in-Number.is)
 
 pub measure_behind_minus-returns-in_default : goal.measure_behind_minus-returns-in_default
-measure_behind_minus-returns-in_default t c = one above (measured c.args.text.now c.args.tree.now) (measured_negated c.args.text.now c.args.tree.now) c.measure_tree.result c.above.result c.measure_tree.ensures c.above.ensures (sym (measured_negated-other c.args.text.now c.args.tree.now c.in_default.not-Number))
+measure_behind_minus-returns-in_default t c = one node_measure (measured c.args.text.now c.args.tree.now) (measured_negated c.args.text.now c.args.tree.now) c.measure_tree.result c.node_measure.result c.measure_tree.ensures c.node_measure.ensures (sym (measured_negated-other c.args.text.now c.args.tree.now c.in_default.not-Number))
 
 pub measure_tree-measure_tree-requires : goal.measure_tree-measure_tree-requires
 measure_tree-measure_tree-requires t c = (search (rules, the_lemmas), subst (WellFormed c.args.text.now) (sym c.deref.ensures) (of-Parentheses c.args.text.now c.args.tree.now c.in-Parentheses.inner c.in-Parentheses.is c.requires.1.1))
@@ -224,7 +224,7 @@ measure_accesses-returns t c =
     sym (at_drop_all (fold (measured_access c.args.text.now) c.loop-access.left) c.as_slice-accesses.result.now c.loop-access.access-index c.loop-access-test.false) ∙ c.loop-access.invariant ∙ ap (fold (measured_access c.args.text.now) (measured c.args.text.now c.args.receiver.now)) c.as_slice-accesses.ensures
 
 pub measure_access-returns-in-Field : goal.measure_access-returns-in-Field
-measure_access-returns-in-Field t c = c.above.ensures ∙ ap (measured_access c.args.text.now c.args.receiver) (sym c.in-Field.is)
+measure_access-returns-in-Field t c = c.node_measure.ensures ∙ ap (measured_access c.args.text.now c.args.receiver) (sym c.in-Field.is)
 
 pub measure_tree-measure_both-requires : goal.measure_tree-measure_both-requires
 measure_tree-measure_both-requires t c = (search (rules, the_lemmas), of-Compare c.args.text.now c.args.tree.now c.in-Compare.left c.in-Compare.operator c.in-Compare.right c.in-Compare.is c.requires.1.1)

@@ -7,7 +7,7 @@ use Rattle.http_streams.specs.Logs.{notes}
 use Rattle.http_streams.specs.inner.Sending.{fault_of}
 use Rattle.http_streams.specs.declared.serve.Broken.TheVariants.{Log, Write}
 use Rattle.http_streams.proofs.LogLemmas.{last_at, noted_after, noted_now, refusal_broken, refusal_noted, whole_noted}
-use Rattle.http_streams.proofs.StreamLemmas.{Serves-none, Serves-push, Ends-after, Ends-now, Stops-after, Stops-now, Exchanges-at, Halts-at}
+use Rattle.http_streams.proofs.StreamLemmas.{Serves-none, Serves-push, EndsByReply-after, EndsByReply-now, StopsWithinReply-after, StopsWithinReply-now, Exchanges-at, RepliesInPart-at}
 use Rattle.http_streams.proofs.LastCall.{FailsAtLast-from}
 use Rattle.http_streams.proofs.serve.answer_all.Goals as goal
 
@@ -30,7 +30,7 @@ returns-in-Ok-clause-closed g c _ =
     let noted = Exchanges-at (notes g.S.Service.lines g.L.Sink.holds) (take_rest c.args.bytes.now c.requests.at) c.if-parts.true done.3 in (
       so_far.0 ++ done.0,
       Appends-trans _ _ _ _ _ so_far.2 done.1,
-      Ends-after g.S.Answers.answers so_far.1 _ _ _ _ _ _ _ so_far.3 (Ends-now g.S.Answers.answers _ _ _ _ (inl (_, last))),
+      EndsByReply-after g.S.Answers.answers so_far.1 _ _ _ _ _ _ _ so_far.3 (EndsByReply-now g.S.Answers.answers _ _ _ _ (inl (_, last))),
       noted_after g.S.Service.lines g.S.Service.refusal_line g.L.Sink.holds (Ok tt) so_far.4 _ _ _ _ _ _ _ so_far.5
           (noted_now g.S.Service.lines g.S.Service.refusal_line g.L.Sink.holds (Ok tt) _ _ _ _ (whole_noted g.S.Service.lines g.S.Service.refusal_line g.L.Sink.holds _ _ _ _ done.0 true noted)),
     )
@@ -62,11 +62,11 @@ pub returns-in-Err-clause-err : goal.returns-in-Err-clause-err
 returns-in-Err-clause-err g c =
     let so_far = c.requests.invariant.1 in
     let done = c.in-Err.ensures.err in
-    let halts = Halts-at g.S.Answers.answers _ _ _ (take_rest c.args.bytes.now c.requests.at) done.2 in
+    let replies_in_part = RepliesInPart-at g.S.Answers.answers _ _ _ (take_rest c.args.bytes.now c.requests.at) done.2 in
     let noted = last_at g.S.Service.lines g.S.Service.refusal_line g.L.Sink.holds (Err (fault_of c.in-Err.broken)) _ _ _ (take_rest c.args.bytes.now c.requests.at) done.3 in (
       so_far.0 ++ done.0,
       Appends-trans _ _ _ _ _ so_far.2 done.1,
-      Stops-after g.S.Answers.answers so_far.1 _ _ _ _ _ _ _ so_far.3 (Stops-now g.S.Answers.answers _ _ _ _ halts),
+      StopsWithinReply-after g.S.Answers.answers so_far.1 _ _ _ _ _ _ _ so_far.3 (StopsWithinReply-now g.S.Answers.answers _ _ _ _ replies_in_part),
       noted_after g.S.Service.lines g.S.Service.refusal_line g.L.Sink.holds (Err (fault_of c.in-Err.broken)) so_far.4 _ _ _ _ _ _ _ so_far.5 (noted_now g.S.Service.lines g.S.Service.refusal_line g.L.Sink.holds (Err (fault_of c.in-Err.broken)) _ _ _ _ noted),
     )
 
@@ -88,8 +88,8 @@ returns-in-Ok-refuse-clause-closed g c _ =
     let refused = subst (λ (t : List ℕ). IsRefused t c.in-Refused.status) (take_rest c.args.bytes.now c.requests.at) c.in-Refused.ensures in (
       so_far.0 ++ _,
       Appends-trans _ _ _ _ _ so_far.2 c.in-Ok-refuse.ensures.ok.1,
-      Ends-after g.S.Answers.answers so_far.1 _ _ _ _ _ _ _ so_far.3
-          (Ends-now g.S.Answers.answers _ _ _ _ (inr (c.in-Refused.status, refused, refl, refl))),
+      EndsByReply-after g.S.Answers.answers so_far.1 _ _ _ _ _ _ _ so_far.3
+          (EndsByReply-now g.S.Answers.answers _ _ _ _ (inr (c.in-Refused.status, refused, refl, refl))),
       noted_after g.S.Service.lines g.S.Service.refusal_line g.L.Sink.holds (Ok tt) so_far.4 _ _ _ _ _ _ _ so_far.5
           (noted_now g.S.Service.lines g.S.Service.refusal_line g.L.Sink.holds (Ok tt) _ _ _ _ (refusal_noted g.S.Service.lines g.S.Service.refusal_line g.L.Sink.holds _ _ _ c.in-Refused.status refused c.in-Ok-refuse.ensures.ok.0)),
     )
@@ -101,7 +101,7 @@ returns-in-Err-refuse-clause-err g c =
     let done = refusal_broken g.S.Answers.answers g.S.Service.lines g.S.Service.refusal_line g.L.Sink.holds g.W.Sink.holds c.in-Err-refuse.broken c.requests.service _ _ _ _ _ c.in-Refused.status refused c.in-Err-refuse.ensures.err in (
       so_far.0 ++ done.0,
       Appends-trans _ _ _ _ _ so_far.2 done.1,
-      Stops-after g.S.Answers.answers so_far.1 _ _ _ _ _ _ _ so_far.3 (Stops-now g.S.Answers.answers _ _ _ _ done.2),
+      StopsWithinReply-after g.S.Answers.answers so_far.1 _ _ _ _ _ _ _ so_far.3 (StopsWithinReply-now g.S.Answers.answers _ _ _ _ done.2),
       noted_after g.S.Service.lines g.S.Service.refusal_line g.L.Sink.holds (Err (fault_of c.in-Err-refuse.broken)) so_far.4 _ _ _ _ _ _ _ so_far.5 (noted_now g.S.Service.lines g.S.Service.refusal_line g.L.Sink.holds (Err (fault_of c.in-Err-refuse.broken)) _ _ _ _ done.3),
     )
 

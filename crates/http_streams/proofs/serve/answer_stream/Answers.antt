@@ -2,12 +2,12 @@ use Rattle.std.proofs.Common.{◌≡◌, ℕ, List, [], ◌++◌, Ok, Err, lengt
 use Rattle.std.specs.Prelude.{IsTrue, IsFalse}
 use Rattle.std.specs.Io.KnownBytes.{Consumes}
 use Rattle.http_streams.specs.Request.{IsUnfinished, StaysUnfinished}
-use Rattle.http_streams.specs.Stream.{Rests, Serves}
+use Rattle.http_streams.specs.Stream.{AnswersAllRequests, Serves}
 use Rattle.std.proofs.KnownBytes.{Appends-nil, Appends-trans, Consumes-nil, Consumes-trans, Consumes-kept}
 use Rattle.http_streams.specs.Logs.{AreNoted, notes}
 use Rattle.http_streams.specs.declared.serve.StreamFault.TheVariants as fault
 use Rattle.http_streams.proofs.LogLemmas.{noted_after, noted_so_far}
-use Rattle.http_streams.proofs.StreamLemmas.{Serves-read, Serves-then, Ends-after, Rests-from, Stops-after}
+use Rattle.http_streams.proofs.StreamLemmas.{Serves-read, Serves-then, EndsByReply-after, AnswersAllRequests-from, StopsWithinReply-after}
 use Rattle.http_streams.proofs.LastCall.{FailsAtLast-from, FailsAtLast-now}
 use Rattle.http_streams.proofs.OneRequest.{nothing_unfinished, stays_on, unfinished_yet}
 use Rattle.http_streams.proofs.serve.answer_stream.Goals as goal
@@ -52,8 +52,8 @@ returns-in-Ok-false-clause-answered g c =
       written = so_far.4;
       ended = (
         inl (
-          subst (λ (t : List ℕ). Rests g.S.Answers.answers c.args.service.now t so_far.1 c.loop-turn.service) (sym (append-nil so_far.0))
-              (Rests-from g.S.Answers.answers so_far.2 _ _ _ _ _ so_far.5 c.loop-turn.invariant.unfinished),
+          subst (λ (t : List ℕ). AnswersAllRequests g.S.Answers.answers c.args.service.now t so_far.1 c.loop-turn.service) (sym (append-nil so_far.0))
+              (AnswersAllRequests-from g.S.Answers.answers so_far.2 _ _ _ _ _ so_far.5 c.loop-turn.invariant.unfinished),
           end.1,
           record {
             between = c.loop-turn.reader;
@@ -81,7 +81,7 @@ returns-in-Err-Read-clause-answered g c =
       read = Consumes-kept _ _ _ _ so_far.3 c.in-Err-Read.ensures.lost.0;
       written = so_far.4;
       ended = (
-        Rests-from g.S.Answers.answers so_far.2 _ _ _ _ _ so_far.5 c.loop-turn.invariant.unfinished,
+        AnswersAllRequests-from g.S.Answers.answers so_far.2 _ _ _ _ _ so_far.5 c.loop-turn.invariant.unfinished,
         inl (FailsAtLast-now g.R.Source.failed g.R.Source.fails c.loop-turn.invariant.read_count failure.0 failure.1),
         c.loop-turn.invariant.write_count,
       );
@@ -97,7 +97,7 @@ returns-in-Err-NoMemory-clause-answered g c =
       read = Consumes-kept _ _ _ _ so_far.3 c.in-Err-NoMemory.ensures.lost.0;
       written = so_far.4;
       ended = (
-        Rests-from g.S.Answers.answers so_far.2 _ _ _ _ _ so_far.5 c.loop-turn.invariant.unfinished,
+        AnswersAllRequests-from g.S.Answers.answers so_far.2 _ _ _ _ _ so_far.5 c.loop-turn.invariant.unfinished,
         ap g.R.Source.failed unread ∙ c.loop-turn.invariant.read_count,
         c.loop-turn.invariant.write_count,
       );
@@ -116,13 +116,13 @@ returns-in-Ok-None-clause-answered g c =
       written = Appends-trans _ _ _ _ _ so_far.4 done.1;
       ended = (
         inr (
-          Ends-after g.S.Answers.answers so_far.2 _ _ _ _ _ _ _ all done.2,
+          EndsByReply-after g.S.Answers.answers so_far.2 _ _ _ _ _ _ _ all done.2,
           record {
             front = so_far.0;
             sent = so_far.1;
             more = done.0;
             state = c.loop-turn.service;
-            answered = Rests-from g.S.Answers.answers so_far.2 _ _ _ _ _ so_far.5 c.loop-turn.invariant.unfinished;
+            answered = AnswersAllRequests-from g.S.Answers.answers so_far.2 _ _ _ _ _ so_far.5 c.loop-turn.invariant.unfinished;
             read = record {
               between = c.loop-turn.reader;
               room = _;
@@ -153,13 +153,13 @@ returns-in-Err-Write-clause-answered g c =
       read = Consumes-trans _ _ _ _ _ so_far.3 came.1;
       written = Appends-trans _ _ _ _ _ so_far.4 done.1;
       ended = (
-        Stops-after g.S.Answers.answers so_far.2 _ _ _ _ _ _ _ all done.2,
+        StopsWithinReply-after g.S.Answers.answers so_far.2 _ _ _ _ _ _ _ all done.2,
         record {
           front = so_far.0;
           sent = so_far.1;
           more = done.0;
           state = c.loop-turn.service;
-          answered = Rests-from g.S.Answers.answers so_far.2 _ _ _ _ _ so_far.5 c.loop-turn.invariant.unfinished;
+          answered = AnswersAllRequests-from g.S.Answers.answers so_far.2 _ _ _ _ _ so_far.5 c.loop-turn.invariant.unfinished;
           read = record {
             between = c.loop-turn.reader;
             room = _;
@@ -189,13 +189,13 @@ returns-in-Err-Log-clause-answered g c =
       read = Consumes-trans _ _ _ _ _ so_far.3 came.1;
       written = Appends-trans _ _ _ _ _ so_far.4 done.1;
       ended = (
-        Stops-after g.S.Answers.answers so_far.2 _ _ _ _ _ _ _ all done.2,
+        StopsWithinReply-after g.S.Answers.answers so_far.2 _ _ _ _ _ _ _ all done.2,
         record {
           front = so_far.0;
           sent = so_far.1;
           more = done.0;
           state = c.loop-turn.service;
-          answered = Rests-from g.S.Answers.answers so_far.2 _ _ _ _ _ so_far.5 c.loop-turn.invariant.unfinished;
+          answered = AnswersAllRequests-from g.S.Answers.answers so_far.2 _ _ _ _ _ so_far.5 c.loop-turn.invariant.unfinished;
           read = record {
             between = c.loop-turn.reader;
             room = _;

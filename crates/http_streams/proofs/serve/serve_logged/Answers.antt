@@ -3,7 +3,7 @@ use Rattle.std.proofs.KnownBytes.{Appends-nil, Consumes-nil}
 use Rattle.http_streams.specs.Logs.{notes}
 use Rattle.http_streams.specs.declared.serve.StreamFault.TheVariants.{NoMemory}
 use Rattle.http_streams.proofs.LogLemmas.{noted_so_far}
-use Rattle.http_streams.proofs.StreamLemmas.{Rests-from, Serves-none}
+use Rattle.http_streams.proofs.StreamLemmas.{AnswersAllRequests-from, Serves-none}
 use Rattle.http_streams.proofs.OneRequest.{nothing_unfinished}
 use Rattle.http_streams.proofs.serve.serve_logged.Goals as goal
 
@@ -14,7 +14,7 @@ returns-in_default-clause-answered g c = record {
   read = Consumes-nil _;
   written = Appends-nil _;
   ended = (
-    Rests-from g.S.Answers.answers 0 _ _ _ _ _ (Serves-none g.S.Answers.answers _ []) nothing_unfinished,
+    AnswersAllRequests-from g.S.Answers.answers 0 _ _ _ _ _ (Serves-none g.S.Answers.answers _ []) nothing_unfinished,
     refl,
     refl,
   );

@@ -5,8 +5,8 @@ use Rattle.message_format.proofs.summary_laws.stamps_read_back.Goals as goal
 pub returns-clause-names : goal.returns-clause-names
 returns-clause-names c = name_again c.path_tests_are_exact.ensures.paths
 
-pub returns-clause-judged : goal.returns-clause-judged
-returns-clause-judged c = judged_again
+pub returns-clause-checked_stamp : goal.returns-clause-checked_stamp
+returns-clause-checked_stamp c = judged_again
 
 pub returns-clause-sound : goal.returns-clause-sound
 returns-clause-sound c = judged_in_range (record {

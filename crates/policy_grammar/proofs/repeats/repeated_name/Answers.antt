@@ -1,5 +1,5 @@
 use Rattle.std.proofs.Common.{◌≡◌, IfOk, ap, arith, subst, ◌∙◌}
-use Rattle.grammar_desugaring.specs.Refused.{least}
+use Rattle.grammar_desugaring.specs.ReportedErrors.{least}
 use Rattle.grammar_desugaring.specs.Repeats.{repeat_faults, abstract_names}
 use Rattle.policy_grammar.proofs.Doubtful.{doubtful-enough}
 use Rattle.policy_grammar.proofs.Refusing.{names-long}

@@ -1,5 +1,5 @@
 use Rattle.std.proofs.Common.{IfOk, IfErr, sym, subst}
-use Rattle.plain.specs.Refused.{OrNoMemory}
+use Rattle.plain.specs.AllocationErrors.{OrNoMemory}
 use Rattle.policy_grammar.specs.PolicyText.{IsPolicyText, IsPolicyRefused}
 use Rattle.policy_grammar.specs.declared.fault.ReadFault.TheVariants as fault
 use Rattle.policy_grammar.proofs.Refusing.{policy_read, policy_refused}

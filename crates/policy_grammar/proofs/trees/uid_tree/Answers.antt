@@ -3,7 +3,7 @@ use Rattle.grammar_desugaring.specs.grammar_tokens.declared.fault.SyntaxFault.Th
 use Rattle.grammar_desugaring.specs.grammar_tokens.ParseResults.{IsRefusedWithin}
 use Rattle.grammar_policies.specs.Grammar as grammar
 use Rattle.policy_grammar.specs.Texts.{most_policy_bytes, IsUnread}
-use Rattle.plain.specs.Refused.{OrNoMemory}
+use Rattle.plain.specs.AllocationErrors.{OrNoMemory}
 use Rattle.policy_grammar.specs.declared.fault.ReadFault.TheVariants as fault
 use Rattle.policy_grammar.specs.inner.TreeParts.{refusal_of}
 use Rattle.policy_grammar.proofs.Unread.{unread}

@@ -1,11 +1,11 @@
 use Rattle.std.proofs.Common.{◌&&◌, ℕ, List, inl, inr, subst}
 use Rattle.std.specs.Process.{exit_status}
 use Rattle.explanations.specs.Files.{Files}
-use Rattle.explanations.specs.Explained.{IsExplained}
+use Rattle.explanations.specs.FileExplanations.{IsExplained}
 use Rattle.program_drills.specs.schema_decisions.Checks.{AreChecksRefused}
 use Rattle.program.specs.Events.{Runs}
 use Rattle.program.specs.Reports.{AreLinesReported}
-use Rattle.program.specs.Explained.{IsRefusalText, IsErrorReported, Explains}
+use Rattle.program.specs.ExplainOption.{IsRefusalText, IsErrorReported, Explains}
 use Rattle.program.specs.Runs.{check_files}
 use Rattle.program.proofs.EventLemmas.{runs_as}
 use Rattle.program.proofs.RefusalLemmas.{refused_with}

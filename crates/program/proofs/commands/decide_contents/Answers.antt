@@ -2,7 +2,7 @@ use Rattle.std.proofs.Common.{ℕ, List, Option, option_map, inl, subst}
 use Rattle.std.specs.Process.{exit_status}
 use Rattle.explanations.specs.Files.{Files}
 use Rattle.program.specs.Events.{Runs}
-use Rattle.program.specs.Explained.{IsRefusalText, IsErrorReported, Explains}
+use Rattle.program.specs.ExplainOption.{IsRefusalText, IsErrorReported, Explains}
 use Rattle.program.specs.Runs.{IsDecided, IsNotDecided, decide_files}
 use Rattle.program.proofs.EventLemmas.{runs_as}
 use Rattle.program.proofs.RefusalLemmas.{line_refused_with}

@@ -1,6 +1,6 @@
 use Rattle.std.proofs.Common.{[]}
 use Rattle.std.specs.Process.{exit_status}
-use Rattle.program.specs.inner.Exchanged.{NoCourse}
+use Rattle.program.specs.inner.ExchangeEvents.{NoCourse}
 use Rattle.program.proofs.EventLemmas.{runs_as}
 use Rattle.program.proofs.ExchangeLemmas.{after_summary, ended_by, second_ended, summary_call, third_ended, told_or_ended}
 use Rattle.program.proofs.exchanging.exchange.Goals as goal

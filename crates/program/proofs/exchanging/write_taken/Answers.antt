@@ -1,6 +1,6 @@
 use Rattle.std.proofs.Common.{inl, inr, refl}
 use Rattle.std.specs.Process.{exit_status}
-use Rattle.program.specs.inner.Exchanged.{NoCourse}
+use Rattle.program.specs.inner.ExchangeEvents.{NoCourse}
 use Rattle.program.proofs.EventLemmas.{announces_none, runs_as}
 use Rattle.program.proofs.ExchangeLemmas.{is_line, is_no_line}
 use Rattle.program.proofs.exchanging.write_taken.Goals as goal

@@ -4,7 +4,7 @@ use Rattle.explanations.specs.Files.{Files, files_of}
 use Rattle.program_lines.specs.declared.line.ExplainOptions.{ExplainOptions}
 use Rattle.program.specs.Events.{Runs}
 use Rattle.program.specs.Courses.{Course, Reads, ReadsIfNamed}
-use Rattle.program.specs.Explaining.{files_named, AreTextsExplained}
+use Rattle.program.specs.ExplainCommand.{files_named, AreTextsExplained}
 use Rattle.program.proofs.EventLemmas.{reads_on, reads_none, named_on, named_none}
 use Rattle.program.proofs.explaining.explain_files.Goals as goal
 

@@ -1,7 +1,7 @@
 use Rattle.std.proofs.Common.{◌∙◌, Bool, sym, subst}
 use Rattle.std.specs.Process.{exit_status}
 use Rattle.program.specs.Events.{Runs}
-use Rattle.program.specs.Explaining.{IsExplainedAs}
+use Rattle.program.specs.ExplainCommand.{IsExplainedAs}
 use Rattle.program.proofs.explaining.run_explain.Goals as goal
 
 pub returns-then-is_number : goal.returns-then-is_number

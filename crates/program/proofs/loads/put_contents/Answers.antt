@@ -4,7 +4,7 @@ use Rattle.explanations.specs.Files.{Files}
 use Rattle.site_loading.specs.site_steps.SiteViews.{schema_of, store_in}
 use Rattle.site_loading.specs.Loads as loads
 use Rattle.program.specs.Events.{Runs}
-use Rattle.program.specs.Explained.{IsRefusalText, IsErrorReported, Explains}
+use Rattle.program.specs.ExplainOption.{IsRefusalText, IsErrorReported, Explains}
 use Rattle.program.specs.Loading.{load_files}
 use Rattle.program.proofs.EventLemmas.{runs_as}
 use Rattle.program.proofs.RefusalLemmas.{line_refused_with}

@@ -1,5 +1,5 @@
 use Rattle.explanations.specs.Files.{files_of}
-use Rattle.explanations.specs.Explained.{IsExplained}
+use Rattle.explanations.specs.FileExplanations.{IsExplained}
 use Rattle.program.proofs.ExplainedLemmas.{made_told}
 use Rattle.program.proofs.rejecting.explain_given.Goals as goal
 

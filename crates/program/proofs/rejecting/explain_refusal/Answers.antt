@@ -1,5 +1,5 @@
 use Rattle.explanations.specs.Files.{files_of}
-use Rattle.program.specs.Explained.{IsRefusalText}
+use Rattle.program.specs.ExplainOption.{IsRefusalText}
 use Rattle.program.proofs.ExplainedLemmas.{made_told}
 use Rattle.program.proofs.rejecting.explain_refusal.Goals as goal
 

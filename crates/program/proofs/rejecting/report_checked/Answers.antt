@@ -1,7 +1,7 @@
 use Rattle.std.proofs.Common.{◌&&◌, ◌∙◌, sym}
 use Rattle.std.specs.Process.{exit_status}
 use Rattle.explanations.specs.Files.{files_of}
-use Rattle.explanations.specs.Explained.{IsExplained}
+use Rattle.explanations.specs.FileExplanations.{IsExplained}
 use Rattle.program.specs.Reports.{AreLinesReported}
 use Rattle.program.proofs.ExplainedLemmas.{followed, not_followed}
 use Rattle.program.proofs.rejecting.report_checked.Goals as goal

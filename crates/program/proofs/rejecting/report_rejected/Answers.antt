@@ -1,6 +1,6 @@
 use Rattle.std.specs.Process.{exit_status}
 use Rattle.explanations.specs.Files.{files_of}
-use Rattle.program.specs.Explained.{IsRefusalText, IsErrorReported}
+use Rattle.program.specs.ExplainOption.{IsRefusalText, IsErrorReported}
 use Rattle.program.proofs.ExplainedLemmas.{followed}
 use Rattle.program.proofs.rejecting.report_rejected.Goals as goal
 

@@ -1,9 +1,9 @@
 use Rattle.std.proofs.Common.{ℕ, List, option_map, inl, inr, subst}
 use Rattle.std.specs.Process.{exit_status}
 use Rattle.explanations.specs.Files.{Files}
-use Rattle.program.specs.Beginning.{IsInitialSiteRefused}
+use Rattle.program.specs.InitialSites.{IsInitialSiteRefused}
 use Rattle.program.specs.Events.{Runs}
-use Rattle.program.specs.Explained.{schema_files, IsRefusalText, IsErrorReported, Explains}
+use Rattle.program.specs.ExplainOption.{schema_files, IsRefusalText, IsErrorReported, Explains}
 use Rattle.program.proofs.EventLemmas.{runs_as}
 use Rattle.program.proofs.RefusalLemmas.{refused_with}
 use Rattle.program.proofs.serving.serve_contents.Goals as goal

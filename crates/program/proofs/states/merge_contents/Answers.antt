@@ -3,7 +3,7 @@ use Rattle.std.specs.Process.{exit_status}
 use Rattle.explanations.specs.Files.{Files}
 use Rattle.state_exchanges.specs.Merges.{IsMerged, AreRefused}
 use Rattle.program.specs.Events.{Runs}
-use Rattle.program.specs.Explained.{schema_files, IsErrorReported, Explains}
+use Rattle.program.specs.ExplainOption.{schema_files, IsErrorReported, Explains}
 use Rattle.program.specs.Merging.{IsMergeText}
 use Rattle.program.proofs.EventLemmas.{runs_as}
 use Rattle.program.proofs.RefusalLemmas.{line_refused_and}

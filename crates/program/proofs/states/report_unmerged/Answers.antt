@@ -1,6 +1,6 @@
 use Rattle.std.specs.Process.{exit_status}
 use Rattle.explanations.specs.Files.{files_of}
-use Rattle.program.specs.Explained.{IsErrorReported}
+use Rattle.program.specs.ExplainOption.{IsErrorReported}
 use Rattle.program.specs.Merging.{IsMergeText}
 use Rattle.program.proofs.ExplainedLemmas.{followed}
 use Rattle.program.proofs.states.report_unmerged.Goals as goal

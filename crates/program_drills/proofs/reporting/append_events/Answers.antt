@@ -1,7 +1,7 @@
 use Rattle.std.proofs.Common.{◌≡◌, ◌+◌, ◌++◌, ◌∷◌, [], sym, ap, ◌∙◌, subst, List, take, arith}
 use Rattle.std.proofs.lemmas.List.{take_more}
 use Rattle.http_service.specs.site.declared.event.EventReply.{EventReply}
-use Rattle.program_drills.specs.inner.Ended.{AppendsEventLines}
+use Rattle.program_drills.specs.inner.LineFeeds.{AppendsEventLines}
 use Rattle.program_drills.proofs.EndedLines.{told_more}
 use Rattle.program_drills.proofs.reporting.append_events.Goals as goal
 

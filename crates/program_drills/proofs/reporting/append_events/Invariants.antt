@@ -1,5 +1,5 @@
 use Rattle.std.proofs.Common.{take}
-use Rattle.program_drills.specs.inner.Ended.{AppendsEventLines}
+use Rattle.program_drills.specs.inner.LineFeeds.{AppendsEventLines}
 use Rattle.program_drills.proofs.reporting.append_events.Given as goal
 
 -- what was told so far

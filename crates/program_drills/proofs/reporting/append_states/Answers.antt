@@ -2,7 +2,7 @@ use Rattle.std.proofs.Common.{◌≡◌, ◌+◌, ◌++◌, ◌∷◌, [], sym, 
 use Rattle.std.proofs.lemmas.List.{take_more}
 use Rattle.http_service.specs.site_calls.site_steps.SiteViews.{SiteView}
 use Rattle.program_drills.specs.EventReports.{state_line}
-use Rattle.program_drills.specs.inner.Ended.{ended}
+use Rattle.program_drills.specs.inner.LineFeeds.{ended}
 use Rattle.program_drills.proofs.EndedLines.{states_more}
 use Rattle.program_drills.proofs.reporting.append_states.Goals as goal
 

@@ -1,6 +1,6 @@
 use Rattle.std.proofs.Common.{◌≡◌, ◌++◌, map, take}
 use Rattle.program_drills.specs.EventReports.{state_line}
-use Rattle.program_drills.specs.inner.Ended.{ended}
+use Rattle.program_drills.specs.inner.LineFeeds.{ended}
 use Rattle.program_drills.proofs.reporting.append_states.Given as goal
 
 -- the states so far

@@ -1,5 +1,5 @@
-use Rattle.schema_names.specs.ResolvedViews.{found_view}
+use Rattle.schema_names.specs.ResolvedViews.{resolved_view}
 use Rattle.schema.proofs.reading.make_schema.Given as goal
 
 abbrev pub ghost-make_types : goal.ghost-make_types
-ghost-make_types a = (found_view a.found.now).commons
+ghost-make_types a = (resolved_view a.found.now).commons

@@ -1,5 +1,5 @@
 use Rattle.std.proofs.lemmas.Result.{err_from_is_err_and, MatchResult-weaker}
-use Rattle.schema_names.specs.ResolvedViews.{found_view}
+use Rattle.schema_names.specs.ResolvedViews.{resolved_view}
 use Rattle.schema.specs.inner.ByNaming.{naming, unsound}
 use Rattle.schema.proofs.reading.read_schema.Goals as goal
 
@@ -10,7 +10,7 @@ returns-in_err-found c =
 
 pub returns : goal.returns
 returns c =
-    let s = found_view c.in_ok-found.found in
+    let s = resolved_view c.in_ok-found.found in
     let states = c.in_ok-found.ensures in
     MatchResult-weaker c.sound_schema.result c.sound_schema.ensures
     (λ v made. made)

@@ -10,5 +10,5 @@ returns-clause-decided c = IfOk-weaker c.decide_in.result _ _
 
 pub returns-clause-refused : goal.returns-clause-refused
 returns-clause-refused c = IfErr-weaker c.decide_in.result _ _
-    (λ refusal due other. under_schema (schema_view c.in_ok-schema.schema) c.in_ok-schema.ensures.read (due other))
+    (λ refusal is_fault other. under_schema (schema_view c.in_ok-schema.schema) c.in_ok-schema.ensures.read (is_fault other))
     c.decide_in.ensures.refused

@@ -2,12 +2,12 @@ use Rattle.std.proofs.Common.{map, drop}
 use Rattle.std.specs.BTreeSet.{BTreeSet}
 use Rattle.values.specs.declared.entity_uid.EntityUid.{EntityUid}
 use Rattle.schema_file.specs.schema_types.Actions.{action_type, action_uid}
-use Rattle.schema_names.specs.inner.Adding.{has_uid, Adds, any_uid}
+use Rattle.schema_names.specs.inner.Adding.{has_uid, IsUnionWith, any_uid}
 use Rattle.schema_file.specs.StatedViews.{action_view}
 use Rattle.schema_names.proofs.declaring.add_actions.Given as goal
 
 -- where those that are left are added too, all are
 abbrev pub invariant-loop-action : goal.invariant-loop-action
 invariant-loop-action l = (last : BTreeSet EntityUid)
-    → Adds has_uid (any_uid (map (λ a. action_uid (action_type l.own) a.id) (map action_view (drop l.action-index l.stated)))) l.declared last
-    → Adds has_uid (any_uid (map (λ a. action_uid (action_type l.own) a.id) (map action_view l.stated))) l.fn.declared last
+    → IsUnionWith has_uid (any_uid (map (λ a. action_uid (action_type l.own) a.id) (map action_view (drop l.action-index l.stated)))) l.declared last
+    → IsUnionWith has_uid (any_uid (map (λ a. action_uid (action_type l.own) a.id) (map action_view l.stated))) l.fn.declared last

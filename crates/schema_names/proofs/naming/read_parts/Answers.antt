@@ -5,7 +5,7 @@ use Rattle.schema_types.specs.declared.fault.SchemaFault.TheVariants.{NoMemory}
 use Rattle.schema_file.specs.declared.stated.StatedNamespace.{StatedNamespace}
 use Rattle.schema_file.specs.StatedViews.{namespace_view}
 use Rattle.schema_names.specs.Qualifying.{together}
-use Rattle.schema_names.specs.ResolvedViews.{found_view}
+use Rattle.schema_names.specs.ResolvedViews.{resolved_view}
 use Rattle.schema_names.specs.Naming.{IsNamed, NamesRefused}
 use Rattle.schema_names.proofs.NamingLemmas.{json_refused, shape_refused, bytes_named}
 use Rattle.schema_names.proofs.naming.read_parts.Goals as goal
@@ -22,5 +22,5 @@ returns-in_err-stated c =
 
 pub returns : goal.returns
 returns c = bytes_named c.args.bytes.now (view c.in_ok-value.value) (map namespace_view c.in_ok-stated.stated) c.in_ok-value.ensures c.in_ok-stated.ensures c.name_all.result
-    (subst (λ (l : List StatedNamespace). MatchResult c.name_all.result (λ ps. IsNamed (map namespace_view l) (together (map found_view ps))) (λ f. f ≢ NoMemory → NamesRefused (map namespace_view l) f))
+    (subst (λ (l : List StatedNamespace). MatchResult c.name_all.result (λ ps. IsNamed (map namespace_view l) (together (map resolved_view ps))) (λ f. f ≢ NoMemory → NamesRefused (map namespace_view l) f))
     c.as_slice.ensures c.name_all.ensures)

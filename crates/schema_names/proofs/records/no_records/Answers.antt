@@ -9,5 +9,5 @@ use Rattle.schema_names.proofs.records.no_records.Goals as goal
 pub returns : goal.returns
 returns c =
     let ns = map namespace_view c.args.stated.now in
-    tells ns c.has_spread.new.known (c.in_ok-has_spread.ensures.spreads.sound ns c.requires.scope (λ x here. here) c.loop-known.invariant)
-    (subst (λ (s : Scope). IsSettled s c.has_spread.new.known (commons_declared ns)) c.requires.scope (c.in_ok-has_spread.ensures.settled c.if-branch.false))
+    tells ns c.has_added_non_record.new.known (c.in_ok-has_added_non_record.ensures.spreads.sound ns c.requires.scope (λ x here. here) c.loop-known.invariant)
+    (subst (λ (s : Scope). IsSettled s c.has_added_non_record.new.known (commons_declared ns)) c.requires.scope (c.in_ok-has_added_non_record.ensures.settled c.if-branch.false))

@@ -2,7 +2,7 @@ use Rattle.std.proofs.Common.{◌≡◌, ◌+◌, ◌++◌, ◌∷◌, [], sym, 
 use Rattle.std.proofs.lemmas.List.{take_more}
 use Rattle.site.specs.declared.event.Event.{Event}
 use Rattle.site.specs.declared.event.EventReply.{EventReply}
-use Rattle.site.specs.Played.{IsRunTo}
+use Rattle.site.specs.SystemViews.{IsRunTo}
 use Rattle.site.proofs.Played.{played_next}
 use Rattle.site.proofs.playing.play.Goals as goal
 

@@ -1,7 +1,7 @@
 use Rattle.std.proofs.Common.{List, take}
 use Rattle.site_steps.specs.schema.Schemas.{StatedSchema}
 use Rattle.site.specs.Sites.{SiteName, start}
-use Rattle.site.specs.Played.{IsRunTo, IsViewOf}
+use Rattle.site.specs.SystemViews.{IsRunTo, IsViewOf}
 use Rattle.site.proofs.playing.play.Given as goal
 
 -- the run so far is that of a system

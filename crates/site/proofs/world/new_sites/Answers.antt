@@ -2,7 +2,7 @@ use Rattle.std.proofs.Common.{sym, subst, List, ◌+◌}
 use Rattle.site_steps.specs.schema.Views.{schema_view}
 use Rattle.site_steps.specs.SiteViews.{SiteView}
 use Rattle.site.specs.Sites.{first_sites, start}
-use Rattle.site.specs.Played.{AreSitesOf}
+use Rattle.site.specs.SystemViews.{AreSitesOf}
 use Rattle.site.proofs.Played.{more_sites}
 use Rattle.site.proofs.world.new_sites.Goals as goal
 

@@ -12,7 +12,7 @@ returns-clause-read c = reading.something_is_read c.path_tests_are_exact.ensures
 
 pub returns-clause-conforms : goal.returns-clause-conforms
 returns-clause-conforms c =
-    conforming.something_conforms c.declarations_are_read_as_stated.ensures c.path_tests_are_exact.ensures.paths c.names_read_back.ensures.back c.what_is_read_conforms.ensures
+    conforming.something_conforms c.declarations_are_read_as_stated.ensures c.path_tests_are_exact.ensures.paths c.names_read_back.ensures.back c.parsed_data_conforms.ensures
 
 pub returns-clause-passes : goal.returns-clause-passes
 returns-clause-passes c = passing.something_passes

@@ -5,8 +5,8 @@ use Rattle.site_store.specs.Indexed.{AreIndexed}
 use Rattle.site_store.proofs.Follows.{right_elsewhere}
 use Rattle.site_store.proofs.index.record_policy.Goals as goal
 
-pub followed-requires : goal.followed-requires
-followed-requires g c =
+pub updated_index-requires : goal.updated_index-requires
+updated_index-requires g c =
     right_elsewhere c.args.store.now.policies c.take_policy.new.self.policies c.args.id c.args.entry
     (ap (λ k. k.policies) c.in_ok-take_policy.ensures.kept) c.as_str-in-Ok.result.now
     (c.as_str-in-Ok.ensures.value ∙ c.in-Ok.ensures.ok ∙ c.as_str.ensures.value) c.take-before.result

@@ -1,6 +1,6 @@
 use Rattle.std.proofs.Common.{◌⊎◌, ◌≡◌, None, List, subst}
 use Rattle.std.specs.Prelude.{ℕ}
-use Rattle.stamped_store.specs.Stored.{value_at_text}
+use Rattle.stamped_store.specs.JoinMaps.{value_at_text}
 use Rattle.site_store.specs.Winning.{StoredWins}
 use Rattle.site_store.proofs.Unchanged.{index_stays}
 use Rattle.site_store.proofs.index.take_policy.Goals as goal

@@ -3,7 +3,7 @@ use Rattle.std.specs.Prelude.{Option}
 use Rattle.std.specs.Option.{IfSome}
 use Rattle.ancestor_closure.specs.declared.ancestor_cache.AncestorCache.{AncestorCache}
 use Rattle.site_meaning.specs.schema.Views.{schema_view}
-use Rattle.site_store.specs.Kept.{AreAncestorsOf}
+use Rattle.site_store.specs.CacheValidity.{AreAncestorsOf}
 use Rattle.site_store.proofs.Standing.{if_made}
 use Rattle.site_store.proofs.store.rebuild_absent.Goals as goal
 

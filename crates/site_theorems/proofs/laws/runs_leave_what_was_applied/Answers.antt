@@ -17,8 +17,8 @@ returns-clause-equal c = runs_equal (record {
   leave = c.runs_leave_what_they_took.ensures;
 })
 
-pub returns-clause-harmless : goal.returns-clause-harmless
-returns-clause-harmless c = runs_harmless (record {
+pub returns-clause-permitted : goal.returns-clause-permitted
+returns-clause-permitted c = runs_harmless (record {
   steps = c.steps_are_as_stated.ensures;
   entities = c.entities_are_read_as_stated.ensures.read;
   messages = c.updates_are_read_as_stated.ensures.read;

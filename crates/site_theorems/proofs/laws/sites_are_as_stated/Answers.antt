@@ -4,7 +4,7 @@ pub returns : goal.returns
 returns c = record {
   leave = c.runs_leave_what_was_applied.ensures.leave;
   equal = c.runs_leave_what_was_applied.ensures.equal;
-  harmless = c.runs_leave_what_was_applied.ensures.harmless;
+  permitted = c.runs_leave_what_was_applied.ensures.permitted;
   stores = c.sites_hold_what_they_applied.ensures;
   worlds = c.worlds_keep_promises_as_stated.ensures;
 }

@@ -21,6 +21,6 @@ returns-clause-stated c bytes f g schema is =
     bytes f g s is held
 
 pub returns-clause-unstated : goal.returns-clause-unstated
-returns-clause-unstated c bytes f g fault due =
+returns-clause-unstated c bytes f g fault is_fault =
     unstated c.bytes_have_one_outcome.ensures.one_schema c.bytes_have_one_outcome.ensures.not_both c.bytes_have_one_outcome.ensures.one_refusal
-    bytes f g fault due
+    bytes f g fault is_fault

@@ -13,7 +13,7 @@ returns-clause-read c = message_read (record {
   entities = c.entities_are_read_as_stated.ensures.read;
   policy_texts = c.stored_texts_have_one_reading.ensures.policies;
   entity_texts = c.stored_texts_have_one_reading.ensures.entities;
-  passes = c.stamps_read_back.ensures.judged;
+  passes = c.stamps_read_back.ensures.checked_stamp;
   sound = c.stamps_read_back.ensures.sound;
 })
 
@@ -29,6 +29,6 @@ returns-clause-one c = message_outcome (record {
   entities = c.entities_are_read_as_stated.ensures.read;
   policy_texts = c.stored_texts_have_one_reading.ensures.policies;
   entity_texts = c.stored_texts_have_one_reading.ensures.entities;
-  passes = c.stamps_read_back.ensures.judged;
+  passes = c.stamps_read_back.ensures.checked_stamp;
   sound = c.stamps_read_back.ensures.sound;
 })

@@ -1,5 +1,5 @@
 use Rattle.type_capabilities.specs.Ordered.{expr_cmp-IsTotalOrder, expr_cmp-IsAntisymmetric}
-use Rattle.type_capabilities.specs.Pairs.{pair_cmp-IsTotalOrder, pair_cmp-IsAntisymmetric}
+use Rattle.type_capabilities.specs.CapabilityList.{pair_cmp-IsTotalOrder, pair_cmp-IsAntisymmetric}
 use Rattle.type_capabilities.proofs.laws.pairs_are_ordered.Goals as goal
 
 pub returns-clause-total : goal.returns-clause-total

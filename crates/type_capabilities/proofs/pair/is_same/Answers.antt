@@ -1,11 +1,11 @@
 use Rattle.std.proofs.Common.{sym, ap, ◌∙◌}
 use Rattle.std.specs.Ordering.{is_eq}
 use Rattle.values.specs.Uids.{equal-is}
-use Rattle.type_capabilities.specs.Pairs.{pair_of, pair_cmp-IsTotalOrder, pair_cmp-IsAntisymmetric}
+use Rattle.type_capabilities.specs.CapabilityList.{capability_of, pair_cmp-IsTotalOrder, pair_cmp-IsAntisymmetric}
 use Rattle.type_capabilities.proofs.pair.is_same.Goals as goal
 
 pub returns : goal.returns
 returns c =
-    let i = equal-is pair_cmp-IsTotalOrder pair_cmp-IsAntisymmetric (pair_of c.args.one.now) (pair_of c.args.other.now) in
+    let i = equal-is pair_cmp-IsTotalOrder pair_cmp-IsAntisymmetric (capability_of c.args.one.now) (capability_of c.args.other.now) in
     let e = c.is_eq.ensures ∙ ap is_eq c.cmp.ensures in
     (λ t. i.0 (sym e ∙ t), λ s. e ∙ i.1 s)

@@ -16,4 +16,4 @@ returns-in-Ok-record_literal_type c = λ env K after h.
     let fs = c.args.fields.now in
     let t = each_so env K after (map (λ f. f.value) fs) c.in-Ok.is h in
     plain_judged env K after (form.Record fs) c.plain.result (ap static_view c.plain.ensures.kind ∙ c.in-Ok-record_literal_type.ensures)
-    c.plain.ensures.learns t.0 (typing.types_record fs t.1)
+    c.plain.ensures.gains t.0 (typing.types_record fs t.1)

@@ -9,7 +9,7 @@ use Rattle.typing.specs.Typing as typing
 use Rattle.typing.specs.Typing.{Types, TypesEach}
 use Rattle.typing.specs.Faults as faults
 use Rattle.type_checker.specs.Views.{static_view, boolean_view, typing_environment}
-use Rattle.type_capabilities.specs.Pairs.{pairs}
+use Rattle.type_capabilities.specs.CapabilityList.{capabilities}
 use Rattle.type_checker.proofs.Carrying.{typed_so, has_kind, faulty_so, plain_judged, moved, behind_moved, at_form}
 use Rattle.type_checker.proofs.Carrying.{false_so, then_so, then_faulty}
 use Rattle.typing.specs.Literals.{DecidedByLiterals, UndecidedByLiterals}
@@ -54,7 +54,7 @@ second_conjunct-returns-then-not-is_right_checked level c = λ K a h.
     let b = c.args.right.now in
     let n = λ (m : rows.MayBeTrue (boolean_view c.in-Some.truth)). false≢true (sym c.if-not-is_right_checked.true ∙ c.is_right_checked.ensures.1 m) in
     let t = has_kind E K _ a c.in-Ok.is (c.in-Some.ensures ∙ false_so c.in-Some.truth n) h in
-    plain_judged E K _ (form.And a b) c.plain.result (ap static_view c.plain.ensures.kind ∙ c.boolean.ensures) c.plain.ensures.learns t.0
+    plain_judged E K _ (form.And a b) c.plain.result (ap static_view c.plain.ensures.kind ∙ c.boolean.ensures) c.plain.ensures.gains t.0
     (typing.and_of_false a b t.1)
 
 pub second_conjunct-returns-in-Some : goal.second_conjunct-returns-in-Some
@@ -80,7 +80,7 @@ second_disjunct-returns-in-Some-True level c = λ K a h.
     let E = typing_environment c.args.env in
     let b = c.args.right.now in
     let t = has_kind E K _ a c.in-Ok.is (c.in-Some-True.ensures ∙ ap boolean_view c.in-Some-True.field-0-is) h in
-    plain_judged E K _ (form.Or a b) c.plain.result (ap static_view c.plain.ensures.kind ∙ c.boolean.ensures) c.plain.ensures.learns t.0
+    plain_judged E K _ (form.Or a b) c.plain.result (ap static_view c.plain.ensures.kind ∙ c.boolean.ensures) c.plain.ensures.gains t.0
     (typing.or_of_true a b t.1)
 
 pub second_disjunct-returns-in-Some-False : goal.second_disjunct-returns-in-Some-False
@@ -170,11 +170,11 @@ type_under_gained-returns-in-Ok level c =
     let E = typing_environment c.args.env in
     let x = c.args.expr.now in
     let K = c.args.known.now in
-    let ls = c.args.learns.items in
+    let ls = c.args.gains.items in
     let M = c.type_of-typed.new.known in
     let j = subst (λ N. Judged E N x c.type_of-typed.result M) c.in-Ok.ensures
     (at_form E _ _ _ (sym c.deref.ensures) c.type_of-typed.ensures) in
-    subst (λ N. JudgedUnder E K (pairs ls) x c.gained_too.result N)
+    subst (λ N. JudgedUnder E K (capabilities ls) x c.gained_too.result N)
     (sym (c.truncate_to.ensures ∙ ap (λ n. take n M) c.len-height.ensures))
     (behind_judged E x K ls M _ _ j c.gained_too.ensures)
 
@@ -227,7 +227,7 @@ type_binary-returns-in-Some level c =
     (subst (λ y. DecidedByLiterals E op c.deref.result.now y c.in-Some.truth) c.deref-2.ensures c.in-Some.ensures) in
     plain_judged E K K (form.Binary op a b) c.plain.result
     (ap static_view c.plain.ensures.kind ∙ (c.boolean.ensures ∙ c.truth_type.ensures))
-    c.plain.ensures.learns refl (typing.types_settled op a b s)
+    c.plain.ensures.gains refl (typing.types_settled op a b s)
 
 pub type_binary-returns-in-None : goal.type_binary-returns-in-None
 type_binary-returns-in-None level c =
@@ -246,7 +246,7 @@ type_of-returns-in-Literal level c =
     let K = c.args.known.now in
     at_form E K K (Ok c.plain.result) c.in-Literal.is
     (plain_judged E K K (form.Literal c.in-Literal.literal) c.plain.result (ap static_view c.plain.ensures.kind ∙ c.literal_type.ensures)
-    c.plain.ensures.learns refl (typing.types_literal c.in-Literal.literal))
+    c.plain.ensures.gains refl (typing.types_literal c.in-Literal.literal))
 
 pub type_of-returns-in-Variable : goal.type_of-returns-in-Variable
 type_of-returns-in-Variable level c =
@@ -255,7 +255,7 @@ type_of-returns-in-Variable level c =
     let v = c.in-Variable.variable in
     at_form E K K (Ok c.plain-in-Variable.result) c.in-Variable.is
     (plain_judged E K K (form.Variable v) c.plain-in-Variable.result (ap static_view c.plain-in-Variable.ensures.kind ∙ c.variable_type.ensures)
-    c.plain-in-Variable.ensures.learns refl (typing.types_variable v))
+    c.plain-in-Variable.ensures.gains refl (typing.types_variable v))
 
 pub type_of-returns-in-If : goal.type_of-returns-in-If
 type_of-returns-in-If level c =

@@ -3,7 +3,7 @@ use Rattle.std.proofs.lemmas.Bool.{false≢true}
 use Rattle.typing.specs.Rows.{MayBeTrue}
 use Rattle.typing.specs.Typing.{Types}
 use Rattle.type_checker.specs.Views.{boolean_view, typing_environment}
-use Rattle.type_checker.specs.Joined.{joined}
+use Rattle.type_checker.specs.Conjunctions.{joined}
 use Rattle.type_checker.specs.inner.Joining.{and_so_far, Leads}
 use Rattle.type_checker.proofs.Carrying.{typed_so, false_so}
 use Rattle.type_checker.proofs.JoiningLemmas.{leads_itself, leads_on, leads_to_false, at_part, at_last, last_typed}

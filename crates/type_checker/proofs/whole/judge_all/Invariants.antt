@@ -1,6 +1,6 @@
 use Rattle.std.proofs.Common.{drop, option_map}
 use Rattle.type_checker.specs.Views.{boolean_view, typing_environment}
-use Rattle.type_checker.specs.Joined.{joined}
+use Rattle.type_checker.specs.Conjunctions.{joined}
 use Rattle.type_checker.specs.inner.Joining.{Leads}
 use Rattle.type_checker.proofs.whole.judge_all.Given as goal
 

@@ -1,7 +1,7 @@
 use Rattle.std.proofs.Common.{Ok, Err, ◌&&◌, refl}
 use Rattle.std.proofs.lemmas.Result.{err_from_is_err_and}
 use Rattle.type_checker.specs.schema.Views.{schema_view}
-use Rattle.type_checker.specs.policy_grammar.Whole.{expression_of}
+use Rattle.type_checker.specs.policy_grammar.PolicyExpression.{expression_of}
 use Rattle.validator.proofs.CheckLemmas.{environment_next, environment_faulty, environments_end}
 use Rattle.validator.proofs.checking.is_false_everywhere.Goals as goal
 

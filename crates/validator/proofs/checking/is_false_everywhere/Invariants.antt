@@ -1,6 +1,6 @@
 use Rattle.std.proofs.Common.{Bool, true, Result, drop}
 use Rattle.type_checker.specs.schema.Views.{schema_view}
-use Rattle.type_checker.specs.policy_grammar.Whole.{expression_of}
+use Rattle.type_checker.specs.policy_grammar.PolicyExpression.{expression_of}
 use Rattle.validator.specs.declared.fault.TypeFault.{TypeFault}
 use Rattle.validator.specs.inner.Checking.{typed_in, AreJudged}
 use Rattle.validator.proofs.checking.is_false_everywhere.Given as goal

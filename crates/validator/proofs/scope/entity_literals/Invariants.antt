@@ -1,5 +1,5 @@
 use Rattle.std.proofs.Common.{◌≡◌, map, take}
-use Rattle.type_checker.specs.policy_grammar.Whole.{entity_literal}
+use Rattle.type_checker.specs.policy_grammar.PolicyExpression.{entity_literal}
 use Rattle.validator.proofs.scope.entity_literals.Given as goal
 
 abbrev pub invariant-loop-uid : goal.invariant-loop-uid

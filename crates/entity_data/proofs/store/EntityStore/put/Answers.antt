@@ -2,7 +2,7 @@ use Rattle.std.proofs.Common.{◌∙◌, ap, Some, arith, rules}
 use Rattle.std.proofs.lemmas.Grind.{common_steps}
 use Rattle.std.specs.Prelude.{if◌then◌else◌}
 use Rattle.evaluator.specs.ancestor_search.Decided.{is_same}
-use Rattle.entity_data.specs.Keeping.{Entries, kept_in, data_of}
+use Rattle.entity_data.specs.EntityStores.{Entries, kept_in, data_of}
 use Rattle.entity_data.proofs.store.EntityStore.put.Goals as goal
 
 pub returns-clause-puts : goal.returns-clause-puts

@@ -7,7 +7,7 @@ use Rattle.site_steps.specs.declared.fault.SiteFault.{SiteFault}
 use Rattle.site_steps.specs.declared.outcome.Put.{Put}
 use Rattle.site_steps.specs.SiteViews.{SiteView, schema_of, store_in}
 use Rattle.site_steps.specs.Steps.{PutsPolicy}
-use Rattle.site_steps.specs.inner.Recording.{RecordsOr, IsJudged}
+use Rattle.site_steps.specs.inner.Recording.{RecordsOr, IsCheckedPolicy}
 use Rattle.site_steps.proofs.Recording.{puts_policy, put_stands, stands}
 use Rattle.site_steps.proofs.site.Site.put_policy.Goals as goal
 
@@ -17,9 +17,9 @@ returns-in-Ok-clause-puts c =
     let j = c.in-Ok.judged in
     let t = store_in c.record_policy-stamped.new.self in
     let r = c.record_policy-stamped.result in
-    let is : IsJudged (schema_of s) c.args.id.now c.args.text.now j.body j.impossible =
-    subst (λ (v : SiteView). IsJudged (schema_of v) c.args.id.now c.args.text.now j.body j.impossible) c.self.view_is
-    (subst (λ (x : SchemaEntries). IsJudged (schema_view x) c.args.id.now c.args.text.now j.body j.impossible) c.schema.ensures c.in-Ok.ensures.judged) in
+    let is : IsCheckedPolicy (schema_of s) c.args.id.now c.args.text.now j.body j.impossible =
+    subst (λ (v : SiteView). IsCheckedPolicy (schema_of v) c.args.id.now c.args.text.now j.body j.impossible) c.self.view_is
+    (subst (λ (x : SchemaEntries). IsCheckedPolicy (schema_view x) c.args.id.now c.args.text.now j.body j.impossible) c.schema.ensures c.in-Ok.ensures.judged) in
     let records : RecordsOr s.name (store_in s) (policy_name c.args.id.now) (Some j.body.text) r t =
     subst (λ (id : List ℕ). RecordsOr s.name (store_in s) (policy_name id) (Some j.body.text) r t) c.in-Ok.ensures.named c.record_policy-stamped.ensures.records in
     subst (λ (q : Result Put SiteFault). PutsPolicy (schema_of s) s.name (store_in s) c.args.id.now c.args.text.now q t) (sym c.put_of.ensures)

@@ -9,7 +9,7 @@ use Rattle.site_store.specs.stamped_store.declared.entry.Stamp.{Stamp}
 use Rattle.site_store.specs.stamped_store.EntryOrder.{greater, plain_entry}
 use Rattle.site_store.specs.stamped_store.Reading.{IsBodyRead}
 use Rattle.site_store.specs.stamped_store.Store.{StoreEntries, kept, entity_name, abstract_store}
-use Rattle.site_store.specs.stamped_store.Stored.{taken}
+use Rattle.site_store.specs.stamped_store.JoinMaps.{taken}
 use Rattle.site_soundness.specs.message_format.Summaries.{IsStamped}
 use Rattle.site_steps.specs.Admitted.{IsEntityUnder}
 use Rattle.std.specs.Prelude.{Some}

@@ -5,7 +5,7 @@ use Rattle.site_store.specs.schema.Views.{schema_view}
 use Rattle.site_store.specs.stamped_store.EntryOrder.{greater, plain_entry}
 use Rattle.site_store.specs.stamped_store.Reading.{IsEntryRead}
 use Rattle.site_store.specs.stamped_store.Store.{kept, policy_name}
-use Rattle.site_store.specs.stamped_store.Stored.{taken}
+use Rattle.site_store.specs.stamped_store.JoinMaps.{taken}
 use Rattle.site_steps.specs.Admitted.{IsPolicyUnder}
 use Rattle.site_steps.specs.SiteViews.{IsSite}
 use Rattle.site_steps.proofs.Recording.{site_after}

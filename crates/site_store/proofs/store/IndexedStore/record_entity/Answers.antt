@@ -2,7 +2,7 @@ use Rattle.std.proofs.Common.{OnOk, subst}
 use Rattle.values.specs.Names.{uid_cmp}
 use Rattle.stamped_store.specs.EntryOrder.{greater}
 use Rattle.stamped_store.specs.Store.{abstract_store, entity_name, KeepsOtherNames}
-use Rattle.stamped_store.specs.Stored.{taken}
+use Rattle.stamped_store.specs.JoinMaps.{taken}
 use Rattle.site_store.specs.StoreViews.{StoreView}
 use Rattle.site_store.proofs.Standing.{beside_entity, ancestors_as_lent, as_lent, as_held}
 use Rattle.site_store.proofs.store.IndexedStore.record_entity.Goals as goal
@@ -20,7 +20,7 @@ invariant_of-self c =
     let old = c.self.inside.store in
     beside_entity c.self.inside.schema c.deref-2.result.now c.deref-2.ensures c.record_entity.result c.record_entity.new.store old
     (taken uid_cmp greater old.entities c.args.uid c.args.entry) c.record_entity.ensures.kept c.record_entity.ensures.err
-    c.rebuild_absent.new.index c.rebuild_absent.ensures.index_is c.record_entity.new.ancestors c.record_entity.ensures.followed
+    c.rebuild_absent.new.index c.rebuild_absent.ensures.index_is c.record_entity.new.ancestors c.record_entity.ensures.updated_cache
 
 pub returns-clause-others : goal.returns-clause-others
 returns-clause-others c =

@@ -2,7 +2,7 @@ use Rattle.std.proofs.Common.{OnOk, subst, string_bytes}
 use Rattle.std.specs.String.{string_cmp}
 use Rattle.stamped_store.specs.EntryOrder.{greater}
 use Rattle.stamped_store.specs.Store.{abstract_store, policy_name, KeepsOtherNames}
-use Rattle.stamped_store.specs.Stored.{taken}
+use Rattle.stamped_store.specs.JoinMaps.{taken}
 use Rattle.site_store.specs.StoreViews.{StoreView}
 use Rattle.site_store.proofs.Standing.{beside_policy}
 use Rattle.site_store.proofs.store.IndexedStore.take_policy.Goals as goal

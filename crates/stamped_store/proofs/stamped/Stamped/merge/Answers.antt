@@ -1,7 +1,7 @@
 use Rattle.std.proofs.Common.{◌≡◌, sym, ap, subst, ◌∙◌, take, length, ◌++◌, ◌∷◌, [], arith, length-append, append_assoc, append-nil}
 use Rattle.std.specs.List.Sorted.{IsStrictlySortedBy}
 use Rattle.std.specs.Map.{keys_of}
-use Rattle.stamped_store.specs.Stored.{taken, all_joined, IsJoined}
+use Rattle.stamped_store.specs.JoinMaps.{taken, all_joined, IsJoined}
 use Rattle.stamped_store.proofs.Lifted.{is_least-joined}
 use Rattle.stamped_store.proofs.Points.{is_joined-all_joined, is_joined-prefix, all_joined-push}
 use Rattle.stamped_store.proofs.stamped.Stamped.merge.Goals as goal

@@ -2,7 +2,7 @@
 use Rattle.std.proofs.Common.{◌≡◌, sym, ap, ◌∙◌, Some, None}
 use Rattle.std.specs.Option.{option_copied_mut}
 use Rattle.std.specs.BTreeMap.{insert_entry}
-use Rattle.stamped_store.specs.Stored.{value_at, taken, joined_onto}
+use Rattle.stamped_store.specs.JoinMaps.{value_at, taken, joined_onto}
 use Rattle.stamped_store.proofs.Entered.{set_value-insert_entry}
 use Rattle.stamped_store.proofs.Points.{joined_here, others_kept}
 use Rattle.stamped_store.proofs.stamped.Stamped.take.Goals as goal

@@ -1,5 +1,0 @@
-use Rattle.std.proofs.Common.{rules}
-use Rattle.grammar_desugaring.proofs.measure.Measure.above.Goals as goal
-
-pub returns : goal.returns
-returns c = search rules

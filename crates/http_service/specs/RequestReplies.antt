@@ -1,0 +1,34 @@
+-- Defines the reply to a request, and the site afterwards.
+-- Source: docs/formats.md, "Routes of a site".
+-- Rules of this product: the reply is that of the call that the route and the body ask for.
+use Rattle.std.specs.Prelude.{◌≡◌, ℕ, List}
+use Rattle.http.specs.declared.status.StatusCode.{StatusCode}
+use Rattle.site_calls.specs.site_steps.schema.Views.{IsStated}
+use Rattle.site_calls.specs.site_steps.SiteViews.{SiteView, store_in, IsSameSite}
+use Rattle.http_routes.specs.Routes.{route_stated}
+use Rattle.site_calls.specs.Answers.{Replies}
+use Rattle.http_service.specs.RequestInputs.{request_of}
+use Rattle.http_service.specs.declared.site_service.LoggedService.{LoggedService}
+use Rattle.http_service.specs.declared.site_service.SiteService.{SiteService}
+
+-- `answers old method target body status line new` holds if the site `old` may answer the request with this method,
+-- target and body with `status` and the body `line`, and then be `new`.
+abbrev pub answers : SiteView → List ℕ → List ℕ → List ℕ → StatusCode → List ℕ → SiteView → Type 0
+answers old method target body status line new =
+    Replies old (request_of (route_stated method target) body) status line new
+
+-- `answers_over` is the same relation for a service over a borrowed site, whose reference stays the same.
+abbrev pub answers_over : SiteService → List ℕ → List ℕ → List ℕ → StatusCode → List ℕ → SiteService → Type 0
+answers_over old method target body status line new =
+    answers old.site.now method target body status line new.site.now × (new.site.ghost_name ≡ old.site.ghost_name)
+
+-- `answers_logged` is the same relation for the service that makes lines for a log.
+abbrev pub answers_logged :
+    LoggedService → List ℕ → List ℕ → List ℕ → StatusCode → List ℕ → LoggedService → Type 0
+answers_logged old method target body status line new =
+    answers_over old.service method target body status line new.service
+
+-- `IsAlike a b` holds if the sites `a` and `b` have the same schema, which some bytes describe, the same name, and
+-- equal stores.
+abbrev pub IsAlike : SiteView → SiteView → Type 0
+IsAlike a b = IsStated a.schema × IsSameSite a b × (store_in b ≡ store_in a)

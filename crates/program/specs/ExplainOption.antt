@@ -1,0 +1,115 @@
+-- Defines what a command with the option `--explain` does: it runs as without the option and then, if texts are
+-- rejected, explains them on standard error.
+-- Source: docs/operating.md, "Find out why a text is rejected".
+-- Rules of this product: the command's own report comes first, and its status is unchanged; then come the lines that
+-- `explain` prints for the same files or, if `explain` rejects nothing in them, the text on the reported code. If
+-- nothing is rejected, the option changes nothing. If an explanation cannot be allocated, a line says so in its place.
+use Rattle.std.specs.Prelude.{◌≡◌, ◌⊎◌, ℕ, Bool, true, false, List, [], ◌∷◌, ◌++◌, codes}
+use Rattle.std.specs.Prelude.{Option, None, Some, unwrap_or}
+use Rattle.explanations.specs.explanation_texts.CodeText.{Texts, code_text, words_on}
+use Rattle.explanations.specs.explanation_texts.Codes.{is_code}
+use Rattle.explanations.specs.Files.{File, Files}
+use Rattle.explanations.specs.FileExplanations.{IsExplained}
+use Rattle.program_drills.specs.http_service.answer_lines.declared.refusal.Refusal.{Refusal}
+use Rattle.program_drills.specs.http_service.answer_lines.Refusals.{no_memory}
+use Rattle.program.specs.declared.device.Stream.TheVariants.{Faults}
+use Rattle.program.specs.Events.{Event, wrote}
+use Rattle.program.specs.Reports.{ended, IsAnswerReported, IsRefusalReported, IsMemoryReported}
+use Rattle.program.specs.Courses.{Course, IsRefusedFor}
+use Rattle.program.specs.ExplainCommand.{IsWithoutEnd}
+
+-- `file_with_content name text` is a file with its content.
+abbrev pub file_with_content : List ℕ → List ℕ → File
+file_with_content name text = record { name = name; text = text }
+
+-- `policies_of file` is the given file of policies; if it is absent, an empty file with an empty name.
+abbrev pub policies_of : Option File → File
+policies_of file = unwrap_or file (file_with_content [] [])
+
+-- `schema_files name schema` are the files that a command over messages explains: the schema alone. An error of a
+-- message is explained by the reported code.
+abbrev pub schema_files : List ℕ → List ℕ → Files
+schema_files name schema = record {
+  schema = Some (file_with_content name schema);
+  policies = policies_of None;
+  entities = None;
+  request = None;
+}
+
+-- ---- texts
+
+-- `IsCodeText code text` holds if `text` is the text on this code; it is empty if there is no such code.
+abbrev pub IsCodeText : ℕ → List ℕ → Type 0
+IsCodeText code text = ((words : Texts) × (words_on code ≡ Some words) × (text ≡ code_text words))
+    ⊎ ((is_code code ≡ false) × (text ≡ []))
+
+-- `IsThatOr Other first text` holds if `text` is `first`, which is not empty; or if `first` is empty, and `Other` holds
+-- for `text`.
+abbrev pub IsThatOr : (List ℕ → Type 0) → List ℕ → List ℕ → Type 0
+IsThatOr Other [] text = Other text
+IsThatOr Other (byte ∷ bytes) text = text ≡ byte ∷ bytes
+
+-- `IsRefusalText files code text` holds if `text` explains what is rejected in `files`, or `code` if nothing is.
+abbrev pub IsRefusalText : Files → ℕ → List ℕ → Type 0
+IsRefusalText files code text = (first : List ℕ) × IsExplained files first × IsThatOr (IsCodeText code) first text
+
+-- ---- what a run does
+
+module _ {L : Type 0} where
+  -- `IsLineWritten line events` holds if `events` are one event, which writes `line` to standard error, whether or not
+  -- the stream accepts it.
+  abbrev pub IsLineWritten : List ℕ → List (Event L) → Type 0
+  IsLineWritten line events = (done : Bool) × (events ≡ wrote Faults (ended line) done ∷ [])
+
+  -- `AreLinesWritten lines events` holds if `events` write `lines` to standard error; there is no event if `lines` are
+  -- empty.
+  abbrev pub AreLinesWritten : List ℕ → List (Event L) → Type 0
+  AreLinesWritten [] events = events ≡ []
+  AreLinesWritten (byte ∷ lines) events = IsLineWritten (byte ∷ lines) events
+
+  -- `IsTextWritten text events` holds if `events` write the lines of `text` to standard error.
+  abbrev pub IsTextWritten : List ℕ → List (Event L) → Type 0
+  IsTextWritten text events = (lines : List ℕ) × IsWithoutEnd text lines × AreLinesWritten lines events
+
+  -- `IsExplanationWritten Is events` holds if `events` write to standard error a text for which `Is` holds, or the line
+  -- which says that it cannot be allocated.
+  abbrev pub IsExplanationWritten : (List ℕ → Type 0) → List (Event L) → Type 0
+  IsExplanationWritten Is events =
+      ((text : List ℕ) × Is text × IsTextWritten text events)
+      ⊎ IsLineWritten (codes "explanation: out of memory") events
+
+  -- `Explains wanted Is course` is `course`, followed, if `wanted`, by a text on standard error for which `Is` holds.
+  -- The status is that of `course`.
+  abbrev pub Explains : Bool → (List ℕ → Type 0) → Course L → Course L
+  Explains false Is course events end = course events end
+  Explains true Is course events end = (first behind : List (Event L)) × course first end
+      × IsExplanationWritten Is behind × (events ≡ first ++ behind)
+
+  -- `IsErrorReported refusal`: the error `refusal`, or out of memory, is reported.
+  abbrev pub IsErrorReported : Refusal → Course L
+  IsErrorReported refusal events end = IsRefusalReported refusal events end ⊎ IsMemoryReported events end
+
+  -- `IsErrorThenText wanted Is Refused`: an error for which `Refused` holds, or out of memory, is reported and, if
+  -- `wanted`, then a text for which `Is` holds with the error's code.
+  abbrev pub IsErrorThenText : Bool → (ℕ → List ℕ → Type 0) → (Refusal → Type 0) → Course L
+  IsErrorThenText false Is Refused events end = IsRefusedFor Refused events end
+  IsErrorThenText true Is Refused events end = (refusal : Refusal) × ((refusal ≡ no_memory) ⊎ Refused refusal)
+      × Explains true (Is refusal.code) (IsErrorReported refusal) events end
+
+  -- `IsLineOrErrorThenText wanted Is Decided Refused`: a line for which `Decided` holds is printed, or an error is
+  -- reported as by `IsErrorThenText`.
+  abbrev pub IsLineOrErrorThenText : Bool → (ℕ → List ℕ → Type 0) → (List ℕ → Type 0) → (Refusal → Type 0) → Course L
+  IsLineOrErrorThenText wanted Is Decided Refused events end =
+      ((line : List ℕ) × Decided line × IsAnswerReported line events end)
+      ⊎ IsErrorThenText wanted Is Refused events end
+
+  -- `IsErrorExplained wanted files Refused`: an error for which `Refused` holds, or out of memory, is reported and, if
+  -- `wanted`, then what is rejected in `files` is explained, or the code of the error.
+  abbrev pub IsErrorExplained : Bool → Files → (Refusal → Type 0) → Course L
+  IsErrorExplained wanted files Refused = IsErrorThenText wanted (IsRefusalText files) Refused
+
+  -- `IsLineOrErrorExplained wanted files Decided Refused`: a line for which `Decided` holds is printed, or an error is
+  -- reported as by `IsErrorExplained`.
+  abbrev pub IsLineOrErrorExplained : Bool → Files → (List ℕ → Type 0) → (Refusal → Type 0) → Course L
+  IsLineOrErrorExplained wanted files Decided Refused =
+      IsLineOrErrorThenText wanted (IsRefusalText files) Decided Refused

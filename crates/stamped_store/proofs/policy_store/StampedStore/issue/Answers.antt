@@ -1,6 +1,0 @@
-use Rattle.std.proofs.Common.{rules}
-use Rattle.stamped_store.proofs.policy_store.StampedStore.issue.Goals as goal
-
--- src/policy_store.rt:103:5
-pub returns : goal.returns
-returns g c = search rules

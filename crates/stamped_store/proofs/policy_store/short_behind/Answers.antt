@@ -1,5 +1,0 @@
-use Rattle.std.proofs.Common.{rules}
-use Rattle.stamped_store.proofs.policy_store.short_behind.Goals as goal
-
-pub returns : goal.returns
-returns c = search rules
