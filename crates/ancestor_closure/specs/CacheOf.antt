@@ -5,8 +5,8 @@ use Rattle.ancestor_search.specs.Hierarchy.{Parents}
 use Rattle.ancestor_closure.specs.Lists.{IsCacheContent, AgreeBut, ancestors_in, children_in}
 use Rattle.ancestor_closure.specs.declared.ancestor_cache.AncestorCache.{AncestorCache}
 
--- `IsCacheOf parents kept` holds if the cache `kept` has exactly the ancestors and the children of each entity of the
--- hierarchy `parents`, and its cyclic entities.
+-- `IsCacheOf parents kept` holds if the cache `kept` is right for the hierarchy `parents`: it has exactly the ancestors
+-- and the children of each entity, and the cyclic entities.
 abbrev pub IsCacheOf : Parents → AncestorCache → Type 0
 IsCacheOf parents kept =
     IsCacheContent parents (ancestors_in kept.relatives) (children_in kept.relatives) kept.cyclic.keys

@@ -1,4 +1,5 @@
--- Defines the abstract view of a hierarchy with a cache (`Closed`): the list of its entities, each with its parents.
+-- Defines the abstract view of a hierarchy with a cache (`Closed`): the list of its stored entities, each with its
+-- parents.
 use Rattle.std.specs.Prelude.{◌≡◌, Bool, true, false, cond, List, [], ◌∷◌, map, Vec, Contains, Some, unwrap_or, refl}
 use Rattle.std.proofs.Common.{sym, subst}
 use Rattle.std.specs.declared.alloc.Global.{Global}
@@ -22,11 +23,11 @@ closed_parents xs uid = unwrap_or (lookup (is_at (uid_cmp uid)) xs) []
 abbrev pub closed_stored : List (EntityUid × List EntityUid) → List EntityUid
 closed_stored xs = map (λ x. x.0) xs
 
--- `closed_ancestor_test xs a b` tests whether a path of the view `xs` leads from `b` to `a`.
+-- `closed_ancestor_test xs a b` tests whether a path of one or more edges of the view `xs` leads from `b` to `a`.
 abbrev pub closed_ancestor_test : List (EntityUid × List EntityUid) → EntityUid → EntityUid → Bool
 closed_ancestor_test xs = reaches (closed_parents xs) (closed_stored xs)
 
--- An entity with a parent is stored.
+-- `all_stored xs b a`: the entity `b` is stored in the view `xs` if it has a parent `a` there.
 all_stored : (xs : List (EntityUid × List EntityUid)) (b a : EntityUid) →
     Contains (closed_parents xs b) a → Contains (closed_stored xs) b
 all_stored [] b a h = Contains-none a h

@@ -25,7 +25,8 @@ use values::EntityUid;
 ///
 /// The caller has the edges, and passes them when the cache is updated. Contracts state which hierarchies the cache is
 /// right for (`IsCacheOf`); its answers are those of each such hierarchy. A cached ancestor takes 8 bytes, or up to 16
-/// while its list has spare capacity; its uid is stored twice, however many lists contain it.
+/// while its list has spare capacity (up to 32 in a list of one). Its uid is stored twice, however many lists contain
+/// it.
 #[derive(Drop)]
 pub struct AncestorCache {
     alloc: Global,
@@ -79,7 +80,7 @@ impl AncestorCache {
         }
     }
 
-    /// Creates the cache of a whole graph, by one search for each stored entity.
+    /// Creates the cache of a whole graph, by one search for each stored entity and one for the cyclic entities.
     ///
     /// # Errors
     ///

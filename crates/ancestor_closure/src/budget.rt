@@ -6,8 +6,8 @@ use plain::NoMemory;
 /// or visited.
 ///
 /// It is a measure: no contract mentions it, and no answer depends on it. An exceeded budget is reported as a failed
-/// allocation. Lists that were counted before an error stay counted, although no cache has them, so the budget must
-/// count no further list.
+/// allocation. Lists that were counted before an error stay counted, although no cache has them, so after an error the
+/// budget must not count another list.
 #[derive(Clone, Copy)]
 pub struct CacheBudget {
     // The greatest number of ancestors that all lists together may have.
@@ -31,13 +31,13 @@ impl CacheBudget {
         }
     }
 
-    /// Sets the budget to `most` ancestors, and restarts the count of written ones.
+    /// Sets the budget to `most` ancestors, and restarts the count of written and visited ancestors.
     pub fn begin(&mut self, most: usize) {
         self.most = most;
         self.written = 0;
     }
 
-    /// Counts a list of `after` ancestors that replaces one of `before`.
+    /// Counts a list of `after` ancestors, which replaces a list of `before` ancestors.
     ///
     /// # Errors
     ///

@@ -1,4 +1,5 @@
-//! The new ancestors of an entity and of its descendants when its parents change, from the cached lists where possible.
+//! Computes the new ancestors of an entity and of its descendants when its parents change, from the cached lists where
+//! possible.
 ghost use Rattle.std.specs.Prelude.{◌≡◌, ◌↔◌, ◌⊎◌, ◌∷◌, ◌++◌, [], ⊤, Contains, List, IfOk, OnOk, MatchOption};
 ghost use Rattle.std.specs.Prelude.{Vec as PlainVec};
 ghost use Rattle.std.specs.BTreeSet.{insert_key};
@@ -108,8 +109,8 @@ fn with_one(
     Ok(all)
 }
 
-// Returns the parent of `uid` in `after`, if it is the only one and is not `uid`, and `uid` has no descendant: the list
-// `entities` (`uid` and its descendants) then has one item. Returns `None` otherwise.
+// Returns the only item of `after`, the new parents of `uid`, if it is not `uid`, and `uid` has no descendant other
+// than itself. The list `entities` (`uid` and its descendants) then has one item. Returns `None` otherwise.
 fn only_parent<'a>(
     uid: &Shared<EntityUid>,
     after: &'a [Shared<EntityUid>],
@@ -162,8 +163,8 @@ fn alone(
 /// Returns `uid` and each of its descendants with its new ancestors.
 ///
 /// `after` are the new parents of `uid`, `entities` are `uid` and its descendants. If `uid` has exactly one new parent,
-/// which is another entity, and no descendant, its new ancestors are the parent and the parent's cached ancestors, and
-/// nothing is searched. Otherwise each list is found by a search.
+/// which is another entity, and no descendant other than itself, its new ancestors are the parent and the parent's
+/// cached ancestors, and nothing is searched. Otherwise each list is found by a search.
 ///
 /// # Errors
 ///

@@ -1,10 +1,10 @@
 //! Incremental updates of the ancestor cache when the parents of one entity change.
 //!
 //! The lists that change are those of the entity and of its descendants; no other list is written. Everything that
-//! allocates comes first: the new lists are computed, the entity is added to the children of its new parents, and the
-//! entities that become cyclic are added to the set of cyclic entities. If an allocation fails, these additions are
-//! removed again. Then, without allocating, the lists are written, the entity is removed from the children of its
-//! former parents, and the entities that are no longer cyclic are removed from the set.
+//! allocates comes first. The new lists are computed. Then the entities that become cyclic are added to the set of
+//! cyclic entities, and the entity is added to the children of its new parents. If an allocation fails, these additions
+//! are removed again. Otherwise the rest follows without allocating. The lists are written, the entity is removed from
+//! the children of its former parents, and the entities that are no longer cyclic are removed from the set.
 ghost use Rattle.std.specs.Prelude.{◌≡◌, ◌↔◌, ◌⊎◌, [], ◌∷◌, ◌++◌, Contains, IsTrue, IfOk, OnOk, OnErr};
 ghost use Rattle.values.specs.declared.entity_uid.EntityUid.{EntityUid as PlainUid};
 ghost use Rattle.ancestor_search.specs.Hierarchy.{Parents, IsAscending, names};
@@ -117,7 +117,7 @@ fn add_if_parent(
     Ok(())
 }
 
-// Returns those of the entities that have this child.
+// Returns those of `entities` that have `child` as a child.
 fn those_with_child(
     alloc: Global,
     relatives: &BTreeMap<EntityUid, Relatives>,
@@ -321,7 +321,7 @@ fn has_none(
     false
 }
 
-// Returns whether an entity already has these parents in the cache.
+// Returns whether the parents that an entity has in the cache are exactly these.
 fn has_already(
     alloc: Global,
     relatives: &BTreeMap<EntityUid, Relatives>,

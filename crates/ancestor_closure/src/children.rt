@@ -1,4 +1,4 @@
-//! The children of an entity, to which its reversed edges lead, and its descendants.
+//! Adds and removes the children of entities in the cache, and finds descendants by a search over children.
 ghost use Rattle.std.specs.Prelude.{◌≡◌, ◌↔◌, ◌⊎◌, ◌^◌, ◌<◌, [], ◌∷◌, Contains, IfOk, OnOk};
 ghost use Rattle.std.specs.BTreeSet.{btree_set_len};
 ghost use Rattle.values.specs.declared.entity_uid.EntityUid.{EntityUid as PlainUid};
@@ -37,7 +37,7 @@ fn add_members<'a>(
     Ok(())
 }
 
-// Adds each child of an entity that is not in `seen` to `seen` and to `work`.
+// Adds each child of `uid` to `seen` and to `work`, unless the child is in `seen`.
 fn add_children<'a>(
     relatives: &'a BTreeMap<EntityUid, Relatives>,
     uid: &EntityUid,
@@ -167,7 +167,8 @@ fn take_child_unless(
     release(relatives, parent);
 }
 
-/// Removes a child from each entity of `before` that is not one of `parents`. Does not allocate.
+/// Removes a child from each entity of `before` that is not one of `parents`, and the entries that are then empty. Does
+/// not allocate.
 pub(crate) fn take_from_all(
     relatives: &mut BTreeMap<EntityUid, Relatives>,
     before: &[Shared<EntityUid>],

@@ -20,9 +20,9 @@ use values::EntityUid;
 
 /// A hierarchy: the parents of each stored entity, and an ancestor cache. Contracts see the parents.
 ///
-/// It is meant for single changes: each change rewrites the lists of the entity and of all its descendants. Filling it
-/// with parents before their children costs at most one search for each entity. Filling it with children first costs,
-/// for each entity, up to one search for it and for each of its descendants. [`AncestorCache::of_graph`] builds the
+/// A `Closed` is meant for single changes: each change rewrites the lists of the entity and of all its descendants.
+/// Adding parents before their children costs at most one search for each entity. Adding children first costs, for each
+/// entity, up to one search for the entity and one for each of its descendants. [`AncestorCache::of_graph`] builds the
 /// cache of a whole graph at once.
 #[derive(Drop)]
 pub struct Closed {
@@ -77,7 +77,7 @@ fn release_edges(edges: &mut BTreeMap<EntityUid, Vec<EntityUid>>, uid: &EntityUi
     edges.remove(uid);
 }
 
-// Writes the parents of an entity. Does not allocate.
+// Writes the parents of an entity, which has an entry. Does not allocate.
 fn write_edges(
     edges: &mut BTreeMap<EntityUid, Vec<EntityUid>>,
     uid: &EntityUid,
@@ -141,7 +141,7 @@ fn set(
     }
 }
 
-// Removes an entity, from the edges and from the cache. After an error its parents are unchanged.
+// Removes an entity from the edges, and its ancestors from the cache. After an error its parents are unchanged.
 fn unset(
     edges: &mut BTreeMap<EntityUid, Vec<EntityUid>>,
     kept: &mut AncestorCache,
@@ -170,7 +170,8 @@ impl Closed {
     }
 
     /// Returns how many lists of ancestors the last change rewrote: that of the entity itself, even if it was removed,
-    /// and those of its descendants; 0 if its parents stayed the same. A failed change leaves the number unchanged.
+    /// and those of its descendants. The number is 0 if the entity's parents stayed the same. A failed change leaves
+    /// the number unchanged.
     pub fn touched(&self) -> usize {
         self.kept.touched()
     }

@@ -1,5 +1,5 @@
-//! An ancestor cache of a hierarchy: for each entity the list of its ancestors and its children, and the cyclic
-//! entities; updated incrementally when the parents of one entity change.
+//! An ancestor cache of a hierarchy: the ancestors and the children of each entity, and the cyclic entities. It is
+//! updated incrementally when the parents of one entity change.
 #![tactic(auto)]
 
 pub mod ancestor_cache;

@@ -23,7 +23,7 @@ fn compare(known: &Shared<EntityUid>, uid: &EntityUid) -> Ordering
     (**known).cmp(uid)
 }
 
-/// Returns whether an ascending list contains the entity. O(log n). Does not allocate.
+/// Returns whether an ascending list contains the entity. O(log n) for a list of n entities. Does not allocate.
 pub fn is_in(list: &[Shared<EntityUid>], uid: &EntityUid) -> bool
     ensures { IsAscending list.now → IsTrue result ↔ Contains list.now uid.now }
 {

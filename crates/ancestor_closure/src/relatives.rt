@@ -1,7 +1,8 @@
 //! The entries of the ancestor cache: for each entity the list of its ancestors, and its children.
 //!
-//! There is an entry for each entity that has a parent, and for each that is a parent. The entity's uid is stored
-//! twice: as the key, and shared among all lists and sets that contain it.
+//! There is an entry for each entity that has a parent, and for each that is a parent; another entity may have an empty
+//! entry. The uid of an entity with an entry is stored twice: as the key, and shared among all lists and sets that
+//! contain it.
 ghost use Rattle.std.specs.Prelude.{◌≡◌, ◌↔◌, [], false, Contains, IsTrue, IfOk, OnOk, cond};
 ghost use Rattle.values.specs.declared.entity_uid.EntityUid.{EntityUid as PlainUid};
 ghost use Rattle.ancestor_search.specs.Decided.{is_same};

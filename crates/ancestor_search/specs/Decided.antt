@@ -7,8 +7,8 @@ use Rattle.values.specs.declared.entity_uid.EntityUid.{EntityUid}
 use Rattle.values.specs.Names.{uid_cmp}
 use Rattle.ancestor_search.specs.Hierarchy.{Parents, IsAncestor}
 
--- `Decides parents ancestor_test` holds if the test `ancestor_test a b` is true if and only if `a` is an ancestor of
--- `b` under `parents`.
+-- `Decides parents ancestor_test` holds if the test `ancestor_test` is true of two entities if and only if the first is
+-- an ancestor of the second under `parents`.
 abbrev pub Decides : Parents → (EntityUid → EntityUid → Bool) → Type 0
 Decides parents ancestor_test = (a b : EntityUid) → IsTrue (ancestor_test a b) ↔ IsAncestor parents a b
 
@@ -16,15 +16,16 @@ Decides parents ancestor_test = (a b : EntityUid) → IsTrue (ancestor_test a b)
 abbrev pub HaveAllParents : Parents → List EntityUid → Type 0
 HaveAllParents parents stored = (b a : EntityUid) → Contains (parents b) a → Contains stored b
 
--- `is_same a b` tests whether two uids are equal.
+-- `is_same a b` tests whether the uids `a` and `b` are equal.
 abbrev pub is_same : EntityUid → EntityUid → Bool
 is_same a b = is_eq (uid_cmp a b)
 
 -- `reaches parents us a b` tests whether a path in the hierarchy `parents` leads from `b` to `a` whose edges all begin
 -- at entities of `us`. The test is defined by recursion on `us`. If the list has one more entity `u` before `us`,
--- either the path has no edge from `u`, or it has three parts: from `b` to `u` by edges from `us` (no edge if `b` is
--- `u`); an edge from `u` to a parent; and from this parent to `a` by edges from `us` (no edge if the parent is `a`).
--- This is Warshall's method: S. Warshall, "A theorem on Boolean matrices", Journal of the ACM 9 (1962).
+-- either the path has no edge from `u`, or it has three parts. The first leads from `b` to `u` by edges from `us` (no
+-- edge if `b` is `u`). The second is an edge from `u` to a parent. The third leads from this parent to `a` by edges
+-- from `us` (no edge if the parent is `a`). This is Warshall's method: S. Warshall, "A theorem on Boolean matrices",
+-- Journal of the ACM 9 (1962).
 unfoldable pub reaches : Parents → List EntityUid → EntityUid → EntityUid → Bool
 reaches parents [] a b = false
 reaches parents (u ∷ us) a b =

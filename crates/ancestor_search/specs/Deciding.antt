@@ -1,5 +1,5 @@
--- Defines the proof of `PathsAreDecided` (Decided): the test `reaches` decides the ancestor relation. This file is in
--- specs/ because implementations of the traits `Graph` and `Ancestry` cite its lemmas.
+-- Defines the proof of `PathsAreDecided` (Decided.antt): the test `reaches` decides the ancestor relation. This file is
+-- in specs/ because implementations of the traits `Graph` and `Ancestry` cite its lemmas.
 use Rattle.std.proofs.Common.{◌≡◌, Bool, true, false, List, [], ◌∷◌, refl, ap, sym, subst, inl, inr}
 use Rattle.std.proofs.Common.{◌||◌, Option, Some, None}
 use Rattle.std.specs.Prelude.{Contains, IsTrue, ◌&&◌, ◌⊎◌, Vec, IsSome}

@@ -17,9 +17,9 @@ abbrev pub parents_of : BTreeMap EntityUid (Vec EntityUid Global) → Parents
 parents_of edges uid = items_or_none (get uid_cmp edges uid)
 
 -- `AddsUnseen ps seen work seen' work'` holds if a step of a search may add the parents `ps` to the seen entities
--- `seen` and to the work list `work`, with the results `seen'` and `work'`: `seen'` has exactly the entities of `seen`
--- and `ps`; `work'` has the entities of `work`, those of `ps` that are not in `seen`, and otherwise only entities of
--- `ps`; and `work'` differs in length from `work` by the same number as `seen'` from `seen` (`count`).
+-- `seen` and to the work list `work`, with the results `seen'` and `work'`. `seen'` has exactly the entities of `seen`
+-- and `ps`. `work'` has the entities of `work`, those of `ps` that are not in `seen`, and otherwise only entities of
+-- `ps`. The lengths of `work'` and `work` differ by the same number as those of `seen'` and `seen` (`count`).
 pub record AddsUnseen (ps seen work seen' work' : List EntityUid) : Type 0 where
   pub kept : (x : EntityUid) → Contains seen x → Contains seen' x
   pub all : (x : EntityUid) → Contains ps x → Contains seen' x

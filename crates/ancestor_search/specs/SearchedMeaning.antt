@@ -17,6 +17,6 @@ searched_parents s = parents_of s.edges
 abbrev pub searched_ancestor_test : Searched → EntityUid → EntityUid → Bool
 searched_ancestor_test s = reaches (parents_of s.edges) (keys s.edges)
 
--- `searched_ancestor_test s` decides the ancestor relation.
+-- `searched_ancestor_test s` decides the ancestor relation of `s`.
 pub searched_is_decided : (s : Searched) → Decides (searched_parents s) (searched_ancestor_test s)
 searched_is_decided s = edges_are_decided s.edges

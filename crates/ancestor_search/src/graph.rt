@@ -1,4 +1,4 @@
-//! Graphs of entities and their parents: the traits by which a search reads a graph.
+//! The traits of graphs of entities, in which an edge leads from an entity to each of its parents.
 ghost use Rattle.std.specs.Prelude.{◌≡◌, List, IfOk};
 ghost use Rattle.std.specs.BTreeMap.{keys};
 ghost use Rattle.values.specs.declared.entity_uid.EntityUid.{EntityUid};
@@ -22,7 +22,7 @@ pub trait ParentsOf {
         ensures { result.now ≡ parents self.now uid.now };
 }
 
-/// A graph whose entities can be listed: each entity with parents is stored.
+/// A graph that can list its stored entities. Each entity with parents is stored.
 pub trait Graph: ParentsOf {
     /// The stored entities.
     ghost stored: { Self → List EntityUid };
@@ -61,7 +61,7 @@ impl Graph for BTreeMap<EntityUid, Vec<EntityUid>> {
     }
 }
 
-/// A graph in which one entity has other parents: the effect of a change, without making it.
+/// A graph as it would be after a change of one entity's parents. The graph itself is not changed.
 #[derive(Clone, Copy)]
 pub struct Changed<'a, G> {
     /// The graph before the change.

@@ -42,7 +42,7 @@ pub trait Ancestry {
         ensures { IfOk result (λ o. MatchOption o (HasNoCycle (parents self.now))
             (λ found. IsLeastCycle (parents self.now) (names found.items))) };
 
-    /// The test `above` decides the ancestor relation.
+    /// The test `ancestor_test` decides the ancestor relation.
     ghost ancestor_test_decides: { (s : Self) → Decides (parents s) (ancestor_test s) };
 }
 
@@ -58,7 +58,7 @@ pub trait Hierarchy: Ancestry {
         ensures ok { OnOk result (Self.parents self.new ≡ with_parents (Self.parents self.old) uid.now []) }
         ensures err { OnErr result (Self.parents self.new ≡ Self.parents self.old) };
 
-    /// Returns whether the entity would be its own ancestor with these parents.
+    /// Returns whether the entity would be its own ancestor if it had these parents.
     fn would_cycle(&self, uid: &EntityUid, parents: &[EntityUid]) -> Result<bool, NoMemory>
         ensures { let changed = with_parents (Self.parents self.now) uid.now parents.now in
             IfOk result (λ yes. IsTrue yes ↔ IsAncestor changed uid.now uid.now) };

@@ -32,8 +32,8 @@ pub(crate) fn number_of(uids: &[&EntityUid], uid: &EntityUid) -> Option<usize>
     }
 }
 
-/// Returns whether an ascending list, such as [`crate::ancestors_of`] returns, contains an entity. O(log n). Does not
-/// allocate.
+/// Returns whether an ascending list, such as [`crate::ancestors_of`] returns, contains an entity. O(log n) for a list
+/// of n entities. Does not allocate.
 pub fn is_among(uids: &[&EntityUid], uid: &EntityUid) -> bool
     requires { IsAscending (names uids.now) }
     ensures { IsTrue result ↔ Contains (names uids.now) uid.now }

@@ -1,9 +1,10 @@
 //! The least cycle: a shortest one through the least cyclic entity, and the least of these, compared item by item.
 //!
 //! A breadth-first search goes from the least cyclic entity to its children, to their children and so on, until it
-//! comes back. It gives, for each entity on a shortest cycle, the number of edges from there to the least cyclic
-//! entity. A walk then starts at the least cyclic entity, and goes each time to the least parent that is one edge
-//! nearer to that entity, until it is back. Each edge is visited at most three times.
+//! reaches the least cyclic entity again. It gives, for each entity on a shortest cycle through the least cyclic
+//! entity, its distance: the number of edges to the least cyclic entity. A walk then starts at the least cyclic entity,
+//! and goes each time to the least parent that is one edge nearer to that entity, until it is there again. Each edge is
+//! visited at most three times.
 ghost use Rattle.std.specs.Prelude.{◌≡◌, ◌+◌, ◌<◌, ◌^◌, ◌↔◌, ◌++◌, [], ◌∷◌, IsTrue, Some, MatchOption, IfOk, OnOk};
 ghost use Rattle.std.specs.Prelude.{Contains, cond};
 ghost use Rattle.std.specs.BTreeMap.{btree_map_len};
@@ -27,7 +28,7 @@ use values::EntityUid;
 // The children of each entity, by the entity.
 type Children<'a> = BTreeMap<&'a EntityUid, Vec<&'a EntityUid>>;
 
-// The distance of each entity, in edges, to the entity at which the search began.
+// The distance of each reached entity: the number of edges to the entity at which the search began.
 type Distances<'a> = BTreeMap<&'a EntityUid, usize>;
 
 // Removes the children of a parent from the map, and returns them.
@@ -42,7 +43,7 @@ fn take<'a>(alloc: Global, children: &mut Children<'a>, parent: &'a EntityUid) -
     }
 }
 
-// Adds a child to a parent.
+// Adds a child to the children of a parent.
 fn add_to<'a>(
     alloc: Global,
     children: &mut Children<'a>,
@@ -59,7 +60,7 @@ fn add_to<'a>(
     Ok(())
 }
 
-// Adds a child to each of these parents.
+// Adds a child to the children of each of these parents.
 fn add_child<'a>(
     alloc: Global,
     children: &mut Children<'a>,
@@ -98,7 +99,7 @@ fn children_in<'a, G: Graph>(alloc: Global, graph: &'a G) -> Result<Children<'a>
     Ok(children)
 }
 
-// Sets the distance of each of these entities that has none yet to `far`, and appends each such entity to the level.
+// Sets the distance `far` for each of `uids` that has no distance yet, and appends each such entity to the level.
 fn reach<'a>(
     uids: &[&'a EntityUid],
     far: usize,
@@ -117,7 +118,7 @@ fn reach<'a>(
     Ok(())
 }
 
-// Sets the distance of each child of an entity that has none yet to `far`, and appends each such child to the level.
+// Like `reach`, for the children of `uid`.
 fn reach_children<'a>(
     children: &Children<'a>,
     uid: &'a EntityUid,
@@ -135,8 +136,8 @@ fn reach_children<'a>(
     }
 }
 
-// Sets the distance of each child of the level's entities to `far`, if it has none yet. Returns the children whose
-// distance was set.
+// Sets the distance `far` for the children of the level's entities, like `reach`. Returns the children whose distance
+// was set.
 fn next_level<'a>(
     alloc: Global,
     children: &Children<'a>,
@@ -158,8 +159,8 @@ fn next_level<'a>(
     Ok(next)
 }
 
-// Returns the distances of entities to `end`, as far as the search goes until it comes back to `end`; `None` if it
-// never comes back.
+// Returns the distances to `end` of the entities that the search reaches until it reaches `end` again; `None` if it
+// never does.
 fn distances<'a, G: Graph>(
     alloc: Global,
     graph: &'a G,

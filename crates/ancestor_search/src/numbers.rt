@@ -29,7 +29,7 @@ fn numbers_of<'a>(
     Ok(numbers)
 }
 
-// Returns for each entity of the list the numbers of those of its parents that are in the list.
+// Returns, for each entity of the list `uids`, the numbers of those parents that are in the list.
 fn numbered<'a, G: ParentsOf>(
     alloc: Global,
     graph: &'a G,
@@ -93,7 +93,8 @@ fn found_by_number<'a, G: Graph>(
 
 /// Returns all cyclic entities of `graph`, in ascending order. The only error is `NoMemory`.
 ///
-/// Each entity is numbered once. Each edge is visited twice, as the number of the entity to which it leads.
+/// For each edge the number of the parent is looked up once. The search then visits each edge at most twice, without a
+/// look-up.
 pub fn on_cycles<'a, G: Graph>(alloc: Global, graph: &'a G) -> Result<Vec<&'a EntityUid>, NoMemory>
     ensures all { IfOk result (λ found. AreOnCycles (G.parents graph.now) (names found.items)) }
     ensures ascending { IfOk result (λ found. IsAscending (names found.items)) }

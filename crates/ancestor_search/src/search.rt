@@ -18,7 +18,7 @@ fn has(entities: &[EntityUid], uid: &EntityUid) -> bool
     entities.contains(uid)
 }
 
-// Adds each of the parents that was not seen to the seen entities and to the work list.
+// Adds to `seen` and to `work` each of the parents that `seen` does not contain.
 fn add_parents<'a>(
     parents: &'a [EntityUid],
     seen: &mut BTreeSet<&'a EntityUid>,

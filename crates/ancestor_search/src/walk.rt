@@ -3,9 +3,9 @@
 //!
 //! The search follows one path of edges. Numbers that were found to reach one another form a group. The groups of the
 //! path are consecutive in one list of members and in one list of edges not yet visited; a list of bounds has the
-//! positions at which each group begins. An edge back to an earlier group merges it with all later ones: their bounds
-//! are dropped, and nothing is moved. The last group is done when it has no edges to visit. (Gabow, "Path-based
-//! depth-first search for strong and biconnected components", 2000.)
+//! positions at which each group begins. An edge back to an earlier group merges that group with all later groups: the
+//! bounds of the later groups are dropped, and nothing is moved. The last group is done when it has no edges to visit.
+//! (Gabow, "Path-based depth-first search for strong and biconnected components", 2000.)
 ghost use Rattle.std.specs.Prelude.{◌≡◌, ◌+◌, ◌<◌, ◌≤◌, [], ◌∷◌, ◌++◌, true, length, IsTrue, ◌↔◌, ◌⊎◌, IfOk, OnOk};
 ghost use Rattle.std.specs.Prelude.{MatchOption, slice_set};
 ghost use Rattle.ancestor_search.specs.inner.Walking.{bound_at, edges_of, mark_of, MarksCycles, JoinsDownTo, IsSeen};
@@ -25,8 +25,8 @@ struct Bound {
 // A search in progress.
 #[derive(Drop)]
 struct Walk {
-    // The mark of each number: 0 if it was not seen, its index among the members, counted from 1, or the greatest
-    // number if it is done.
+    // The mark of each number: 0 if it was not seen, `usize::MAX` if its group is done, else its index among the
+    // members, counted from 1.
     place: Vec<usize>,
     // Whether each number was found to be cyclic.
     found: Vec<bool>,
@@ -158,7 +158,7 @@ fn look_at(
     Ok(())
 }
 
-// Returns whether one of the numbers is not done.
+// Returns whether at least one of the numbers is not done.
 fn leads_in(numbers: &[usize], place: &[usize]) -> bool
     ensures { IsTrue result ↔ HasOpen numbers.now place.now }
 {
@@ -171,7 +171,8 @@ fn leads_in(numbers: &[usize], place: &[usize]) -> bool
 }
 
 // Marks as cyclic each member from which an edge leads to a number that is not done. The edges of a completed group
-// lead only to done numbers and to its own members, which reach one another: so exactly these members are cyclic.
+// lead only to done numbers and to its own members, which reach one another. So a member is cyclic if and only if it
+// has such an edge.
 fn find(edges: &[Vec<usize>], members: &[usize], place: &[usize], found: &mut Vec<bool>)
     ensures { FindsOpen (edges_of edges.now) place.now members.now found.old.items found.new.items }
 {
@@ -226,7 +227,7 @@ fn explore(edges: &[Vec<usize>], walk: &mut Walk, root: usize) -> Result<(), NoM
     Ok(())
 }
 
-/// Returns for each number whether it is cyclic. Each edge is visited twice.
+/// Returns for each number whether it is cyclic. Each edge is visited at most twice.
 pub(crate) fn cyclic(alloc: Global, edges: &[Vec<usize>]) -> Result<Vec<bool>, NoMemory>
     ensures { IfOk result (λ found. MarksCycles (edges_of edges.now) found.items) }
 {

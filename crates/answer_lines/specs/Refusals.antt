@@ -9,12 +9,13 @@ use Rattle.answer_lines.specs.declared.refusal.Refusal.{Refusal}
 abbrev pub no_memory : Refusal
 no_memory = record { code = 1; place = None; within = None }
 
--- `bad_shape place` is the error of JSON that is not an entity or a request, code 30. `place` is the entity's index in
--- its array, counted from 0, if there is one.
+-- `bad_shape place` is the error of a text that is not an entity or a request, or repeats an entity, code 30. `place`
+-- is the entity's index in its array, counted from 0; `None` if there is no array.
 abbrev pub bad_shape : Option ℕ → Refusal
 bad_shape place = record { code = 30; place = place; within = None }
 
--- `error_placed_at place r` is the error `r` at the place `place`; an error with code 1 (out of memory) is unchanged.
+-- `error_placed_at place r` is the error `r` with `place` as its place; an error with code 1 (out of memory) is
+-- unchanged.
 abbrev pub error_placed_at : ℕ → Refusal → Refusal
 error_placed_at place r = if r.code == 1 then r else record { code = r.code; place = Some place; within = r.within }
 

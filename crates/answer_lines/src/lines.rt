@@ -13,7 +13,8 @@ use plain::{NoMemory, Text};
 use std::alloc::Global;
 use values::EntityUid;
 
-/// The capacity in bytes that is reserved for the line of an answer. Most lines fit, so the buffer does not grow.
+/// The capacity in bytes that is reserved for the line of an answer. Most lines fit, and for these the buffer does not
+/// grow.
 const USUAL_LINE: usize = 256;
 
 /// Returns the word of a decision in the line.
@@ -39,7 +40,7 @@ fn error_word(error: PolicyError) -> &'static str
     }
 }
 
-/// Writes an erroring policy with its error, `{"error":"typeError","policy":"policy0"}`.
+/// Writes an erroring policy with its error, as in `{"error":"typeError","policy":"policy0"}`.
 fn write_erring(out: &mut Writer, erring: &ErringPolicy) -> Result<(), NoMemory>
     ensures { OnOk result (AppendsTokens out.old out.new (tokens_of (erring_json erring.now))) }
 {
@@ -105,7 +106,7 @@ fn write_answer(out: &mut Writer, answer: &Answer) -> Result<(), NoMemory>
     Ok(())
 }
 
-/// Returns the line of an answer, without its line end:
+/// Returns the line of an answer, without its line end, such as
 /// `{"cycle":[],"decision":"Allow","errors":[],"reason":["policy0"]}`. The only error is `NoMemory`.
 pub fn answer_line(alloc: Global, answer: &Answer) -> Result<Vec<u8>, NoMemory>
     ensures { IfOk result (λ b. b.items ≡ answer_line answer.now) }

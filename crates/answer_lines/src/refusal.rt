@@ -17,8 +17,8 @@ use thiserror::Error;
 pub struct Refusal {
     /// The code: 1 for `NoMemory`, else that of the error (docs/codes.md).
     pub code: u8,
-    /// The place, counted from 0: a byte offset in the policies; the index of an entity in its array; for an error of
-    /// validation (40 to 46), the index of a policy in its file. `None` if the error has no such place.
+    /// The place of the error, counted from 0: a byte offset or an index, as docs/codes.md says for each code. `None`
+    /// if the error has no place.
     pub place: Option<usize>,
     /// The code of the inner error, if the error has one (docs/codes.md).
     pub within: Option<u8>,
@@ -60,7 +60,8 @@ impl Refusal {
         }
     }
 
-    /// Returns the error of JSON that is not an entity or a request (30), at the entity's index in its array, if any.
+    /// Returns the error (30) of a text that is not an entity or a request, or repeats an entity. `place` is the index
+    /// of the entity in its array, if it is in one.
     pub fn bad_shape(place: Option<usize>) -> Refusal
         ensures { result ≡ bad_shape place }
     {
@@ -71,7 +72,7 @@ impl Refusal {
         }
     }
 
-    /// Returns this error at a place; an error with code 1 (out of memory) is unchanged.
+    /// Returns this error with `place` as its place; an error with code 1 (out of memory) is unchanged.
     pub fn error_placed_at(self, place: usize) -> Refusal
         ensures { result ≡ error_placed_at place self }
     {
@@ -137,8 +138,8 @@ fn refusal_value(alloc: Global, refusal: Refusal) -> Result<Value, NoMemory>
     parts_value(alloc, u64::from(refusal.code), place, within)
 }
 
-/// Returns the line of an error, without its line end: `{"error":{"code":30,"place":0,"within":null}}`. The only
-/// error is `NoMemory`.
+/// Returns the line of an error, without its line end, such as `{"error":{"code":30,"place":0,"within":null}}`. The
+/// only error is `NoMemory`.
 pub fn error_line(alloc: Global, refusal: Refusal) -> Result<Vec<u8>, NoMemory>
     ensures { IfOk result (λ b. b.items ≡ error_line refusal) }
 {

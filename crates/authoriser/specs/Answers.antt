@@ -1,5 +1,5 @@
 -- Defines the answer to a request, over policies and stored entities.
--- Source: Cedar reference guide 4.0, "Authorization" (default deny, forbid overrides permit, errors skip a policy);
+-- Source: Cedar reference guide 4.0, "Authorization" (default deny, forbid overrides permit, skip on error);
 -- cedar-spec, Spec/Authorizer.
 -- Rules of this product: over a hierarchy with a cycle the answer is a denial that names the cycle.
 use Rattle.std.specs.Prelude.{◌≡◌, ◌⊎◌, ℕ, List, [], ◌∷◌, true, false, Ok, Err}
@@ -123,8 +123,7 @@ pub record IsPolicyAnswer (W : Entities) (q : Request) (ps : List NamedPolicy) (
   pub outcomes : ArePolicyOutcomes W q ps judged
   pub answer : a ≡ answer_by judged
 
--- `IsAnswer W q ps a` holds if `a` is the answer to the request `q` over the policies `ps` and the entities of `W`: a
--- denial that names the least cycle, if there is a cycle, else the answer that follows from the outcomes of the
--- policies.
+-- `IsAnswer W q ps a` holds if `a` is the answer to the request `q` over the policies `ps` and the entities of `W`. If
+-- there is a cycle, this is a denial that names the least cycle; else it follows from the outcomes of the policies.
 abbrev pub IsAnswer : Entities → Request → List NamedPolicy → Answer → Type 0
 IsAnswer W q ps a = IsCycleDenial W.parents a ⊎ IsPolicyAnswer W q ps a

@@ -1,6 +1,6 @@
 -- Defines the theorems about answers that a reader of policies may rely on, for all entity data, requests and policies.
 -- All but `DefaultDeny`, `ListsAscend` and `OneAnswerInFiniteHierarchies` assume that a test decides the ancestor
--- relation.
+-- relation (`Decides`).
 -- Source: Cedar reference guide 4.0, "Authorization".
 -- Rules of this product: ids ascend by their bytes.
 use Rattle.std.specs.Prelude.{◌≡◌, ◌↔◌, ℕ, List, [], ◌∷◌, ◌++◌, map, Contains, Bool, false}

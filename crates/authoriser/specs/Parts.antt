@@ -1,5 +1,5 @@
--- Defines the role of a policy's scope in its whole expression: the parts of a scope never error, and if all are true,
--- the condition determines the outcome.
+-- Defines the role of a policy's scope in its whole expression: each part of a scope evaluates to a boolean, and if all
+-- parts are true, the condition determines the outcome.
 -- Source: Cedar reference guide 4.0, "Policy scope" and "Policy conditions"; cedar-spec, Spec/Policy
 -- (`Policy.toExpr`).
 use Rattle.std.specs.Prelude.{Bool, true, false, Ok, Err}
@@ -34,8 +34,8 @@ pub record PartsDecide (W : Entities) (q : Request) (scope : Scope) : Type 0 whe
       (IsEntityScopeTrue (IsIn W.parents q.resource) scope.resource q.resource)
 
 -- `ConditionDecides W q policy` holds if, under the request `q` and over the entities of `W`, the whole expression of
--- `policy` has the outcome of the policy's condition: the condition's boolean, or the error with which it fails as a
--- condition (`TestFails` of evaluator).
+-- `policy` has the outcome of the policy's condition. This is the condition's boolean, or the error with which the
+-- condition fails (`TestFails` of evaluator).
 pub record ConditionDecides (W : Entities) (q : Request) (policy : Policy) : Type 0 where
   pub gives : (t : Bool) → EvaluatesTo W q policy.condition (Ok (boolean t))
       → EvaluatesTo W q (expression_of policy) (Ok (boolean t))

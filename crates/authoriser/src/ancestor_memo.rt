@@ -22,7 +22,8 @@ pub(crate) struct AncestorMemo<'a> {
     pub(crate) kept: Vec<MemoEntry<'a>>,
     /// The greatest number of entities that are memoized.
     most: usize,
-    /// The entity that is memoized next. It is written while a condition is evaluated, and no answer depends on it.
+    /// The entity that is memoized next, if there is one. It is written while a condition is evaluated, and no answer
+    /// depends on it.
     next: Cell<Option<EntityUid>>,
 }
 
@@ -46,8 +47,8 @@ impl<'a> AncestorMemo<'a> {
         }
     }
 
-    /// Returns the memoized entity with this uid, if there is one. Otherwise notes the uid as the next to be memoized,
-    /// unless the memo is full.
+    /// Returns the memoized entity with this uid, if there is one. Otherwise, unless the memo is full, notes the uid as
+    /// the next to be memoized; if the uid cannot be copied, notes none.
     pub(crate) fn find(&self, uid: &EntityUid) -> Option<&MemoEntry<'a>>
         ensures kept { MatchOption result ⊤ (λ other. Contains self.now.kept.items other.now) }
         ensures same { MatchOption result ⊤ (λ other. other.now.uid ≡ uid.now) }

@@ -31,8 +31,8 @@ pub struct Answer {
     pub errors: Items<ErringPolicy>,
     /// The least cycle, if some entity is cyclic; otherwise empty.
     ///
-    /// An edge leads from each entity to the next, and from the last to the first. The cycle begins with the least
-    /// cyclic entity, by type and then id; it is a shortest cycle through that entity, and the least of these, compared
-    /// item by item. If there is a cycle, no policy was evaluated.
+    /// Each entity has the next as a parent, and the last has the first. The cycle begins with the least cyclic entity,
+    /// by type and then id; it is a shortest cycle through that entity, and the least of these, compared item by item.
+    /// If there is a cycle, no policy was evaluated.
     pub cycle: Items<EntityUid>,
 }

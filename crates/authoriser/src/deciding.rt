@@ -97,16 +97,16 @@ pub fn decide_known<L: Lookup>(
     }
 }
 
-/// Returns the answer to a request over these policies and these stored entities.
+/// Returns the answer to a request over these policies, each with its id, and the entities of `store`.
 ///
-/// If the caller's ids ascend strictly, the lists of the answer ascend by id (the theorem `ascending` of
-/// `answers_are_lawful`). If some entity is cyclic, no policy is evaluated: the request is denied, and the answer
-/// names the least cycle.
+/// If the caller's ids ascend strictly, the lists of determining and of erroring policies ascend by id (the theorem
+/// `ascending` of `answers_are_lawful`). If some entity is cyclic, no policy is evaluated: the request is denied, and
+/// the answer names the least cycle.
 ///
-/// Visits each policy once. The ancestors and the attributes of the request's three entities are looked up at most
-/// once each, and a condition is evaluated only if its policy's scope is true. The ancestors of another entity, as in
-/// `User::"u" in Group::"g"`, may be memoized once a condition has used them: at most one more entity with each
-/// policy, and at most 64 entities.
+/// Visits each policy at most once. The ancestors and the attributes of the request's three entities are looked up at
+/// most once each, and a condition is evaluated only if its policy's scope is true. The ancestors of another entity, as
+/// in `User::"u" in Group::"g"`, may be memoized after a condition has used them: at most one entity for each policy,
+/// and at most 64 in all.
 ///
 /// The only error is `NoMemory`. Source: Cedar reference guide, "Authorization".
 pub fn decide<L: Lookup>(

@@ -1,4 +1,4 @@
-//! Theorems about the definitions. The functions are no-ops.
+//! Theorems about answers, and about scopes in the expressions of policies. The functions are no-ops.
 ghost use Rattle.authoriser.specs.Laws.{OneAnswerAtMost, OneAnswerInFiniteHierarchies, DefaultDeny, ForbidDecides};
 ghost use Rattle.authoriser.specs.Laws.{PermitsDecide, ErrorsAreReported};
 ghost use Rattle.authoriser.specs.Laws.{IdleChangesNothing, LeavingOutChangesNothing, OrderDoesNotMatter, ListsAscend};
@@ -24,20 +24,20 @@ fn idle_policies_change_nothing()
 
 /// Proves what a reader of policies may rely on, for all entity data, requests and lists of policies. No-op.
 ///
-/// All but `finite`, `default_deny` and `ascending` assume that a test decides the ancestor relation, as it does if
-/// finitely many entities have parents.
+/// All but `finite`, `default_deny` and `ascending` assume that a test decides the ancestor relation. Such a test
+/// exists if finitely many entities have parents.
 ///
 /// - `one`: a request has at most one answer; `finite`: exactly one, if finitely many entities have parents.
 /// - `default_deny`: without a satisfied permit the request is denied.
-/// - `forbid`: a satisfied forbid denies; if no entity is cyclic, exactly the satisfied forbids determine the answer,
-///   in order.
+/// - `forbid`: if a forbid is satisfied, the request is denied, and if no entity is cyclic, exactly the satisfied
+///   forbids determine the answer, in order.
 /// - `permits`: if no forbid is satisfied and no entity is cyclic, the request is allowed if and only if some permit
 ///   is satisfied, and exactly the satisfied permits determine the answer, in order.
 /// - `errors`: if no entity is cyclic, the errors are those of exactly the erroring policies, in order.
 /// - `idle`: removing a policy that is neither satisfied nor erroring changes no answer, whatever its position;
 ///   `left_out`: nor does removing many of them.
-/// - `order`: the order of the policies changes neither the decision nor the cycle, and the determining and erroring
-///   policies stay the same.
+/// - `order`: the order and the repetition of policies change neither the decision nor the cycle, and the determining
+///   and erroring policies stay the same.
 /// - `ascending`: if the ids of the policies ascend strictly, by their bytes, so do those of the determining and of
 ///   the erroring policies.
 pub fn answers_are_lawful()
@@ -61,8 +61,8 @@ pub fn answers_are_lawful()
 
 /// Proves the role of a scope in the expression of its policy. No-op.
 ///
-/// - `parts`: each part of a scope evaluates to true if it is true of the request, and to false if it is not, so it
-///   never errors.
+/// - `parts`: each part of a scope evaluates to true if it is true of the request, and to false if it is not: neither
+///   outcome is an error.
 /// - `leaves`: if all three parts are true, the policy has the outcome of its condition, errors included.
 /// - `idle`: if some part is not true, and a test decides the ancestor relation, the policy evaluates to false,
 ///   whatever its condition is.

@@ -2,7 +2,7 @@
 
 use thiserror::Error;
 
-/// The error of an erroring policy (Cedar reference guide, "Errors"). It is never `NoMemory`.
+/// The error of an erroring policy (Cedar reference guide, "Errors"). A failed allocation is not such an error.
 #[derive(Clone, Copy, Debug, Error)]
 pub enum PolicyError {
     /// An attribute of an entity that is not stored was accessed.
@@ -17,7 +17,7 @@ pub enum PolicyError {
     /// The result of arithmetic is outside signed 64 bits.
     #[error("integer overflow")]
     ArithBoundsError,
-    /// A string denotes no decimal or no IP address.
+    /// The operand of `decimal` is not a decimal, or that of `ip` is not an IP address.
     #[error("invalid decimal or IP address")]
     ExtensionError,
 }

@@ -44,8 +44,8 @@ impl<'a, L: Lookup> Model for PreparedRequest<'a, L> {
 impl<'a, L: Lookup> PreparedRequest<'a, L> {
     /// Looks up the ancestors and the attributes of the request's three entities, at most once each.
     ///
-    /// The ancestors of at most `most_others` other entities are memoized, each after a condition has used them. This
-    /// helps if the store has to search for them. The only error is `NoMemory`.
+    /// A decision then memoizes the ancestors of at most `most_others` other entities, each after a condition has used
+    /// its ancestors. This helps if the store has to search for ancestors. The only error is `NoMemory`.
     pub fn of(
         alloc: Global,
         store: &'a L,
@@ -71,8 +71,8 @@ impl<'a, L: Lookup> PreparedRequest<'a, L> {
         &self.entities
     }
 
-    /// Memoizes the ancestors of one more entity, unless the memo is full: the last queried one that is neither one of
-    /// the three nor memoized. If an allocation fails, nothing is memoized.
+    /// Memoizes the ancestors of the last queried entity that is neither one of the three nor memoized, unless there is
+    /// none or the memo is full. If an allocation fails, nothing is memoized.
     pub(crate) fn keep_next(&mut self)
         ensures { self.new ≡ self.old }
     {

@@ -53,7 +53,8 @@ fn look_up<'a, L: Lookup>(
     }
 }
 
-/// Looks up the ancestors and attributes of the request's entities, each at most once.
+/// Looks up the ancestors and attributes of a request's principal, action and resource, at most once for each of these
+/// three.
 pub(crate) fn request_entities_of<'a, L: Lookup>(
     alloc: Global,
     store: &'a L,
@@ -74,7 +75,7 @@ pub(crate) fn request_entities_of<'a, L: Lookup>(
 }
 
 impl KnownEntity<'_> {
-    /// Returns whether this entity is `of` or a descendant of it. O(log n). Does not allocate.
+    /// Returns whether this entity is `of` or a descendant of it. O(log n) for n ancestors. Does not allocate.
     pub(crate) fn is_within(&self, of: &EntityUid) -> bool
         requires { IsAscending (names self.now.ancestors.items) }
         ensures { IsTrue result ↔ IsWithin self.now of.now }

@@ -10,7 +10,7 @@ use scope_index::{ActionScope, EntityScope, Scope};
 use values::EntityUid;
 
 // The greatest number of ancestors that are compared one by one. Such a comparison tests the ids first, which differ
-// early; a binary search compares the types first. No result depends on this number.
+// more often than the types do; a binary search compares the types first. No result depends on this number.
 const FEW: usize = 16;
 
 /// Returns whether `of` is one of `entities`.
@@ -25,7 +25,7 @@ fn is_one_of(entities: &[&EntityUid], of: &EntityUid) -> bool
     false
 }
 
-/// Returns whether an entity is `of` or a descendant of it. At most O(log n). Does not allocate.
+/// Returns whether an entity is `of` or a descendant of it. O(log n) for n ancestors. Does not allocate.
 fn is_within(known: &KnownEntity<'_>, of: &EntityUid) -> bool
     requires { IsAscending (names known.now.ancestors.items) }
     ensures { IsTrue result ↔ IsWithin known.now of.now }
@@ -80,7 +80,7 @@ fn is_within_any(entities: &[EntityUid], known: &KnownEntity<'_>) -> bool
 }
 
 /// Returns whether all three parts of a scope are true. The action is tested first: an index finds a candidate by the
-/// principal or the resource that its scope names, so that part is mostly true, and the action decides.
+/// principal or the resource that its scope names, and the test of that principal or resource then mostly succeeds.
 pub(crate) fn is_scope_true(scope: &Scope, entities: &RequestEntities<'_>) -> bool
     requires { AreAscending entities.now }
     ensures { IsTrue result ↔ IsTrueOf scope.now entities.now }

@@ -9,7 +9,7 @@ use plain::{Items, NoMemory, Text};
 use scope_index::Effect;
 use std::alloc::Global;
 
-/// The ids of the satisfied permits and forbids, and the erroring policies, each in their order.
+/// The ids of the satisfied permits and forbids, and the erroring policies, each list in the order of recording.
 #[derive(Drop)]
 pub(crate) struct Tally<'a> {
     pub(crate) permits: Vec<&'a str>,

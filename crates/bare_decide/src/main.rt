@@ -1,9 +1,9 @@
 //! The program `bare_decide`: decides one request without a schema. Its arguments name three files: the policies, the
-//! entities, the request. It prints what `cedar_site decide` prints without `--schema`, and needs fewer crates.
+//! entities, the request. It prints the answer line or the error line that `cedar_site decide` prints without
+//! `--schema`, and needs fewer crates.
 //!
-//! The line of the answer goes to standard output, with status 0; the line of an error goes to standard error, with
-//! status 1. The status is 2 for another number of arguments, and 3 if a file or the arguments can't be read, or a
-//! stream fails.
+//! The answer line goes to standard output, with status 0; an error line goes to standard error, with status 1. The
+//! status is 2 for another number of arguments, and 3 if a file or the arguments can't be read, or a stream fails.
 #![tactic(auto)]
 
 use decision_texts::{Refusal, decide_texts, error_line};
@@ -37,7 +37,7 @@ fn report_unreadable(rt: &HostRuntime, name: &str) -> ExitCode {
     report_line(rt.stderr(), "fault: ", name.as_bytes(), FAILED)
 }
 
-/// Reports an error as a line on standard error, and returns the status 1.
+/// Reports an error as a line on standard error, and returns the status 1, or 3 if writing fails.
 fn report_rejection(rt: &HostRuntime, refusal: Refusal) -> ExitCode {
     match error_line(rt.alloc(), refusal) {
         Ok(line) => report_line(rt.stderr(), "", &line, 1),
@@ -45,7 +45,7 @@ fn report_rejection(rt: &HostRuntime, refusal: Refusal) -> ExitCode {
     }
 }
 
-/// Decides the request over the three texts, and prints the answer or the error.
+/// Decides a request, and prints the answer or the error. The arguments are the contents of the three files.
 fn decide(rt: &HostRuntime, policies: &[u8], entities: &[u8], request: &[u8]) -> ExitCode {
     match decide_texts(rt.alloc(), policies, entities, request) {
         Ok(line) => report_line(rt.stdout(), "", &line, 0),
@@ -87,8 +87,8 @@ fn decide_from_files(rt: &HostRuntime, policies: &str, entities: &str, request: 
     }
 }
 
-/// Decides the request over the three files that `words`, the arguments, names after the program's name. For another
-/// number of arguments it prints the usage, with status 2.
+/// Decides the request of three files. `words` are the program's name and the arguments, which name the files. For
+/// another number of arguments it prints the usage, with status 2.
 fn run(rt: &HostRuntime, words: &[String]) -> ExitCode {
     match words {
         [_, policies, entities, request] => decide_from_files(rt, policies, entities, request),

@@ -1,8 +1,8 @@
 -- Defines which entity a JSON value describes without a schema.
 -- Source: Cedar reference guide 4.0, "Entities and context: JSON format": uid, attrs, parents, tags; a uid is
 -- {"type", "id"}, or this object under the key `__entity`.
--- Rules of this product: without a schema an entity is bare: it has no attributes and no tags; absent `attrs`,
--- `parents` and `tags` are empty, and null does not count as absent; other keys of an entity are ignored, but other
+-- Rules of this product: without a schema an entity is bare: it has no attributes and no tags. Absent `attrs`,
+-- `parents` and `tags` are empty, and null does not count as absent. Other keys of an entity are ignored, but other
 -- keys of a uid are rejected.
 use Rattle.std.specs.Prelude.{◌&&◌, Bool, true, List, [], codes, Option, Some, None, Result, Ok}
 use Rattle.serde_json.specs.Data.{Data, Items}
@@ -25,7 +25,7 @@ abbrev pub is_absent_or_empty : Option Data → Bool
 is_absent_or_empty None = true
 is_absent_or_empty (Some d) = has_only [] d
 
--- `uids_of ds` are the uids that the items `ds` of an array describe, or `BadShape` if one of them describes none.
+-- `uids_of ds` are the uids that the items `ds` of an array describe, or `BadShape` if any item describes no uid.
 unfoldable pub uids_of : Items → Result (List EntityUid) ShapeFault
 uids_of ds = each (λ i d. stated_uid d) 0 (list_of ds)
 

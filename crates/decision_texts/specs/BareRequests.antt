@@ -1,8 +1,8 @@
 -- Defines requests as JSON without a schema.
 -- Source: Cedar reference guide 4.0, "Authorization request": principal, action, resource, context.
 -- Rules of this product: principal, action and resource are each a uid in the form that entities use, or a string as in
--- a policy, such as "User::\"alice\""; without a schema the context must be absent or the empty object (null does not
--- count as absent), and the request's context is empty; other keys are ignored.
+-- a policy, such as "User::\"alice\"". Without a schema the context must be absent or the empty object (null does not
+-- count as absent), and the request's context is empty. Other keys are ignored.
 use Rattle.std.specs.Prelude.{◌≡◌, true, ℕ, List, [], MatchOption, codes}
 use Rattle.serde_json.specs.Data.{Data}
 use Rattle.serde_json.specs.Find.{get}

@@ -1,9 +1,9 @@
 -- Defines the outcome of three texts (policies, entities, a request) in a setting: the line of an answer, or the first
 -- error.
 -- Source: Cedar reference guide 4.0, "Authorization".
--- Rules of this product: the policies are all parsed before one is checked; they are checked before the entities, and
--- the entities before the request; a file that is too long is rejected before it is checked to be UTF-8, and bytes
--- that are not UTF-8 are a bad token at offset 0.
+-- Rules of this product: all policies are parsed before any is checked; they are checked before the entities, and the
+-- entities before the request. A file that is too long is rejected before it is checked to be UTF-8. Bytes that are
+-- not UTF-8 are a bad token at offset 0.
 use Rattle.std.specs.Prelude.{◌≡◌, ◌⊎◌, ◌≤◌, ◌<◌, ℕ, List, [], ◌∷◌, length, if◌then◌else◌, Some, None, Ok, Err}
 use Rattle.std.specs.Prelude.{IsPermutation}
 use Rattle.std.specs.List.Sorted.{IsSortedByKey}
@@ -63,8 +63,8 @@ pub record AreAdmitted (r : Reading) (bytes : List ℕ) (names : List (List ℕ)
   pub file : ArePoliciesOf bytes names policies
   pub admitted : r.admits policies
 
--- `AreNotAdmitted r bytes refusal` holds if `refusal` is the error of the file `bytes`, or that with which the setting
--- `r` rejects its policies.
+-- `AreNotAdmitted r bytes refusal` holds if `refusal` is the error of the file `bytes`, or the error with which the
+-- setting `r` rejects the policies of the file.
 pub data AreNotAdmitted (r : Reading) (bytes : List ℕ) (refusal : Refusal) : Type 0 where
   unread : ArePoliciesRefused bytes refusal → AreNotAdmitted r bytes refusal
   rejected : (names : List (List ℕ)) (policies : List Policy) → ArePoliciesOf bytes names policies
@@ -106,7 +106,7 @@ pub record IsAnswerTo (policies : List NamedPolicy) (W : Entities) (asked : Requ
 -- ---- entities and a request, over admitted policies
 
 -- `IsRequestAnswered r policies entities request line` holds if the setting `r` parses the texts `entities` and
--- `request`, and `line` is the line of the request's answer over `policies`.
+-- `request`, and `line` is the line of the answer to that request over `policies` and those entities.
 pub record IsRequestAnswered (r : Reading) (policies : List NamedPolicy) (entities request line : List ℕ)
     : Type 0 where
   pub stored : List Entity

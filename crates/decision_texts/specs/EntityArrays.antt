@@ -1,7 +1,7 @@
 -- Defines the entities that a JSON array describes.
 -- Source: Cedar reference guide 4.0, "Entities and context: JSON format".
 -- Rules of this product: entities are parsed in order, and the error of an entity itself comes before the error that
--- its uid occurs twice; the uids of an array are distinct; the error of a text that is not an array has no place.
+-- its uid occurs twice. The uids of an array are distinct. The error of a text that is not an array has no place.
 use Rattle.std.specs.Prelude.{Bool, false, not, ℕ, List, take, Some, None, Result, Ok, Err}
 use Rattle.std.specs.List.{list_any}
 use Rattle.serde_json.specs.Data.{Data, Items}
@@ -26,8 +26,9 @@ abbrev pub placed : ℕ → Result Entity Refusal → Result Entity Refusal
 placed place (Ok e) = Ok e
 placed place (Err refusal) = Err (error_placed_at place refusal)
 
--- `entity_at r ds place d` is the entity that `d`, the item of the array `ds` at the index `place`, describes in the
--- setting `r`; or the error of `d`; or 30 (bad shape) if an earlier item describes an entity with the same uid.
+-- `entity_at r ds place d` is the entity that `d` describes in the setting `r`, or an error; `d` is the item of the
+-- array `ds` at the index `place`. The error is that of `d` itself, else 30 (bad shape) if an earlier item describes an
+-- entity with the same uid.
 unfoldable pub entity_at : Reading → List Data → ℕ → Data → Result Entity Refusal
 entity_at r ds place d = do
   entity ← placed place (r.entity d)

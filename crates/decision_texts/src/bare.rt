@@ -20,7 +20,7 @@ pub enum ShapeFault {
     /// An allocation failed.
     #[error("entity 1: out of memory")]
     NoMemory,
-    /// The value is not an entity, a uid or a request.
+    /// The value does not have the form of what is parsed: an entity, a uid or a request.
     #[error("entity 30: JSON without the form of an entity or a request")]
     BadShape,
 }
@@ -45,7 +45,7 @@ fn read_uid(alloc: Global, value: &Value) -> Result<EntityUid, ShapeFault>
     }
 }
 
-/// Returns the uids that the items of an entity's array `parents` describe; `BadShape` if one of them describes none.
+/// Returns the uids that the items of an entity's array `parents` describe; `BadShape` if any item describes no uid.
 fn parent_uids(alloc: Global, values: &[Value]) -> Result<Items<EntityUid>, ShapeFault>
     ensures { ReadsAs ShapeFault.NoMemory (λ us. us) result (uids_of (items_view values.now)) }
 {

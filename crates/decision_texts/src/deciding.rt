@@ -96,7 +96,7 @@ fn line_of<S: Setting>(
     answer_line(alloc, &answer)
 }
 
-/// Returns the line of the answer to the request of a text, over these policies and entities, or the request's error.
+/// Returns the line of the answer to the request in a text, over these policies and entities, or the request's error.
 fn line_to<S: Setting>(
     alloc: Global,
     setting: &S,
@@ -113,7 +113,7 @@ fn line_to<S: Setting>(
     Ok(line_of(alloc, setting, policies, store, &request)?)
 }
 
-/// Returns the line of the answer to the request of a text, over these policies and the entities of another text. An
+/// Returns the line of the answer to the request in a text, over these policies and the entities in another text. An
 /// error of the entities is returned before one of the request.
 fn answer_texts<S: Setting>(
     alloc: Global,
@@ -141,8 +141,9 @@ fn answer_texts<S: Setting>(
 ///
 /// - 10 to 19, at a byte offset: the error of the file of policies (docs/codes.md, "Policies").
 /// - The setting's error, if it does not admit these policies.
-/// - The error of the first rejected entity, at its index in the array, from 0: that of the entity itself, or 30
-///   (bad shape) if an earlier entity has its uid. Also 30, without a place, if the text is not a JSON array.
+/// - 30 (bad shape), without a place: the text of the entities is not a JSON array.
+/// - The error of the first rejected entity, at its index in the array, from 0: that of the entity itself, or 30 if an
+///   earlier entity has its uid.
 /// - The error of the request, without a place.
 /// - `NoMemory` (1): an allocation failed; possible at any point.
 pub fn decide_in<S: Setting>(
@@ -170,8 +171,8 @@ pub fn decide_in<S: Setting>(
 /// In this order:
 ///
 /// - 10 to 19, at a byte offset: the error of the file of policies (docs/codes.md, "Policies").
-/// - 30, at the index in the array, from 0: an item is not an entity, or an earlier one has its uid; without a place if
-///   the text is not a JSON array.
+/// - 30 (bad shape), without a place: the text of the entities is not a JSON array.
+/// - 30, at the index in the array, from 0: an item is not an entity, or an earlier item has the same uid.
 /// - 30, without a place: the text of the request is not a request.
 /// - `NoMemory` (1): an allocation failed; possible at any point.
 pub fn decide_texts(

@@ -16,8 +16,8 @@ use json_words::{ArrayMembers, Member, Scratch, members_of};
 use serde_json::Value;
 use std::alloc::Global;
 
-/// Returns the entity that `value`, the item of the array at the index `place`, describes. An error has this index as
-/// its place.
+/// Returns the entity that `value`, the item of the array at the index `place`, describes. An error other than
+/// `NoMemory` has this index as its place.
 fn read_entity_at<S: Setting>(
     alloc: Global,
     setting: &S,
@@ -54,8 +54,8 @@ fn keep_entity<S: Setting>(
     Ok(())
 }
 
-/// Returns `refusal`, the error of a member of the array; if the rest of the text shows that the text is not JSON, the
-/// error of a text that is not JSON.
+/// Returns `refusal`, the error of a member of the array, if the rest of the text completes the JSON array. If it does
+/// not, the error is 30 (bad shape) without a place; if an allocation fails, `NoMemory`.
 fn if_json(alloc: Global, members: &mut ArrayMembers<'_>, refusal: Refusal) -> Refusal
     ensures { (result ≡ no_memory → ⊥) → result ≡ reported_error (bad_shape None) refusal (unread_members members.old) }
 {
@@ -112,8 +112,9 @@ pub(crate) fn read_entities<S: Setting>(
 ///
 /// # Errors
 ///
-/// - The error of the first rejected entity, at its index in the array, from 0: that of the entity itself, or 30
-///   (bad shape) if an earlier entity has its uid. Also 30, without a place, if the text is not a JSON array.
+/// - 30 (bad shape), without a place: the text is not a JSON array.
+/// - The error of the first rejected entity, at its index in the array, from 0: that of the entity itself, or 30 if an
+///   earlier entity has its uid.
 /// - `NoMemory` (1): an allocation failed; possible at any point.
 pub fn check_entities<S: Setting>(alloc: Global, setting: &S, text: &[u8]) -> Result<(), Refusal>
     ensures read { OnOk result ((es : List Stated) × (entities_of (S.reading setting.now) text.now ≡ Ok es)) }

@@ -13,7 +13,7 @@ use serde_json::Value;
 use std::alloc::Global;
 use values::{EntityUid, Record, Request};
 
-/// Returns the uid that the value at a key describes.
+/// Returns the uid that the value at a key names.
 ///
 /// # Errors
 ///

@@ -20,7 +20,7 @@ pub trait Setting {
     /// The declared actions.
     type Actions: ActionSource + Drop;
 
-    /// The definition of what texts are parsed as, and of the errors.
+    /// Defines the parsed value of each text, or its error, and the declared actions.
     ghost reading: { Self → Reading };
 
     /// Returns the declared actions. Does not allocate.

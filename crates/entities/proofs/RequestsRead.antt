@@ -9,7 +9,7 @@ use Rattle.entities.specs.declared.requests.Asked.{Asked}
 use Rattle.entities.specs.Requests as read
 use Rattle.entities.specs.Requests.{asked_by, ParsesRequest, RequestRefused}
 use Rattle.entities.specs.Laws.{OneRequest, NotBoth, OneRefusal, RequestOrRefusal}
-use Rattle.entities.specs.StatedRequests.{Asks, DescribesRequest, RefusesRequest}
+use Rattle.entities.specs.StatedRequests.{HasRequestForm, DescribesRequest, RefusesRequest}
 use Rattle.entities.specs.StatedRequests as says
 use Rattle.schema.specs.Agreement.{HasOneOutcome}
 use Rattle.entities.specs.ParsingLaws.{RequestIsRead}
@@ -17,12 +17,12 @@ use Rattle.entities.proofs.Leaves.{Names}
 use Rattle.entities.proofs.Forms.{object_is, is_object}
 use Rattle.entities.proofs.ContextsRead.{asked_given}
 
-asks_more : (d : Data) (asked : Asked) → read.Asks d asked → (ms : Members) × Asks d asked ms
+asks_more : (d : Data) (asked : Asked) → read.Asks d asked → (ms : Members) × HasRequestForm d asked ms
 asks_more d asked h =
     let found = object_is (codes "context") d h.context in
     (found.0, record { principal = h.principal; action = h.action; resource = h.resource; has_context = found.1 })
 
-asks_less : (d : Data) (asked : Asked) (ms : Members) → Asks d asked ms → read.Asks d asked
+asks_less : (d : Data) (asked : Asked) (ms : Members) → HasRequestForm d asked ms → read.Asks d asked
 asks_less d asked ms h = record {
   principal = h.principal;
   action = h.action;

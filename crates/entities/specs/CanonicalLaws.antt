@@ -10,7 +10,7 @@ use Rattle.entities.specs.Entities.{entity_stated_in}
 use Rattle.entities.specs.Canonical.{canonical_json, canonical_text}
 use Rattle.entities.specs.Texts.{HasUtf8}
 
--- `JsonTextsAreUtf8`: each string in parsed JSON is UTF-8.
+-- `JsonTextsAreUtf8`: each string and each key in parsed JSON is UTF-8.
 abbrev pub JsonTextsAreUtf8 : Type 0
 JsonTextsAreUtf8 = (bytes : List ℕ) (d : Data) → json_of bytes ≡ Some d → HasUtf8 d
 
@@ -20,18 +20,19 @@ pub record IsReadFrom (s : StatedSchema) (bytes : List ℕ) (e : Entity) : Type 
   pub stands : json_of bytes ≡ Some json
   pub states : entity_stated_in s json ≡ Ok e
 
--- `CanonicalTextsAreJson`: whatever bytes an entity was parsed from, the JSON of its canonical text is its canonical
--- JSON.
+-- `CanonicalTextsAreJson`: under a well-formed schema, whatever bytes an entity was parsed from, the JSON of its
+-- canonical text is its canonical JSON.
 abbrev pub CanonicalTextsAreJson : Type 0
 CanonicalTextsAreJson = (s : StatedSchema) (bytes : List ℕ) (e : Entity) → IsWellFormed s → IsReadFrom s bytes e
     → json_of (canonical_text e) ≡ Some (canonical_json e)
 
--- `CanonicalTextsReadBack`: whatever bytes an entity was parsed from, its canonical text is parsed as the same entity.
+-- `CanonicalTextsReadBack`: under a well-formed schema, whatever bytes an entity was parsed from, its canonical text is
+-- parsed as the same entity.
 abbrev pub CanonicalTextsReadBack : Type 0
 CanonicalTextsReadBack = (s : StatedSchema) (bytes : List ℕ) (e : Entity) → IsWellFormed s → IsReadFrom s bytes e
     → IsReadFrom s (canonical_text e) e
 
--- `CanonicalTextsAreOne`: parsed entities with equal canonical texts are equal.
+-- `CanonicalTextsAreOne`: two entities parsed under one well-formed schema are equal if their canonical texts are.
 abbrev pub CanonicalTextsAreOne : Type 0
 CanonicalTextsAreOne = (s : StatedSchema) (bytes other : List ℕ) (e f : Entity) → IsWellFormed s
     → IsReadFrom s bytes e → IsReadFrom s other f → canonical_text e ≡ canonical_text f → e ≡ f

@@ -42,8 +42,8 @@ attributes_in s name d = do
   untagged ← demand TagsLeftOut (is_absent_or_empty (get (codes "tags") d))
   with_entity_fault (record_in shape (or_empty (get (codes "attrs") d)))
 
--- `parent_fits s uid parent` checks that the entity `uid` may have the parent `parent` under the schema `s`: it is
--- `SelfParent` if they are one entity, else `BadParent` if their types do not fit.
+-- `parent_fits s uid parent` checks that the entity `uid` may have the parent `parent` under the schema `s`: the error
+-- is `SelfParent` if they are the same entity, else `BadParent` if `s` does not allow a parent of this type.
 unfoldable pub parent_fits : StatedSchema → EntityUid → EntityUid → Result ⊤ EntityFault
 parent_fits s uid parent = do
   other ← demand SelfParent (not (is_same parent uid))

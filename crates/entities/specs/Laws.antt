@@ -22,18 +22,19 @@ ActionTypeTestIsExact = (name : List ℕ) → IsTrue (is_action_type name) ↔ I
 
 -- ---- entities
 
--- `CanonicalEntityIsRead`: the round trip of a parsed entity: its canonical JSON is parsed as the same entity.
+-- `CanonicalEntityIsRead`: the round trip of a parsed entity: its canonical JSON is parsed as the same entity, under
+-- the same schema.
 abbrev pub CanonicalEntityIsRead : Type 0
 CanonicalEntityIsRead = (s : StatedSchema) (d : Data) (e : Entity) → entity_stated_in s d ≡ Ok e
     → entity_stated_in s (canonical_json e) ≡ Ok e
 
--- `CanonicalEntityNests`: the canonical JSON of a parsed entity is within the limit of nesting, since no shape of a
--- well-formed schema is too large.
+-- `CanonicalEntityNests`: under a well-formed schema, the canonical JSON of a parsed entity is within the limit of
+-- nesting, since no shape is too large.
 abbrev pub CanonicalEntityNests : Type 0
 CanonicalEntityNests = (s : StatedSchema) (d : Data) (e : Entity) → IsWellFormed s → entity_stated_in s d ≡ Ok e
     → depth (canonical_json e) ≤ max_depth
 
--- `CanonicalIsOne`: two parsed entities with equal canonical JSON are equal.
+-- `CanonicalIsOne`: two entities parsed under one schema are equal if their canonical JSON is.
 abbrev pub CanonicalIsOne : Type 0
 CanonicalIsOne = (s : StatedSchema) (d other : Data) (e f : Entity) → entity_stated_in s d ≡ Ok e
     → entity_stated_in s other ≡ Ok f
@@ -43,7 +44,7 @@ CanonicalIsOne = (s : StatedSchema) (d other : Data) (e f : Entity) → entity_s
 abbrev pub ParentsAscend : Type 0
 ParentsAscend = (s : StatedSchema) (d : Data) (e : Entity) → entity_stated_in s d ≡ Ok e → IsAscending e.parents
 
--- `SetsHoldTheirMembers`: a set of uids ascends strictly, and has exactly the uids that it was made of.
+-- `SetsHoldTheirMembers`: the list `uid_set us` ascends strictly, and has exactly the uids of `us`.
 abbrev pub SetsHoldTheirMembers : Type 0
 SetsHoldTheirMembers = (us : List EntityUid) → IsAscending (uid_set us)
     × ((u : EntityUid) → Contains us u ↔ Contains (uid_set us) u)

@@ -1,5 +1,5 @@
 -- Defines the theorems that parsing agrees with the relations on JSON: each relation holds of the result of the parsing
--- function, only of that, and of one result.
+-- function, and of no other.
 use Rattle.std.specs.Prelude.{◌≡◌, ◌↔◌, List, Ok, Err}
 use Rattle.serde_json.specs.Data.{Data, Members, object}
 use Rattle.values.specs.Values.{PlainValue, record_of, fields_of}

@@ -33,8 +33,8 @@ pub record Asks (d : Data) (asked : Asked) : Type 0 where
   pub resource : NamesAt (codes "resource") d asked.resource
   pub context : is_absent_or_object (get (codes "context") d) ≡ true
 
--- `context_asked s asked d` is the context that `d` describes, or the first error. The context has the type that the
--- environment of the request `asked` in the schema `s` declares.
+-- `context_asked s asked d` is the context that the JSON `d` of a request describes, or the first error. The context
+-- has the type that the environment of the request `asked` in the schema `s` declares.
 unfoldable pub context_asked : StatedSchema → Asked → Data → Result (List Field) EntityFault
 context_asked s asked d = do
   type ← or_fault NotApplicable

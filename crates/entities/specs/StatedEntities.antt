@@ -66,9 +66,9 @@ pub record MayHaveParent (s : StatedSchema) (uid parent : EntityUid) : Type 0 wh
   pub type_fits : IsTrue (s.may_have_parent uid.type_name parent.type_name)
 
 -- `DescribesEntity s d e` holds if `d` describes the entity `e` under the schema `s`: `d` has the form of an entity,
--- without tags; the type of `e` is declared; the attributes of `e` are the record that `d` describes by the shape of
--- that type; and the parents of `e` are those that `d` lists, each of which `e` may have, in ascending order, without
--- duplicates.
+-- without tags; the type of `e` is declared; and the attributes of `e` are the record that `d` describes by the shape
+-- of that type. The parents of `e` are those that `d` lists, in ascending order, without duplicates, and `e` may have
+-- each of them.
 pub record DescribesEntity (s : StatedSchema) (d : Data) (e : Entity) : Type 0 where
   pub listed : List EntityUid
   pub attributes : Members

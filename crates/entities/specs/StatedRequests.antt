@@ -74,9 +74,9 @@ pub data RefusesContext (s : StatedSchema) (action : EntityUid) (d : Data) : Ent
 
 -- ---- requests
 
--- `Asks d asked ms` holds if `d` has the form of a request: it names the principal, the action and the resource of
--- `asked`, and its context is an object with the members `ms`, or is absent and `ms` is empty.
-pub record Asks (d : Data) (asked : Asked) (ms : Members) : Type 0 where
+-- `HasRequestForm d asked ms` holds if `d` has the form of a request: it names the principal, the action and the
+-- resource of `asked`, and its context is an object with the members `ms`, or is absent and `ms` is empty.
+pub record HasRequestForm (d : Data) (asked : Asked) (ms : Members) : Type 0 where
   pub principal : NamesAt (codes "principal") d asked.principal
   pub action : NamesAt (codes "action") d asked.action
   pub resource : NamesAt (codes "resource") d asked.resource
@@ -86,12 +86,12 @@ pub record Asks (d : Data) (asked : Asked) (ms : Members) : Type 0 where
 -- of principal and resource, and the context is the record that `d` describes by the context's type.
 pub record DescribesRequest (s : StatedSchema) (d : Data) (q : Request) : Type 0 where
   pub members : Members
-  pub asks : Asks d (asked_by q) members
+  pub asks : HasRequestForm d (asked_by q) members
   pub reads : ReadsContext (AppliesTo (asked_by q)) s members q.context
 
 -- `RefusesRequest s d fault` holds if `d` describes no request under the schema `s`, and `fault` is the first error:
 -- that of the form, else that the action does not apply, else that of the context.
 pub data RefusesRequest (s : StatedSchema) (d : Data) : EntityFault → Type 0 where
-  no_request : ((asked : Asked) (ms : Members) → Asks d asked ms → ⊥) → RefusesRequest s d BadShape
-  bad_request : (asked : Asked) (ms : Members) (fault : EntityFault) → Asks d asked ms
+  no_request : ((asked : Asked) (ms : Members) → HasRequestForm d asked ms → ⊥) → RefusesRequest s d BadShape
+  bad_request : (asked : Asked) (ms : Members) (fault : EntityFault) → HasRequestForm d asked ms
       → FailsContext (AppliesTo asked) s ms fault → RefusesRequest s d fault

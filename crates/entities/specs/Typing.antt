@@ -22,8 +22,8 @@ use Rattle.schema_types.specs.Cedar as cedar
 use Rattle.schema_types.specs.Cedar.{Cedar, CedarFields, no_fields, field}
 use Rattle.entities.specs.Parts.{element_of, fields_in, declared_at}
 
--- `under_key k d o` is the value `o` that `d` has at `k`, if `k` is the only key of `d`, else `WrongType`; it is `d`
--- itself if `o` is `None`.
+-- `under_key k d o` is `d` if `o` is `None`. Else it is the value in `o` if `k` is the only key of `d`, and `WrongType`
+-- if not. Here `o` is the value that `d` has at `k`, if any.
 abbrev pub under_key : List ℕ → Data → Option Data → Result Data ValueFault
 under_key k d None = Ok d
 under_key k d (Some inner) = do
@@ -47,13 +47,13 @@ call_in name d = do
   plain_call name inner
 
 -- `argument_or_call name d o` is the string in `o` or, if `o` is `None`, the argument of the call of `name` that `d`
--- describes.
+-- describes; else `WrongType`.
 abbrev pub argument_or_call : List ℕ → Data → Option (List ℕ) → Result (List ℕ) ValueFault
 argument_or_call name d (Some s) = Ok s
 argument_or_call name d None = call_in name d
 
 -- `argument_in name d` is the argument of the extension function `name` that `d` describes: the string `d`, or the
--- argument of a call of `name`.
+-- argument of a call of `name`; else `WrongType`.
 unfoldable pub argument_in : List ℕ → Data → Result (List ℕ) ValueFault
 argument_in name d = argument_or_call name d (as_str d)
 

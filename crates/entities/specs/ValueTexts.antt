@@ -1,4 +1,4 @@
--- Defines the value that a text describes.
+-- Defines the value of a type that a JSON text describes.
 use Rattle.std.specs.Prelude.{ℕ, List, Result}
 use Rattle.json_words.specs.ReadsAs.{◌>>=◌, or_fault}
 use Rattle.json_words.specs.Json.{json_of}

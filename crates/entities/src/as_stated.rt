@@ -1,4 +1,5 @@
-//! Theorems: parsing gives what the relations on JSON say. The functions are no-ops.
+//! Theorems that parsing agrees with the relations on JSON of specs/StatedValues, specs/StatedEntities and
+//! specs/StatedRequests. The functions are no-ops.
 ghost use Rattle.entities.specs.ParsingLaws.{ValuesAreRead, OneValue, OtherJsonIsOfWrongType};
 ghost use Rattle.entities.specs.ParsingLaws.{RecordsAreRead, RecordsAreRefused};
 ghost use Rattle.entities.specs.ParsingLaws.{EntitiesAreRead, EntitiesHaveOneOutcome};

@@ -16,8 +16,8 @@ use plain::NoMemory;
 use std::alloc::Global;
 use values::EntityUid;
 
-/// The capacity that is reserved at once for a text, in bytes. The texts of most entities need less, and so do not
-/// grow.
+/// The capacity in bytes that is reserved for a text before it is written. For a text of at most this length the buffer
+/// does not grow.
 const INITIAL_CAPACITY: usize = 128;
 
 /// Writes the uids of parents as an array.

@@ -12,8 +12,8 @@ pub fn json_texts_are_utf8()
 
 /// Proves the round trip of the canonical text of an entity that was parsed from bytes. No-op.
 ///
-/// The JSON of the text is the entity's canonical JSON. The text is parsed as that entity under the same schema, and no
-/// other parsed entity has it.
+/// Under a well-formed schema, the JSON of the text is the entity's canonical JSON, and the text is parsed as that
+/// entity. No other entity parsed under that schema has the text.
 pub fn canonical_texts_are_read()
     ensures json { CanonicalTextsAreJson }
     ensures back { CanonicalTextsReadBack }

@@ -12,7 +12,7 @@ use schema::{Environment, EnvironmentKey, Schema, stated_schemas_are_well_formed
 use schema_types::CedarType;
 use std::cmp::Ordering;
 
-/// The environments that a search seeks, given by how other environments compare with them.
+/// The environments that a search seeks, given by how each environment compares with them.
 pub(crate) trait Sought {
     /// The comparison of an environment's action and types with those sought: equal if the environment is sought.
     ghost order: { Self → PlainPlace → PlainOrdering };
@@ -29,7 +29,8 @@ fn is_before<S: Sought>(environment: &Environment, sought: &S) -> bool
     sought.compare(&environment.place).is_lt()
 }
 
-/// Returns the type of the context of the environment at an index of a list, if it is sought.
+/// Returns the type of the context of the environment at the index `at`; `None` if there is no such environment, or it
+/// is not sought.
 fn context_at<'s, S: Sought>(
     environments: &'s [Environment],
     at: usize,

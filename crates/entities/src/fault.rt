@@ -31,7 +31,7 @@ pub enum EntityFault {
     /// The value of an attribute, or of a member of the context, is not of its declared type.
     #[error("entity 35: attribute value of the wrong type")]
     WrongType,
-    /// An entity of this type may not have a parent of that type.
+    /// A parent has a type that the schema does not allow for a parent of this entity.
     #[error("entity 36: parent of a type that the schema does not allow")]
     BadParent,
     /// The entity is one of its own parents.
@@ -40,13 +40,14 @@ pub enum EntityFault {
     /// The entity has tags.
     #[error("entity 38: tags; entity tags are not supported")]
     TagsLeftOut,
-    /// The action is not declared, or does not apply to the types of principal and resource.
+    /// The action is not declared, or does not apply to the types of principal and resource. For a context without a
+    /// request: no environment has the action.
     #[error("entity 39: action undeclared, or not applicable to these types of principal and resource")]
     NotApplicable,
 }
 
 impl EntityFault {
-    /// Returns the error's code.
+    /// Returns the error's code (docs/codes.md).
     pub fn code(self) -> u8
         ensures { result ≡ code_of self }
     {

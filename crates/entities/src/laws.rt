@@ -8,8 +8,8 @@ use entity_uids::{names_read_back, texts_have_one_reading};
 
 /// Proves that the canonical JSON of a parsed entity is parsed as that entity under the same schema. No-op.
 ///
-/// This JSON is within the limit of nesting, and no other entity has it. The parents of a parsed entity ascend, and a
-/// set of uids has exactly the uids that it was made of.
+/// If the schema is well-formed, this JSON is within the limit of nesting. No other entity parsed under the same schema
+/// has this JSON. The parents of a parsed entity ascend, and a set of uids has exactly the uids that it was made of.
 pub fn entities_read_back()
     ensures read { CanonicalEntityIsRead }
     ensures nests { CanonicalEntityNests }

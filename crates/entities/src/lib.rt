@@ -1,8 +1,8 @@
 //! Entities, contexts and requests, parsed from JSON by what a schema declares, and the canonical text of an entity.
 //!
 //! The result depends only on the JSON and the schema: no other entity is looked up, so parents need not be stored.
-//! Whatever bytes an entity was parsed from under a schema, its canonical text is parsed as that entity again, and no
-//! other entity has it.
+//! Whatever bytes an entity was parsed from under a schema, its canonical text is parsed under that schema as the same
+//! entity, and no other entity parsed under that schema has this text.
 #![tactic(auto)]
 
 mod as_stated;

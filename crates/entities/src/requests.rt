@@ -31,8 +31,8 @@ pub struct Asked {
     pub resource: EntityUid,
 }
 
-/// Returns the uid of the entity that the value at a key names; `BadShape` if the key is absent or its value names
-/// none.
+/// Returns the uid of the entity that the value at a key names; `BadShape` if the key is absent or its value names no
+/// entity.
 fn read_name_at(alloc: Global, value: &Value, key: &str) -> Result<EntityUid, EntityFault>
     ensures read { IfOk result (NamesAt key.now (view value.now)) }
     ensures refused { IfErr result (λ f. f ≢ EntityFault.NoMemory
@@ -47,7 +47,8 @@ fn read_name_at(alloc: Global, value: &Value, key: &str) -> Result<EntityUid, En
     }
 }
 
-/// Returns the principal, action and resource of a request; `BadShape` if the value does not have the form of one.
+/// Returns the principal, action and resource of a request; `BadShape` if the value does not have the form of a
+/// request.
 #[tactic(auto, using(crate::proofs::RequestLemmas::no_principal, crate::proofs::RequestLemmas::no_action, crate::proofs::RequestLemmas::no_resource, crate::proofs::RequestLemmas::no_context))]
 fn read_asked(alloc: Global, value: &Value) -> Result<Asked, EntityFault>
     ensures read { IfOk result (Asks (view value.now)) }
@@ -81,8 +82,8 @@ impl Sought for Asked {
     }
 }
 
-/// Returns the context that a value describes for the request `asked`. Returns `NotApplicable` if no environment is
-/// that of the request, else the first error of the context.
+/// Returns the context of the request `asked`, as `value`, the JSON of the whole request, describes it. Returns
+/// `NotApplicable` if no environment is that of the request, else the first error of the context.
 #[tactic(auto, unfolding(crate::specs::Requests::context_asked))]
 fn read_context_of(
     alloc: Global,

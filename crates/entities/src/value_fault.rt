@@ -5,7 +5,7 @@ use plain::NoMemory;
 use std::alloc::AllocFailed;
 use thiserror::Error;
 
-/// An error of parsing attributes or a context, with its code in docs/codes.md.
+/// An error of parsing attributes or a context (docs/codes.md).
 #[derive(Clone, Copy, PartialEq, Eq, Debug, Error)]
 pub enum ValueFault {
     /// An allocation failed.

@@ -95,7 +95,7 @@ fn write_members(alloc: Global, out: &mut Writer, fields: &Record) -> Result<(),
     out.end_object()
 }
 
-/// Appends the canonical JSON of a record, `{"age":1}`.
+/// Appends the canonical JSON of a record, such as `{"age":1}`.
 ///
 /// # Errors
 ///

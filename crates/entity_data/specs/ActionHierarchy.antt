@@ -1,6 +1,6 @@
 -- Defines when declared actions are a hierarchy of their own: their parents are actions, and no action is cyclic.
 -- Source: Cedar reference guide 4.0, "Schema JSON format", `actions` and `memberOf`: the groups that an action is a
--- member of are actions, and no action is its own ancestor; bytes whose actions break these rules are not a schema.
+-- member of are actions, and no action is its own ancestor. Bytes whose actions break these rules are not a schema.
 use Rattle.std.specs.Prelude.{List, [], Contains, Option, Some, None, IsSome}
 use Rattle.values.specs.declared.entity_uid.EntityUid.{EntityUid}
 use Rattle.evaluator.specs.ancestor_search.Hierarchy.{Parents}

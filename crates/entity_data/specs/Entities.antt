@@ -48,7 +48,8 @@ abbrev pub AreActions : Actions → List EntityUid → Type 0
 AreActions actions us = (u : EntityUid) → Contains us u ↔ IsSome (actions u)
 
 -- `action_or parents other` is the data of an action with the parents in `parents` and without attributes. If `parents`
--- is `None`, as for a uid of no declared action, it is the data `other` of the stored entity, which may also be `None`.
+-- is `None`, as for a uid that no declared action has, it is the data `other` of the stored entity, which may also be
+-- `None`.
 abbrev pub action_or : Option (List EntityUid) → Option EntityData → Option EntityData
 action_or (Some parents) other = Some (record { attrs = []; parents = parents })
 action_or None other = other

@@ -28,8 +28,8 @@ module _ {X : Type 0} where
   abbrev found_in : List (EntityUid × X) → EntityUid → Option X
   found_in es u = lookup (is_at (uid_cmp u)) es
 
-  -- `key_from`: a uid that has a value is a key. `key_is_found`: a key has a value. `found_at` and `there_at` are their
-  -- steps from the later entries to one more entry in front of them.
+  -- `key_from`: a uid that has a value is a key. `key_is_found`: a key has a value. `found_at` and `there_at` are the
+  -- induction steps of these two, for one more entry in front.
   found_at : (es : List (EntityUid × X)) (e : EntityUid × X) (u : EntityUid) (b : Bool) → is_at (uid_cmp u) e.0 ≡ b
       → (IsSome (found_in es u) → Contains (keys_in es) u)
       → IsSome (cond b (Some e.1) (found_in es u)) → Contains (e.0 ∷ keys_in es) u

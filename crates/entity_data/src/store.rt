@@ -42,7 +42,7 @@ impl EntityStore {
     }
 
     /// Adds an entity, and returns whether it is the first of its uid. If the store already has an entity with this
-    /// uid, or an allocation fails, the store is unchanged. O(log n).
+    /// uid, or an allocation fails, the store is unchanged. O(log n), where n is the number of entities.
     pub fn put(&mut self, entity: Entity) -> Result<bool, NoMemory>
         ensures first { IfOk result (λ first. is_some (kept_in self.old entity.uid) ≡ not first) }
         ensures puts { IfOk result (λ first. IsTrue first → Puts (kept_in self.old) (kept_in self.new) entity) }

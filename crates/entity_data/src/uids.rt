@@ -9,7 +9,7 @@ use evaluator::ascending_lists_are_one;
 use plain::NoMemory;
 use values::{EntityUid, entity_uids_are_ordered};
 
-/// Returns the uids of both lists in one, ascending and without duplicates.
+/// Returns the uids of both lists in one list, ascending and without duplicates.
 fn together<'a>(
     some: Vec<&'a EntityUid>,
     others: &'a [EntityUid],

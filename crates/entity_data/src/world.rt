@@ -63,7 +63,7 @@ impl<S: EntitySource, A: ActionSource + Drop> ParentsOf for Entities<'_, S, A> {
 
     fn parents_of(&self, uid: &EntityUid) -> &[EntityUid] {
         match self.action(uid) {
-            Some(ancestor_test) => ancestor_test,
+            Some(parents) => parents,
             None => self.stored_edges.source.parents_at(uid),
         }
     }

@@ -7,9 +7,9 @@ use Rattle.entities.specs.schema.Views.{parents_at}
 use Rattle.entities.specs.entity_data.Entities.{EntityMap, Actions, AreActions, with_actions}
 use Rattle.entities.specs.entity_data.Listing.{keys_are_found}
 
--- `actions_under schema` are the actions of `schema`, with the parents that their `memberOf` lists. Edges to all
--- ancestors of each action would give the same ancestor relation and the same answers, by a theorem of this crate
--- (Laws).
+-- `actions_under schema` are the actions of `schema`, with the parents that their `memberOf` lists. For a parsed
+-- schema, edges from each action to all its ancestors would give the same ancestor relation and the same answers, by a
+-- theorem of this crate (Laws.antt).
 abbrev pub actions_under : SchemaEntries → Actions
 actions_under schema u = parents_at schema.member_of u
 

@@ -1,6 +1,6 @@
--- Defines the theorems about actions: an action's parents are those that its `memberOf` lists; if all its ancestors
+-- Defines the theorems about actions. An action's parents are those that its `memberOf` lists. If all its ancestors
 -- were its parents, the ancestor relation, the outcome of each expression and each answer would be the same, since no
--- cycle contains an action; and putting an entity would make it cyclic in the same cases.
+-- cycle contains an action. Putting an entity would make it cyclic in the same cases.
 use Rattle.std.specs.Prelude.{◌≡◌, ◌↔◌, ℕ, List, Option, None, Ok, option_map}
 use Rattle.serde_json.specs.Data.{Data}
 use Rattle.values.specs.declared.entity_uid.EntityUid.{EntityUid}
@@ -30,8 +30,8 @@ abbrev pub by_member_of : ResolvedSchema → StatedSchema → Actions
 by_member_of s v u = option_map (λ above. action_parents s u) (v.ancestors u)
 
 -- `stated_world s v entities` is the entity data of the stored entities `entities` and the actions `by_member_of s v`.
--- `closed_world v entities` is that of `entities` and the actions of the schema `v`, each with all its ancestors as its
--- parents.
+-- `closed_world v entities` is the entity data of `entities` and the actions of the schema `v`, each with all its
+-- ancestors as its parents.
 abbrev pub stated_world : ResolvedSchema → StatedSchema → EntityMap → Entities
 stated_world s v entities = entity_data_in (with_actions (by_member_of s v) entities)
 

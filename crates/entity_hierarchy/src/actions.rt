@@ -1,4 +1,4 @@
-//! The actions of a schema, as a source of actions.
+//! The actions of a schema, as an `ActionSource` of entity data.
 ghost use Rattle.std.specs.Prelude.{◌≡◌};
 ghost use Rattle.entity_hierarchy.specs.Entities.{actions_under, action_uids, actions_are_listed};
 

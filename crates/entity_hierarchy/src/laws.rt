@@ -16,8 +16,8 @@ pub fn reach_decides()
 /// instead. No-op.
 ///
 /// The ancestor relation and the cyclic entities would be the same, each expression would have the same outcome, and
-/// each request the same answer, whatever entities are stored. Nor would it change whether an entity is cyclic after it
-/// is put, under any uid and with any parents.
+/// each request the same answer, whatever entities are stored. Whether an entity is cyclic after it is put would be the
+/// same too, under any uid and with any parents.
 pub fn actions_may_be_closed()
     ensures kept { MemberOfIsKept }
     ensures alike { MemberOfLeadsAlike }
@@ -28,8 +28,8 @@ pub fn actions_may_be_closed()
     stated_schemas_are_well_formed();
 }
 
-/// Proves that an entity that is parsed under a schema is not one of the schema's actions, since only action types end
-/// in `Action`. No-op.
+/// Proves that an entity that is parsed under a schema is not one of the schema's actions, since the last word of each
+/// action's type is `Action`, and no parsed entity has a type with this last word. No-op.
 pub fn entities_are_no_actions()
     ensures { NoEntityIsAnAction }
 {

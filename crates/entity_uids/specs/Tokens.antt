@@ -18,8 +18,8 @@ abbrev pub tokens_of_all : List Data → List Token
 tokens_of_all [] = []
 tokens_of_all (d ∷ ds) = tokens_of d ++ tokens_of_all ds
 
--- `AppendsTokens old new ts` holds if the output `new` is `old` with the tokens `ts` appended, and the text before all
--- tokens is unchanged.
+-- `AppendsTokens old new ts` holds if the output `new` is `old` with the tokens `ts` appended, and the bytes before the
+-- first token are unchanged.
 pub record AppendsTokens (old new : Written) (ts : List Token) : Type 0 where
   pub before : new.before ≡ old.before
   pub tokens : new.tokens ≡ old.tokens ++ ts
@@ -28,20 +28,20 @@ pub record AppendsTokens (old new : Written) (ts : List Token) : Type 0 where
 abbrev pub IsReadAgain : Data → Type 0
 IsReadAgain d = of_json (outline d) ≡ Some d
 
--- `AppendsValue old new d` holds if the output `new` is `old` with the value `d` appended, and `d` is parsed again as
--- `d`.
+-- `AppendsValue old new d` holds if the output `new` is `old` with the value `d` appended, and the written form of `d`
+-- is parsed as `d`.
 pub record AppendsValue (old new : Written) (d : Data) : Type 0 where
   pub written : AppendsTokens old new (tokens_of d)
   pub again : IsReadAgain d
 
--- `AppendsMember old new k d` holds if the output `new` is `old` with the member of an object appended that has the key
--- `k` and the value `d`, and `d` is parsed again as `d`.
+-- `AppendsMember old new k d` holds if the output `new` is `old` with an object's member appended, and the written form
+-- of `d` is parsed as `d`. The member has the key `k` and the value `d`.
 pub record AppendsMember (old new : Written) (k : List ℕ) (d : Data) : Type 0 where
   pub written : AppendsTokens old new (key k ∷ tokens_of d)
   pub again : IsReadAgain d
 
--- `AppendsAll old new ds` holds if the output `new` is `old` with the values `ds` appended, one after another, and each
--- is parsed again as itself.
+-- `AppendsAll old new ds` holds if the output `new` is `old` with the values `ds` appended, one after another, and the
+-- written form of each is parsed as that value.
 pub record AppendsAll (old new : Written) (ds : List Data) : Type 0 where
   pub written : AppendsTokens old new (tokens_of_all ds)
   pub again : AllByRecursion IsReadAgain ds

@@ -12,8 +12,8 @@ use Rattle.values.specs.Paths.{is_path}
 use Rattle.policy_grammar.specs.PolicyText.{IsUidText}
 use Rattle.values.specs.declared.entity_uid.EntityUid.{EntityUid}
 
--- `IsPlainUid d uid` holds if `d` is the object {"type": T, "id": I}, where T is the type of `uid`, which is a Path,
--- and I is its id.
+-- `IsPlainUid d uid` holds if `d` is the object {"type": T, "id": I}, where T is the type of `uid`, which is a Path of
+-- the policy grammar, and I is the id of `uid`.
 pub record IsPlainUid (d : Data) (uid : EntityUid) : Type 0 where
   pub alone : has_only (codes "type" ∷ codes "id" ∷ []) d ≡ true
   pub type_name : text_at (codes "type") d ≡ Some uid.type_name
@@ -21,7 +21,7 @@ pub record IsPlainUid (d : Data) (uid : EntityUid) : Type 0 where
   pub id : text_at (codes "id") d ≡ Some uid.id
 
 -- `IsUnderEntity d inner uid` holds if the object `d` has no other key than `__entity`, and `IsPlainUid inner uid`
--- holds; `inner` is the value of `d` at that key.
+-- holds. `IsUid` passes the value of `d` at that key as `inner`.
 pub record IsUnderEntity (d inner : Data) (uid : EntityUid) : Type 0 where
   pub alone : has_only (codes "__entity" ∷ []) d ≡ true
   pub is : IsPlainUid inner uid
@@ -41,7 +41,8 @@ IsRead Names read = MatchOption read ((uid : EntityUid) → Names uid → ⊥) N
 
 -- ---- the same as functions, for contracts about JSON that contains uids
 
--- `uid_made_of name id` is the uid with the type `name` and the id `id`, if both are present and the type is a Path.
+-- `uid_made_of name id` is the uid with the type `name` and the id `id`, if both are present and the type is a Path;
+-- else `None`.
 abbrev pub uid_made_of : Option (List ℕ) → Option (List ℕ) → Option EntityUid
 uid_made_of None id = None
 uid_made_of (Some name) None = None
@@ -53,8 +54,8 @@ plain_uid_in d =
     if has_only (codes "type" ∷ codes "id" ∷ []) d then uid_made_of (text_at (codes "type") d) (text_at (codes "id") d)
     else None
 
--- `uid_under d inner` is the uid that `d` names, if it names one, where `inner` is the value of `d` at the key
--- `__entity`, or `None` if `d` does not have this key.
+-- `uid_under d inner` is the uid that `d` names, if it names one. `inner` is the value of `d` at the key `__entity`;
+-- `None` if `d` does not have this key.
 abbrev pub uid_under : Data → Option Data → Option EntityUid
 uid_under d None = plain_uid_in d
 uid_under d (Some inner) = if has_only (codes "__entity" ∷ []) d then plain_uid_in inner else None
@@ -63,24 +64,24 @@ uid_under d (Some inner) = if has_only (codes "__entity" ∷ []) d then plain_ui
 unfoldable pub uid_in : Data → Option EntityUid
 uid_in d = uid_under d (get (codes "__entity") d)
 
--- `with_first o os` is the list `os` with the uid `o` in front, or `None` if one of the two is `None`.
+-- `with_first o os` is the list `os` with the uid `o` in front, or `None` if `o` or `os` is `None`.
 abbrev pub with_first : Option EntityUid → Option (List EntityUid) → Option (List EntityUid)
 with_first (Some uid) (Some uids) = Some (uid ∷ uids)
 with_first (Some uid) None = None
 with_first None uids = None
 
--- `uids_in ds` are the entities that the values `ds` name, in order, or `None` if one of them names no entity.
+-- `uids_in ds` are the entities that the values `ds` name, in order, or `None` if any value names no entity.
 abbrev pub uids_in : List Data → Option (List EntityUid)
 uids_in [] = Some []
 uids_in (d ∷ ds) = with_first (uid_in d) (uids_in ds)
 
 -- ---- writing
 
--- `uid_json uid` is the JSON that is written for `uid`, {"id":"alice","type":"User"}.
+-- `uid_json uid` is the JSON that is written for `uid`, such as {"id":"alice","type":"User"}.
 abbrev pub uid_json : EntityUid → Data
 uid_json uid = object (member (codes "id") (string uid.id) (member (codes "type") (string uid.type_name) no_members))
 
--- `entity_json uid` is the JSON that is written for `uid` as an attribute's value,
+-- `entity_json uid` is the JSON that is written for `uid` as an attribute's value, such as
 -- {"__entity":{"id":"alice","type":"User"}}.
 abbrev pub entity_json : EntityUid → Data
 entity_json uid = object (member (codes "__entity") (uid_json uid) no_members)

@@ -1,8 +1,8 @@
 //! Uids as JSON: parsed in both forms that Cedar has for them, and written in each.
 //!
-//! Entities, requests, messages and the service's bodies name entities in this one way, so it is defined in a crate
-//! below all of them. The only error of this crate is `NoMemory`: the result for a value that names no entity is
-//! `None`.
+//! Entities, requests, messages and the service's bodies name entities in these forms, so this crate is below the
+//! crates of all four. The only error of the functions that are defined here is `NoMemory`: the result for a value that
+//! names no entity is `None`.
 #![tactic(auto)]
 
 mod laws;

@@ -36,8 +36,8 @@ fn read_text(alloc: Global, text: &str) -> Result<Option<EntityUid>, NoMemory>
     }
 }
 
-/// Returns the entity that a value names where a string is allowed, as for a request's principal: a string in policy
-/// syntax (`User::"alice"`), or a uid as [`read_uid`] parses it. `None` if the value is neither. The only error is
+/// Returns the entity that a value names where a string is allowed, as for a request's principal. The value is a string
+/// in policy syntax (`User::"alice"`), or a uid as [`read_uid`] parses it. `None` if it is neither. The only error is
 /// `NoMemory`.
 pub fn read_name(alloc: Global, value: &Value) -> Result<Option<EntityUid>, NoMemory>
     ensures { IfOk result (IsRead (NamesEntity (view value.now))) }

@@ -1,4 +1,4 @@
-//! The usual form of a uid: an object with exactly two keys, whose order is known.
+//! A fast path for the usual form of a uid: an object with exactly two keys, whose order is known.
 ghost use Rattle.std.specs.Prelude.{◌≡◌, Some, IfSome, string_bytes};
 ghost use Rattle.serde_json.specs.Data.{string, member, no_members};
 ghost use Rattle.serde_json.specs.Find.{as_object};
@@ -17,9 +17,9 @@ fn text_under<'v>(member: (&'v String, &'v Value), key: &str) -> Option<&'v str>
     member.1.as_str()
 }
 
-/// Returns the two strings in an object that has exactly the keys `lesser` and `greater`, each with a string as its
-/// value; `None` for another value. `lesser` must be less than `greater`, else the result is `None`. Visits each key
-/// once.
+/// Returns the strings at the keys `lesser` and `greater` of an object that has exactly these keys, each with a string
+/// as its value; `None` for another value. `lesser` must be less than `greater`, else the result is `None`. Visits each
+/// key once.
 pub(crate) fn two_texts<'v>(
     value: &'v Value,
     lesser: &str,

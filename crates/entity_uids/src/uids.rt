@@ -24,7 +24,7 @@ fn uid_of(alloc: Global, type_name: &str, id: &str) -> Result<Option<EntityUid>,
     Ok(Some(EntityUid { type_name, id }))
 }
 
-/// Returns the entity that an object with exactly the keys `type` and `id` names; `None` for another value.
+/// Returns the entity that a value names as an object with exactly the keys `type` and `id`; `None` if it names none.
 fn read_plain_uid(alloc: Global, value: &Value) -> Result<Option<EntityUid>, NoMemory>
     ensures { IfOk result (IsRead (IsPlainUid (view value.now))) }
 {
@@ -44,7 +44,7 @@ fn read_plain_uid(alloc: Global, value: &Value) -> Result<Option<EntityUid>, NoM
     Ok(Some(EntityUid { type_name, id }))
 }
 
-/// Returns the entity that a value names, in one of the two forms; `None` if it names none.
+/// Returns the entity that a value names, in one of the two forms of [`read_uid`]; `None` if it names none.
 #[tactic(auto, using(crate::proofs::UidLemmas::plain, crate::proofs::UidLemmas::under_entity))]
 fn read_either(alloc: Global, value: &Value) -> Result<Option<EntityUid>, NoMemory>
     ensures { IfOk result (IsRead (IsUid (view value.now))) }
@@ -89,7 +89,8 @@ fn like_last(uids: &[EntityUid], uid: EntityUid) -> Result<EntityUid, NoMemory>
     Ok(EntityUid { type_name, id })
 }
 
-/// Returns the entity that a value names, sharing the type with the last of `uids` as [`like_last`] does.
+/// Returns the entity that a value names, sharing the type with the last of `uids` as [`like_last`] does. `None` if the
+/// value names no entity.
 fn read_next(
     alloc: Global,
     uids: &[EntityUid],
@@ -103,8 +104,8 @@ fn read_next(
     }
 }
 
-/// Returns the entities that the values name, each as [`read_uid`] parses it, in order and with repeats. `None` if one
-/// of the values names no entity. Neighbours of one type share the type's string. The only error is `NoMemory`.
+/// Returns the entities that the values name, each as [`read_uid`] parses it, in order and with repeats. `None` if any
+/// value names no entity. Neighbours of one type share the type's string. The only error is `NoMemory`.
 pub fn read_uids(alloc: Global, values: &[Value]) -> Result<Option<Items<EntityUid>>, NoMemory>
     ensures { IfOk result (λ o. o ≡ uids_in (map view values.now)) }
 {

@@ -7,7 +7,7 @@ use json::Writer;
 use plain::NoMemory;
 use values::EntityUid;
 
-/// Appends a uid, `{"id":"alice","type":"User"}`.
+/// Appends a uid, such as `{"id":"alice","type":"User"}`.
 ///
 /// # Errors
 ///
@@ -24,7 +24,7 @@ pub fn write_uid(out: &mut Writer, uid: &EntityUid) -> Result<(), NoMemory>
     Ok(())
 }
 
-/// Appends a uid as an attribute's value, `{"__entity":{"id":"alice","type":"User"}}`.
+/// Appends a uid as an attribute's value, such as `{"__entity":{"id":"alice","type":"User"}}`.
 ///
 /// # Errors
 ///

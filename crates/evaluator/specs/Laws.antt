@@ -1,4 +1,5 @@
--- Defines the theorems that each expression has exactly one outcome, and that no outcome is `NoMemory`.
+-- Defines the theorems that each expression has exactly one outcome, if the ancestor relation can be decided, and that
+-- no outcome is `NoMemory`.
 use Rattle.std.specs.Prelude.{◌≡◌, List, Bool, Err}
 use Rattle.values.specs.declared.entity_uid.EntityUid.{EntityUid}
 use Rattle.values.specs.declared.request.Request.{Request}

@@ -54,7 +54,8 @@ pub data UnaryGives : Unary → PlainValue → EvaluationResult → Type 0 where
       → UnaryGives (Is name) (entity u) r
   is_of_other : {name : List ℕ} {v : PlainValue} → entity_uid_in v ≡ None → UnaryGives (Is name) v (Err TypeError)
 
--- `NumbersGive op x y r` holds if `r` is the result of the operator `op` on the integers `x` and `y`.
+-- `NumbersGive op x y r` holds if `op` is `<`, `<=`, `+`, `-` or `*`, and `r` is its result on the integers `x` and
+-- `y`.
 abbrev pub NumbersGive : Binary → ℤ → ℤ → EvaluationResult → Type 0
 NumbersGive Less x y r = IsTruthOf (x <ℤ y) r
 NumbersGive LessOrEqual x y r = IsTruthOf (x ≤ℤ y) r

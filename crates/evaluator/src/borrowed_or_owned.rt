@@ -10,8 +10,8 @@ use std::cmp::Ordering;
 use std::marker::Model;
 use values::{BorrowedKind, Value, ValueRef};
 
-/// The value of an expression. It is borrowed if it is in the expression, the request or the stored entities. Contracts
-/// see the value.
+/// The value of an expression, either owned or borrowed from the expression, the request or the stored entities.
+/// Contracts see the value.
 #[derive(Drop)]
 pub struct BorrowedOrOwned<'a> {
     pub(crate) ownership: Ownership<'a>,
@@ -49,7 +49,7 @@ impl<'a> BorrowedOrOwned<'a> {
         }
     }
 
-    /// Creates an owned value, which evaluation computed.
+    /// Creates an owned value, which evaluation computed or copied.
     pub(crate) fn computed(value: Value) -> BorrowedOrOwned<'a>
         ensures { result ≡ value }
     {

@@ -1,5 +1,5 @@
-//! The expressions whose first operand decides what is evaluated: `if`, `&&` and `||`. Each has a variant that
-//! returns a `bool`, so that no value is made for a truth value that is only tested.
+//! Evaluates `if`, `&&` and `||`, whose first operand decides what else is evaluated. For each of them one function
+//! returns a value, and one a `bool`, so that no value is built if the result is only tested.
 ghost use Rattle.evaluator.specs.inner.Computing.{decided_entities, Answers, meaning, as_test, choice, both, either};
 
 use crate::borrowed_or_owned::BorrowedOrOwned;

@@ -25,7 +25,8 @@ pub trait EvalEnv: Lookup {
         ensures { option_map (λ r. r.now) result ≡ fields_under (Self.stored self.now) (request_of self.now) variable };
 }
 
-/// A request with the stored entities. Each access to a variable's entity looks up the entity.
+/// A request with the stored entities. Each access to an attribute of a variable's entity looks up the entity by its
+/// uid.
 #[derive(Drop)]
 pub struct RequestEnv<'a, L: Lookup> {
     /// The request.

@@ -59,10 +59,10 @@ pub fn evaluate_test<L: Lookup>(
 
 /// Evaluates an expression under the environment's request, over its stored entities, to a value or the first error.
 ///
-/// A value in the expression, the request or the stored entities is borrowed. Set and record expressions allocate; so
-/// does the access to a field of such a record, which copies the value; `in` may, since it queries the hierarchy.
-/// Operands are evaluated from left to right, the fields of a record in the order in which they are written; `&&`, `||`
-/// and `if` evaluate only what they need.
+/// A value in the expression, the request or the stored entities is borrowed. Set and record expressions may allocate;
+/// so may access to a field of a record that evaluation built, since the field's value is copied, and `in`, since it
+/// queries the hierarchy. Operands are evaluated from left to right, the fields of a record in the order in which they
+/// are written; `&&`, `||` and `if` evaluate only what they need.
 ///
 /// # Errors
 ///

@@ -39,8 +39,8 @@ fn attribute<'a, L: Lookup>(
     Ok(BorrowedOrOwned::borrowed(value))
 }
 
-/// Returns the value of a field or an attribute of a variable. Builds no value for the variable, to save time: most
-/// conditions have such an access.
+/// Returns the value of a field or an attribute of a variable. Builds no value for the variable: such an access is
+/// frequent in conditions.
 #[tactic(auto, using(crate::proofs::Variables::field_under))]
 pub(crate) fn variable_field<'a, L: EvalEnv>(
     env: &'a L,

@@ -1,12 +1,11 @@
-//! Theorems about the definitions. The functions are no-ops.
+//! Theorems about the outcomes of expressions. The functions are no-ops.
 ghost use Rattle.evaluator.specs.Laws.{HaveOneOutcome, HaveOneOutcomeInFiniteHierarchies, NoOutcomeIsNoMemory};
 ghost use Rattle.evaluator.specs.inner.Meanings.{MeaningsAreGiven};
 
 use ancestor_search::laws::paths_are_decided;
 use values::{one_decimal_a_text, one_network_a_text, sets_hold_their_members};
 
-/// Proves that the computed outcome of an expression is its only outcome, if a test decides the ancestor relation.
-/// No-op.
+/// Proves that `meaning` computes the only outcome of an expression, if a test decides the ancestor relation. No-op.
 pub(crate) fn meanings_are_given()
     ensures { MeaningsAreGiven }
 {
@@ -15,8 +14,9 @@ pub(crate) fn meanings_are_given()
     sets_hold_their_members();
 }
 
-/// Proves that each expression has exactly one outcome, if a test decides the ancestor relation. One does if finitely
-/// many entities have parents. Proves also that no outcome is `NoMemory`, which only the evaluator returns. No-op.
+/// Proves that each expression has exactly one outcome, if a test decides the ancestor relation. Such a test exists if
+/// finitely many entities have parents. Proves also that no outcome is `NoMemory`, which only the evaluator returns.
+/// No-op.
 pub fn expressions_have_one_outcome()
     ensures decided { HaveOneOutcome }
     ensures finite { HaveOneOutcomeInFiniteHierarchies }

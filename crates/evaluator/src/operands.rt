@@ -1,4 +1,5 @@
-//! The content of an operand of a certain kind. The error is `TypeError` if the value is of another kind.
+//! Functions that return the content of an operand that must be of a certain kind. The error is `TypeError` if the
+//! value is of another kind.
 ghost use Rattle.std.specs.Prelude.{◌≡◌, MatchResult, Ok, Err};
 ghost use Rattle.evaluator.specs.Outcomes.{boolean_in, long_in, text_in, entity_uid_in, members_in};
 ghost use Rattle.evaluator.specs.Outcomes.{decimal_in, network_in};
@@ -83,7 +84,7 @@ pub(crate) fn network_of(given: &BorrowedOrOwned<'_>) -> Result<IpNet, EvalFault
     }
 }
 
-/// Returns both values as integers: one result for the caller to pass on in place of two.
+/// Returns both values as integers, so that a caller handles one error instead of two.
 pub(crate) fn longs_of(
     a: &BorrowedOrOwned<'_>,
     b: &BorrowedOrOwned<'_>,
@@ -94,7 +95,7 @@ pub(crate) fn longs_of(
     Ok((first, long_of(b)?))
 }
 
-/// Returns both values as decimals: one result for the caller to pass on in place of two.
+/// Returns both values as decimals, so that a caller handles one error instead of two.
 pub(crate) fn decimals_of(
     a: &BorrowedOrOwned<'_>,
     b: &BorrowedOrOwned<'_>,

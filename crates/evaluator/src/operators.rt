@@ -105,7 +105,7 @@ fn in_value<L: Lookup>(
     }
 }
 
-/// Returns whether a value is a member of a set. O(log n). Does not allocate.
+/// Returns whether a value is a member of a set. O(log n) comparisons for a set of n members. Does not allocate.
 fn is_member(members: &Set, given: &BorrowedOrOwned<'_>) -> bool
     ensures { result ≡ has_member members.now given.now }
 {

@@ -1,6 +1,6 @@
 //! The steps after the evaluation of an operand. Each takes the operand's result; if it is an error, the step returns
-//! it. Most borrow the result, since a result that is passed by value is copied. They are functions of their own, often
-//! not inlined, so that a level of the recursion takes little stack.
+//! it. Most borrow the result, since a result that is passed by value is copied. They are separate functions, often not
+//! inlined, so that a level of the recursion takes little stack.
 ghost use Rattle.std.specs.Prelude.{◌≡◌, ◌++◌, ◌∷◌, []};
 ghost use Rattle.values.specs.Fields.{put};
 ghost use Rattle.evaluator.specs.Outcomes.{boolean_in, EvaluationResult};

@@ -1,5 +1,5 @@
-//! Evaluation of conditions to a `bool`, and of the operands of `<` and `<=` to an `i64`, without building values. Most
-//! conditions consist of such expressions, and only the boolean or the integer in their values is used.
+//! Evaluates conditions to a `bool`, and operands of `<` and `<=` to an `i64`. Where possible no value is built, since
+//! only its boolean or its integer would be used.
 ghost use Rattle.evaluator.specs.inner.Computing.{decided_entities, Answers, meaning, and_then, as_test, field_of};
 ghost use Rattle.evaluator.specs.inner.Computing.{has_field, apply_binary, AnswersNumber, AnswersNumbers};
 

@@ -29,20 +29,20 @@ network_cmp_total =
     then_total (on_total (λ n. version_number n.version) nat_cmp_total)
     (then_total (on_total (λ n. n.address) nat_cmp_total) (on_total (λ n. n.prefix) nat_cmp_total))
 
--- `version_of k` is the version of the number `k`: IPv4 if `k` is 4, else IPv6.
-abbrev pub version_of : ℕ → Version
-version_of k = if k == 4 then V4 else V6
+-- `version_numbered k` is the version of the number `k`: IPv4 if `k` is 4, else IPv6.
+abbrev pub version_numbered : ℕ → Version
+version_numbered k = if k == 4 then V4 else V6
 
 -- `version_back` and `same_version`: the number of a version determines the version.
-version_back : (v : Version) → version_of (version_number v) ≡ v
+version_back : (v : Version) → version_numbered (version_number v) ≡ v
 version_back V4 = refl
 version_back V6 = refl
 
 same_version : (v w : Version) → version_number v ≡ version_number w → v ≡ w
-same_version v w e = sym (version_back v) ∙ ap version_of e ∙ version_back w
+same_version v w e = sym (version_back v) ∙ ap version_numbered e ∙ version_back w
 
--- `IsTie o` holds if `o` is `Equal`. `both_equal`: if `ordering_then o p`, which is `p` where `o` is `Equal` and else
--- `o`, is `Equal`, then so are `o` and `p`.
+-- `IsTie o` holds if `o` is `Equal`. `both_equal`: if `ordering_then o p` is `Equal`, then so are `o` and `p`.
+-- (`ordering_then o p` is `p` if `o` is `Equal`, and else `o`.)
 IsTie : Ordering → Type 0
 IsTie Less = ⊥
 IsTie Equal = Unit {0}
@@ -69,16 +69,16 @@ network_cmp-IsAntisymmetric m n e =
 abbrev pub network_numbers : Network → ℕ × (ℕ × ℕ)
 network_numbers n = (version_number n.version, (n.address, n.prefix))
 
--- `network_of k` is the network that the three numbers `k` represent.
-abbrev pub network_of : ℕ × (ℕ × ℕ) → Network
-network_of k = record { version = version_of k.0; address = k.1.0; prefix = k.1.1 }
+-- `network_from_numbers k` is the network that the three numbers `k` represent.
+abbrev pub network_from_numbers : ℕ × (ℕ × ℕ) → Network
+network_from_numbers k = record { version = version_numbered k.0; address = k.1.0; prefix = k.1.1 }
 
--- `network_of-network_numbers`: the three numbers of a network represent that network.
-pub network_of-network_numbers : (n : Network) → network_of (network_numbers n) ≡ n
-network_of-network_numbers n =
+-- `network_from_numbers-network_numbers`: the three numbers of a network represent that network.
+pub network_from_numbers-network_numbers : (n : Network) → network_from_numbers (network_numbers n) ≡ n
+network_from_numbers-network_numbers n =
     λ i. record { version = version_back n.version i; address = n.address; prefix = n.prefix }
 
 -- `network_code` encodes networks by their `network_numbers`.
 abbrev pub network_code : Coded Network
-network_code = code_by (ℕ × (ℕ × ℕ)) (coded× coded_ℕ (coded× coded_ℕ coded_ℕ)) network_numbers network_of
-    network_of-network_numbers
+network_code = code_by (ℕ × (ℕ × ℕ)) (coded× coded_ℕ (coded× coded_ℕ coded_ℕ)) network_numbers network_from_numbers
+    network_from_numbers-network_numbers

@@ -86,7 +86,7 @@ fn is_padded(text: &str) -> bool
 }
 
 /// Appends the IPv4 address in the low 32 bits of `address` as four decimal numbers with `.` between them, in at most
-/// 15 bytes. `out` has capacity for 15 more.
+/// 15 bytes. `out` must have capacity for 15 more bytes.
 pub(crate) fn append_ipv4(address: u128, out: &mut String)
     requires { string_len out.old + 15 ≤ string_capacity out.old }
     ensures bytes { string_bytes out.new ≡ string_bytes out.old ++ ipv4_text address }
@@ -102,8 +102,8 @@ pub(crate) fn append_ipv4(address: u128, out: &mut String)
     append_decimal_byte(out, (address % 256) as u8)
 }
 
-/// Appends an IPv6 address as eight groups of hexadecimal digits with `:` between them, in at most 39 bytes. `out` has
-/// capacity for 39 more.
+/// Appends an IPv6 address as eight groups of hexadecimal digits with `:` between them, in at most 39 bytes. `out` must
+/// have capacity for 39 more bytes.
 pub(crate) fn append_ipv6(address: u128, out: &mut String)
     requires { string_len out.old + 39 ≤ string_capacity out.old }
     ensures bytes { string_bytes out.new ≡ string_bytes out.old ++ ipv6_text address }
@@ -116,7 +116,7 @@ pub(crate) fn append_ipv6(address: u128, out: &mut String)
 }
 
 /// Appends a number of 64 bits as four groups of hexadecimal digits with `:` between them, in at most 19 bytes. `out`
-/// has capacity for 19 more.
+/// must have capacity for 19 more bytes.
 fn append_groups(groups: u64, out: &mut String)
     requires { string_len out.old + 19 ≤ string_capacity out.old }
     ensures bytes { string_bytes out.new ≡ string_bytes out.old ++ groups_text groups }

@@ -127,8 +127,8 @@ impl Ord for Decimal {
     }
 }
 
-/// Appends a number of ten-thousandths with four digits after the point, in at most 20 bytes. `out` has capacity for 20
-/// more.
+/// Appends `size` ten-thousandths as a decimal without a sign: the whole number, a point and four digits, in at most 20
+/// bytes. `out` must have capacity for 20 more bytes.
 fn append_size(size: u64, out: &mut String)
     requires small { size ≤ 2 ^ 63 }
     requires room { string_len out.old + 20 ≤ string_capacity out.old }
@@ -203,7 +203,8 @@ fn scale(places: usize) -> u64
     }
 }
 
-/// Returns the number that a string of digits denotes; `None` for any other string, and for a number of `2^64` or more.
+/// Returns the number that a string of one or more digits denotes; `None` for any other string, and for a number of
+/// `2^64` or more.
 fn number(text: &str) -> Option<u64>
     ensures { SomeIff result (IsNumeral 10 text.now × (digits_value 10 text.now < 2 ^ 64)) (digits_value 10 text.now) }
 {

@@ -199,14 +199,14 @@ impl IpNet {
         }
     }
 
-    /// Returns whether the address of this network is one of IPv4.
+    /// Returns whether the address of this network is an IPv4 address.
     pub fn is_ipv4(&self) -> bool
         ensures { IsTrue result ↔ (self.now.version ≡ V4) }
     {
         self.version == Version::V4
     }
 
-    /// Returns whether the address of this network is one of IPv6.
+    /// Returns whether the address of this network is an IPv6 address.
     pub fn is_ipv6(&self) -> bool
         ensures { IsTrue result ↔ (self.now.version ≡ V6) }
     {
@@ -304,8 +304,8 @@ pub fn one_network_a_text()
     ensures { (text : List ℕ) (m n : Network) → IsNetworkText text m → IsNetworkText text n → m ≡ n }
 {}
 
-/// Proves that `network_of` gives the network of a string if and only if the string denotes it. Proves also that
-/// `within_decided a b` is a proof if and only if the range of `a` is within that of `b`. No-op.
+/// Proves that `network_of` gives a network for a string if and only if the string denotes that network. Proves also
+/// that `within_decided a b` is a proof if and only if the range of `a` is within that of `b`. No-op.
 pub fn network_texts_are_decided()
     ensures texts { (text : List ℕ) (n : Network) → (network_of text ≡ Some n) ↔ IsNetworkText text n }
     ensures ranges { (a b : Network) → IsTrue (is_proved (within_decided a b)) ↔ IsWithin a b }

@@ -1,7 +1,7 @@
 //! The extension values of the policy language: decimals, and IP addresses with a prefix. They are parsed from
 //! strings, compared, and written as canonical strings.
 //!
-//! Parsing and comparing do not allocate. Writing reserves the length of the longest string before it appends
+//! Parsing and comparing do not allocate. Writing reserves capacity for the longest canonical string before it appends
 //! anything.
 #![tactic(auto)]
 

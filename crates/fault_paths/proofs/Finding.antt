@@ -15,7 +15,7 @@ use Rattle.type_checker.specs.Views.{static_view, boolean_view, fault_view}
 use Rattle.type_checker.specs.declared.static_type.BooleanType.{BooleanType}
 use Rattle.type_checker.specs.declared.static_type.BooleanType.TheVariants as truth
 use Rattle.type_checker.specs.type_capabilities.CapabilityList.{capability_of, capabilities}
-use Rattle.type_checker.specs.type_capabilities.declared.pair.Capability.{Capability}
+use Rattle.type_checker.specs.type_capabilities.declared.capability.Capability.{Capability}
 use Rattle.type_checker.specs.declared.typed.Typed.{Typed}
 use Rattle.type_checker.specs.declared.fault.ExpressionFault as at_hand
 use Rattle.type_checker.specs.declared.fault.ExpressionFault.TheVariants as fault

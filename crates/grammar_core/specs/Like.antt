@@ -15,7 +15,7 @@ abbrev pub after_stars : List (List ℕ) → List Element
 after_stars [] = []
 after_stars (text ∷ texts) = star ∷ literal text ∷ after_stars texts
 
--- `elements texts` are the elements of the pattern whose literal texts are `texts`, with a star between each two.
+-- `elements texts` are the elements of the pattern whose literal texts are `texts`, with a star between adjacent ones.
 abbrev pub elements : List (List ℕ) → List Element
 elements [] = []
 elements (text ∷ texts) = literal text ∷ after_stars texts
@@ -25,7 +25,8 @@ abbrev pub IsPieceOf : Element → List ℕ → Type 0
 IsPieceOf (literal text) piece = piece ≡ text
 IsPieceOf star piece = IsUtf8 piece
 
--- `IsJoined es text` holds if `text` is a concatenation of pieces, one for each element of `es` in order.
+-- `IsJoined es text` holds if `text` is a concatenation of pieces that the elements of `es` match, one for each in
+-- order.
 pub record IsJoined (es : List Element) (text : List ℕ) : Type 0 where
   pub pieces : List (List ℕ)
   pub each_matches : AllZip IsPieceOf es pieces

@@ -20,7 +20,8 @@ abbrev pub is_piece_of : Element → List ℕ → Bool
 is_piece_of (literal text) piece = bytes_eq piece text
 is_piece_of star piece = is_utf8 piece
 
--- `is_joined es text` tests whether `text` is a concatenation of pieces, one for each element of `es` in order.
+-- `is_joined es text` tests whether `text` is a concatenation of pieces that the elements of `es` match, one for each
+-- in order.
 abbrev pub is_joined : List Element → List ℕ → Bool
 is_joined [] text = bytes_eq text []
 is_joined (e ∷ es) text = some_cut (λ piece rest. is_piece_of e piece && is_joined es rest) text

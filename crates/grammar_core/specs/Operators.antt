@@ -1,4 +1,5 @@
--- Defines the table of operators, functions, methods and variables: names, numbers of arguments, and ranks.
+-- Defines the names of functions and methods, their numbers of arguments, and the ranks of operators, functions,
+-- methods and variables.
 -- Source: Cedar reference guide 4.0, "Operators and functions", and the extensions "decimal" and "ipaddr".
 -- Rules of this product: a rank is the index of an operator, function, method or variable among the variants of its
 -- type in the code; ranks serve only for look-ups.
@@ -32,7 +33,7 @@ pub record NamedMethod : Type 0 where
 abbrev named : List ℕ → Method → NamedMethod
 named name method = record { name = name; method = method }
 
--- `methods` are the methods, by their names.
+-- `methods` is the list of all methods, each with its name.
 abbrev pub methods : List NamedMethod
 methods = named (codes "contains") (method.Operator binary.Contains)
     ∷ named (codes "containsAll") (method.Operator binary.ContainsAll)
@@ -55,8 +56,9 @@ find_method (known ∷ more) name = if bytes_eq name known.name then Some known.
 abbrev pub method_of : List ℕ → Option Method
 method_of name = find_method methods name
 
--- `function_takes function`, `takes method` and `method_takes method` are the numbers of arguments that functions and
--- methods take; `None` for an unknown one.
+-- `function_takes function` and `method_takes method` are the numbers of arguments that a function or method takes, or
+-- `None` for an unknown one. `takes method` is the number of arguments of the method `method`. The receiver of a method
+-- is not an argument.
 abbrev pub function_takes : Option UnaryCall → Option ℕ
 function_takes None = None
 function_takes (Some call) = Some 1
@@ -85,7 +87,7 @@ binary_rank binary.Contains = 7
 binary_rank binary.ContainsAll = 8
 binary_rank binary.ContainsAny = 9
 
--- `binary_of r` is the operator of the rank `r`.
+-- `binary_of r` is the operator of the rank `r`, or `ContainsAny` if `r` is not a rank.
 abbrev pub binary_of : ℕ → Binary
 binary_of r =
     cond (r == 0) binary.Equal (cond (r == 1) binary.In (cond (r == 2) binary.Less (cond (r == 3) binary.LessOrEqual
@@ -116,13 +118,13 @@ unary_call_rank unary_call.IsIpv6 = 3
 unary_call_rank unary_call.IsLoopback = 4
 unary_call_rank unary_call.IsMulticast = 5
 
--- `unary_call_of r` is the function or method of the rank `r`.
+-- `unary_call_of r` is the function or method of the rank `r`, or `IsMulticast` if `r` is not a rank.
 abbrev pub unary_call_of : ℕ → UnaryCall
 unary_call_of r =
     cond (r == 0) unary_call.Ip (cond (r == 1) unary_call.Decimal (cond (r == 2) unary_call.IsIpv4
     (cond (r == 3) unary_call.IsIpv6 (cond (r == 4) unary_call.IsLoopback unary_call.IsMulticast))))
 
--- `unary_call_back`: each function or method is that of its rank.
+-- `unary_call_back`: each function or method is the function or method of its rank.
 pub unary_call_back : (c : UnaryCall) → unary_call_of (unary_call_rank c) ≡ c
 unary_call_back unary_call.Ip = refl
 unary_call_back unary_call.Decimal = refl
@@ -141,7 +143,7 @@ binary_call_rank binary_call.GreaterThan = 2
 binary_call_rank binary_call.GreaterThanOrEqual = 3
 binary_call_rank binary_call.IsInRange = 4
 
--- `binary_call_of r` is the method of the rank `r`.
+-- `binary_call_of r` is the method of the rank `r`, or `IsInRange` if `r` is not a rank.
 abbrev pub binary_call_of : ℕ → BinaryCall
 binary_call_of r =
     cond (r == 0) binary_call.LessThan (cond (r == 1) binary_call.LessThanOrEqual
@@ -164,7 +166,7 @@ variable_rank variable.Action = 1
 variable_rank variable.Resource = 2
 variable_rank variable.Context = 3
 
--- `variable_of r` is the variable of the rank `r`.
+-- `variable_of r` is the variable of the rank `r`, or `Context` if `r` is not a rank.
 abbrev pub variable_of : ℕ → Variable
 variable_of r =
     cond (r == 0) variable.Principal (cond (r == 1) variable.Action (cond (r == 2) variable.Resource variable.Context))

@@ -1,4 +1,4 @@
--- Defines the height of a core expression, and its number of nodes.
+-- Defines the height of a core expression, its number of nodes, and the limits on both.
 use Rattle.std.specs.Prelude.{ℕ, ◌+◌, ◌≤◌, max, min, List, [], ◌∷◌, map}
 use Rattle.grammar_core.specs.declared.expr.Expr.{Expr}
 use Rattle.grammar_core.specs.declared.expr.Expr.TheOpen.{Expr-F}
@@ -60,12 +60,12 @@ node_count_step (Expr-F.BinaryCall called left right) = left + right + 1
 abbrev pub node_count : Expr → ℕ
 node_count = fold-Expr ℕ node_count_step
 
--- `capped n` is `n`, but at most 2^32 - 1, the greatest `u32`: the parser counts sizes in this type.
+-- `capped n` is the smaller of `n` and 2^32 - 1, the greatest `u32`: the parser counts heights and nodes in this type.
 abbrev pub capped : ℕ → ℕ
 capped n = min n 4294967295
 
--- `most_height` and `most_nodes` are the limits on a policy's expression, a rule of this product. For example, `1 == 2`
--- has height 2 and three nodes, and each `!` around it adds one to both.
+-- `most_height` and `most_nodes` are the greatest height and the greatest number of nodes of a policy's expression, a
+-- rule of this product. For example, `1 == 2` has height 2 and three nodes, and each `!` around it adds one to both.
 abbrev pub most_height : ℕ
 most_height = 1_000
 

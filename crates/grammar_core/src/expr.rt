@@ -12,8 +12,8 @@ pub struct Named<T> {
     pub value: T,
 }
 
-/// A core expression: the language after rewriting (`a != b` is `!(a == b)`, `a > b` is `!(a <= b)`, `a >= b` is
-/// `!(a < b)`, `a is T in b` is `a is T && a in b`, `a["f"]` is `a.f`).
+/// A core expression: an expression after rewriting. `a != b` is rewritten to `!(a == b)`, `a > b` to `!(a <= b)`,
+/// `a >= b` to `!(a < b)`, `a is T in b` to `a is T && a in b`, and `a["f"]` to `a.f`.
 ///
 /// Calls have two variants, so that each call has as many operands as its function or method takes.
 ///

@@ -23,8 +23,8 @@ pub enum Unary {
 pub enum Binary {
     /// `==`.
     Equal,
-    /// `in`: whether the left operand, an entity, equals or is a descendant of the right one, an entity or a member of
-    /// a set.
+    /// `in`: whether the left operand, an entity, equals or is a descendant of the right operand, an entity, or of some
+    /// member of the right operand, a set.
     In,
     /// `<`.
     Less,
@@ -44,7 +44,7 @@ pub enum Binary {
     ContainsAny,
 }
 
-/// A function or a method of an extension that has one operand. A method's receiver is its operand.
+/// A function or a method of an extension, with one operand. A method's receiver is its operand.
 #[derive(Clone, Copy)]
 pub enum UnaryCall {
     /// `ip`: parses an IP address.
@@ -61,7 +61,7 @@ pub enum UnaryCall {
     IsMulticast,
 }
 
-/// A method of an extension that has two operands: its receiver and its argument.
+/// A method of an extension, with two operands: its receiver and its argument.
 #[derive(Clone, Copy)]
 pub enum BinaryCall {
     /// `lessThan`, of decimals.
@@ -79,11 +79,11 @@ pub enum BinaryCall {
 /// A method: the operator or the call that its name means.
 #[derive(Clone, Copy)]
 pub enum Method {
-    /// A call without arguments.
+    /// A call without arguments: its only operand is the receiver.
     Alone(UnaryCall),
-    /// An operator with one argument.
+    /// An operator with two operands: the receiver and one argument.
     Operator(Binary),
-    /// A call with one argument.
+    /// A call with two operands: the receiver and one argument.
     WithArgument(BinaryCall),
 }
 
@@ -120,7 +120,7 @@ pub fn method_named(name: &str) -> Option<Method>
 }
 
 impl Method {
-    /// Returns the number of arguments that the method takes.
+    /// Returns the number of arguments that the method takes, without its receiver.
     pub fn takes(self) -> usize
         ensures { result ≡ takes self }
     {

@@ -6,8 +6,8 @@ ghost use Rattle.grammar_core.specs.LikeTest.{Joins, is_match};
 use plain::{Items, Text};
 use std::marker::Model;
 
-/// A pattern of `like`: literal texts with a wildcard between each two. Contracts see the list of the literal texts,
-/// which may be empty texts; there is one more of them than wildcards.
+/// A pattern of `like`: literal texts, with a wildcard between adjacent ones. Contracts see the list of the literal
+/// texts, which has one item more than there are wildcards. A literal text may be empty.
 ///
 /// Source: Cedar reference guide, "Operators: like".
 #[derive(Drop)]
@@ -27,8 +27,8 @@ impl Model for Pattern {
 }
 
 impl Pattern {
-    /// Returns the pattern whose literal texts are `literals`, at least one, with a wildcard between each two. Does not
-    /// allocate.
+    /// Returns the pattern whose literal texts are `literals`, at least one, with a wildcard between adjacent ones.
+    /// Does not allocate.
     pub fn from_literals(literals: Vec<Text>) -> Pattern
         requires { 0 < length literals.items }
         ensures { result ≡ literals.items }

@@ -29,7 +29,7 @@ pub(crate) fn three<T: Drop>(
     ))
 }
 
-/// Returns two references to `a`, shared, and `b` as a shared value.
+/// Returns two references to one shared value, `a`, and one to another, `b`.
 pub(crate) fn twice<T: Drop>(
     alloc: Global,
     a: T,

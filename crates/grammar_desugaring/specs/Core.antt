@@ -1,5 +1,5 @@
 -- Defines the core expression of a syntax tree over the text that its tokens are in (`text` in each definition), by one
--- equation for each form of tree. For a tree with errors, which is rejected, the expression means nothing.
+-- equation for each form of tree. The expression of a tree with errors, which is rejected, has no meaning.
 -- Source: Cedar reference guide 4.0, "Grammar specification for Cedar policy syntax" and "Operators and functions".
 -- Operators of one level group to the left.
 use Rattle.std.specs.Prelude.{ℕ, ℤ, false, List, [], ◌∷◌, map, Option, Some, None}
@@ -32,7 +32,7 @@ use Rattle.grammar_desugaring.specs.Numbers.{positive, negative}
 use Rattle.grammar_desugaring.specs.Strings.{value_of, pattern_of}
 use Rattle.grammar_desugaring.specs.Meaning.{variable_of, sign_of, path_name, uid_of, name_of}
 
--- A `Meaning` has the core expression of a tree by itself, and that of the tree after a minus.
+-- A `Meaning` has the core expression of a tree by itself, and that of the tree with a minus before it.
 pub record Meaning : Type 0 where
   pub alone : Expr
   pub negated : Expr
@@ -60,28 +60,29 @@ compared is.Equal a b = core.Binary Equal a b
 compared is.NotEqual a b = core.Unary Not (core.Binary Equal a b)
 compared is.In a b = core.Binary In a b
 
--- `no_call` is the placeholder for a call that is rejected, since no function or method has its name and takes its
--- number of arguments.
+-- `no_call` is the placeholder for a call that is rejected: its function or method is unknown, or takes another number
+-- of arguments.
 abbrev pub no_call : Expr
 no_call = core.Literal (literal.Boolean false)
 
--- `function_at text first more` is the function that the Path of the words `first` and `more` names: only a Path of one
--- word names one.
+-- `function_at text first more` is the function that the Path of the words `first` and `more` names, if it names one:
+-- only a Path of one word can.
 abbrev pub function_at : List ℕ → Token → List Token → Option UnaryCall
 function_at text first [] = function_of (spelling_of text first)
 function_at text first (word ∷ more) = None
 
--- `function text path` is the function that the Path `path` names.
+-- `function text path` is the function that the Path `path` names, if it names one.
 abbrev pub function : List ℕ → PathTree → Option UnaryCall
 function text path = function_at text path.first path.more
 
--- `called function arguments` is the call of `function` with `arguments`, or `no_call` if there is no such call.
+-- `called function arguments` is the call of `function` with `arguments`, or `no_call` if `function` is unknown
+-- (`None`) or the number of arguments is not one.
 abbrev pub called : Option UnaryCall → List Expr → Expr
 called (Some call) (a ∷ []) = core.UnaryCall call a
 called _ _ = no_call
 
--- `method_called method receiver arguments` is the call of `method` of `receiver` with `arguments`, or `no_call` if
--- there is no such call.
+-- `method_called method receiver arguments` is the call of `method` on `receiver` with `arguments`, or `no_call` if
+-- `method` is unknown (`None`) or takes another number of arguments.
 abbrev pub method_called : Option Method → Expr → List Expr → Expr
 method_called (Some (method.Alone call)) receiver [] = core.UnaryCall call receiver
 method_called (Some (method.Operator operator)) receiver (a ∷ []) = core.Binary operator receiver a
@@ -152,7 +153,7 @@ meaning text = fold-ExprTree Meaning (core_step text)
 abbrev pub core_of : List ℕ → ExprTree → Expr
 core_of text x = (meaning text x).alone
 
--- `negated text x` is the core expression of the tree `x` after a minus.
+-- `negated text x` is the core expression of the tree `x` with a minus before it.
 abbrev pub negated : List ℕ → ExprTree → Expr
 negated text x = (meaning text x).negated
 
@@ -170,7 +171,7 @@ abbrev pub single_of : List Expr → Option Expr
 single_of (a ∷ []) = Some a
 single_of _ = None
 
--- `called_with method receiver a` is the call of `method` of `receiver` with the argument `a`, or `no_call` if `method`
+-- `called_with method receiver a` is the call of `method` on `receiver` with the argument `a`, or `no_call` if `method`
 -- takes no argument.
 abbrev pub called_with : Method → Expr → Expr → Expr
 called_with (method.Alone call) receiver a = no_call

@@ -1,6 +1,6 @@
--- Defines the errors of a syntax tree over the text that its tokens are in (`text` in each definition). The list has
--- the errors of a call of a function, or of a record, before those of its parts; and those of an expression before
--- those of each access to it.
+-- Defines the errors of a syntax tree over the text that its tokens are in (`text` in each definition). A list of
+-- errors has those of a function call or of a record itself before those of its parts, and those of an expression
+-- before those of each access to it.
 -- Source: Cedar reference guide 4.0, "Data types: Long", "Data types: Record", "Operators and functions". The offsets
 -- are a rule of this product.
 use Rattle.std.specs.Prelude.{ℕ, Bool, List, [], ◌∷◌, ◌++◌, map, length, Option, Some, None, nat_eq, if◌then◌else◌}
@@ -22,33 +22,33 @@ use Rattle.grammar_desugaring.specs.Meaning.{name_of, place_of}
 use Rattle.grammar_desugaring.specs.Core.{function, in_access}
 use Rattle.grammar_desugaring.specs.Repeats.{NameAt, repeat_faults}
 
--- A `Faulty` has the errors of a tree by itself, and after a minus.
+-- A `Faulty` has the errors of a tree by itself, and those of the tree with a minus before it.
 pub record Faulty : Type 0 where
   pub alone : List DesugarFault
   pub negated : List DesugarFault
 
--- `either_way faults` has the errors `faults` for a tree by itself, and the same for the tree after a minus.
+-- `either_way faults` has the errors `faults` for a tree by itself, and the same for the tree with a minus before it.
 abbrev pub either_way : List DesugarFault → Faulty
 either_way faults = record { alone = faults; negated = faults }
 
--- `range within t` is the error of the number at the token `t`, or `[]` if `within` is true, where `within` says
--- whether the number is in range.
+-- `range within t` is the error of the number at the token `t`, or `[]` if `within` is true. `within` is whether the
+-- number is in range.
 abbrev pub range : Bool → Token → List DesugarFault
 range within t = if within then [] else NumberRange t.start ∷ []
 
--- `call_faults at takes count` is the error of a call at offset `at` with `count` arguments, of a name that takes
--- `takes` arguments, or that is unknown (`None`); `[]` if the numbers agree.
+-- `call_faults at takes count` is the error of a call at offset `at` with `count` arguments, or `[]` if the called name
+-- takes that many. `takes` is the number of arguments that the name takes, or `None` if the name is unknown.
 abbrev pub call_faults : ℕ → Option ℕ → ℕ → List DesugarFault
 call_faults at None count = UnknownCall at ∷ []
 call_faults at (Some takes) count = if nat_eq count takes then [] else Arity at ∷ []
 
--- `function_faults text path count` is the error of a call of the function `path` with `count` arguments, at the first
--- byte of its name.
+-- `function_faults text path count` is the error, if there is one, of a call of the function `path` with `count`
+-- arguments, at the first byte of the function's name.
 abbrev pub function_faults : List ℕ → PathTree → ℕ → List DesugarFault
 function_faults text path count = call_faults path.first.start (function_takes (function text path)) count
 
--- `access_faults text access` are the errors of the access `access`, in which every argument is replaced by its errors:
--- that of the call of a method, at the method's name, and then those of the arguments.
+-- `access_faults text access` are the errors of the access `access`, in which every argument is replaced by its errors.
+-- The error of a method call, at the method's name, comes before those of its arguments.
 abbrev pub access_faults : List ℕ → Access (List (List DesugarFault)) → List DesugarFault
 access_faults text (access.Field key) = []
 access_faults text (access.Method name arguments) =
@@ -95,7 +95,7 @@ fault_step text (tree.And a more) = either_way (a.alone ++ in_all more)
 fault_step text (tree.Or a more) = either_way (a.alone ++ in_all more)
 fault_step text (tree.If a b c) = either_way (a.alone ++ (b.alone ++ c.alone))
 
--- `fault_meaning text x` are the errors of the tree `x`, by itself and after a minus.
+-- `fault_meaning text x` are the errors of the tree `x`, by itself and with a minus before it.
 abbrev pub fault_meaning : List ℕ → ExprTree → Faulty
 fault_meaning text = fold-ExprTree Faulty (fault_step text)
 
@@ -103,6 +103,6 @@ fault_meaning text = fold-ExprTree Faulty (fault_step text)
 abbrev pub faults_of : List ℕ → ExprTree → List DesugarFault
 faults_of text x = (fault_meaning text x).alone
 
--- `negated_faults text x` are the errors of the tree `x` after a minus.
+-- `negated_faults text x` are the errors of the tree `x` with a minus before it.
 abbrev pub negated_faults : List ℕ → ExprTree → List DesugarFault
 negated_faults text x = (fault_meaning text x).negated

@@ -29,8 +29,8 @@ abbrev pub sign_of : Sign → Binary
 sign_of Plus = Add
 sign_of Minus = Subtract
 
--- `path_name text path` is the name of the Path `path`: its words with `::` between each two, without whitespace and
--- comments.
+-- `path_name text path` is the name of the Path `path`: its words with `::` between adjacent ones, without whitespace
+-- and comments.
 abbrev pub path_name : List ℕ → PathTree → List ℕ
 path_name text path = joined_path (spelling_of text path.first) (map (spelling_of text) path.more)
 

@@ -21,7 +21,7 @@ earlier_of None other = other
 earlier_of (Some e) None = Some e
 earlier_of (Some e) (Some f) = Some (earlier e f)
 
--- `least faults` is the first of `faults` at the least offset.
+-- `least faults` is the first of `faults` at the least offset, or `None` if `faults` is empty.
 abbrev pub least : List DesugarFault → Option DesugarFault
 least [] = None
 least (fault ∷ faults) = earlier_of (Some fault) (least faults)

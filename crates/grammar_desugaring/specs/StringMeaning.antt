@@ -3,10 +3,10 @@
 use Rattle.std.specs.Prelude.{◌≡◌, ℕ, List}
 use Rattle.grammar_trees.specs.grammar_tokens.Strings.{IsStringOf, IsPatternOf}
 
--- A `StringMeaning` has two functions of a string as it is written, with its quotes. As the grammar of strings and
--- escapes defines it, `value` gives the string's value, and `pattern` the literal texts before, between and after its
--- wildcards. For example, the value of `"a\n"` has two bytes, an `a` and a line feed. For a text that is not a string
--- the functions may give anything.
+-- A `StringMeaning` has two functions of a string as it is written, with its quotes. `value` gives the value of a
+-- string without `\*`. `pattern` gives the literal texts before, between and after the wildcards of a string. Both
+-- agree with the grammar of strings and escapes. For example, the value of `"a\n"` has two bytes, an `a` and a line
+-- feed. For any other text the functions may give anything.
 pub record StringMeaning : Type 0 where
   pub value : List ℕ → List ℕ
   pub pattern : List ℕ → List (List ℕ)

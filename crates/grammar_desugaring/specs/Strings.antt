@@ -5,11 +5,12 @@ use Rattle.std.specs.Prelude.{◌≡◌, ℕ, List}
 use Rattle.grammar_trees.specs.grammar_tokens.Strings.{IsStringOf, IsPatternOf}
 use Rattle.grammar_desugaring.specs.inner.StringReading.{string_meaning}
 
--- `value_of spelling` is the value of the string `spelling`.
+-- `value_of spelling` is the value of the string `spelling`, which has no `\*`.
 abbrev pub value_of : List ℕ → List ℕ
 value_of = string_meaning.value
 
--- `pattern_of spelling` are the literal texts of the string `spelling` as a pattern, with a wildcard between each two.
+-- `pattern_of spelling` are the literal texts of the string `spelling` as a pattern, with a wildcard between adjacent
+-- ones.
 abbrev pub pattern_of : List ℕ → List (List ℕ)
 pattern_of = string_meaning.pattern
 

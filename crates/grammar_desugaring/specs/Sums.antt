@@ -22,7 +22,7 @@ use Rattle.grammar_core.specs.Operators.{method_of, method_takes}
 use Rattle.grammar_desugaring.specs.Faults.{call_faults, function_faults}
 use Rattle.grammar_desugaring.specs.TreeMeasures.{measure, of, measured}
 
--- `nothing` is the measure of no expressions side by side; `leaf fault` is that of a node without operands, with the
+-- `nothing` is the measure of an empty list of expressions; `leaf fault` is that of a node without operands, with the
 -- error `fault`, if there is one.
 abbrev pub nothing : Measure
 nothing = measure 0 0 None
@@ -34,8 +34,8 @@ leaf fault = measure 1 1 fault
 abbrev pub node_measure : Measure → Measure
 node_measure j = measure (j.height + 1) (j.node_count + 1) j.fault
 
--- `side_by_side i j` is the measure of two expressions side by side, with the measures `i` and `j`; `paired i j` is
--- that of a node over both.
+-- `side_by_side i j` is the measure of two expressions with the measures `i` and `j` side by side: the greater height,
+-- the sum of the numbers of nodes, and the earlier error. `paired i j` is the measure of a node over both expressions.
 abbrev pub side_by_side : Measure → Measure → Measure
 side_by_side i j = measure (max i.height j.height) (i.node_count + j.node_count) (earlier_of i.fault j.fault)
 
@@ -55,9 +55,9 @@ with_fault fault j = record { height = j.height; node_count = j.node_count; faul
 
 -- ## Theorems
 
--- `LiteralIsLeaf`, `UnaryIsAbove` and `AndIsPaired`: the measures of a literal, of a unary operator and of `&&` are
--- `leaf`, `node_measure` and `paired` of the measures of their parts. `faults` are the errors of the tree; for `&&`,
--- `faults` are those of the left operand, and `more` those of the right one.
+-- `LiteralIsLeaf`, `UnaryIsAbove` and `AndIsPaired`: the measure of a literal is `leaf` of its reported error. Those of
+-- a unary operator and of `&&` are `node_measure` and `paired` of the measures of their operands. `faults` are the
+-- errors of the tree; for `&&`, `faults` are those of the left operand, and `more` those of the right one.
 abbrev pub LiteralIsLeaf : Type 0
 LiteralIsLeaf = (value : Literal) (faults : List DesugarFault) → of (core.Literal value) faults ≡ leaf (least faults)
 
@@ -85,8 +85,8 @@ measured_chain text = fold (λ j x. paired j (measured text x))
 abbrev pub measured_term : List ℕ → Measure → Term ExprTree → Measure
 measured_term text j term = paired j (measured text term.operand)
 
--- `measured_entry text j entry` is the measure of entries of a record side by side, the last of which is `entry`, where
--- `j` is the measure of the entries before it.
+-- `measured_entry text j entry` is the measure of the entries of a record up to `entry`, side by side, where `j` is the
+-- measure of the entries before it.
 abbrev pub measured_entry : List ℕ → Measure → RecordEntry ExprTree → Measure
 measured_entry text j entry = side_by_side j (measured text entry.value)
 

@@ -27,6 +27,6 @@ of_row es faults = measure (greatest (map height es)) (total (map node_count es)
 abbrev pub measured : List ℕ → ExprTree → Measure
 measured text x = of (core_of text x) (faults_of text x)
 
--- `measured_negated text x` is the measure of the tree `x` after a minus.
+-- `measured_negated text x` is the measure of the tree `x` with a minus before it.
 abbrev pub measured_negated : List ℕ → ExprTree → Measure
 measured_negated text x = of (negated text x) (negated_faults text x)

@@ -1,4 +1,4 @@
-//! Building of the core expression of a tree.
+//! Builds the core expression of a tree.
 ghost use Rattle.std.specs.Prelude.{◌≡◌, IfOk, map};
 ghost use Rattle.std.specs.List.{AllByRecursion, fold};
 ghost use Rattle.grammar_desugaring.specs.Core as spec;
@@ -19,7 +19,7 @@ use grammar_trees::{Access, ExprTree, RecordEntry, Term, spelling};
 use plain::{Boxed, Items, NoMemory};
 use std::alloc::Global;
 
-/// Returns the core expression of a tree. For a tree with errors, the expression means nothing.
+/// Returns the core expression of a tree. If the tree has errors, the expression has no meaning.
 #[cycle(build)]
 pub(crate) fn build_tree(alloc: Global, text: &str, tree: &ExprTree) -> Result<Expr, NoMemory>
     requires { WellFormed text.now tree.now }
@@ -70,7 +70,7 @@ pub(crate) fn build_tree(alloc: Global, text: &str, tree: &ExprTree) -> Result<E
     }
 }
 
-/// Returns the core expression of a tree after a minus. A minus before a number belongs to the number.
+/// Returns the core expression of a minus and the operand `tree`. A minus before a number belongs to the number.
 #[cycle(build)]
 fn build_behind_minus(alloc: Global, text: &str, tree: &ExprTree) -> Result<Expr, NoMemory>
     requires { WellFormed text.now tree.now }
@@ -149,7 +149,7 @@ fn build_chain(
     Ok(left)
 }
 
-/// Returns the core expression of a sum.
+/// Returns the core expression of the sum of the operand `first` and the terms `more`, grouped to the left.
 #[cycle(build)]
 fn build_terms(
     alloc: Global,
@@ -170,7 +170,7 @@ fn build_terms(
     Ok(left)
 }
 
-/// Returns the core expression of a receiver with accesses.
+/// Returns the core expression of a receiver with the accesses `more`.
 #[cycle(build)]
 fn build_accesses(
     alloc: Global,

@@ -1,4 +1,4 @@
-//! Core expressions of calls of functions and methods. A call that is rejected has a placeholder, `no_call`.
+//! Core expressions of calls of functions and methods. That of a rejected call is a placeholder, `no_call`.
 ghost use Rattle.std.specs.Prelude.{◌≡◌, IfOk, Some};
 ghost use Rattle.grammar_desugaring.specs.Core as spec;
 ghost use Rattle.grammar_core.specs.declared.operator.Method.TheVariants as method;
@@ -23,7 +23,8 @@ fn single(arguments: Items<Expr>) -> Option<Expr>
     if rest.len() == 1 { rest.pop() } else { None }
 }
 
-/// Returns a call of a function; or the placeholder, if there is no such call; or the error of its arguments.
+/// Returns a call of a function; or the placeholder, if the function is unknown or the number of arguments is not one;
+/// or the error of its arguments.
 pub(crate) fn call(
     alloc: Global,
     function: Option<UnaryCall>,
@@ -57,7 +58,7 @@ fn call_with(
     }
 }
 
-/// Returns a call of a method that takes no arguments, or the placeholder if there are some.
+/// Returns a call of a method that takes no arguments, or the placeholder if `arguments` is not empty.
 fn call_alone(
     alloc: Global,
     called: UnaryCall,
@@ -73,7 +74,8 @@ fn call_alone(
     }
 }
 
-/// Returns a call of a method; or the placeholder, if there is no such call; or the error of its arguments.
+/// Returns a call of a method; or the placeholder, if the method is unknown or takes another number of arguments; or
+/// the error of its arguments.
 pub(crate) fn call_with_row(
     alloc: Global,
     method: Option<Method>,

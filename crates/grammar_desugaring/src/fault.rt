@@ -4,19 +4,20 @@ ghost use Rattle.grammar_desugaring.specs.ReportedErrors as spec;
 
 use thiserror::Error;
 
-/// A reason why a tree does not have a core expression. Each offset is that of a byte, counted from 0.
+/// An error of desugaring a tree, or of a name that repeats an earlier one. Each has a byte offset, counted from 0.
 #[derive(Clone, Copy, Debug, Error)]
 pub enum DesugarFault {
-    /// The number at this token is outside signed 64 bits.
+    /// The number at this offset is outside signed 64 bits.
     #[error("policy 12: number outside signed 64 bits at byte {0}")]
     NumberRange(usize),
-    /// No function or method has this name.
+    /// The function or method that is named at this offset is unknown.
     #[error("policy 13: unknown function or method at byte {0}")]
     UnknownCall(usize),
-    /// The function or method of this name takes another number of arguments.
+    /// The function or method that is named at this offset takes another number of arguments.
     #[error("policy 14: wrong number of arguments at byte {0}")]
     Arity(usize),
-    /// This key of a record, annotation of a policy, or name of a policy in a file occurs earlier.
+    /// The name at this offset also occurs earlier: a key of a record, an annotation of a policy, or a policy's name in
+    /// a file.
     #[error("policy 15: repeated key at byte {0}")]
     RepeatedKey(usize),
 }
@@ -35,7 +36,7 @@ impl DesugarFault {
     }
 }
 
-/// Returns the error at the lesser offset of those that are present; `one` if the offsets are equal.
+/// Returns the present error with the lesser offset, `one` if the offsets are equal, or `None` if neither is present.
 pub fn earlier_of(one: Option<DesugarFault>, other: Option<DesugarFault>) -> Option<DesugarFault>
     ensures { result ≡ spec.earlier_of one other }
 {

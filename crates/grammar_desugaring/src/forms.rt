@@ -29,7 +29,7 @@ pub(crate) enum Chain {
     Or,
 }
 
-/// Returns `owner.name`.
+/// Returns `owner.name`, where the name is that of `key`.
 pub(crate) fn field(alloc: Global, text: &str, owner: Expr, key: KeyTree) -> Result<Expr, NoMemory>
     requires { KeyIn text.now key }
     ensures { IfOk result (λ e. e ≡ core.Field owner (name_of text.entry.now key)) }
@@ -38,7 +38,7 @@ pub(crate) fn field(alloc: Global, text: &str, owner: Expr, key: KeyTree) -> Res
     Expr::field(alloc, owner, name)
 }
 
-/// Returns `owner has name`.
+/// Returns `owner has name`, where the name is that of `key`.
 pub(crate) fn has(
     alloc: Global,
     text: &str,
@@ -158,7 +158,7 @@ pub(crate) fn compare(
     }
 }
 
-/// Returns the chain `left` joined with its next operand.
+/// Returns the chain `left` joined with its next operand, `right`.
 pub(crate) fn join_next(
     alloc: Global,
     chain: Chain,

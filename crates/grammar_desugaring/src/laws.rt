@@ -4,15 +4,15 @@ ghost use Rattle.grammar_desugaring.specs.Repeats.{RepeatsAreExact, RepeatsAreRe
 ghost use Rattle.grammar_desugaring.specs.Strings.{ValueIsValue, PatternIsPattern};
 ghost use Rattle.grammar_desugaring.specs.Sums.{LiteralIsLeaf, UnaryIsAbove, AndIsPaired};
 
-/// Proves that the error that `least` reports of a list is one of the list at the least offset, and that it reports one
-/// unless the list is empty. Of two lists together it reports the earlier of their reported errors. No-op.
+/// Proves that `least` reports an error of a list at the least offset, and reports one unless the list is empty. Of two
+/// lists together `least` reports the earlier of their reported errors. No-op.
 pub fn least_fault_is_reported()
     ensures least { LeastIsLeast }
     ensures none { NoneOfNone }
     ensures both { LeastOfBoth }
 {}
 
-/// Proves that the value and the literal texts that are computed of a string are those that the grammar of strings
+/// Proves that the value and the literal texts that are computed from a string are those that the grammar of strings
 /// defines. No-op.
 pub fn strings_are_read()
     ensures values { ValueIsValue }
@@ -26,8 +26,8 @@ pub fn repeats_are_exact()
     ensures told { RepeatsAreReported }
 {}
 
-/// Proves that the measures of a literal, of a unary operator and of `&&` are composed of the measures of their parts.
-/// No-op.
+/// Proves that a literal has the measure of a leaf, and that the measures of a unary operator and of `&&` follow from
+/// those of their operands. No-op.
 pub fn measures_add_up()
     ensures literal { LiteralIsLeaf }
     ensures unary { UnaryIsAbove }

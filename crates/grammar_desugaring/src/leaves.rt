@@ -31,7 +31,7 @@ pub(crate) fn variable(word: grammar_trees::RequestKeyword) -> Expr
     }
 }
 
-/// Returns the literal of the number at `token`, without a minus before it.
+/// Returns the literal of the number at `token`, without a minus before it; 0 if the number is out of range.
 pub(crate) fn number_literal(text: &str, token: Token) -> Expr
     requires { TokenIn text.now (only k.Number) token }
     ensures { result ≡ spec.long (positive (spelling_of text.now token)) }
@@ -39,7 +39,7 @@ pub(crate) fn number_literal(text: &str, token: Token) -> Expr
     Expr::Literal(Literal::Long(numbers::positive(spelling(text, token).as_bytes())))
 }
 
-/// Returns the literal of the number at `token`, after a minus. The minus belongs to the number.
+/// Returns the literal of the number at `token` with the minus before it; 0 if the number is out of range.
 pub(crate) fn negated_literal(text: &str, token: Token) -> Expr
     requires { TokenIn text.now (only k.Number) token }
     ensures { result ≡ spec.long (negative (spelling_of text.now token)) }

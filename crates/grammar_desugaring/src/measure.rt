@@ -12,12 +12,12 @@ pub struct Measure {
     pub height: u32,
     /// The number of nodes.
     pub node_count: u32,
-    /// The error at the least offset, or `None`: then the tree has a core expression.
+    /// The error at the least offset; `None` if the tree has a core expression.
     pub fault: Option<DesugarFault>,
 }
 
 impl Measure {
-    /// Returns the measure of no expressions side by side.
+    /// Returns the measure of an empty list of expressions: height 0, no nodes and no error.
     pub(crate) fn nothing() -> Measure
         ensures { result ≡ spec.nothing }
     {
@@ -50,7 +50,8 @@ impl Measure {
         }
     }
 
-    /// Returns the measure of two expressions side by side.
+    /// Returns the measure of two expressions side by side: the greater height, the sum of the numbers of nodes, and
+    /// the error that [`earlier_of`] returns.
     pub(crate) fn side_by_side(self, other: Measure) -> Measure
         ensures { result ≡ spec.side_by_side self other }
     {
@@ -80,7 +81,7 @@ impl Measure {
         }
     }
 
-    /// Returns the measure with the earlier of `fault` and its own error.
+    /// Returns the measure with the earlier of `fault` and its own error; with `fault` if their offsets are equal.
     pub(crate) fn with_fault(self, fault: Option<DesugarFault>) -> Measure
         ensures { result ≡ spec.with_fault fault self }
     {

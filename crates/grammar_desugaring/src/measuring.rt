@@ -1,5 +1,5 @@
 //! Functions that measure a tree: whether it has a core expression, and the size of that expression, without building
-//! it. They allocate only the keys of records.
+//! it. They allocate only for the keys of records.
 ghost use Rattle.std.specs.Prelude.{◌≡◌, IfOk};
 ghost use Rattle.std.specs.List.{AllByRecursion, fold};
 ghost use Rattle.grammar_trees.specs.grammar_tokens.declared.token.TokenKind.TheVariants as k;
@@ -34,8 +34,8 @@ type MeasureResult = Result<Measure, NoMemory>;
 /// Two measures, or `NoMemory`.
 type BothMeasured = Result<(Measure, Measure), NoMemory>;
 
-/// Returns the error of the number at `token`, or `None` if `within` is true, where `within` says whether the number is
-/// in range.
+/// Returns the error of the number at `token`, or `None` if `within` is true. `within` is whether the number is in
+/// range.
 fn range_fault(within: bool, token: Token) -> Option<DesugarFault>
     ensures { result ≡ least (range within token) }
 {
@@ -55,7 +55,7 @@ fn measure_number(text: &str, token: Token) -> Measure
     Measure::leaf(range_fault(fits(digits), token))
 }
 
-/// Returns the measure of the number at `token`, after a minus. The minus belongs to the number.
+/// Returns the measure of the number at `token` with the minus before it.
 fn measure_negated_number(text: &str, token: Token) -> Measure
     requires { TokenIn text.now (only k.Number) token }
     ensures { result ≡ spec.leaf (least (range (number.fits_negated (spelling_of text.now token)) token)) }
@@ -64,8 +64,8 @@ fn measure_negated_number(text: &str, token: Token) -> Measure
     Measure::leaf(range_fault(fits_negated(digits), token))
 }
 
-/// Returns the error of a call at offset `at` with `count` arguments, of a name that takes `takes` arguments, or that
-/// is unknown (`None`). Returns `None` if the numbers agree.
+/// Returns the error of a call at offset `at` with `count` arguments, or `None` if the called name takes that many.
+/// `takes` is the number of arguments that the name takes, or `None` if the name is unknown.
 fn call_fault(at: usize, takes: Option<usize>, count: usize) -> Option<DesugarFault>
     ensures { result ≡ least (call_faults at takes count) }
 {
@@ -81,7 +81,7 @@ fn call_fault(at: usize, takes: Option<usize>, count: usize) -> Option<DesugarFa
     }
 }
 
-/// Returns the function that a Path names: only a Path of one word names one.
+/// Returns the function that a Path names, if it names one: only a Path of one word can.
 pub(crate) fn function_at(text: &str, path: &PathTree) -> Option<UnaryCall>
     requires { PathIn text.now path.now }
     ensures { result ≡ function text.now path.now }
@@ -225,7 +225,7 @@ pub(crate) fn measure_tree(alloc: Global, text: &str, tree: &ExprTree) -> Measur
     }
 }
 
-/// Returns the measure of a tree after a minus. A minus before a number belongs to the number.
+/// Returns the measure of a minus and the operand `tree`. A minus before a number belongs to the number.
 #[cycle(measuring)]
 fn measure_behind_minus(alloc: Global, text: &str, tree: &ExprTree) -> MeasureResult
     requires { WellFormed text.now tree.now }
@@ -279,7 +279,7 @@ fn measure_entries(alloc: Global, text: &str, entries: &[RecordEntry<ExprTree>])
     Ok(row)
 }
 
-/// Returns the measure of a chain of operands.
+/// Returns the measure of the operands `first` and `more` of a chain.
 #[cycle(measuring)]
 fn measure_chain(
     alloc: Global,
@@ -298,7 +298,7 @@ fn measure_chain(
     Ok(left)
 }
 
-/// Returns the measure of a sum.
+/// Returns the measure of the sum of the operand `first` and the terms `more`.
 #[cycle(measuring)]
 fn measure_terms(
     alloc: Global,
@@ -317,7 +317,7 @@ fn measure_terms(
     Ok(left)
 }
 
-/// Returns the measure of a receiver with accesses.
+/// Returns the measure of a receiver with the accesses `more`.
 #[cycle(measuring)]
 fn measure_accesses(
     alloc: Global,
@@ -336,7 +336,7 @@ fn measure_accesses(
     Ok(left)
 }
 
-/// Returns the measure of one access to a receiver.
+/// Returns the measure of one access to a receiver, where `receiver` is the receiver's measure.
 #[cycle(measuring)]
 fn measure_access(
     alloc: Global,

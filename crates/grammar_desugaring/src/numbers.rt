@@ -2,7 +2,7 @@
 ghost use Rattle.std.specs.Prelude.{◌≡◌, ◌<◌, ◌≤◌, ◌^◌, ◌+◌, ◌*◌, ◌-◌, MatchOption};
 ghost use Rattle.grammar_desugaring.specs.Numbers.{written, fits, fits_negated, positive, negative};
 
-/// Returns the number with one more decimal digit (a byte, where 48 is `0`), if it fits in unsigned 64 bits.
+/// Returns `number` with one more decimal digit, given as an ASCII byte, if the result fits in unsigned 64 bits.
 fn with_digit(number: u64, digit: u8) -> Option<u64>
     ensures { MatchOption result (2 ^ 64 ≤ 10 * number + (digit - 48)) (λ n. n ≡ 10 * number + (digit - 48)) }
 {

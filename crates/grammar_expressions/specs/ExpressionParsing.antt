@@ -31,7 +31,7 @@ use Rattle.grammar_expressions.specs.Expressions.{joined, accessed, is_in, is_po
 
 -- ---- lookahead
 
--- `openers` are the brackets that open a nested expression.
+-- `openers` are the kinds of the brackets that open a nested expression.
 abbrev pub openers : Kinds
 openers k.LParen = true
 openers k.LBracket = true
@@ -58,15 +58,15 @@ firsts k.Minus = true
 firsts k.If = true
 firsts kind = identifiers kind
 
--- ---- tokens whose kind is all their meaning
+-- ---- tokens whose meaning depends only on their kind
 
--- `symbol_by meaning t ts` consumes the token `t`, so that the tokens `ts` remain, with the value in `meaning`, the
--- meaning of `t`; it stops before `t` if `meaning` is `None`.
+-- `symbol_by meaning t ts` parses the token `t`, before the tokens `ts`, by its meaning: the result is the value in
+-- `meaning`, and `ts` remain. If `meaning` is `None`, parsing stops before `t`.
 abbrev pub symbol_by : {A : Type 0} → Option A → Token → List Token → ParseResult A
 symbol_by None t ts = Stop Unexpected (t ∷ ts)
 symbol_by (Some a) t ts = Read a ts
 
--- `symbol meaning` parses a token whose kind has a meaning by `meaning`; this is the value.
+-- `symbol meaning` parses a token to whose kind `meaning` gives a value; that value is the result.
 unfoldable pub symbol : {A : Type 0} → (TokenKind → Option A) → Parser A
 symbol meaning [] = Stop Unexpected []
 symbol meaning (t ∷ ts) = symbol_by (meaning t.kind) t ts
@@ -94,8 +94,8 @@ indexed = do
   token k.RBracket
   pure (access.Field (Quoted word))
 
--- `variable_at first more` is the variable that the Path of the words `first` and `more` names: only a Path of one word
--- may name one.
+-- `variable_at first more` is the variable that the Path of the words `first` and `more` names, if it names one: only a
+-- Path of one word can.
 abbrev pub variable_at : Token → List Token → Option RequestKeyword
 variable_at first [] = variable_of first.kind
 variable_at first (t ∷ ts) = None
@@ -105,11 +105,11 @@ abbrev pub variable_by : Option RequestKeyword → Parser ExprTree
 variable_by (Some variable) = pure (tree.Variable variable)
 variable_by None = refuse
 
--- `alone p` does the same with the variable that the Path `p` names.
+-- `alone p` is `variable_by` of the variable that the Path `p` names, if it names one.
 unfoldable pub alone : PathTree → Parser ExprTree
 alone p = variable_by (variable_at p.first p.more)
 
--- In this module `may` says whether one more level of nesting may be opened, and `inner` parses an expression of that
+-- In this module `may` is whether one more level of nesting may be opened, and `inner` parses an expression of that
 -- level.
 module _ (may : Bool) (inner : Parser ExprTree) where
   -- ---- lists
@@ -154,8 +154,8 @@ module _ (may : Bool) (inner : Parser ExprTree) where
   unfoldable pub entries : Parser (List (RecordEntry ExprTree))
   entries = either keys (entry >>= rest_of_entries) (pure [])
 
-  -- ---- names: a variable, a Uid and a call begin alike, so they are parsed from their common front, by
-  -- `rest_of_name`
+  -- ---- names: a variable, a Uid and a call all begin with an identifier; `rest_of_name` parses the rest of the Path
+  -- or Uid that begins there
 
   -- `call_of p` parses the arguments of a call of the Path `p`.
   abbrev pub call_of : PathTree → Parser ExprTree
@@ -322,7 +322,7 @@ module _ (may : Bool) (inner : Parser ExprTree) where
   unfoldable pub maybe_inside : Parser (Option ExprTree)
   maybe_inside = optional (only k.In) inside
 
-  -- `type_test x` parses "is", a Path and maybe "in" and a Sum, after the Sum `x`.
+  -- `type_test x` parses "is" Path [ "in" Sum ], after the Sum `x`.
   unfoldable pub type_test : ExprTree → Parser ExprTree
   type_test x = do
     token k.Is

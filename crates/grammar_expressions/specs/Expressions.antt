@@ -30,7 +30,7 @@ use Rattle.grammar_trees.specs.grammar_tokens.Lang.{never}
 use Rattle.grammar_trees.specs.grammar_tokens.Lang.{at_any, gate}
 use Rattle.grammar_trees.specs.grammar_tokens.Grammar.{identifiers, path, uid}
 
--- ## Tokens whose kind is all their meaning
+-- ## Tokens whose meaning depends only on their kind
 
 -- `symbol meaning`: one token whose kind has a meaning by `meaning`, with that meaning as its value
 abbrev pub symbol : {A : Type 0} → (TokenKind → Option A) → Lang A
@@ -132,7 +132,7 @@ indexed = do
   one k.RBracket
   empty (access.Field (Quoted name))
 
--- In this module `may` says whether one more level of nesting may be opened, and `inner` is the language of the
+-- In this module `may` is whether one more level of nesting may be opened, and `inner` is the language of the
 -- expressions of that level.
 module _ (may : Bool) (inner : Lang ExprTree) where
   -- Arguments = [ Expr { "," Expr } ]
@@ -244,21 +244,21 @@ module _ (may : Bool) (inner : Lang ExprTree) where
   abbrev pub sum : Lang ExprTree
   sum = chain product term tree.Sum
 
-  -- ("<" | "<=" | ">" | ">=" | "==" | "!=" | "in") Sum
+  -- ("<" | "<=" | ">" | ">=" | "==" | "!=" | "in") Sum, after the Sum `x`
   abbrev pub compared : ExprTree → Lang ExprTree
   compared x = do
     operator ← symbol comparison_of
     y ← sum
     empty (tree.Compare x operator y)
 
-  -- "has" (Ident | String)
+  -- "has" (Ident | String), after the Sum `x`
   abbrev pub has : ExprTree → Lang ExprTree
   has x = do
     one k.Has
     name ← key
     empty (tree.Has x name)
 
-  -- "like" Pattern
+  -- "like" Pattern, after the Sum `x`
   abbrev pub like : ExprTree → Lang ExprTree
   like x = do
     one k.Like
@@ -269,7 +269,7 @@ module _ (may : Bool) (inner : Lang ExprTree) where
   abbrev pub inside : Lang ExprTree
   inside = one k.In >> sum
 
-  -- "is" Path [ "in" Sum ]
+  -- "is" Path [ "in" Sum ], after the Sum `x`
   abbrev pub type_test : ExprTree → Lang ExprTree
   type_test x = do
     one k.Is

@@ -1,5 +1,4 @@
-//! Parsers of expressions and conditionals. Each parses a production, by the function of the same name in
-//! specs/ExpressionParsing.
+//! Parsers of expressions and conditionals. Each agrees with the parser of the same name in specs/ExpressionParsing.
 
 ghost use Rattle.std.specs.Prelude.{◌≡◌, ◌<◌, Err};
 ghost use Rattle.grammar_expressions.specs.ExpressionParsing as spec;
@@ -80,7 +79,7 @@ impl<F: Fn(Global, &mut Cursor<'_>, usize) -> Result<ExprTree, StopCause>> Reade
         self.conditional_tail(tokens, test)
     }
 
-    /// Parses "if" Expr "then" Expr "else" Expr | Or. A conditional is `TooDeep` if no level is left.
+    /// Parses "if" Expr "then" Expr "else" Expr | Or. If no level is left, a conditional gives the error `TooDeep`.
     #[tactic(auto, unfolding(crate::specs::ExpressionParsing::level))]
     fn level(&self, tokens: &mut Cursor<'_>) -> Result<ExprTree, StopCause>
         requires { Nests self.now.levels (F.pre self.now.expr) (F.post self.now.expr) }
@@ -100,7 +99,8 @@ impl<F: Fn(Global, &mut Cursor<'_>, usize) -> Result<ExprTree, StopCause>> Reade
 /// Parses an expression of at most `levels` levels of nesting, its own included, from the front of the tokens. Parsing
 /// is greedy: it goes on as long as the next token can continue an expression.
 ///
-/// The cursor is then after the expression, or on an error before the token at which parsing stops.
+/// The cursor is then after the expression or, on an error other than `NoMemory`, before the token at which parsing
+/// stops. After `NoMemory` its position is not specified.
 ///
 /// # Errors
 ///

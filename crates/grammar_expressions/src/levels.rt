@@ -16,10 +16,10 @@ pub(crate) trait Level {
     /// A piece: what may follow the first operand, repeatedly.
     type Piece: Drop;
 
-    /// The condition under which the parsers may be called.
+    /// The precondition of `piece`.
     ghost can_read: { Self → Type 0 };
 
-    /// The parsing function of a piece.
+    /// The specification of `piece`: how a piece is parsed.
     ghost pieces: { Self → Parser Self.Piece };
 
     /// The tree of an operand and the pieces after it.
@@ -63,7 +63,7 @@ fn join<L: Level>(
 }
 
 /// Parses the pieces after the operand `first`, as long as the next token is in the set. Returns the tree of the
-/// operand and the pieces. Returns an operand without pieces, the usual case, as it is, without a list.
+/// operand and the pieces. If there are no pieces, the usual case, returns `first` itself and makes no list.
 pub(crate) fn chain<L: Level, S: KindSet>(
     alloc: Global,
     tokens: &mut Cursor<'_>,

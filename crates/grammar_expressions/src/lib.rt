@@ -1,7 +1,7 @@
 //! The parser of expressions, from tokens to trees.
 //!
-//! A list of tokens that derives a tree in the grammar is parsed as that tree, which is the only one. Any other list is
-//! rejected at the first token that cannot follow those before it, or at its end.
+//! A list of tokens derives at most one tree in the grammar. [`expr`] parses the front of a list, as far as the next
+//! token can continue an expression.
 #![tactic(auto)]
 
 mod expression;

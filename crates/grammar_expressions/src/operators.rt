@@ -52,7 +52,8 @@ fn under(alloc: Global, prefix: Prefix, x: ExprTree) -> Result<ExprTree, AllocEr
 }
 
 impl<F: Fn(Global, &mut Cursor<'_>, usize) -> Result<ExprTree, StopCause>> Reader<F> {
-    /// Parses "(" Arguments ")" if "(" comes next, else returns `None`. The "(" is `TooDeep` if no level is left.
+    /// Parses "(" Arguments ")" if "(" comes next, else returns `None`. If "(" comes next and no level is left, the
+    /// error is `TooDeep`.
     #[tactic(auto, unfolding(crate::specs::ExpressionParsing::maybe_called))]
     fn maybe_called(&self, tokens: &mut Cursor<'_>) -> Result<Option<Items<ExprTree>>, StopCause>
         requires { Nests self.now.levels (F.pre self.now.expr) (F.post self.now.expr) }

@@ -60,7 +60,8 @@ pub(crate) fn indexed(tokens: &mut Cursor<'_>) -> Result<Access<Items<ExprTree>>
     Ok(Access::Field(KeyTree::Quoted(name)))
 }
 
-/// Returns the variable that a Path names: only a Path of one word may name one.
+/// Returns the variable that a Path names, or `None` if the Path names none: only a Path of one word can name a
+/// variable.
 fn variable_at(path: &PathTree) -> Option<RequestKeyword>
     ensures { result ≡ spec.variable_at path.now.first path.now.more }
 {
@@ -70,7 +71,7 @@ fn variable_at(path: &PathTree) -> Option<RequestKeyword>
     }
 }
 
-/// Returns the variable that a Path without arguments names, or `Unexpected`.
+/// Returns the variable that a Path without arguments names, or the error `Unexpected` if the Path names no variable.
 #[tactic(auto, unfolding(crate::specs::ExpressionParsing::alone))]
 fn alone(tokens: &Cursor<'_>, path: PathTree) -> Result<ExprTree, StopCause>
     ensures reads { ParsesTo (spec.alone path tokens.now.rest.now) result tokens.now.rest.now }
@@ -90,7 +91,7 @@ pub(crate) struct Reader<F> {
     pub(crate) alloc: Global,
     /// The number of levels of nesting that may still be opened.
     pub(crate) levels: usize,
-    /// The parser of expressions, given the number of their levels.
+    /// The parser of expressions. Its last argument is the greatest number of levels of the expression.
     pub(crate) expr: F,
 }
 
@@ -223,8 +224,8 @@ impl<F: Fn(Global, &mut Cursor<'_>, usize) -> Result<ExprTree, StopCause>> Reade
         self.rest_of_entries(tokens, first)
     }
 
-    /// Parses what follows a Path: the arguments of a call, or nothing if the Path names a variable. The "(" of a call
-    /// is `TooDeep` if no level is left.
+    /// Parses what follows a Path: the arguments of a call, or nothing if the Path names a variable. If "(" comes next
+    /// and no level is left, the error is `TooDeep`.
     #[tactic(auto, unfolding(crate::specs::ExpressionParsing::call_or_variable))]
     fn call_or_variable(
         &self,
@@ -316,8 +317,8 @@ impl<F: Fn(Global, &mut Cursor<'_>, usize) -> Result<ExprTree, StopCause>> Reade
         self.braced(tokens)
     }
 
-    /// Parses Variable | Uid | Call | "(" Expr ")" | "[" Arguments "]" | "{" .. "}" | Literal. An opening bracket is
-    /// `TooDeep` if no level is left.
+    /// Parses Variable | Uid | Call | "(" Expr ")" | "[" Arguments "]" | "{" .. "}" | Literal. If an opening bracket
+    /// comes next and no level is left, the error is `TooDeep`.
     #[tactic(auto, unfolding(crate::specs::ExpressionParsing::primary))]
     pub(crate) fn primary(&self, tokens: &mut Cursor<'_>) -> Result<ExprTree, StopCause>
         requires { Nests self.now.levels (F.pre self.now.expr) (F.post self.now.expr) }

@@ -1,4 +1,4 @@
-//! Tokens whose kind is all their meaning.
+//! Tokens whose meaning depends only on their kind.
 
 ghost use Rattle.std.specs.Prelude.{◌≡◌, IfErr, Option};
 ghost use Rattle.grammar_trees.specs.grammar_tokens.declared.token.TokenKind as kinds;
@@ -74,8 +74,8 @@ impl Symbol for Comparison {
     }
 }
 
-/// Parses a token whose kind has a meaning of this type, and returns the meaning. Consumes nothing if the next token
-/// has no such meaning.
+/// Parses a token whose kind has a meaning of this type, and returns the meaning. Consumes nothing if there is no next
+/// token, or it has no such meaning.
 ///
 /// The only error is `Unexpected`.
 #[tactic(auto, unfolding(crate::specs::ExpressionParsing::symbol))]

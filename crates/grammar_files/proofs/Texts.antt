@@ -24,7 +24,7 @@ use Rattle.grammar_files.proofs.Alone.{trimmed, moved, back, parts_first, part_i
 use Rattle.grammar_files.proofs.Alone.{lex_len}
 use Rattle.grammar_files.proofs.Endless.{policy_ends}
 use Rattle.grammar_files.proofs.Deriving.{same_end, no_such}
-use Rattle.grammar_files.specs.SameReadings.{ReadsAs, EachReadsAsInItsFile}
+use Rattle.grammar_files.specs.SameReadings.{IsAtMostPolicy, EachIsParsedAsInItsFile}
 use Rattle.grammar_files.proofs.Kin.{AreSame}
 use Rattle.grammar_files.proofs.Scopes.{policy_kin, core_of_other}
 
@@ -87,7 +87,7 @@ stands text part rest w from p to ts low whole space e end h =
 module _ (one_list : OneLexing) (one_tree : HasOneTree (policy nesting_limit)) (text : List ℕ) where
   -- what the part is read as, by its tokens as they stand in the file
   read_as : (w : List ℕ) (p to : ℕ) (ts : List Token) (tree : PolicyTree) (core : Policy) → Lex p w ts to [] → Stands text w p → policy nesting_limit ts tree → IsCoreOf text tree core
-      → ReadsAs w core
+      → IsAtMostPolicy w core
   read_as w p to ts tree core h s d c read is =
       let m = moved p 0 (omega arith) h in
       let same = same_tokens text w s.front s.rest p s.whole s.starts h in
@@ -99,7 +99,7 @@ module _ (one_list : OneLexing) (one_tree : HasOneTree (policy nesting_limit)) (
       core-same w kin.0 read core (subst (λ (x : PolicyTree). IsCoreOf w x read) trees is.is.core) known
 
   part_read : (part rest : List ℕ) (from : ℕ) (ts : List Token) (tree : PolicyTree) (core : Policy) → IsUtf8 part → from ≤ length text → drop from text ≡ part ++ rest
-      → Lex from part ts (from + length part) [] → policy nesting_limit ts tree → IsCoreOf text tree core → ReadsAs (trim_start part) core
+      → Lex from part ts (from + length part) [] → policy nesting_limit ts tree → IsCoreOf text tree core → IsAtMostPolicy (trim_start part) core
   unfolding trim_start
   part_read part rest from ts tree core u low whole h d c =
       let w = encode_utf8_all (skip_leading_whitespace (chars part)) in
@@ -111,8 +111,8 @@ module _ (one_list : OneLexing) (one_tree : HasOneTree (policy nesting_limit)) (
 
   parts_read : (u : IsUtf8 text) (trees : List PolicyTree) (cores : List Policy) (from to : ℕ) (ts : List Token) → IsCharBoundary text from → AllByRecursion (IsSpelledIn text) ts
       → policies nesting_limit ts trees → AllZip (IsCoreOf text) trees cores → NoEnd ts ⊎ FirstPart from to (drop from text) ts
-      → AllZip (λ w core. ReadsAs (trim_start w) core) (parts_from text from ts) cores
-  parts_read u [] [] from to ts b s d c found = subst (λ (x : List Token). AllZip (λ w core. ReadsAs (trim_start w) core) (parts_from text from x) []) (sym d) tt
+      → AllZip (λ w core. IsAtMostPolicy (trim_start w) core) (parts_from text from ts) cores
+  parts_read u [] [] from to ts b s d c found = subst (λ (x : List Token). AllZip (λ w core. IsAtMostPolicy (trim_start w) core) (parts_from text from x) []) (sym d) tt
   parts_read u [] (core ∷ cores) from to ts b s d c found = absurd c
   parts_read u (tree ∷ trees) [] from to ts b s d c found = absurd c
   parts_read u (tree ∷ trees) (core ∷ cores) from to ts b s d c (inl none) =
@@ -127,26 +127,26 @@ module _ (one_list : OneLexing) (one_tree : HasOneTree (policy nesting_limit)) (
       let left = rest_is text f.part f.rest from f.last.end f.whole f.at_end in
       let utf8 : IsUtf8 (slice_range text from f.last.end) = IsUtf8-between text from f.last.end u (omega (arith, f.at_end)) b spelled.0.end_cut in
       let same : d.0 ≡ f.before ++ f.last ∷ [] = end.whole ∙ sym (λ i. one.before i ++ one.last i ∷ []) in
-      let first : ReadsAs (trim_start f.part) core =
+      let first : IsAtMostPolicy (trim_start f.part) core =
       part_read f.part f.rest from (f.before ++ f.last ∷ []) tree core (subst IsUtf8 is utf8) b.0 f.whole f.lexed (subst (λ (x : List Token). policy nesting_limit x tree) same d.3) c.0 in
-      let more : AllZip (λ w core. ReadsAs (trim_start w) core) (parts_from text f.last.end f.more) cores =
+      let more : AllZip (λ w core. IsAtMostPolicy (trim_start w) core) (parts_from text f.last.end f.more) cores =
       parts_read u trees cores f.last.end to f.more spelled.0.end_cut spelled.1 (subst (λ (x : List Token). policies nesting_limit x trees) (sym one.more) d.4) c.1
       (split (subst (λ (x : List ℕ). Lex f.last.end x f.more to []) (sym left) (subst (λ (m : ℕ). Lex m f.rest f.more to []) (sym f.at_end) f.behind))) in
-      subst (λ (ws : List (List ℕ)). AllZip (λ w core. ReadsAs (trim_start w) core) ws (core ∷ cores))
+      subst (λ (ws : List (List ℕ)). AllZip (λ w core. IsAtMostPolicy (trim_start w) core) ws (core ∷ cores))
       (sym (ap (parts_from text from) f.tokens ∙ parts_first text from f.before f.last f.more f.none_before f.ends))
-      (subst (λ (w : List ℕ). ReadsAs (trim_start w) core) (sym is) first, more)
+      (subst (λ (w : List ℕ). IsAtMostPolicy (trim_start w) core) (sym is) first, more)
 
-zip_map : (ws : List (List ℕ)) (cores : List Policy) → AllZip (λ w core. ReadsAs (trim_start w) core) ws cores → AllZip ReadsAs (map trim_start ws) cores
+zip_map : (ws : List (List ℕ)) (cores : List Policy) → AllZip (λ w core. IsAtMostPolicy (trim_start w) core) ws cores → AllZip IsAtMostPolicy (map trim_start ws) cores
 zip_map [] [] h = tt
 zip_map [] (core ∷ cores) h = absurd h
 zip_map (w ∷ ws) [] h = absurd h
 zip_map (w ∷ ws) (core ∷ cores) h = (h.0, zip_map ws cores h.1)
 
-pub each_read : OneLexing → HasOneTree (policy nesting_limit) → EachReadsAsInItsFile
+pub each_read : OneLexing → HasOneTree (policy nesting_limit) → EachIsParsedAsInItsFile
 each_read one_list one_tree text names cores texts u file cut =
     let d = file.derives in
     let tokens : cut.0 ≡ d.tokens = one_list text cut.0 d.tokens cut.1 d.lexed in
     let texts_are : texts ≡ policy_texts text d.tokens = cut.2 ∙ ap (policy_texts text) tokens in
-    subst (λ (ts : List (List ℕ)). AllZip ReadsAs ts cores) (sym texts_are)
+    subst (λ (ts : List (List ℕ)). AllZip IsAtMostPolicy ts cores) (sym texts_are)
     (zip_map (parts_from text 0 d.tokens) cores
     (parts_read one_list one_tree text u file.trees cores 0 d.lexed.0 d.tokens (IsCharBoundary-start text u) (all_spelled text [] u refl refl d.lexed.1) d.derived file.are.cores (split d.lexed.1)))

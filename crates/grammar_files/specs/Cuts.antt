@@ -2,8 +2,8 @@
 --
 -- Source: Cedar reference guide 4.0, "Grammar specification for Cedar policy syntax": a policy ends with `;`, and no
 -- other token of a policy is a `;`.
--- Rules of this product: the text of a policy begins at the first character after the previous policy that is not
--- whitespace, so comments before a policy belong to its text. What follows the last `;` belongs to no policy.
+-- Rules of this product: the text of a policy begins at the first non-whitespace character after the previous policy,
+-- so comments before a policy belong to its text. What follows the last `;` belongs to no policy.
 use Rattle.std.specs.Prelude.{◌≡◌, ℕ, Bool, true, false, List, [], ◌∷◌, ◌++◌, length, map, drop, slice_range}
 use Rattle.std.specs.Prelude.{if◌then◌else◌}
 use Rattle.std.specs.List.{AllByRecursion, AllZip, concat}
@@ -21,21 +21,21 @@ abbrev pub is_end : TokenKind → Bool
 is_end k.Semicolon = true
 is_end _ = false
 
--- `parts_from text from ts` are the parts into which the `;` among the tokens `ts` cut `text`, from the byte `from` on;
--- each ends with its `;`.
+-- `parts_from text from ts` are the parts into which the `;` among the tokens `ts` cut `text`, from the byte offset
+-- `from` on; each ends with its `;`.
 abbrev pub parts_from : List ℕ → ℕ → List Token → List (List ℕ)
 parts_from text from [] = []
 parts_from text from (t ∷ ts) =
     if is_end t.kind then slice_range text from t.end ∷ parts_from text t.end ts else parts_from text from ts
 
--- `left_from from ts` is the byte after the last part that `parts_from` gives for the same `from` and `ts`, or `from`
--- if there is no part.
+-- `left_from from ts` is the byte offset after the last part that `parts_from` gives for the same `from` and `ts`, or
+-- `from` if there is no part.
 abbrev pub left_from : ℕ → List Token → ℕ
 left_from from [] = from
 left_from from (t ∷ ts) = if is_end t.kind then left_from t.end ts else left_from from ts
 
 -- `policy_texts text ts` are the texts of the policies of `text`, where `ts` are the tokens of `text`: the parts
--- without leading whitespace.
+-- (`parts_from`) without leading whitespace.
 abbrev pub policy_texts : List ℕ → List Token → List (List ℕ)
 policy_texts text ts = map trim_start (parts_from text 0 ts)
 
@@ -60,7 +60,7 @@ abbrev pub EachIsSelfContained : Type 0
 EachIsSelfContained = (text : List ℕ) (ts : List Token) → IsUtf8 text → IsLexed text ts
     → AllByRecursion IsSelfContained (policy_texts text ts)
 
--- `PartsJoin`: a text is the concatenation of its parts and of the rest after the last.
+-- `PartsJoin`: a text that has tokens is the concatenation of its parts and of the rest after the last.
 abbrev pub PartsJoin : Type 0
 PartsJoin = (text : List ℕ) (ts : List Token) → IsLexed text ts
     → text ≡ concat (parts_from text 0 ts) ++ drop (left_from 0 ts) text
@@ -90,8 +90,8 @@ pub record DerivesPolicy (levels : ℕ) (text : List ℕ) : Type 0 where
   pub tree : PolicyTree
   pub derived : policy levels tokens tree
 
--- `EachDerivesPolicy`: if the tokens of a file derive policies, each text of `policy_texts` by itself derives a policy,
--- so it has no syntax error.
+-- `EachDerivesPolicy`: if the tokens of a file derive policies, each text of `policy_texts` by itself has tokens that
+-- derive a policy.
 abbrev pub EachDerivesPolicy : Type 0
 EachDerivesPolicy = (levels : ℕ) (text : List ℕ) (ts : List Token) (trees : List PolicyTree) → IsUtf8 text
     → IsLexed text ts → policies levels ts trees → AllByRecursion (DerivesPolicy levels) (policy_texts text ts)

@@ -1,4 +1,4 @@
-//! The text of each policy in a file.
+//! Cuts the text of a file into the texts of its policies.
 ghost use Rattle.std.specs.Prelude.{◌≡◌, IfOk, IfErr, map};
 ghost use Rattle.std.specs.List.{AllByRecursion};
 ghost use Rattle.grammar_policies.specs.grammar_tokens.Lexing.{IsLexed, IsSpelledIn, AreInOrder, IsFault};
@@ -15,7 +15,8 @@ fn is_end(kind: TokenKind) -> bool
     matches!(kind, TokenKind::Semicolon)
 }
 
-/// Returns the parts of a text that its `;` tokens end, each without leading whitespace.
+/// Returns the parts of `text` that end with a `;` of `tokens`, each without leading whitespace. `tokens` are the
+/// tokens of `text`.
 fn cut<'t>(alloc: Global, text: &'t str, tokens: &[Token]) -> Result<Vec<&'t str>, NoMemory>
     requires spelled { AllByRecursion (IsSpelledIn text.now) tokens.now }
     requires ordered { AreInOrder 0 tokens.now }
@@ -35,15 +36,15 @@ fn cut<'t>(alloc: Global, text: &'t str, tokens: &[Token]) -> Result<Vec<&'t str
 
 /// Returns the text of each policy of a file, in order, as slices of the file.
 ///
-/// A policy's text begins at the first character after the previous policy that is not whitespace, so comments before a
-/// policy belong to its text. A policy's text ends with its `;`. What follows the last `;` belongs to no policy. `text`
-/// is cut by its tokens alone, and need not be a file of policies.
+/// A policy's text begins at the first non-whitespace character after the previous policy, so comments before a policy
+/// belong to its text. A policy's text ends with its `;`. What follows the last `;` belongs to no policy. `text` is cut
+/// by its tokens alone, and need not be a file of policies.
 ///
 /// O(length of `text`). Allocates the tokens and the list of texts.
 ///
 /// # Errors
 ///
-/// - `BadToken`: neither whitespace nor a comment nor a token starts at this byte.
+/// - `BadToken`: no whitespace, comment or token starts at this byte, counted from 0.
 /// - `NoMemory`: an allocation failed; possible at any point.
 pub fn policy_texts<'t>(alloc: Global, text: &'t str) -> Result<Vec<&'t str>, LexFault>
     ensures cut { IfOk result (λ texts. AreTextsOf text.now (map (λ t. t.now) texts.items)) }

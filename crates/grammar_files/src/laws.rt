@@ -4,8 +4,9 @@ ghost use Rattle.grammar_files.specs.Cuts.{EachDerivesPolicy};
 
 use grammar_policies::lexing_is_unique;
 
-/// Proves that the texts of a file's policies, with the whitespace before each and the rest after the last, are the
-/// file. Each text by itself has tokens, of which exactly the last is a `;`, and this `;` ends the text. No-op.
+/// Proves that a file that has tokens is the concatenation of the texts of its policies, each with the whitespace
+/// before it, and of the rest after the last. Each text by itself has tokens, of which exactly the last is a `;`, and
+/// this `;` ends the text. No-op.
 pub fn texts_are_self_contained()
     ensures join { PartsJoin }
     ensures spaced { EachIsSpaced }

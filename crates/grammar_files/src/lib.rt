@@ -1,4 +1,5 @@
-//! The text of each policy in a file, and the theorem that it is the same policy by itself as in the file.
+//! Cuts the text of a file into the texts of its policies, and proves that each, parsed by itself, gives the same
+//! policy as in the file, or an error.
 #![tactic(auto)]
 
 mod cuts;

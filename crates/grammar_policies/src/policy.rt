@@ -28,7 +28,7 @@ fn maybe_text(tokens: &mut Cursor<'_>) -> Result<Option<Token>, StopCause>
     Ok(Some(text))
 }
 
-/// Parses "(" [ String ] ")" if "(" comes next.
+/// Parses "(" [ String ] ")" if "(" comes next, and returns the string, if there is one.
 #[tactic(auto, unfolding(crate::specs::inner::Parsing::maybe_value, crate::specs::inner::Parsing::annotation_value))]
 fn maybe_value(tokens: &mut Cursor<'_>) -> Result<Option<Token>, StopCause>
     ensures reads { ParsesTo (spec.maybe_value tokens.old.rest.now) result tokens.new.rest.now }

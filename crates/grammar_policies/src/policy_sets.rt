@@ -12,7 +12,7 @@ pub(crate) enum PolicySet {
     Effects,
     /// `when` and `unless`.
     ConditionWords,
-    /// The first tokens of a policy.
+    /// `@`, `permit` and `forbid`: the tokens that a policy may begin with.
     PolicyStarts,
 }
 

@@ -17,9 +17,9 @@ use std::alloc::Global;
 ///
 /// # Errors
 ///
-/// - `Unexpected`, `Slot` or `TooDeep`, with the index of the first token that cannot follow those before it in a
-///   policy, or the number of tokens if they end too early.
-/// - `NoMemory`: an allocation failed; possible at any point.
+/// - `Unexpected` (11), `Slot` (16) or `TooDeep` (17): a token cannot follow those before it in a policy, or the tokens
+///   end too early. The error has the index of the first such token, or the number of tokens.
+/// - `NoMemory` (1): an allocation failed; possible at any point.
 pub fn read_policy(alloc: Global, tokens: &[Token]) -> Result<PolicyTree, SyntaxFault>
     ensures reads { ReadsWithin (grammar.policy nesting_limit) (at_any grammar.policy) tokens.now result }
     ensures is_well_formed { IfOk result (WellFormedPolicy tokens.now) }
@@ -35,9 +35,9 @@ pub fn read_policy(alloc: Global, tokens: &[Token]) -> Result<PolicyTree, Syntax
 ///
 /// # Errors
 ///
-/// - `Unexpected`, `Slot` or `TooDeep`, with the index of the first token that cannot follow those before it in a list
-///   of policies, or the number of tokens if they end too early.
-/// - `NoMemory`: an allocation failed; possible at any point.
+/// - `Unexpected` (11), `Slot` (16) or `TooDeep` (17): a token cannot follow those before it in a list of policies, or
+///   the tokens end too early. The error has the index of the first such token, or the number of tokens.
+/// - `NoMemory` (1): an allocation failed; possible at any point.
 pub fn read_policies(alloc: Global, tokens: &[Token]) -> Result<Vec<PolicyTree>, SyntaxFault>
     ensures reads { ReadsWithin (grammar.policies nesting_limit) (at_any grammar.policies)
         tokens.now (with_items result) }
@@ -54,9 +54,9 @@ pub fn read_policies(alloc: Global, tokens: &[Token]) -> Result<Vec<PolicyTree>,
 ///
 /// # Errors
 ///
-/// - `Unexpected` or `Slot`, with the index of the first token that cannot follow those before it in a uid, or the
-///   number of tokens if they end too early.
-/// - `NoMemory`: an allocation failed; possible at any point.
+/// - `Unexpected` (11) or `Slot` (16): a token cannot follow those before it in a uid, or the tokens end too early. The
+///   error has the index of the first such token, or the number of tokens.
+/// - `NoMemory` (1): an allocation failed; possible at any point.
 pub fn read_uid(alloc: Global, tokens: &[Token]) -> Result<UidTree, SyntaxFault>
     ensures reads { Reads grammar.uid tokens.now result }
     ensures is_well_formed { IfOk result (WellFormedUid tokens.now) }

@@ -1,4 +1,4 @@
-//! The meanings of `when` and `unless`, tokens whose kind is all their meaning.
+//! The meanings of `when` and `unless`, which the kind of the token determines.
 
 ghost use Rattle.grammar_policies.specs.Grammar.{condition_word_of};
 

@@ -12,7 +12,7 @@ Kinds = TokenKind → Bool
 abbrev pub number_of : TokenKind → ℕ
 number_of k = tag_of the_type k
 
--- `same_kind a b` tests whether two kinds are equal.
+-- `same_kind a b` tests whether the kinds `a` and `b` are equal.
 unfoldable pub same_kind : TokenKind → TokenKind → Bool
 same_kind a b = number_of a == number_of b
 

@@ -1,5 +1,5 @@
--- Defines the combinators that productions are made of. A production says which values, such as trees, a list of tokens
--- derives.
+-- Defines the combinators that productions are made of. A production defines which values, such as trees, a list of
+-- tokens derives.
 use Rattle.std.specs.Prelude.{◌≡◌, ◌⊎◌, ℕ, suc, Bool, true, false, List, [], ◌∷◌, ◌++◌, Option, Some, None}
 use Rattle.grammar_tokens.specs.declared.token.TokenKind.{TokenKind}
 use Rattle.grammar_tokens.specs.declared.token.Token.{Token}
@@ -63,8 +63,7 @@ many L ts (x ∷ xs) = (front : List Token) × (back : List Token) × (ts ≡ fr
 abbrev pub never : {A : Type 0} → Lang A
 never ts x = ⊥
 
--- `at_any L`: what `L` derives under some limit on nesting of one or more levels, which is what it derives without a
--- limit
+-- `at_any L`: tokens of `L n` for some limit `n`, at least 1, on the levels of nesting; so nesting has no limit
 abbrev pub at_any : {A : Type 0} → (ℕ → Lang A) → Lang A
 at_any L ts x = (levels : ℕ) × L (suc levels) ts x
 

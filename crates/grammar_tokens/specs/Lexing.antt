@@ -4,7 +4,8 @@
 -- WHITESPC, COMMENT and the marks of the productions). The escapes in strings are those of string literals in Rust,
 -- as the guide says, and `\*` ("Operators: like").
 -- Rules of this product: white space is what Unicode calls White_Space; a comment ends before a line feed or a
--- carriage return; a line end may occur in a string; the longest token is taken; `__cedar` is reserved.
+-- carriage return; a line end may occur in a string, but a backslash and a line end are not an escape; `\u{..}` has no
+-- `_`; each token is the longest at its offset; `__cedar` is reserved.
 --
 -- A text is the list of its bytes in UTF-8, and an offset is a number of bytes from its start. `codes "if"` is the list
 -- of the code points of `i` and `f`, and `code "i"` is the code point of `i`.
@@ -87,7 +88,7 @@ listed (e ∷ table) w = if bytes_eq e.spelling w then Some e.kind else listed t
 
 -- ## Words and numbers
 
--- `or_else a b` is `a`, or `b` if `a` is `None`.
+-- `or_else o other` is `o`, or `other` if `o` is `None`.
 abbrev pub or_else : Option TokenKind → Option TokenKind → Option TokenKind
 or_else None other = other
 or_else (Some k) other = Some k
@@ -122,17 +123,17 @@ quote = code "\""
 abbrev pub backslash : ℕ
 backslash = code "\\"
 
--- `escapes` are the letters and marks that may follow the backslash of an escape, each with its meaning.
+-- `escapes` are the letters and marks of the first of these forms, each with its meaning after a backslash.
 abbrev pub escapes : List (ℕ × ℕ)
 escapes = (code "n", code "\n") ∷ (code "r", code "\r") ∷ (code "t", code "\t") ∷ (code "\\", code "\\")
     ∷ (code "0", code "\0") ∷ (code "'", code "'") ∷ (code "\"", code "\"") ∷ []
 
--- `meant_in table c` is the meaning of the letter or mark `c` in `table`.
+-- `meant_in table c` is the meaning of the letter or mark `c` in `table`, if it is there.
 abbrev pub meant_in : List (ℕ × ℕ) → ℕ → Option ℕ
 meant_in [] c = None
 meant_in ((d, meant) ∷ table) c = if nat_eq c d then Some meant else meant_in table c
 
--- `escaped c` is the meaning of the letter or mark `c` after a backslash.
+-- `escaped c` is the meaning of the letter or mark `c` after a backslash, if `escapes` has it.
 abbrev pub escaped : ℕ → Option ℕ
 escaped c = meant_in escapes c
 
@@ -172,13 +173,13 @@ is_star (piece.Byte b) = false
 is_star (piece.Char c) = false
 is_star piece.Star = true
 
--- `has_star ps` tests whether one of the pieces `ps` is `\*`.
+-- `has_star ps` tests whether any of the pieces `ps` is `\*`.
 abbrev pub has_star : List Piece → Bool
 has_star [] = false
 has_star (p ∷ ps) = is_star p || has_star ps
 
--- `kind_of_pieces ps` is the kind of a string with the pieces `ps`: `StarText` if one is `\*`, since such a string may
--- only be a pattern.
+-- `kind_of_pieces ps` is the kind of a string with the pieces `ps`: `StarText` if any of them is `\*`, since such a
+-- string may only be a pattern; else `Text`.
 abbrev pub kind_of_pieces : List Piece → TokenKind
 kind_of_pieces ps = if has_star ps then StarText else Text
 
@@ -216,8 +217,8 @@ abbrev pub EndsLine : List ℕ → Type 0
 EndsLine [] = Unit {0}
 EndsLine (c ∷ cs) = in_line c ≡ false
 
--- `IsGap w rest` holds if `w`, followed by `rest`, may be between tokens: a whitespace character, or a comment up to
--- the end of its line.
+-- `IsGap w rest` holds if `w` is a whitespace character, or a comment after which the text `rest` is empty or begins
+-- with a line end.
 pub data IsGap : List ℕ → List ℕ → Type 0 where
   blank : {w rest : List ℕ} (c : ℕ) → is_whitespace c ≡ true → w ≡ encode_utf8 c → IsGap w rest
   comment : {w rest : List ℕ} (said : List ℕ) → AllAre in_line said → EndsLine rest → w ≡ codes "//" ++ said
@@ -229,9 +230,8 @@ NoGap text = (w rest : List ℕ) → IsGap w rest → text ≡ w ++ rest → ⊥
 
 -- ## Texts
 
--- `Lex at text ts to left` holds if `text`, which begins at offset `at`, is a concatenation of whitespace, comments and
--- the tokens `ts`, followed by `left`, which begins at offset `to`. Each token is the longest that starts at its
--- offset.
+-- `Lex at text ts to left` holds if `text` is a concatenation of whitespace, comments and the tokens `ts`, followed by
+-- `left`. `text` begins at offset `at`, and `left` at offset `to`. Each token is the longest that starts at its offset.
 pub data Lex : ℕ → List ℕ → List Token → ℕ → List ℕ → Type 0 where
   finish : {at : ℕ} {text : List ℕ} → Lex at text [] at text
   gap : {at to : ℕ} {text left : List ℕ} {ts : List Token} (w rest : List ℕ) → text ≡ w ++ rest → IsGap w rest →
@@ -246,7 +246,7 @@ abbrev pub IsLexed : List ℕ → List Token → Type 0
 IsLexed text ts = (to : ℕ) × Lex 0 text ts to []
 
 -- `IsBadAt text at` holds if `text` up to offset `at` is a concatenation of whitespace, comments and tokens (`Lex`),
--- does not end there, and goes on with neither whitespace nor a comment nor a token.
+-- and none of these starts at `at`. The offset `at` is not the end of `text`.
 pub record IsBadAt (text : List ℕ) (at : ℕ) : Type 0 where
   pub tokens : List Token
   pub here : ℕ
@@ -275,7 +275,8 @@ pub record IsSpelledIn (text : List ℕ) (t : Token) : Type 0 where
   pub start_cut : IsCharBoundary text t.start
   pub end_cut : IsCharBoundary text t.end
 
--- `AreInOrder at ts` holds if the tokens `ts` follow one another, from offset `at` on.
+-- `AreInOrder at ts` holds if the first of the tokens `ts` starts at or after offset `at`, and each other token starts
+-- at or after the end of the one before it.
 abbrev pub AreInOrder : ℕ → List Token → Type 0
 AreInOrder at [] = Unit {0}
 AreInOrder at (t ∷ ts) = (at ≤ t.start) × AreInOrder t.end ts

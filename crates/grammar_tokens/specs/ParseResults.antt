@@ -44,7 +44,7 @@ is_slot k.PrincipalSlot = true
 is_slot k.ResourceSlot = true
 is_slot _ = false
 
--- `sees ks ts` tests whether the first of `ts` has a kind of `ks`.
+-- `sees ks ts` tests whether `ts` is not empty and its first token has a kind of `ks`.
 abbrev pub sees : Kinds → List Token → Bool
 sees ks [] = false
 sees ks (t ∷ ts) = ks t.kind
@@ -65,8 +65,7 @@ IsRefusedWithin L K ts (fault.Slot place) =
 IsRefusedWithin L K ts (fault.TooDeep place) =
     (rest : List Token) × (b : BreaksAt L ts place rest) × GoesOn K b.front rest
 
--- `IsAnswerWithin L K ts r` holds if `r` is a tree that `ts` derives in `L`, or the error at the first token with which
--- `L` does not go on, or at the end of `ts`.
+-- `IsAnswerWithin L K ts r` holds if `r` is a tree that `ts` derives in `L`, or the error of `ts` (`IsRefusedWithin`).
 abbrev pub IsAnswerWithin : {A : Type 0} → Lang A → Lang A → List Token → Result A SyntaxFault → Type 0
 IsAnswerWithin L K ts (Ok tree) = L ts tree
 IsAnswerWithin L K ts (Err e) = IsRefusedWithin L K ts e
@@ -90,8 +89,8 @@ pub record AnsweredWithin {A : Type 0} (L K : Lang A) (ts : List Token) : Type 0
 abbrev pub HasOneAnswerWithin : {A : Type 0} → Lang A → Lang A → Type 0
 HasOneAnswerWithin L K = (ts : List Token) → AnsweredWithin L K ts
 
--- `OpensNextLevel L levels` holds if a token that is too deep in `L levels`, the language with at most `levels` levels
--- of nesting, opens the next level: with one level more, `L (suc levels)` goes on with it.
+-- `OpensNextLevel L levels` holds if a token that is too deep in `L levels` opens the next level: `L (suc levels)` goes
+-- on with it. `L n` is the language with at most `n` levels of nesting.
 abbrev pub OpensNextLevel : {A : Type 0} → (ℕ → Lang A) → ℕ → Type 0
 OpensNextLevel L levels = (ts : List Token) (place : ℕ) → IsRefusedWithin (L levels) (at_any L) ts (fault.TooDeep place)
     → IsRefusedWithin (L levels) (L (suc levels)) ts (fault.TooDeep place)
@@ -106,9 +105,10 @@ pub record Takes {A : Type 0} (L K : Lang A) (ts : List Token) (tree : A) (rest 
   pub derived : L front tree
   pub ends : GoesOn K front rest → ⊥
 
--- `ReadsFrontWithin L K ts r rest` holds if `r` is the result of parsing the front of `ts`, and `rest` are the tokens
--- that remain after a tree, or from the token at which parsing stops. A token is unexpected only if those before it
--- derive no tree; if they derive one, that tree is the result.
+-- `ReadsFrontWithin L K ts r rest` holds if parsing the front of `ts` has the result `r` and leaves the tokens `rest`.
+-- These are the tokens after a tree, or those from the token at which parsing stops. A token is unexpected only if
+-- those before it derive no tree; if they derive one, that tree is the result. If `r` is `NoMemory`, `rest` may be any
+-- tokens.
 abbrev pub ReadsFrontWithin : {A : Type 0} → Lang A → Lang A → List Token → Result A StopCause → List Token → Type 0
 ReadsFrontWithin L K ts (Ok tree) rest = Takes L K ts tree rest
 ReadsFrontWithin L K ts (Err halt.NoMemory) rest = Unit {0}
@@ -119,16 +119,16 @@ ReadsFrontWithin L K ts (Err halt.TooDeep) rest =
 
 -- ---- a language without expressions: it does not nest, so no token is too deep
 
--- `Reads L ts result` holds if `result` is the result of parsing all of `ts` in the language `L`.
+-- `Reads L ts result` holds if `result` is the result of parsing all of `ts` in the language `L`, or `NoMemory`.
 abbrev pub Reads : {A : Type 0} → Lang A → List Token → Result A SyntaxFault → Type 0
 Reads L ts result = ReadsWithin L L ts result
 
 -- `ReadsFront L ts result rest` holds if `result` is the result of parsing the front of `ts`, up to `rest`, in the
--- language `L`.
+-- language `L`. It also holds if `result` is `NoMemory`, whatever `rest` is.
 abbrev pub ReadsFront : {A : Type 0} → Lang A → List Token → Result A StopCause → List Token → Type 0
 ReadsFront L ts result rest = ReadsFrontWithin L L ts result rest
 
--- `HasOneAnswer L` holds if each list of tokens has exactly one result in the language `L`.
+-- `HasOneAnswer L` holds if each list of tokens has exactly one result in the language `L`, not counting `NoMemory`.
 abbrev pub HasOneAnswer : {A : Type 0} → Lang A → Type 0
 HasOneAnswer L = HasOneAnswerWithin L L
 
@@ -137,7 +137,8 @@ abbrev pub with_items : {A : Type 0} → Result (Vec A Global) SyntaxFault → R
 with_items (Ok found) = Ok found.items
 with_items (Err e) = Err e
 
--- `refusal_by slot place` is the error at index `place`, where `slot` says whether the token there is a slot.
+-- `refusal_by slot place` is the error at index `place`: `Slot` if `slot` is true (the token there is a template slot),
+-- else `Unexpected`.
 abbrev pub refusal_by : Bool → ℕ → SyntaxFault
 refusal_by true place = fault.Slot place
 refusal_by false place = fault.Unexpected place
@@ -153,8 +154,8 @@ refusal_of halt.NoMemory place rest = fault.NoMemory
 refusal_of halt.Unexpected place rest = refusal_at place rest
 refusal_of halt.TooDeep place rest = fault.TooDeep place
 
--- `whole_of r place rest` is the result of parsing a whole list of tokens, given the result `r` for its front, the
--- number `place` of tokens in that front, and the remaining tokens `rest`.
+-- `whole_of r place rest` is the result of parsing a whole list of tokens. `r` is the result for its front, `place` is
+-- the number of tokens in that front, and `rest` are the remaining tokens.
 abbrev pub whole_of : {A : Type 0} → Result A StopCause → ℕ → List Token → Result A SyntaxFault
 whole_of (Ok tree) place [] = Ok tree
 whole_of (Ok tree) place (token ∷ more) = Err (refusal_of halt.Unexpected place (token ∷ more))

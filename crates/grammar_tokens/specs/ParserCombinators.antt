@@ -75,13 +75,13 @@ abbrev pub optional : {A : Type 0} → Kinds → Parser A → Parser (Option A)
 optional ks p = either ks (p >>= (λ a. pure (Some a))) (pure None)
 
 -- `loop_from next ks p n s` parses by `p s` again and again, as long as a token of the set `ks s` comes next, at most
--- `n` times. After each time `next` gives the next state `s` from the last one and the parsed value.
+-- `n` times. After each time, `next` maps the state `s` and the parsed value to the next state.
 unfoldable pub loop_from : {S A : Type 0} → (S → A → S) → (S → Kinds) → (S → Parser A) → ℕ → S → Parser (List A)
 loop_from next ks p zero s = pure []
 loop_from next ks p (suc n) s =
     either (ks s) (p s >>= (λ a. loop_from next ks p n (next s a) >>= (λ more. pure (a ∷ more)))) (pure [])
 
--- `loop next ks p s` does the same from the state `s`, at most as many times as there are tokens.
+-- `loop next ks p s` is `loop_from next ks p n s`, where `n` is the number of the tokens to parse.
 abbrev pub loop : {S A : Type 0} → (S → A → S) → (S → Kinds) → (S → Parser A) → S → Parser (List A)
 loop next ks p s = λ ts. loop_from next ks p (length ts) s ts
 
@@ -89,7 +89,7 @@ loop next ks p s = λ ts. loop_from next ks p (length ts) s ts
 abbrev pub many : {A : Type 0} → Kinds → Parser A → Parser (List A)
 many ks p = loop (λ s a. s) (λ s. ks) (λ s. p) (tt {0})
 
--- `gate open p` is `p` if `open` is true (another level of nesting may be opened), else the error `TooDeep`.
+-- `gate open p` is `p` if `open` is true (another level of nesting may be opened), else `too_deep`.
 abbrev pub gate : {A : Type 0} → Bool → Parser A → Parser A
 gate true p = p
 gate false p = too_deep

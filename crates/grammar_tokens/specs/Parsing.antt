@@ -67,8 +67,8 @@ last_of t (u ∷ us) = last_of u us
 abbrev pub uid_tree : Token → List Token → UidTree
 uid_tree first ts = record { path = record { first = first; more = beginning ts }; id = last_of first ts }
 
--- `finished ended first ts` parses nothing, with the value `uid_tree first ts`, if `ended` is true (a String has ended
--- the pieces `ts`); else it stops with an error.
+-- `finished ended first ts` consumes no token. Its value is `uid_tree first ts` if `ended` is true (a String has ended
+-- the pieces `ts`); else it stops, since the next token cannot occur there.
 abbrev pub finished : Bool → Token → List Token → Parser UidTree
 finished true first ts = pure (uid_tree first ts)
 finished false first ts = refuse

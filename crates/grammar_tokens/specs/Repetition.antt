@@ -7,16 +7,19 @@ use Rattle.grammar_tokens.specs.Kinds.{Kinds}
 use Rattle.grammar_tokens.specs.ParserCombinators.{Parser, many, pure, ◌>>=◌}
 use Rattle.grammar_tokens.specs.ParsesTo.{ParsesTo}
 
--- `CallsRead p post` holds if each call of a closure with the postcondition `post` parses as `p` does.
+-- `CallsRead p post` holds if each call of a closure with the postcondition `post` parses as `p` does, or returns
+-- `NoMemory`.
 abbrev pub CallsRead : {A : Type 0} → Parser A → (MutBor Cursor → Result A StopCause → MutBor Cursor → Type 0) → Type 0
 CallsRead {A} p post =
     (old new : MutBor Cursor) (r : Result A StopCause) → post old r new
     → ParsesTo (p old.now.rest.now) r new.now.rest.now
 
--- `many_onto found ks p` parses by `p` as long as a token of `ks` comes next, and appends the values to `found`.
+-- `many_onto found ks p` parses by `p` as long as a token of `ks` comes next. Its value is `found`, followed by the
+-- parsed values.
 abbrev pub many_onto : {A : Type 0} → List A → Kinds → Parser A → Parser (List A)
 many_onto found ks p = many ks p >>= (λ more. pure (found ++ more))
 
--- `many_after first ks p` does the same, and puts the values after `first`.
+-- `many_after first ks p` parses by `p` as long as a token of `ks` comes next. Its value is `first`, followed by the
+-- parsed values.
 abbrev pub many_after : {A : Type 0} → A → Kinds → Parser A → Parser (List A)
 many_after first ks p = many ks p >>= (λ more. pure (first ∷ more))

@@ -54,7 +54,7 @@ literals_of [] = [] ∷ []
 literals_of (p ∷ ps) = if is_wildcard p then [] ∷ literals_of ps else prefixed (piece_bytes p) (literals_of ps)
 
 -- `IsPatternOf literals spelling` holds if `spelling` is a string in quotes that, as a pattern, has the literal texts
--- `literals` with a wildcard between each two.
+-- `literals`, with a wildcard between adjacent ones.
 pub record IsPatternOf (literals : List (List ℕ)) (spelling : List ℕ) : Type 0 where
   pub pieces : List Piece
   pub body : List ℕ

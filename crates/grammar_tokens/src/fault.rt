@@ -6,14 +6,14 @@ ghost use Rattle.grammar_tokens.specs.declared.fault.StopCause.TheVariants as ha
 use std::alloc::AllocError;
 use thiserror::Error;
 
-/// An error of parsing a list of tokens. The index is that of the first token that cannot follow those before it, or
-/// the number of tokens if the tokens end too early.
+/// An error of parsing a list of tokens. The index is that of the token at which parsing stops, or the number of tokens
+/// if the tokens end too early.
 #[derive(Clone, Copy, PartialEq, Eq, Debug, Error)]
 pub enum SyntaxFault {
     /// An allocation failed.
     #[error("policy 1: out of memory")]
     NoMemory,
-    /// The token at the index cannot occur there.
+    /// The token at the index cannot occur there, or the tokens end too early.
     #[error("policy 11: token {0} is unexpected")]
     Unexpected(usize),
     /// The token at the index is `?principal` or `?resource`, which cannot occur anywhere.

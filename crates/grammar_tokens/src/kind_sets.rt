@@ -35,9 +35,9 @@ impl KindSet for TokenKind {
 /// The sets that the parsers of names use.
 #[derive(Clone, Copy)]
 pub enum NameSet {
-    /// Words that are not reserved.
+    /// Identifiers: words that are not reserved.
     Identifiers,
-    /// What follows a `::`: an identifier or a string.
+    /// What follows a `::` in a name: an identifier, or a string without `\*`.
     Pieces,
     /// `?principal` and `?resource`.
     Slots,

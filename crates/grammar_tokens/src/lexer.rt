@@ -13,15 +13,16 @@ use std::alloc::Global;
 /// fewer tokens, so the list does not grow.
 const BYTES_A_TOKEN: usize = 3;
 
-/// Returns the tokens of a text, each the longest that starts at its byte, between whitespace and comments.
+/// Returns the tokens of a text in order, without the whitespace and comments between them. Each token is the longest
+/// that starts at its offset.
 ///
 /// O(length of the text). Allocates the list of tokens.
 ///
 /// # Errors
 ///
-/// - `BadToken`: neither whitespace nor a comment nor a token starts at this byte. If a string is not closed, or has a
-///   bad escape, the byte is that of its opening quote.
-/// - `NoMemory`: an allocation failed; possible at any point.
+/// - `BadToken` (10): neither whitespace nor a comment nor a token starts at the reported byte. If a string is not
+///   closed, or has a bad escape, the byte is that of its opening quote.
+/// - `NoMemory` (1): an allocation failed; possible at any point.
 pub fn tokens(alloc: Global, text: &str) -> Result<Vec<Token>, LexFault>
     ensures found { IfOk result (λ tokens. IsLexed text.now tokens.items) }
     ensures spelled { IfOk result (λ tokens. AllByRecursion (IsSpelledIn text.now) tokens.items) }

@@ -26,7 +26,7 @@ fn path_word(tokens: &mut Cursor<'_>) -> Result<Token, StopCause>
     tokens.take_one_of(NameSet::Identifiers)
 }
 
-/// Parses the rest of a Path after its first word.
+/// Parses the rest of a Path after its first word, `first`.
 #[tactic(auto, unfolding(crate::specs::Parsing::rest_of_path))]
 fn rest_of_path(alloc: Global, tokens: &mut Cursor<'_>, first: Token) -> Result<PathTree, StopCause>
     ensures { ParsesTo (spec.rest_of_path first tokens.old.rest.now) result tokens.new.rest.now }
@@ -36,8 +36,8 @@ fn rest_of_path(alloc: Global, tokens: &mut Cursor<'_>, first: Token) -> Result<
 }
 
 /// Parses a Path = Ident { "::" Ident } from the front of the tokens. Parsing is greedy: it goes on as long as the next
-/// token can continue the Path. The cursor is then after the Path, or on an error before the token at which parsing
-/// stops.
+/// token can continue the Path. The cursor is then after the Path. After `Unexpected` it is before the token at which
+/// parsing stops; after `NoMemory` its position is unspecified.
 ///
 /// # Errors
 ///
@@ -62,7 +62,7 @@ fn piece(tokens: &mut Cursor<'_>) -> Result<Token, StopCause>
     tokens.take_one_of(NameSet::Pieces)
 }
 
-/// Parses the rest of a Uid after its first word.
+/// Parses the rest of a Uid after its first word, `first`.
 fn rest_of_uid(alloc: Global, tokens: &mut Cursor<'_>, first: Token) -> Result<UidTree, StopCause>
     ensures { ParsesTo (spec.rest_of_uid first tokens.old.rest.now) result tokens.new.rest.now }
 {
@@ -78,8 +78,8 @@ fn rest_of_uid(alloc: Global, tokens: &mut Cursor<'_>, first: Token) -> Result<U
     Err(StopCause::Unexpected)
 }
 
-/// Parses a Uid = Path "::" String from the front of the tokens. The cursor is then after the Uid, or on an error
-/// before the token at which parsing stops.
+/// Parses a Uid = Path "::" String from the front of the tokens. The cursor is then after the Uid. After `Unexpected`
+/// it is before the token at which parsing stops; after `NoMemory` its position is unspecified.
 ///
 /// # Errors
 ///
@@ -94,8 +94,9 @@ pub fn uid(alloc: Global, tokens: &mut Cursor<'_>) -> Result<UidTree, StopCause>
     rest_of_uid(alloc, tokens, first)
 }
 
-/// Parses the rest of a name after its first word: a Uid if a String ends the name, else a Path. On an error the cursor
-/// is before the token at which parsing stops.
+/// Parses the rest of a name after its first word, `first`: a Uid if a String ends the name, else a Path. The cursor is
+/// then after the name. After `Unexpected` it is before the token at which parsing stops; after `NoMemory` its position
+/// is unspecified.
 ///
 /// # Errors
 ///

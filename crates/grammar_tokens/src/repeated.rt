@@ -46,8 +46,8 @@ fn read_on<T: Drop, S: KindSet, F: Fn(&mut Cursor<'_>) -> Result<T, StopCause>>(
 
 /// Parses pieces as long as a token of the set comes next, each by a call of `read`.
 ///
-/// Returns the first error of such a call, or `NoMemory` if the list cannot grow. Does not allocate if there are no
-/// pieces.
+/// Returns the first error of such a call, or `NoMemory` if the list cannot grow. Does not allocate if no token of the
+/// set comes next.
 pub fn read_many<T: Drop, S: KindSet, F: Fn(&mut Cursor<'_>) -> Result<T, StopCause>>(
     alloc: Global,
     tokens: &mut Cursor<'_>,

@@ -20,7 +20,7 @@ struct Literal {
     len: usize,
 }
 
-/// Returns whether a byte between quotes denotes itself; in a pattern a star does not.
+/// Returns whether a byte between quotes denotes itself. A star does not if `in_pattern` is true.
 #[tactic(auto, unfolding(crate::specs::inner::Tokenizing::is_plain))]
 fn plain_byte(in_pattern: bool, byte: u8) -> bool
     ensures { result ≡ is_plain in_pattern byte }
@@ -28,7 +28,7 @@ fn plain_byte(in_pattern: bool, byte: u8) -> bool
     !(byte == b'\\' || (in_pattern && byte == b'*'))
 }
 
-/// Returns the number of bytes at the beginning of `text` that denote themselves.
+/// Returns the number of bytes before the first byte of `text` that does not denote itself, or all if each does.
 fn plain_len(in_pattern: bool, text: &[u8]) -> usize
     ensures is { result ≡ run (is_plain in_pattern) text.now }
     ensures within { result ≤ length text.now }
@@ -43,7 +43,7 @@ fn plain_len(in_pattern: bool, text: &[u8]) -> usize
     len
 }
 
-/// Returns the character that an escape denotes.
+/// Returns the character that an escape denotes; `*` for a `Byte`, which is not an escape.
 fn character(piece: Piece) -> char
     ensures { result ≡ character_of piece }
 {
@@ -53,7 +53,7 @@ fn character(piece: Piece) -> char
     }
 }
 
-/// Decodes the body of a string; of a pattern, only up to the first wildcard.
+/// Decodes the body of a string: all of it, or, if `in_pattern` is true, only up to the first wildcard.
 fn read_literal(alloc: Global, body: &str, in_pattern: bool) -> Result<Literal, NoMemory>
     requires { (ps : List Piece) × IsBody ps body.now }
     ensures { IfOk result (λ literal. IsLiteral in_pattern literal.value literal.len body.now) }
@@ -100,7 +100,7 @@ pub fn decode_string(alloc: Global, text: &str, token: Token) -> Result<Text, No
 }
 
 /// Returns the pattern that the string at `token`, after `like`, denotes: its literal texts, with a wildcard between
-/// each two.
+/// adjacent ones.
 ///
 /// An unescaped `*` is a wildcard; an escaped one, `\*`, is a literal star. A pattern without a wildcard is one text.
 /// The only error is `NoMemory`.

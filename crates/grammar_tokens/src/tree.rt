@@ -6,7 +6,7 @@ use plain::Items;
 #[derive(Drop)]
 pub struct PathTree {
     pub first: Token,
-    /// The words after each `::`.
+    /// The words after the first, each of which follows a `::`.
     pub more: Items<Token>,
 }
 

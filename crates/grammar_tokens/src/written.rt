@@ -9,7 +9,7 @@ use crate::token::Token;
 
 /// Returns the text of a token. Does not allocate.
 ///
-/// The token's kind determines whether it is an identifier or a reserved word.
+/// The token's kind determines whether this text is an identifier, and whether it is a reserved word.
 pub fn spelling(text: &str, token: Token) -> &str
     requires { IsSpelledIn text.now token }
     ensures is { result.now ≡ spelling_of text.now token }

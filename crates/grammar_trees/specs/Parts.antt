@@ -40,8 +40,9 @@ path_parts path = part identifiers path.first ∷ map (part identifiers) path.mo
 abbrev pub uid_parts : UidTree → List Part
 uid_parts uid = part (only k.Text) uid.id ∷ path_parts uid.path
 
--- `access_parts`, `entry_parts` and `term_parts` are the parts of an access, of an entry of a record and of a term of a
--- sum. In each of these every expression is replaced by the list of its parts.
+-- `access_parts access`, `entry_parts entry` and `term_parts term` are the parts of the access `access`, of the entry
+-- `entry` of a record and of the term `term` of a sum. In the arguments, each expression is replaced by the list of its
+-- parts.
 abbrev pub access_parts : Access (List (List Part)) → List Part
 access_parts (access.Field key) = key_part key ∷ []
 access_parts (access.Method name arguments) = part identifiers name ∷ flat_map (λ parts. parts) arguments
@@ -85,7 +86,8 @@ parts_step (tree.If a b c) = a ++ (b ++ c)
 abbrev pub parts_of : ExprTree → List Part
 parts_of = fold-ExprTree (List Part) parts_step
 
--- `parts_of_access`, `parts_of_entry` and `parts_of_term` are the parts of an access, an entry and a term.
+-- `parts_of_access access`, `parts_of_entry entry` and `parts_of_term term` are the parts of the access `access`, of
+-- the entry `entry` of a record and of the term `term` of a sum.
 abbrev pub parts_of_access : Access (List ExprTree) → List Part
 parts_of_access (access.Field key) = key_part key ∷ []
 parts_of_access (access.Method name arguments) = part identifiers name ∷ flat_map parts_of arguments

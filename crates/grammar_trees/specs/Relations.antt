@@ -11,7 +11,7 @@ use Rattle.grammar_trees.specs.declared.tree.ExprTree.{ExprTree}
 abbrev pub relation : Lang ExprTree → (ExprTree → Lang ExprTree) → Lang ExprTree
 relation operand tailed = operand >>= tailed
 
--- `DerivesFront L ts a rest` holds if `ts` are some tokens that derive `a` in `L`, followed by `rest`.
+-- `DerivesFront L ts a rest` holds if `ts` are tokens that derive `a` in `L`, and then the tokens `rest`.
 pub record DerivesFront {A : Type 0} (L : Lang A) (ts : List Token) (a : A) (rest : List Token) : Type 0 where
   pub front : List Token
   pub whole : ts ≡ front ++ rest

@@ -1,4 +1,4 @@
-//! Relations of the grammar: an operand with at most one tail, such as `< 2` or `has name`.
+//! Relations of the grammar: an operand with at most one tail. `< 2` and `has name` are tails.
 ghost use Rattle.std.specs.Prelude.{IfOk};
 ghost use Rattle.grammar_tokens.specs.Lang.{Lang};
 ghost use Rattle.grammar_tokens.specs.ParsesTo.{ParsesTo};
@@ -17,13 +17,13 @@ pub trait Related {
     /// The language of an operand.
     ghost operands: { Self → Lang trees.ExprTree };
 
-    /// The language of an operand's tail, which may be empty.
+    /// The language of the tail of a given operand. The tail may be empty, and its value is the whole relation.
     ghost tailed: { Self → trees.ExprTree → Lang trees.ExprTree };
 
     /// The parsing function of an operand.
     ghost reads_operand: { Self → Parser trees.ExprTree };
 
-    /// The parsing function of an operand's tail.
+    /// The parsing function of the tail of a given operand.
     ghost reads_tail: { Self → trees.ExprTree → Parser trees.ExprTree };
 
     /// Parses an operand from the front of the tokens.
@@ -41,7 +41,7 @@ pub trait Related {
         ensures reads { ParsesTo (reads_tail self.now x tokens.old.rest.now) result tokens.new.rest.now };
 }
 
-/// Parses a relation: an operand and at most one tail, such as `< 2` or `has name`.
+/// Parses a relation, by the parsers in `of`: an operand and at most one tail. `< 2` and `has name` are tails.
 ///
 /// Comparisons do not chain: of `1 < 2 < 3` this function parses `1 < 2`, and no production continues with the second
 /// `<`. The first parser that fails gives the error.

@@ -52,7 +52,7 @@ pub enum KeyTree {
     Quoted(Token),
 }
 
-/// What follows an expression to access its field, or to call its method. `A` is the type of the arguments.
+/// What follows an expression to access its field, or to call its method. `A` is the type of the list of arguments.
 #[derive(Drop)]
 pub enum Access<A> {
     /// `.name` or `["name"]`
@@ -78,7 +78,7 @@ pub struct RecordEntry<T> {
 /// The syntax tree of an expression.
 ///
 /// Operands of one level of operators, and accesses, are side by side in a list. So only parentheses, brackets, braces,
-/// arguments and `if` increase the height much, and these nest at most 64 levels deep.
+/// arguments and `if` increase the height much, and in a parsed tree these nest at most 64 levels deep.
 #[derive(Drop)]
 pub enum ExprTree {
     /// `true` or `false`.

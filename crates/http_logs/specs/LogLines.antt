@@ -1,7 +1,7 @@
 -- Defines the line that a log gets for a request and its reply.
 -- Source: RFC 8259; docs/formats.md, the log.
--- Rules of this product: one compact object on each line, its keys in this order: method, target and status; for a
--- change that was made its stamp; for a decision the request's principal, action and resource, each as the request
+-- Rules of this product: each line is one compact object. Its keys are, in this order: method, target and status; for a
+-- change that was made, its stamp; for a decision, the request's principal, action and resource, each as the request
 -- names it, and then the members of the reply. A part that was not read or is not UTF-8 is null.
 use Rattle.std.specs.Prelude.{◌≡◌, ◌⊎◌, ℕ, List, ◌++◌, drop, Option, Some, None, option_and_then, codes, decimal}
 use Rattle.std.specs.Prelude.{if◌then◌else◌, ◌==◌, length, nat_le}
@@ -41,8 +41,8 @@ status_text status = codes ",\"status\":" ++ decimal status
 abbrev pub plain_tail : StatusCode → List ℕ
 plain_tail status = status_text status ++ codes "}\n"
 
--- `stamp_tail status reply` is the end of the line of a change with this status, where `reply` is the stamp of the
--- change, as in
+-- `stamp_tail status reply` is the end of the line of a change. Its reply has the status `status` and the body `reply`:
+-- the stamp of the change and, for a put of a policy, whether the policy is impossible. An example is
 -- ,"status":200,"stamp":{"count":2,"site":"1"}}
 -- No reply to a change is longer than 128 bytes; the line of a longer one would end after the status.
 abbrev pub stamp_tail : StatusCode → List ℕ → List ℕ
@@ -68,13 +68,14 @@ abbrev pub inner_text : Data → Option Data → List ℕ
 inner_text d None = object_text d
 inner_text d (Some inner) = object_text inner
 
--- `name_text d text` is how the line names the entity that a request names by the JSON `d`: if `d` is the string
--- `text`, by this string, as in "User::\"ann\""; else (`text` is `None`) by the uid in the object `d`.
+-- `name_text d text` is how the line names the entity that a request names by the JSON `d`. If `d` is the string
+-- `text`, the name is this string, as in "User::\"ann\"". Else `text` is `None`, and the name is the uid in the object
+-- `d`.
 abbrev pub name_text : Data → Option (List ℕ) → List ℕ
 name_text d (Some text) = quoted text
 name_text d None = inner_text d (get (codes "__entity") d)
 
--- `named_text found` is that name for the JSON `found`; null for `None`.
+-- `named_text found` is how the line names the entity that a request names by the JSON `found`; null for `None`.
 abbrev pub named_text : Option Data → List ℕ
 named_text (Some d) = name_text d (as_str d)
 named_text None = codes "null"
@@ -97,13 +98,13 @@ members_text json =
 abbrev pub decision_tail : StatusCode → Option Data → List ℕ → List ℕ
 decision_tail status json reply = status_text status ++ members_text json ++ codes "," ++ drop 1 reply ++ codes "\n"
 
--- `decided_tail status json reply` is the end of the line of a request to decide: that of a decision if `status` is
--- 200, else only the status.
+-- `decided_tail status json reply` is the end of the line of a request to decide: `decision_tail` if `status` is 200,
+-- else only the status.
 abbrev pub decided_tail : StatusCode → Option Data → List ℕ → List ℕ
 decided_tail status json reply = if status == 200 then decision_tail status json reply else plain_tail status
 
--- `executed_tail route status body reply` is the end of the line of an executed operation, that of `route`, for a
--- request with `body`.
+-- `executed_tail route status body reply` is the end of the line of an executed request for `route`. The request has
+-- the body `body`, and its reply has the status `status` and the body `reply`.
 abbrev pub executed_tail : Route → StatusCode → List ℕ → List ℕ → List ℕ
 executed_tail Authorize status body reply = decision_tail status (json_of body) reply
 executed_tail (PutPolicy id) status body reply = stamp_tail status reply
@@ -118,31 +119,32 @@ executed_tail Merge status body reply = plain_tail status
 executed_tail Unknown status body reply = plain_tail status
 executed_tail OtherMethod status body reply = plain_tail status
 
--- `tail_of route status body reply` is the end of the line of any request: that of an executed operation if `status` is
--- 200, else only the status.
+-- `tail_of route status body reply` is the end of the line of any request for `route`: `executed_tail` if `status` is
+-- 200, else only the status. `body` is the body of the request, and `reply` the body of its reply.
 abbrev pub tail_of : Route → StatusCode → List ℕ → List ℕ → List ℕ
 tail_of route status body reply = if status == 200 then executed_tail route status body reply else plain_tail status
 
--- `log_line method target body status reply` is the line of a request and its reply.
+-- `log_line method target body status reply` is the line of the request with `method`, `target` and `body`, and of its
+-- reply with the status `status` and the body `reply`.
 abbrev pub log_line : List ℕ → List ℕ → List ℕ → StatusCode → List ℕ → List ℕ
 log_line method target body status reply =
     head_text (text_of method) (text_of target) ++ tail_of (route_stated method target) status body reply
 
--- `unread_line status` is the line for bytes that are not a request, and for a request when out of memory:
+-- `unread_line status` is the line for rejected bytes, and for a request when out of memory:
 -- {"method":null,"target":null,"status":400}
 abbrev pub unread_line : StatusCode → List ℕ
 unread_line status = head_text None None ++ plain_tail status
 
 -- `IsUndone route status reply` holds if `status` and `reply`, sent to a request for `route`, report that an allocation
--- failed and nothing was done: 503 and the error line of code 1, without a place. A request for no operation gets the
--- status 404 or 405 even then, and the error line of this number.
+-- failed and nothing was done. They are 503 and the error line of code 1, without a place. A request for no operation
+-- gets the status 404 or 405 even then, and the error line of this number.
 abbrev pub IsUndone : Route → StatusCode → List ℕ → Type 0
 IsUndone Unknown status reply = (status ≡ 404) × (reply ≡ error_line 404)
 IsUndone OtherMethod status reply = (status ≡ 405) × (reply ≡ error_line 405)
 IsUndone _ status reply = (status ≡ 503) × (reply ≡ error_line 1)
 
--- `IsLogLine method target body status reply line` holds if the log may get `line`: either the line of the request, or,
--- if memory ran out before anything was done, the line without method and target.
+-- `IsLogLine method target body status reply line` holds if the log may get `line` for a request and its reply: their
+-- `log_line`, or, if memory ran out before anything was done, the line without method and target.
 abbrev pub IsLogLine : List ℕ → List ℕ → List ℕ → StatusCode → List ℕ → List ℕ → Type 0
 IsLogLine method target body status reply line =
     (line ≡ log_line method target body status reply)

@@ -4,7 +4,7 @@
 use Rattle.std.specs.Prelude.{◌≡◌, ℕ, Bool, false, ◌==◌, List, ◌++◌, codes}
 use Rattle.std.specs.List.{list_any}
 
--- `is_line_feed b` is whether the byte `b` is a line feed.
+-- `is_line_feed b` tests whether the byte `b` is a line feed.
 abbrev pub is_line_feed : ℕ → Bool
 is_line_feed b = b == 10
 

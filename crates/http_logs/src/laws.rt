@@ -7,9 +7,8 @@ ghost use Rattle.http_routes.specs.declared.route.Route.TheVariants as route;
 ghost use Rattle.http_logs.specs.LogLines.{IsLogLine, decision_tail, head_text, log_line, text_of, unread_line};
 ghost use Rattle.http_logs.specs.OneLine.{HasNoLineFeed, IsOneLine};
 
-/// Proves that lines can't be forged: the line of a request, whatever its method, target and body, has one line feed,
-/// its last byte, if the reply has no line feed. The line for bytes that are not a request also has one line feed, its
-/// last byte. No-op.
+/// Proves that lines cannot be forged. Whatever method, target and body a request has, its line ends with its only line
+/// feed, if the reply has no line feed. The line for rejected bytes also ends with its only line feed. No-op.
 pub fn lines_have_one_line_feed()
     ensures line { (method target body : List ℕ) (status : StatusCode) (reply line : List ℕ) → HasNoLineFeed reply
         → line ≡ log_line method target body status reply → IsOneLine line }

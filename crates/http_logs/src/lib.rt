@@ -1,4 +1,4 @@
-//! The line that a log gets for a request and its reply, and for bytes that are not a request.
+//! The line that a log gets for a request and its reply, and for bytes that are rejected.
 //!
 //! Nothing here writes to a file: lines are made in memory, and a stream writes each before its reply.
 #![tactic(auto)]
@@ -13,8 +13,7 @@ pub use line::{put_decided_tail, put_head, put_plain_tail, put_tail, put_unread_
 /// An upper bound of the bytes of a line without method and target.
 pub const MOST_UNREAD_LINE: usize = 64;
 
-/// An upper bound of the bytes that follow method and target in the line of a change, or of a reply that is reported by
-/// its status alone.
+/// An upper bound of the bytes that follow method and target in a line that reports a change, or only a status.
 pub const MOST_TAIL: usize = 192;
 
 /// An upper bound of the bytes in the body of a reply to a change.

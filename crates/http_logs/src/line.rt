@@ -78,8 +78,8 @@ pub fn put_plain_tail(line: &mut Vec<u8>, status: StatusCode)
     append(line, b"}\n");
 }
 
-/// Ends the line of a change with its reply, the stamp. A reply of over 128 bytes, which no change has, is left out.
-/// Does not allocate.
+/// Ends the line of a change with the body of its reply, which has the stamp. A body of over 128 bytes, which no change
+/// has, is left out. Does not allocate.
 fn put_stamp_tail(line: &mut Vec<u8>, status: StatusCode, reply: &[u8])
     requires { vec_len line.old + MOST_TAIL ≤ vec_capacity line.old }
     ensures items { line.new.items ≡ line.old.items ++ stamp_tail status reply.now }
@@ -154,6 +154,7 @@ fn put_decision_tail(
 }
 
 /// Ends the line of a request to decide, whose body the caller has parsed as `json` (`None` if it is not JSON).
+/// Requires spare capacity for `MOST_TAIL` bytes.
 ///
 /// # Errors
 ///
@@ -201,8 +202,8 @@ fn put_made_tail(line: &mut Vec<u8>, route: &Route, status: StatusCode, reply: &
     }
 }
 
-/// Ends the line of a request whose reply has `status` and the body `reply`. Does not allocate. A request to decide
-/// needs [`put_decided_tail`] instead.
+/// Ends the line of a request whose reply has `status` and the body `reply`. Requires spare capacity for `MOST_TAIL`
+/// bytes. Does not allocate. A request to decide needs [`put_decided_tail`] instead.
 pub fn put_tail(line: &mut Vec<u8>, route: &Route, status: StatusCode, reply: &[u8])
     requires { vec_len line.old + MOST_TAIL ≤ vec_capacity line.old }
     ensures items { route.now ≢ Route.Authorize
@@ -216,7 +217,8 @@ pub fn put_tail(line: &mut Vec<u8>, route: &Route, status: StatusCode, reply: &[
     put_made_tail(line, route, status, reply);
 }
 
-/// Puts the line for bytes that are not a request, or for a request when out of memory. Does not allocate.
+/// Appends the line for rejected bytes, or for a request when out of memory. Requires spare capacity for
+/// `MOST_UNREAD_LINE` bytes. Does not allocate.
 pub fn put_unread_line(line: &mut Vec<u8>, status: StatusCode)
     requires room { vec_len line.old + MOST_UNREAD_LINE ≤ vec_capacity line.old }
     ensures items { line.new.items ≡ line.old.items ++ unread_line status }

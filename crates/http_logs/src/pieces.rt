@@ -1,4 +1,4 @@
-//! Pieces of a line.
+//! The functions that write the pieces of a line.
 ghost use Rattle.std.specs.Prelude.{◌≡◌, ◌≤◌, ◌<◌, ◌+◌, ◌++◌, ◌∷◌, [], length, vec_len, codes, decimal, Some, IfOk};
 ghost use Rattle.std.specs.Prelude.{OnOk, false, option_and_then, option_map};
 ghost use Rattle.std.specs.Char.{digit_char};
@@ -15,7 +15,7 @@ use plain::NoMemory;
 use serde_json::Value;
 use std::alloc::Global;
 
-/// The number of bytes that are reserved at once for the pieces of a line: in most lines they take less.
+/// The number of bytes that are reserved at once for the pieces of a line. Most lines need fewer.
 const USUAL_LINE: usize = 256;
 
 /// Appends a piece within the capacity.
@@ -182,7 +182,8 @@ fn with_uid(line: Vec<u8>, kind: &str, id: &str) -> Result<Vec<u8>, NoMemory>
     with_piece(line, b"}")
 }
 
-/// Returns a line followed by the uid in an object, or by null if the object lacks a type or an id.
+/// Returns a line followed by the uid in an object, or by null if the object does not have both type and id as
+/// strings.
 fn with_object(line: Vec<u8>, value: &Value) -> Result<Vec<u8>, NoMemory>
     ensures { IfOk result (λ made. made.items ≡ line.items ++ object_text (view value.now)) }
 {

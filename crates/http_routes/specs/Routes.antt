@@ -15,11 +15,11 @@ use Rattle.http_routes.specs.declared.route.Route.TheVariants.{Authorize, PutPol
 use Rattle.http_routes.specs.declared.route.Route.TheVariants.{PutEntity, DeleteEntity, State, Summary, Delta}
 use Rattle.http_routes.specs.declared.route.Route.TheVariants.{Merge, Unknown, OtherMethod}
 
--- `is_question_mark b` is whether the byte `b` is a question mark.
+-- `is_question_mark b` tests whether the byte `b` is a question mark.
 abbrev pub is_question_mark : ℕ → Bool
 is_question_mark b = b == code "?"
 
--- `is_slash b` is whether the byte `b` is a slash.
+-- `is_slash b` tests whether the byte `b` is a slash.
 abbrev pub is_slash : ℕ → Bool
 is_slash b = b == code "/"
 
@@ -50,7 +50,7 @@ segment_of path =
 unfoldable pub only : List ℕ → List ℕ → Route → Route
 only wanted method route = if bytes_eq method wanted then route else OtherMethod
 
--- `plain_route method path` is the route of a `path` that does not name a policy.
+-- `plain_route method path` is the route of `method` for a `path` that does not name a policy.
 unfoldable pub plain_route : List ℕ → List ℕ → Route
 plain_route method path =
     if bytes_eq path (codes "/v1/authorize") then only (codes "POST") method Authorize
@@ -76,11 +76,12 @@ abbrev pub route_at : List ℕ → List ℕ → Option (List ℕ) → Route
 route_at method path None = plain_route method path
 route_at method path (Some segment) = policy_route method segment
 
--- `route_stated method target` is the operation that this method and target ask for.
+-- `route_stated method target` is the operation that a request with the method `method` and the target `target` asks
+-- for.
 unfoldable pub route_stated : List ℕ → List ℕ → Route
 route_stated method target = route_at method (path_of target) (segment_of (path_of target))
 
--- `has_id route` is whether `route` is that of a policy, with its id.
+-- `has_id route` tests whether `route` has the id of a policy.
 abbrev pub has_id : Route → Bool
 has_id (PutPolicy id) = true
 has_id (GetPolicy id) = true

@@ -36,6 +36,6 @@ pub enum Route {
     Merge,
     /// The path is unknown (404), whatever the method.
     Unknown,
-    /// The path is known, and has other methods (405).
+    /// The path is known, but does not have this method (405).
     OtherMethod,
 }

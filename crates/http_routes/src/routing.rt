@@ -9,7 +9,7 @@ use percent_encoding::percent_decode;
 use plain::{NoMemory, Text};
 use std::alloc::Global;
 
-/// Returns decoded bytes as the id of a policy. Does not allocate.
+/// Returns decoded bytes as the id of a policy, or `NotUtf8` if they are not UTF-8. Does not allocate.
 #[tactic(auto, unfolding(crate::specs::Routes::id_in))]
 fn id_in(bytes: Vec<u8>) -> PolicyId
     ensures { result ≡ id_in bytes.items }
@@ -99,12 +99,12 @@ fn policy_route(alloc: Global, method: &[u8], segment: &[u8]) -> Result<Route, N
 /// Returns the operation that a request with this method and this target asks for.
 ///
 /// The path is the target up to its first question mark. The id of a policy is one segment, possibly empty, and is the
-/// only part that is decoded: a percent sign with two hexadecimal digits is the byte of these digits, and any other
-/// percent sign is itself (RFC 3986, section 2.1). Methods are compared by their exact bytes (RFC 9110, section 9.1).
+/// only part that is decoded. A percent sign with two hexadecimal digits is the byte of these digits; any other percent
+/// sign is itself (RFC 3986, section 2.1). Methods are compared by their exact bytes (RFC 9110, section 9.1).
 ///
 /// # Errors
 ///
-/// - `NoMemory`: the id of a policy could not be allocated. A route without an id does not allocate.
+/// - `NoMemory`: the id of a policy could not be allocated. For a route without an id nothing is allocated.
 #[tactic(auto, unfolding(crate::specs::Routes::route_stated))]
 pub fn route_of(alloc: Global, method: &[u8], target: &[u8]) -> Result<Route, NoMemory>
     ensures route { IfOk result (λ r. r ≡ route_stated method.now target.now) }

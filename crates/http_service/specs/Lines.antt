@@ -1,6 +1,6 @@
--- Defines which requests are changes, and the end of the line that a log has of a change that was made.
+-- Defines which requests are changes, and the end of a log's line for a change that was made.
 -- Source: docs/formats.md, the log.
--- Rules of this product: that line ends with the stamp of the change, which is the body of its reply.
+-- Rules of this product: the last member of that line, `stamp`, is the body of the reply, which has the change's stamp.
 use Rattle.std.specs.Prelude.{ℕ, List, ◌++◌, codes}
 use Rattle.http_logs.specs.LogLines.{status_text}
 use Rattle.http_routes.specs.declared.route.Route.{Route}
@@ -23,7 +23,7 @@ IsChange Merge = ⊥
 IsChange Unknown = ⊥
 IsChange OtherMethod = ⊥
 
--- `stamped_end reply` is the end of the line of a change that was made, as in
+-- `stamped_end reply` is the end of the line of a change that was made, where `reply` is the body of its reply, as in
 -- ,"status":200,"stamp":{"count":2,"site":"1"}}
 abbrev pub stamped_end : List ℕ → List ℕ
 stamped_end reply = status_text 200 ++ codes ",\"stamp\":" ++ reply ++ codes "}\n"

@@ -20,7 +20,7 @@ abbrev pub with_policy_id : PolicyId → (List ℕ → SiteRequest) → SiteRequ
 with_policy_id (Named id) asks = asks id
 with_policy_id NotUtf8 asks = rejects (fault.Policy BadId)
 
--- `request_of route body` is what a request with this route and body asks.
+-- `request_of route body` is what a request with the route `route` and the body `body` asks of a site.
 abbrev pub request_of : Route → List ℕ → SiteRequest
 request_of route.Authorize body = gives (input.Authorize body)
 request_of (route.PutPolicy id) body = with_policy_id id (put_asked body)

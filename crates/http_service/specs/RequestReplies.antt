@@ -12,17 +12,18 @@ use Rattle.http_service.specs.declared.site_service.LoggedService.{LoggedService
 use Rattle.http_service.specs.declared.site_service.SiteService.{SiteService}
 
 -- `answers old method target body status line new` holds if the site `old` may answer the request with this method,
--- target and body with `status` and the body `line`, and then be `new`.
+-- target and body with `status` and the body `line`, and then become `new`.
 abbrev pub answers : SiteView → List ℕ → List ℕ → List ℕ → StatusCode → List ℕ → SiteView → Type 0
 answers old method target body status line new =
     Replies old (request_of (route_stated method target) body) status line new
 
--- `answers_over` is the same relation for a service over a borrowed site, whose reference stays the same.
+-- `answers_over old method target body status line new` is the same relation for the services `old` and `new` over a
+-- borrowed site, whose reference stays the same.
 abbrev pub answers_over : SiteService → List ℕ → List ℕ → List ℕ → StatusCode → List ℕ → SiteService → Type 0
 answers_over old method target body status line new =
     answers old.site.now method target body status line new.site.now × (new.site.ghost_name ≡ old.site.ghost_name)
 
--- `answers_logged` is the same relation for the service that makes lines for a log.
+-- `answers_logged old method target body status line new` is the same relation for services that make lines for a log.
 abbrev pub answers_logged :
     LoggedService → List ℕ → List ℕ → List ℕ → StatusCode → List ℕ → LoggedService → Type 0
 answers_logged old method target body status line new =

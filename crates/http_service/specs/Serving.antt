@@ -22,7 +22,7 @@ pub record Served : Type 0 where
   pub inputs : List Input
   pub replies : List Reply
 
--- `before_requests site` is `site` before the first request.
+-- `before_requests site` is the `Served` before the first request: `site`, no inputs and no replies.
 abbrev pub before_requests : SiteView → Served
 before_requests site = record { site = site; inputs = []; replies = [] }
 
@@ -39,7 +39,8 @@ Continues old (rejects f) status line new =
 Continues old (unserved s) status line new =
     Replies old.site (unserved s) status line new.site × (new.inputs ≡ old.inputs) × (new.replies ≡ old.replies)
 
--- `continues_run` is the same relation for a request with a method, a target and a body.
+-- `continues_run old method target body status line new` is the same relation for a request with this method, target
+-- and body.
 abbrev pub continues_run : Served → List ℕ → List ℕ → List ℕ → StatusCode → List ℕ → Served → Type 0
 continues_run old method target body status line new =
     Continues old (request_of (route_stated method target) body) status line new
@@ -64,7 +65,7 @@ module _ {R W : Type 0} (left : R → Option (List ℕ)) (read_failures : R → 
     pub answered :
         IsAnswered continues_run left read_failures reads read_fails holds write_failures write_fails first last
         before after (before_requests old) (record { site = new; inputs = inputs; replies = replies }) result
-    -- so the theorems on runs of one site apply
+    -- the run, to which the theorems on runs of one site apply
     pub run : Run (schema_of old) old.name (store_in old) inputs replies (store_in new)
     pub store : store_in new ≡ store_of (updates (store_in old) ++ took (schema_of old) inputs replies)
     pub same : IsSameSite old new

@@ -12,7 +12,7 @@ use Rattle.http_routes.specs.Routes.{route_stated}
 use Rattle.site_calls.specs.SiteRequest.{SiteRequest, gives, rejects, unserved}
 use Rattle.http_service.specs.RequestInputs.{request_of}
 
--- `inputs_of a` is the list of the inputs of a request that asks for `a`: one, or an empty list.
+-- `inputs_of a` is the list of the inputs of a request that asks for `a`: the input that `a` gives, or `[]`.
 abbrev pub inputs_of : SiteRequest → List Input
 inputs_of (gives i) = i ∷ []
 inputs_of (rejects f) = []

@@ -95,7 +95,7 @@ pub(crate) fn answer(
 
 // ---- with a log
 
-/// Returns the status of a request for no operation, or `None` for an operation.
+/// Returns the status of the reply to a request that asks for no operation, or `None` if it asks for one.
 fn unserved_status(route: &Route) -> Option<StatusCode>
     ensures { result ≡ unserved_status route.now }
 {
@@ -115,8 +115,8 @@ fn unserved_status(route: &Route) -> Option<StatusCode>
     }
 }
 
-/// Reports that an allocation failed before anything was done. A request for no operation has its own status (404 or
-/// 405), also when out of memory.
+/// Reports that an allocation failed before the site made a step. The reply to a request that asks for no operation has
+/// its own status (404 or 405), also when out of memory.
 fn report_no_memory(route: &Route, text: &mut Vec<u8>) -> StatusCode
     requires room { vec_len text.old + REPLY_ROOM ≤ vec_capacity text.old }
     ensures reply { IsUndoneReply route.now result text.old.items text.new.items }
@@ -143,7 +143,7 @@ fn report_undecided(text: &mut Vec<u8>, line: &mut Vec<u8>) -> StatusCode
 }
 
 /// Decides the request whose body was parsed as `json`, and ends its line, of which `line` has the beginning. If the
-/// end cannot be allocated, the reply is the error of out of memory (1, status 503) instead of the decision.
+/// end cannot be allocated, the reply is the error 1 (out of memory, status 503) instead of the decision.
 fn decide_parsed(
     alloc: Global,
     site: &Site,
@@ -193,7 +193,7 @@ fn decide_logged(
     }
 }
 
-/// Answers a request of a route other than that of decisions, and ends its line, of which `line` has the beginning.
+/// Answers a request of a route other than `Authorize`, and ends its line, of which `line` has the beginning.
 fn answer_other_route(
     alloc: Global,
     scratch: &mut Scratch,
@@ -241,7 +241,8 @@ fn answer_logged(
 }
 
 /// Answers a request like [`answer`], and puts the line of the request into `line`. If the route, or the beginning of
-/// the line with method and target, cannot be allocated, nothing is done.
+/// the line with method and target, cannot be allocated, the site makes no step, and the line has neither method nor
+/// target.
 pub(crate) fn answer_with_line(
     alloc: Global,
     scratch: &mut Scratch,

@@ -31,9 +31,9 @@ use http_streams::serve::StreamFault;
 use http_streams::{Sink, Source};
 use site_calls::{inputs_have_one_outcome, runs_are_sound, runs_leave_what_they_took};
 
-/// Proves that, however a stream of requests ends, the site afterwards is the result of a run of the inputs that the
-/// first of these requests ask for, in order. So the store of the site is the join of the updates that the site had and
-/// those that the run applied. No-op.
+/// Proves that, however a stream of requests ends, the site afterwards is the result of a run. Its inputs are those
+/// that the first requests of the stream ask for, in order. So the store of the site is the join of the updates that
+/// the site had and those that the run applied. No-op.
 pub fn streams_leave_runs()
     ensures rests { (old new : SiteView) (bytes out : List ℕ) → AnswersAllRequests answers old bytes out new
         → LeavesRun old bytes new }
@@ -66,8 +66,8 @@ pub fn served_streams_are_answered<R: Source, W: Sink>()
     runs_leave_what_they_took();
 }
 
-/// Proves that sites with one schema, one name and equal stores answer each request with the same status and body, and
-/// hold equal stores afterwards, except when out of memory (503). No-op.
+/// Proves that sites with one schema, which some bytes describe, one name and equal stores answer each request with the
+/// same status and body, and hold equal stores afterwards, except when out of memory (503). No-op.
 pub fn requests_have_one_reply()
     ensures { HasOneAnswer (in_memory answers) IsAlike }
 {
@@ -93,10 +93,10 @@ pub fn cuts_make_no_difference()
     begins_answer::<ViewedSite>();
 }
 
-/// Proves that under a schema that some bytes describe no reply to an input reports a type error, a missing attribute
+/// Proves that, under a schema that some bytes describe, no reply to an input reports a type error, a missing attribute
 /// or an error of an extension function. No-op.
 ///
-/// The reply is that of one step, in whose answer each error is `EntityDoesNotExist` or `ArithBoundsError`.
+/// The reply is that of one step. If it is an answer, each error in it is `EntityDoesNotExist` or `ArithBoundsError`.
 pub fn served_answers_are_sound()
     ensures { (old new : SiteView) (input : Input) (status : StatusCode) (line : List ℕ) → IsStated old.schema
         → Replies old (gives input) status line new
@@ -107,8 +107,8 @@ pub fn served_answers_are_sound()
 
 /// Proves that the log has the stamp of each change that was made. No-op.
 ///
-/// No stamp that a site issues has a line of more than 128 bytes, so the line of a put or a deletion with status 200
-/// ends with the body of the reply, which is the stamp.
+/// The body of the reply to a change has at most 128 bytes, for each stamp that a site issues. So the line of a put or
+/// a deletion with status 200 has this whole body, which has the stamp, as its last member.
 pub fn change_lines_have_stamps()
     ensures stamp { (s : Stamp) → IsSiteName s.site → s.count ≤ most_count → length (stamp_line s) ≤ 128 }
     ensures put { (s : Stamp) (impossible : Bool) → IsSiteName s.site → s.count ≤ most_count

@@ -44,7 +44,7 @@ fn serve_borrowed<R: Source, W: Sink>(
 /// - [`StreamFault::Read`] (70): the reader failed, or gave `u64::MAX` bytes or more.
 /// - [`StreamFault::Write`] (71): the writer failed; perhaps a part of the last reply was sent.
 ///
-/// Changes that were made before the failure remain, also that of a request whose reply was not sent whole.
+/// Changes that were made before the failure remain, also if the reply to a change was not sent whole.
 pub fn serve<R: Source, W: Sink>(
     alloc: Global,
     site: &mut Site,

@@ -14,15 +14,15 @@ use Rattle.http_streams.specs.declared.fields.Announced.TheVariants.{Size, TooLo
 abbrev pub Field : Type 0
 Field = List ℕ × List ℕ
 
--- `is_named name p` is whether the name of `p` in lower case is `name`.
+-- `is_named name p` tests whether the name of the field `p` in lower case is `name`.
 abbrev pub is_named : List ℕ → Field → Bool
 is_named name p = bytes_eq (map to_ascii_lowercase p.0) name
 
--- `values_named name ps` is the list of the values of the fields of `ps` with this name, in order.
+-- `values_named name ps` is the list of the values of those of the fields `ps` that have the name `name`, in order.
 abbrev pub values_named : List ℕ → List Field → List (List ℕ)
 values_named name ps = flat_map (λ p. if is_named name p then p.1 ∷ [] else []) ps
 
--- `is_digits v` is whether `v` is one or more digits.
+-- `is_digits v` tests whether `v` is one or more digits.
 abbrev pub is_digits : List ℕ → Bool
 is_digits v = nat_lt 0 (length v) && list_all is_ascii_digit v
 
@@ -38,14 +38,14 @@ parts_after front [] = front ∷ []
 parts_after front (b ∷ bytes) =
     if b == code "," then front ∷ parts_after [] bytes else parts_after (front ++ b ∷ []) bytes
 
--- `is_close_part text` is whether `text` is `close` in any case, apart from whitespace at its ends.
+-- `is_close_part text` tests whether `text` is `close` in any case, apart from whitespace at its ends.
 abbrev pub is_close_part : List ℕ → Bool
 is_close_part text = bytes_eq (map to_ascii_lowercase (trim_ows text)) (codes "close")
 
--- `lists_close value` is whether one of the comma-separated parts of `value` is `close`.
+-- `lists_close value` tests whether any of the comma-separated parts of `value` is `close` (`is_close_part`).
 abbrev pub lists_close : List ℕ → Bool
 lists_close value = list_any is_close_part (parts_after [] value)
 
--- `is_close p` is whether the field `p` asks to close the connection.
+-- `is_close p` tests whether the field `p` asks to close the connection.
 abbrev pub is_close : Field → Bool
 is_close p = is_named (codes "connection") p && lists_close p.1

@@ -12,8 +12,8 @@ BeginsWithReply stream status body =
 abbrev pub BeginsBadly : List ℕ → Type 0
 BeginsBadly stream = (front : List ℕ) × (after : List ℕ) × (stream ≡ front ++ after) × IsBadReply front
 
--- `HasOneReply stream` holds if prefixes of `stream` are parsed as at most one reply, and at most one of these three
--- holds: a prefix is parsed as a reply; a prefix is rejected; `stream` is less than a reply.
+-- `HasOneReply stream` holds if prefixes of `stream` are parsed as at most one reply, and at most one of three cases
+-- applies. The cases are: a prefix is parsed as a reply; a prefix is rejected; `stream` is less than a reply.
 pub record HasOneReply (stream : List ℕ) : Type 0 where
   pub replies :
       (s t : ℕ) (a b : List ℕ) → BeginsWithReply stream s a → BeginsWithReply stream t b → (s ≡ t) × (a ≡ b)

@@ -1,5 +1,5 @@
--- Defines the theorems that a stream has one answer, however the stream is split into reads, and what was sent when a
--- device failed.
+-- Defines the theorems that a stream has one answer, however the stream is split into reads, and about what was sent if
+-- a device failed.
 -- Source: RFC 9112, section 9.3.
 use Rattle.std.specs.Prelude.{◌≡◌, ◌≢◌, ◌≤◌, ℕ, ◌⊎◌, Bool, List, [], ◌++◌, length, true}
 use Rattle.httparse.specs.Grammar.{EndsInTarget, NeverHasRequest}
@@ -29,24 +29,24 @@ module _ {S : Type 0} (answers : Answering S) where
       (old old2 : S) (m t b : List ℕ) (st st2 : StatusCode) (x x2 : List ℕ) (new new2 : S) → same old old2
       → answers old m t b st x new → answers old2 m t b st2 x2 new2 → (st ≡ st2) × (x ≡ x2) × same new new2
 
-  -- `AnswersAll old stream out new` holds if `out` are the replies to the stream, to its end or to a reply that ends
-  -- it.
+  -- `AnswersAll old stream out new` holds if `out` are the replies to the stream, up to its end or up to a reply that
+  -- ends it.
   abbrev pub AnswersAll : S → List ℕ → List ℕ → S → Type 0
   AnswersAll old stream out new =
       AnswersAllRequests answers old stream out new
       ⊎ ((front : List ℕ) × (rest : List ℕ) × (stream ≡ front ++ rest) × EndsByReply answers old front out new)
 
-  -- `DiffersInBadTarget old stream out more new` holds if `out` are the replies to some requests, the rest of the
-  -- stream after these ends inside a target that is not UTF-8 (`EndsInBadTarget`), and `more` is `out` followed by the
-  -- reply 400 to the rest.
+  -- `DiffersInBadTarget old stream out more new` holds if `out` are the replies to some requests, and `more` is `out`
+  -- followed by the reply 400 to the rest of the stream. This rest ends inside a target that is not UTF-8
+  -- (`EndsInBadTarget`).
   abbrev pub DiffersInBadTarget : S → List ℕ → List ℕ → List ℕ → S → Type 0
   DiffersInBadTarget old stream out more new =
       (n : ℕ) × (rest : List ℕ) × Serves answers n old stream rest out new × EndsInBadTarget rest
       × (more ≡ out ++ reply_text true 400 (error_line 400))
 
-  -- `AgreeOn same old old2 stream out more new new2` holds if two answers to one stream agree: the states afterwards,
-  -- `new` and `new2`, are the same by `same`; and the sent bytes, `out` and `more`, are equal, unless the stream ends
-  -- inside a target that is not UTF-8.
+  -- `AgreeOn same old old2 stream out more new new2` holds if two answers to one stream, from the states `old` and
+  -- `old2`, agree. The states afterwards, `new` and `new2`, are the same by `same`. The sent bytes, `out` and `more`,
+  -- are equal, unless the stream ends inside a target that is not UTF-8.
   abbrev pub AgreeOn : (S → S → Type 0) → S → S → List ℕ → List ℕ → List ℕ → S → S → Type 0
   AgreeOn same old old2 stream out more new new2 =
       same new new2
@@ -68,7 +68,7 @@ module _ {S : Type 0} (answers : Answering S) where
       × (back : List ℕ) × (out ++ back ≡ more ++ reply_text true 400 (error_line 400)))
 
 -- `HasFirst503 answers old stream out unsent` holds if `out` are the replies to some requests, none of them 503, then a
--- 503 to the next, without its last bytes `unsent`; if `unsent` is empty, more may follow.
+-- 503 to the next, without its last bytes `unsent`. If `unsent` is empty, more may follow.
 pub record HasFirst503 {S : Type 0} (answers : Answering S) (old : S) (stream out unsent : List ℕ) : Type 0 where
   pub count : ℕ
   pub mid : S

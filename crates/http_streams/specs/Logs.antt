@@ -1,6 +1,6 @@
 -- Defines the log of a stream: the line of each reply, written before the reply is sent.
 -- Source: docs/formats.md, "The log of a served site".
--- Rules of this product: before any byte of a reply is sent, the reply's whole line is in the log; if a line is cut
+-- Rules of this product: before any byte of a reply is sent, the reply's whole line is in the log. If a line is cut
 -- off, nothing of its reply is sent, and the stream ends.
 use Rattle.std.specs.Prelude.{◌≡◌, ◌<◌, ◌⊎◌, ℕ, Bool, true, Option, List, [], ◌++◌, length, Result, Ok, Err}
 use Rattle.std.specs.Io.KnownBytes.{Appends, Consumes}
@@ -105,7 +105,7 @@ module _ {R W L : Type 0} (lines : LineRelation) (refusal : StatusCode → List 
   HasLogFailed old new (Err fault.Log) = FailsAtLast log_failures log_fails old new
 
   -- `IsLogged first last before after old new result` holds if one call led from the reader `first`, the writer
-  -- `before` and the log `old` to `last`, `after` and `new`: the call read requests and wrote their replies, the log
+  -- `before` and the log `old` to `last`, `after` and `new`. The call read requests and wrote their replies, the log
   -- got the line of each, and the call ended as `result` says.
   pub record IsLogged (first last : R) (before after : W) (old new : L) (result : Result (Unit {0}) StreamFault)
       : Type 0 where

@@ -4,8 +4,8 @@ use Rattle.std.specs.Prelude.{◌≡◌, ◌≢◌, ℕ, ◌-◌, ◌^◌, min, 
 use Rattle.http_streams.specs.Devices.{counted}
 
 -- A `Planned` is the plan of a device and its progress. `pieces` are the most bytes that each call moves: the last
--- number applies from then on, 0 counts as 1, and an empty list has no limit. `fails_at` is the number of the call that
--- fails, from 0; `calls` is the number of calls so far.
+-- number applies from then on, 0 counts as 1, and an empty list has no limit. `fails_at` is the number, from 0, of the
+-- call that fails, if one does; `calls` is the number of calls so far.
 pub record Planned : Type 0 where
   pub pieces : List ℕ
   pub fails_at : Option ℕ
@@ -23,13 +23,13 @@ later_pieces [] = []
 later_pieces (n ∷ []) = n ∷ []
 later_pieces (n ∷ m ∷ ns) = m ∷ ns
 
--- `MakesCall old new` holds if a call that does not fail led from the plan `old` to `new`.
+-- `MakesCall old new` holds if a call that does not fail by the plan led from the plan `old` to `new`.
 abbrev pub MakesCall : Planned → Planned → Type 0
 MakesCall old new =
     (old.fails_at ≢ Some old.calls)
     × (new ≡ record { pieces = later_pieces old.pieces; fails_at = old.fails_at; calls = counted old.calls })
 
--- `FailsByPlan old new` holds if the call that fails led from the plan `old` to `new`.
+-- `FailsByPlan old new` holds if the call that fails by the plan led from the plan `old` to `new`.
 abbrev pub FailsByPlan : Planned → Planned → Type 0
 FailsByPlan old new =
     (old.fails_at ≡ Some old.calls)
@@ -43,7 +43,7 @@ pub record DeviceInMemory : Type 0 where
   pub failures : ℕ
 
 -- `Delivers old room bytes new` holds if a call with a buffer of the length `room` led from the reader `old` to `new`,
--- and gave `bytes`: as many as the plan, the unread bytes and the buffer allow.
+-- and gave `bytes`. These are as many as the plan, the unread bytes and the buffer allow.
 abbrev pub Delivers : DeviceInMemory → ℕ → List ℕ → DeviceInMemory → Type 0
 Delivers old room bytes new =
     (old.bytes ≡ bytes ++ new.bytes)

@@ -6,14 +6,14 @@ use Rattle.std.specs.Char.{is_ascii_graphic}
 use Rattle.std.specs.List.{list_all}
 use Rattle.http.specs.Token.{token_test}
 
--- `is_method bytes` is true if `bytes` is a token.
+-- `is_method bytes` tests whether `bytes` are a token.
 abbrev pub is_method : List ℕ → Bool
 is_method bytes = nat_lt 0 (length bytes) && list_all token_test bytes
 
--- `is_target bytes` is true if `bytes` is one or more visible ASCII bytes.
+-- `is_target bytes` tests whether `bytes` are one or more visible ASCII bytes.
 abbrev pub is_target : List ℕ → Bool
 is_target bytes = nat_lt 0 (length bytes) && list_all is_ascii_graphic bytes
 
--- `is_host bytes` is true if `bytes` is visible ASCII bytes; it may be empty.
+-- `is_host bytes` tests whether all of `bytes` are visible ASCII bytes; there may be none.
 abbrev pub is_host : List ℕ → Bool
 is_host bytes = list_all is_ascii_graphic bytes

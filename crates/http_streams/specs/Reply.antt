@@ -59,7 +59,7 @@ pub record HasNoLength (bytes : List ℕ) : Type 0 where
   pub framed : (length_of head ≡ NoNumber) ⊎ (length_of head ≡ TooLong)
 
 -- `IsTooLargeReply bytes` holds if `bytes` begin with a whole head of too many fields, or are more bytes than a head
--- may have. If such bytes do not begin with an admitted head, neither do they with any bytes after them.
+-- may have. If such bytes do not begin with an admitted head, neither does any continuation of them.
 abbrev pub IsTooLargeReply : List ℕ → Type 0
 IsTooLargeReply bytes =
     ((h : ResponseHead) × (rest : List ℕ) × ReadsResponse bytes h rest × (MAX_FIELDS < length h.fields))

@@ -21,10 +21,11 @@ length_lines size = codes "\r\nContent-Type: application/json\r\nContent-Length:
 unfoldable pub ending : Bool → List ℕ
 ending last = if last then codes "\r\nConnection: close\r\n\r\n" else codes "\r\n\r\n"
 
--- `reply_text last status body` is a whole reply, where `last` is whether the reply ends the stream.
+-- `reply_text last status body` is the whole reply with the status `status` and the body `body`; `last` is whether the
+-- reply ends the stream.
 unfoldable pub reply_text : Bool → StatusCode → List ℕ → List ℕ
 reply_text last status body = status_line status ++ length_lines (length body) ++ ending last ++ body
 
--- `error_line number` is the line of an error with this code (a rule of this product).
+-- `error_line number` is the line of an error with the code `number` (a rule of this product).
 unfoldable pub error_line : ℕ → List ℕ
 error_line number = codes "{\"error\":{\"code\":" ++ decimal number ++ codes ",\"place\":null,\"within\":null}}"

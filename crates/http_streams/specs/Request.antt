@@ -18,7 +18,7 @@ use Rattle.http_streams.specs.declared.cut.Cut.TheVariants as Cuts
 use Rattle.http.specs.declared.status.StatusCode.{StatusCode}
 use Rattle.http_streams.specs.declared.TheConstants.{MAX_HEAD, MAX_FIELDS, MAX_BODY}
 
--- `needs_length method` is whether a request with `method` must announce its length.
+-- `needs_length method` tests whether a request with the method `method` must announce the length of its body.
 abbrev pub needs_length : List ℕ → Bool
 needs_length method = bytes_eq method (codes "PUT") || bytes_eq method (codes "POST")
 
@@ -29,15 +29,16 @@ framing_by (Size n) = Body n
 framing_by TooLong = Refused 413
 framing_by NoNumber = Refused 400
 
--- `framing_by_lengths method vs` is the framing by the values `vs` of Content-Length: 411 if a needed length is
--- missing, 400 if there are several.
+-- `framing_by_lengths method vs` is the framing by the values `vs` of Content-Length: 411 if `vs` is empty and `method`
+-- needs a length, 400 if there are several values.
 abbrev pub framing_by_lengths : List ℕ → List (List ℕ) → Framing
 framing_by_lengths method [] = if needs_length method then Refused 411 else Body 0
 framing_by_lengths method (v ∷ []) = framing_by (announced MAX_BODY v)
 framing_by_lengths method (v ∷ w ∷ vs) = Refused 400
 
--- `framing method ps` is the length of the body, or the status with which a head with this method and the fields `ps`
--- is rejected: 501 if there is a field Transfer-Encoding, else by the announced lengths.
+-- `framing method ps` is the length of the body of a request with the method `method` and the fields `ps`, or the
+-- status with which its head is rejected. It is 501 if there is a field Transfer-Encoding; otherwise the announced
+-- lengths decide (`framing_by_lengths`).
 abbrev pub framing : List ℕ → List Field → Framing
 framing method ps =
     if list_any (is_named (codes "transfer-encoding")) ps then Refused 501
@@ -51,11 +52,11 @@ pairs h = map name_and_value h.fields
 abbrev pub framing_of : RequestHead → Framing
 framing_of h = framing h.method (pairs h)
 
--- `closes minor ps` is whether the connection ends after a request of version 1.`minor` with the fields `ps`.
+-- `closes minor ps` tests whether the connection ends after a request of HTTP version 1.`minor` with the fields `ps`.
 abbrev pub closes : ℕ → List Field → Bool
 closes minor ps = (minor == 0) || list_any is_close ps
 
--- `closes_of h` is whether the connection ends after a request with the head `h`.
+-- `closes_of h` tests whether the connection ends after a request with the head `h`.
 abbrev pub closes_of : RequestHead → Bool
 closes_of h = closes h.minor (pairs h)
 
@@ -82,7 +83,7 @@ pub record RefusesHead (bytes : List ℕ) (status : StatusCode) : Type 0 where
   pub framed : framing_of head ≡ Refused status
 
 -- `IsTooLarge bytes` holds if `bytes` begin with a whole head of too many fields, or are more bytes than a head may
--- have. If such bytes do not begin with an admitted head, neither do they with any bytes after them.
+-- have. If such bytes do not begin with an admitted head, neither does any continuation of them.
 abbrev pub IsTooLarge : List ℕ → Type 0
 IsTooLarge bytes =
     ((h : RequestHead) × (rest : List ℕ) × ReadsRequest bytes h rest × (MAX_FIELDS < length h.fields))

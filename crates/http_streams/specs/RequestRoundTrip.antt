@@ -1,4 +1,4 @@
--- Defines that the text of a request to be sent, an `Ask`, is parsed as one request with the parts of the `Ask`.
+-- Defines when the text of a request to be sent, an `Ask`, is parsed as one request with the parts of the `Ask`.
 -- Source: RFC 9112, sections 2.2, 3 and 6.
 -- Rules of this product: the limits; a PUT or a POST has a body.
 use Rattle.std.specs.Prelude.{◌≡◌, ℕ, ◌+◌, ◌<◌, ◌≤◌, List, [], ◌∷◌, ◌++◌, length, codes, IsTrue, IsSome}

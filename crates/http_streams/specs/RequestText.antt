@@ -19,7 +19,8 @@ unfoldable pub body_bytes : Option (Bor (List ℕ)) → List ℕ
 body_bytes None = []
 body_bytes (Some body) = body.now
 
--- `request_text ask` is the whole request `ask`, with a field that asks to close the connection after the reply.
+-- `request_text ask` is the text of the whole request `ask`, with a field that asks to close the connection after the
+-- reply.
 unfoldable pub request_text : Ask → List ℕ
 request_text ask =
     request_start ask.method.now ask.path.now ++ ask.host.now ++ length_field ask.body

@@ -25,7 +25,8 @@ module _ {S R W : Type 0} (answers : Answering S) (left : R → Option (List ℕ
   -- - NoMemory: neither device failed, and all requests in `bytes` are answered: memory is allocated before a read.
   -- - Write: the last write failed; some requests are answered, and a proper prefix of one more reply may have been
   --   sent. All requests that were complete before the last read are answered.
-  -- - Log: as Write, but only the log failed; `IsLastNoted` of Logs states that nothing of the last reply was sent.
+  -- - Log: as Write, but neither the reader nor the writer failed. Logs states that the log did (`HasLogFailed`), and
+  --   that nothing of the last reply was sent (`IsLastNoted`).
   abbrev pub EndsAs : R → R → W → W → S → S → List ℕ → List ℕ → Result (Unit {0}) StreamFault → Type 0
   EndsAs first last before after old new bytes out (Ok done) =
       ((AnswersAllRequests answers old bytes out new × IsAtEnd (left last)
@@ -47,8 +48,8 @@ module _ {S R W : Type 0} (answers : Answering S) (left : R → Option (List ℕ
       × (write_failures after ≡ write_failures before) × (read_failures last ≡ read_failures first)
 
   -- `IsAnswered first last before after old new result` holds if a call led from the reader `first`, the writer
-  -- `before` and the state `old` to `last`, `after` and `new`: the call read `bytes`, wrote `out`, and ended as
-  -- `result` says.
+  -- `before` and the state `old` to `last`, `after` and `new`. The call read `bytes`, wrote `out`, and ended as
+  -- `result` says (`EndsAs`).
   pub record IsAnswered (first last : R) (before after : W) (old new : S) (result : Result (Unit {0}) StreamFault)
       : Type 0 where
     pub bytes : List ℕ

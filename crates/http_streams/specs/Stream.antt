@@ -84,7 +84,8 @@ module _ {S : Type 0} (answers : Answering S) where
     pub replies_in_part : RepliesInPart mid rest last new
     pub joined : out ≡ before ++ last
 
--- Of a reader, `left` gives the bytes left, and `reads` relates the states around a call.
+-- `left` gives the bytes left to a reader, if they are known. `reads` relates the state before a call, the length of
+-- its buffer, the bytes that it read, and the state afterwards.
 module _ {S R : Type 0} (answers : Answering S) (left : R → Option (List ℕ)) (reads : R → ℕ → List ℕ → R → Type 0) where
   -- `RepliesPromptly old first last bytes out` holds if a reader went from the state `first` to `last` by reading
   -- `bytes`, and `out` begins with the replies to all requests that were complete before the last read. None of these

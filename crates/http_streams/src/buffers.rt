@@ -20,8 +20,8 @@ pub(crate) enum FillFault {
     NoMemory,
 }
 
-/// Returns memory for the fields of a head: one for each byte that a head may have, so that a head with too many fields
-/// is still parsed to its end.
+/// Returns memory for the fields of a head: one field for each byte that a head may have. So a head with too many
+/// fields is still parsed to its end.
 pub(crate) fn room_for_heads(alloc: Global) -> Result<Vec<HeaderSpan>, AllocError>
     ensures { IfOk result (λ room. MAX_HEAD ≤ vec_len room) }
 {

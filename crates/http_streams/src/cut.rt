@@ -41,8 +41,8 @@ pub enum Cut {
     Whole(Parts),
     /// The bytes are rejected with this status.
     Refused(StatusCode),
-    /// The bytes are less than a request, and stay so, whatever follows, while there are fewer bytes than this number:
-    /// the length of head and body if the head is whole, else 0.
+    /// The bytes are less than a request, and stay so, whatever follows, while there are fewer bytes than this number.
+    /// It is the length of head and body if the head is whole, else 0.
     Unfinished(usize),
 }
 
@@ -89,7 +89,8 @@ fn closes(buf: &[u8], headers: &[HeaderSpan], minor: u8) -> bool
     false
 }
 
-/// Cuts the front of `buf`, whose first bytes `seen` begin with a head; `headers` and `head` are its parsed parts.
+/// Cuts the front of `buf`, whose first bytes `seen` begin with a head; `headers` are the parsed fields of the head,
+/// and `head` its other parts.
 fn cut_body(buf: &[u8], seen: &[u8], headers: &[HeaderSpan], head: &RequestSpans) -> Cut
     requires seen { seen.now ≡ take MAX_HEAD buf.now }
     requires few { length headers.now ≤ MAX_FIELDS }
@@ -118,7 +119,7 @@ fn cut_body(buf: &[u8], seen: &[u8], headers: &[HeaderSpan], head: &RequestSpans
 
 /// Cuts the front of `buf`: a whole request, a rejected one, or less than one.
 ///
-/// `room` is memory for headers, one for each byte that a head may have, so that a head with too many fields is parsed
+/// `room` is memory for fields, one for each byte that a head may have, so that a head with too many fields is parsed
 /// whole. Does not allocate.
 pub fn cut_request(buf: &[u8], room: &mut [HeaderSpan]) -> Cut
     requires { MAX_HEAD ≤ length room.old }

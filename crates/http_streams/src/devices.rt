@@ -57,7 +57,7 @@ pub trait Sink {
     // `fails old new` holds if a call of `write` led from the state `old` to `new`, and failed.
     ghost fails: { Self → Self → Type 0 };
 
-    /// Writes once; returns how many of the bytes were accepted.
+    /// Writes once; returns how many of the bytes were accepted. `bytes` must not be empty.
     ///
     /// # Errors
     ///

@@ -25,7 +25,7 @@ pub enum FetchFault {
     /// The writer failed.
     #[error("network 71: writing failed")]
     Write,
-    /// The received bytes do not begin a reply of one length within the limits.
+    /// The received bytes cannot begin a reply of one length within the limits.
     #[error("network 72: no HTTP reply of one length within the limits")]
     BadReply,
     /// The input ended before the reply did.
@@ -38,8 +38,8 @@ pub enum FetchFault {
 
 /// Writes one request, and reads the reply to it: its status and its body. Bytes after the reply are not checked.
 ///
-/// Within the limits of `cut_request`, the written bytes parse as exactly the request `ask`
-/// ([`requests_read_back`](crate::framing_laws::requests_read_back)).
+/// If `ask` is within the limits of `cut_request` and a PUT or a POST has a body, the written bytes parse as exactly
+/// the request `ask` ([`requests_read_back`](crate::framing_laws::requests_read_back)).
 ///
 /// # Errors
 ///
@@ -160,8 +160,8 @@ fn rooms(alloc: Global) -> Result<(Vec<HeaderSpan>, Vec<u8>), AllocError>
     Ok((heads, reads))
 }
 
-/// Reads until the bytes are a whole reply, or cannot become one. `room` is memory for headers, `chunk` for one read;
-/// `buffer` gets all bytes that are read.
+/// Reads until the bytes are a whole reply, or cannot become one. `room` is memory for the fields of a head, `chunk`
+/// for one read; `buffer` gets all bytes that are read.
 fn read_whole<R: Source>(
     reader: &mut R,
     room: &mut [HeaderSpan],

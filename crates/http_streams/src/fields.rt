@@ -1,4 +1,5 @@
-//! The headers of a head: the value of a name, the announced length, and whether a header asks to close the connection.
+//! Reads the fields of a head: a value by its name, the announced length, and whether a field asks to close the
+//! connection.
 ghost use Rattle.std.specs.Prelude.{◌≡◌, ◌<◌, ◌^◌, length, map, All};
 ghost use Rattle.std.specs.Char.{to_ascii_lowercase};
 ghost use Rattle.std.specs.List.{list_any};
@@ -9,14 +10,14 @@ ghost use Rattle.http_streams.specs.inner.FieldValue.{IsFieldValue, skip_ows_bac
 
 use httparse::spans::HeaderSpan;
 
-/// The value of a header that is expected once.
+/// The value of a field that is expected once.
 #[derive(Clone, Copy)]
 pub(crate) enum FieldValue<'b> {
-    /// No header has the name.
+    /// No field has the name.
     Absent,
-    /// One header has the name; this is its value.
+    /// One field has the name; this is its value.
     Once(&'b [u8]),
-    /// Several headers have the name.
+    /// Several fields have the name.
     Many,
 }
 
@@ -32,7 +33,7 @@ pub enum Announced {
     NoNumber,
 }
 
-/// Returns whether the header has this name. `name` must be in lower case.
+/// Returns whether the field `header` has this name. `name` must be in lower case.
 pub(crate) fn has_name(buf: &[u8], header: &HeaderSpan, name: &[u8]) -> bool
     requires within { IsHeaderWithin (length buf.now) header.now }
     requires lower { map to_ascii_lowercase name.now ≡ name.now }
@@ -41,7 +42,7 @@ pub(crate) fn has_name(buf: &[u8], header: &HeaderSpan, name: &[u8]) -> bool
     header.name.of(buf).eq_ignore_ascii_case(name)
 }
 
-/// Returns the value of the header with this name. `name` must be in lower case.
+/// Returns the value of the field with this name, if there is exactly one. `name` must be in lower case.
 pub(crate) fn values_of<'b>(buf: &'b [u8], headers: &[HeaderSpan], name: &[u8]) -> FieldValue<'b>
     requires within { All (IsHeaderWithin (length buf.now)) headers.now }
     requires lower { map to_ascii_lowercase name.now ≡ name.now }
@@ -59,7 +60,7 @@ pub(crate) fn values_of<'b>(buf: &'b [u8], headers: &[HeaderSpan], name: &[u8]) 
     found
 }
 
-/// Returns whether one of the headers has this name. `name` must be in lower case.
+/// Returns whether any of the fields `headers` has this name. `name` must be in lower case.
 pub(crate) fn has_header(buf: &[u8], headers: &[HeaderSpan], name: &[u8]) -> bool
     requires within { All (IsHeaderWithin (length buf.now)) headers.now }
     requires lower { map to_ascii_lowercase name.now ≡ name.now }
@@ -128,7 +129,7 @@ fn is_close_part(text: &[u8]) -> bool
     skip_back(skip_front(text)).eq_ignore_ascii_case(b"close")
 }
 
-/// Returns whether one of the comma-separated parts of `value` is `close`.
+/// Returns whether any of the comma-separated parts of `value` is `close`.
 fn lists_close(value: &[u8]) -> bool
     ensures { result ≡ lists_close value.now }
 {
@@ -144,7 +145,7 @@ fn lists_close(value: &[u8]) -> bool
     is_close_part(&value[start..])
 }
 
-/// Returns whether the header asks to close the connection.
+/// Returns whether the field `header` asks to close the connection.
 pub(crate) fn asks_to_close(buf: &[u8], header: &HeaderSpan) -> bool
     requires { IsHeaderWithin (length buf.now) header.now }
     ensures { result ≡ is_close (header_bytes buf.now header.now) }

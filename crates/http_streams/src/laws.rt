@@ -17,8 +17,8 @@ pub fn one_answer<S: Answers>()
         → AgreeOn (in_memory S.answers) S.same old old2 stream out more new new2 }
 {}
 
-/// Proves that what is sent before an error (a failed read, write or allocation) is a prefix of what is sent without
-/// one, with the exception of [`one_answer`]. No-op.
+/// Proves that what is sent before an error (of the reader, the writer, the log or an allocation) is a prefix of what
+/// is sent without an error. The premise and the exception are those of [`one_answer`]. No-op.
 pub fn begins_answer<S: Answers>()
     ensures { HasOneAnswer (in_memory S.answers) S.same → (old old2 new new2 : S) → (stream out more : List ℕ)
         → S.same old old2
@@ -26,8 +26,8 @@ pub fn begins_answer<S: Answers>()
         → BeginsAnswer (in_memory S.answers) old2 stream out more new2 }
 {}
 
-/// Proves that each answer to a stream has no reply 503, or has a first one after replies of other statuses. If the
-/// answer was cut off, perhaps only a part of this 503 was sent. No-op.
+/// Proves that each answer to a stream has no reply 503, or has a first one: all replies before it have other statuses.
+/// If the answer was cut off, perhaps only a part of this 503 was sent. No-op.
 pub fn in_memory_or_503<S: Answers>()
     ensures whole { (old new : S) → (stream out : List ℕ) → AnswersAll S.answers old stream out new
         → AnswersAll (in_memory S.answers) old stream out new ⊎ HasFirst503 S.answers old stream out [] }

@@ -1,8 +1,8 @@
 //! HTTP/1.1 over bytes: writes requests and replies, finds where they end in a stream, answers the requests of a
 //! stream, and fetches a reply.
 //!
-//! A stream's requests are answered in order, each before more bytes are read. Nothing here opens a socket: readers,
-//! writers and services are any values of the traits `Source`, `Sink` and `Service`.
+//! A stream's requests are answered in order, each complete one before more bytes are read. Nothing here opens a
+//! socket: readers, writers and services are any values of the traits `Source`, `Sink` and `Service`.
 #![tactic(auto)]
 
 mod buffers;

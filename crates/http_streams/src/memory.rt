@@ -1,4 +1,4 @@
-//! Devices over memory, which read or accept given pieces and fail at one given call.
+//! Devices over memory, which read or accept pieces of given sizes and may fail at one given call.
 ghost use Rattle.std.specs.Prelude.{◌≡◌, ◌⊎◌, ◌<◌, Some, None, IfSome, []};
 ghost use Rattle.http_streams.specs.Memory.{AcceptsByPlan, CountsOneFailure, Delivers, FailsByPlan, MakesCall};
 ghost use Rattle.http_streams.specs.Memory.{next_piece};
@@ -7,7 +7,7 @@ use crate::devices::{DeviceFailed, Sink, Source};
 use std::alloc::Global;
 use std::marker::Model;
 
-/// A plan of how many bytes each call of a device moves, and which call fails. The plan counts the calls.
+/// A plan of how many bytes each call of a device may move, and which call fails. The plan counts the calls.
 #[derive(Drop)]
 pub struct Plan<'a> {
     pieces: &'a [usize],
@@ -27,7 +27,7 @@ impl<'a> Plan<'a> {
     /// Creates a plan; no call has been made.
     ///
     /// `pieces` are the most bytes that each call moves: the last one applies from then on, an empty list has no limit,
-    /// and 0 counts as 1. `fails_at` is the number of the call that fails, from 0.
+    /// and 0 counts as 1. `fails_at` is the number, from 0, of the call that fails, if one does.
     pub fn new(pieces: &'a [usize], fails_at: Option<u64>) -> Plan<'a>
         ensures { result ≡ record { pieces = pieces.entry.now; fails_at = fails_at; calls = 0 } }
     {

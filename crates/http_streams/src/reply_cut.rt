@@ -25,15 +25,15 @@ pub struct ReplyParts {
 pub enum ReplyCut {
     /// The bytes begin with a whole reply, whose parts these are.
     Whole(ReplyParts),
-    /// The bytes do not begin with a reply of one length within the limits.
+    /// The bytes cannot begin a reply that has a valid length and is within the limits, whatever follows.
     Bad,
-    /// The bytes are less than a reply, and stay so, whatever follows, while there are fewer bytes than this number:
-    /// the length of head and body if the head is whole, else 0.
+    /// The bytes are less than a reply, and remain so, whatever follows, until there are at least this many in all. The
+    /// number is the length of head and body if the head is whole, else 0.
     Unfinished(usize),
 }
 
-/// Returns the length of the body of a reply: that of its one Content-Length. A reply with Transfer-Encoding has no
-/// valid length.
+/// Returns the length of the body of a reply, by its one Content-Length. The length is not valid if the reply has
+/// Transfer-Encoding, or does not have exactly one Content-Length.
 fn length_at(buf: &[u8], headers: &[HeaderSpan]) -> Announced
     requires { All (IsHeaderWithin (length buf.now)) headers.now }
     ensures { result ≡ reply_length (map (header_bytes buf.now) headers.now) }
@@ -47,7 +47,8 @@ fn length_at(buf: &[u8], headers: &[HeaderSpan]) -> Announced
     }
 }
 
-/// Cuts the front of `buf`, whose first bytes `seen` begin with a head; `headers` and `head` are its parsed parts.
+/// Cuts the front of `buf`, whose first bytes `seen` begin with a head; `headers` are the parsed fields of the head,
+/// and `head` its other parts.
 fn cut_reply_body(buf: &[u8], seen: &[u8], headers: &[HeaderSpan], head: &ResponseSpans) -> ReplyCut
     requires seen { seen.now ≡ take MAX_HEAD buf.now }
     requires few { length headers.now ≤ MAX_FIELDS }
@@ -71,7 +72,7 @@ fn cut_reply_body(buf: &[u8], seen: &[u8], headers: &[HeaderSpan], head: &Respon
 
 /// Cuts the front of `buf`: a whole reply, a bad one, or less than one.
 ///
-/// `room` is memory for headers, one for each byte that a head may have, so that a head with too many fields is parsed
+/// `room` is memory for fields, one for each byte that a head may have, so that a head with too many fields is parsed
 /// whole. Does not allocate.
 pub fn cut_reply(buf: &[u8], room: &mut [HeaderSpan]) -> ReplyCut
     requires { MAX_HEAD ≤ length room.old }

@@ -135,8 +135,8 @@ struct Unanswered {
     needed: usize,
 }
 
-/// Reads and answers in turns, in given memory. `buffer` has the bytes that are read and not yet answered.
-/// `room`, `chunk`, `text` and `line` are memory for headers, one read, one reply and one line of the log.
+/// Reads and answers in turns, in given memory. `buffer` has the bytes that are read and not yet answered. `room`,
+/// `chunk`, `text` and `line` are memory for the fields of a head, one read, one reply and one line of the log.
 fn answer_stream<S: Service, R: Source, W: Sink, L: Sink>(
     service: &mut S,
     reader: &mut R,

@@ -22,7 +22,7 @@ pub trait Service: Answers {
     // default, an empty one.
     ghost lines: { List ℕ → List ℕ → List ℕ → StatusCode → List ℕ → List ℕ → Type 0 } = { λ _ _ _ _ _ line. line ≡ [] };
 
-    // The line for bytes that are not a request, rejected with this status.
+    // The line for bytes that are rejected with this status.
     ghost refusal_line: { StatusCode → List ℕ } = { λ _. [] };
 
     // The length of the longest line that is made without allocating.
@@ -31,11 +31,12 @@ pub trait Service: Answers {
     /// Appends the body of the reply to `text`, puts the line for the log, if there is one, into `line`, and returns
     /// the status.
     ///
-    /// `text` has spare capacity for a short reply (`REPLY_ROOM` bytes), which is made without allocating: if a longer
-    /// one cannot be allocated, a short reply can still report that. `line` has capacity for a short line (`line_room`
-    /// bytes). Both keep their memory for the next reply.
-    /// Each reply announces a body, so a service should return no status 1xx, 204 or 304 (RFC 9112, section 6.3); the
-    /// contract does not demand this.
+    /// `text` has spare capacity for a short reply (`REPLY_ROOM` bytes). So a service that cannot allocate a longer
+    /// reply can report that without allocating. `line` has capacity for a short line (`line_room` bytes). Both keep
+    /// their memory for the next reply.
+    ///
+    /// Each reply announces a body, so a service should not return a status 1xx, 204 or 304 (RFC 9112, section 6.3);
+    /// the contract does not demand this.
     fn call(
         &mut self,
         method: &[u8],
@@ -53,7 +54,7 @@ pub trait Service: Answers {
         ensures kept { vec_capacity text.old ≤ vec_capacity text.new }
         ensures line_kept { vec_capacity line.old ≤ vec_capacity line.new };
 
-    /// Puts the line for bytes that are not a request, rejected with this status, into `line`. Does not allocate.
+    /// Puts the line for bytes that are rejected with this status into `line`. Does not allocate.
     fn put_refusal_line(status: StatusCode, line: &mut Vec<u8>)
         requires empty { line.old.items ≡ [] }
         requires room { line_room ≤ vec_capacity line.old }

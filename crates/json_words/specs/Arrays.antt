@@ -1,6 +1,6 @@
 -- Defines the members of a JSON array, and those that remain after some of them were read.
 -- Source: RFC 8259, section 5 (an array is brackets around values with commas between) and section 2 (a text is one
--- value, with only whitespace after it).
+-- value, with only whitespace around it).
 -- Rules of this product: which error is reported (`each_of`, `reported_error`).
 use Rattle.std.specs.Prelude.{◌≡◌, ◌<◌, ◌-◌, ⊤, ℕ, List, [], ◌∷◌, length, if◌then◌else◌, Result}
 use Rattle.std.specs.Prelude.{Option, Some, None, option_map, option_and_then, is_some}
@@ -21,31 +21,31 @@ use Rattle.json_words.specs.declared.array_members.ArrayMembers.{ArrayMembers}
 abbrev pub members_in : Option Data → Option (List Data)
 members_in value = option_map list_of (option_and_then as_array value)
 
--- `array_of bytes` are the members of `bytes` as a JSON array; `None` if `bytes` are not JSON, or not an array.
+-- `array_of bytes` are the members of `bytes` as a JSON array; `None` if `json_of bytes` is `None` or not an array.
 unfoldable pub array_of : List ℕ → Option (List Data)
 array_of bytes = members_in (json_of bytes)
 
--- `array_at deep ts` is an array with the tokens after it, where `ts` begins with the tokens of the array after its
--- opening bracket; `None` if `ts` begins otherwise, or if `serde_json` rejects a member or a member nests more than
--- `deep` levels.
+-- `array_at deep ts` is an array with the tokens after it, where `ts` are the tokens after the array's opening bracket.
+-- It is `None` if `ts` do not complete an array, or if `serde_json` rejects a member or a member nests more than `deep`
+-- levels.
 abbrev pub array_at : ℕ → List Token → Option (Data × List Token)
 array_at deep ts = converted of_json (json.parse_map json.array (json.items (json.value deep) (length ts) ts))
 
--- `whole o` is the value in `o`, a value with the tokens after it, if there are no such tokens, so that the value is
--- the whole text; else `None`.
+-- `whole o`, where `o` is a parsed value with the tokens after it, is the value if there are no tokens after it; else
+-- `None`.
 abbrev pub whole : Option (Data × List Token) → Option Data
 whole None = None
 whole (Some (d, [])) = Some d
 whole (Some (d, t ∷ ts)) = None
 
--- `rest_of_array tokens` are the remaining members of an array at the top level of a text, where `tokens` are the
--- tokens of the text that are not yet read; `None` if they do not continue and end the array, and with it the text, as
--- JSON.
+-- `rest_of_array tokens` are the remaining members of a text that is one array, where `tokens` are the tokens of the
+-- text that are not yet read. It is `None` if `tokens` do not complete the array, if a token follows the array, or if
+-- `array_at` rejects a member.
 unfoldable pub rest_of_array : List Token → Option (List Data)
 rest_of_array tokens = members_in (whole (array_at (max_depth - 1) tokens))
 
 -- `unread_members members` are the members of the array that the reader of `members` has not yet read; `None` if the
--- rest of the text is not JSON.
+-- rest of the text is not JSON (`rest_of_array`).
 abbrev pub unread_members : ArrayMembers → Option (List Data)
 unread_members members = rest_of_array members.reader
 
@@ -72,7 +72,7 @@ each_of none f members = do
   ds ← or_fault none members
   each (f ds) 0 ds
 
--- `reported_error none fault behind` is the reported error: `fault`, that of a member, if the remaining members
--- `behind` are JSON; else `none`, since the text is not JSON.
+-- `reported_error none fault behind` is the reported error. It is `fault`, the error of a member, if the remaining
+-- members `behind` are JSON; else it is `none`, since the text is not JSON.
 abbrev pub reported_error : {F : Type 0} → F → F → Option (List Data) → F
 reported_error none fault behind = if is_some behind then fault else none

@@ -18,8 +18,8 @@ abbrev pub member_keys : Members → List (List ℕ)
 member_keys no_members = []
 member_keys (member k d ms) = k ∷ member_keys ms
 
--- `DataAscends d` holds if the keys of each object in `d` ascend, at every depth; `ItemsAscend ds` and
--- `MembersAscend ms` hold if this is so of each item of `ds` and of the value of each member of `ms`.
+-- `DataAscends d` holds if the keys of each object in `d` ascend, at every depth; `ItemsAscend ds` if they do in each
+-- item of `ds`, and `MembersAscend ms` if they do in the value of each member of `ms`.
 abbrev mutual
   pub DataAscends : Data → Type 0
   DataAscends null = ⊤

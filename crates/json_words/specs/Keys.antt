@@ -1,4 +1,4 @@
--- Defines which keys an object has.
+-- Defines the test that a value is an object with no other keys than those of a list.
 use Rattle.std.specs.Prelude.{ℕ, List, Bool, true, false, ◌&&◌}
 use Rattle.std.specs.List.{list_any}
 use Rattle.std.specs.Str.{bytes_eq}

@@ -1,6 +1,6 @@
--- Defines plain JSON, whose compact text parses as the same value: its numbers are integers of 64 bits, its strings are
--- UTF-8, and in each object the keys ascend. (RFC 8259, section 8.1, requires UTF-8; a float may be written with other
--- digits than it was parsed from.)
+-- Defines plain JSON: its numbers are integers from -2^63 to 2^64 - 1, its strings are UTF-8, and in each object the
+-- keys ascend. If it nests at most 127 deep, its compact text parses as the same value. (RFC 8259, section 8.1,
+-- requires UTF-8; a float may be written with other digits than it was parsed from.)
 use Rattle.std.specs.Prelude.{◌≡◌, ℕ, ◌<◌, ◌≤◌, ◌^◌, pos, negsuc, List, ⊤, Some}
 use Rattle.std.specs.Ordering.{nat_cmp}
 use Rattle.std.proofs.Common.{Less}

@@ -1,5 +1,5 @@
--- Defines results of reading, each a value or the first error; and when the result of code that may run out of memory
--- agrees with one.
+-- Defines results of parsing, each a value or the first error, and when the result of code that may run out of memory
+-- agrees with such a result.
 use Rattle.std.specs.Prelude.{◌≡◌, ⊤, Bool, true, false, Option, Some, None, Result, Ok, Err}
 
 -- `r >>= f` is `f` of the value of `r`, or the error of `r`. The notation `do` uses it.
@@ -30,8 +30,8 @@ abbrev pub ReadsAs : {X Y F : Type 0} → F → (X → Y) → Result X F → Res
 ReadsAs memory view (Ok x) read = read ≡ Ok (view x)
 ReadsAs memory view (Err e) read = Fails memory e read
 
--- `AlwaysReadsAs view r read` states the same for code that does not allocate: `read` has the value of `r`, as `view`
--- shows it, or the error of `r`.
+-- `AlwaysReadsAs view r read` holds if `read` has the value of the result `r`, as `view` shows it, or the error of `r`.
+-- It is `ReadsAs` for code that does not allocate.
 abbrev pub AlwaysReadsAs : {X Y F : Type 0} → (X → Y) → Result X F → Result Y F → Type 0
 AlwaysReadsAs view (Ok x) read = read ≡ Ok (view x)
 AlwaysReadsAs view (Err e) read = read ≡ Err e

@@ -1,4 +1,4 @@
-//! The members of an array, read one after another, so that a caller never has the values of the whole array in memory.
+//! The members of an array, read one after another, so that a caller need not have all of them in memory.
 ghost use Rattle.std.specs.Prelude.{◌≡◌, ◌<◌, length, is_some, IfOk, IfSome, MatchOption};
 ghost use Rattle.std.specs.Str.{IsUtf8};
 ghost use Rattle.json.specs.Lex.{tokens};
@@ -17,10 +17,10 @@ pub struct ArrayMembers<'a> {
     reader: Reader<'a>,
 }
 
-/// The next member of an array, or its end.
+/// The next member of an array, the end of the array, or the finding that the text is not JSON.
 #[derive(Drop)]
 pub enum Member {
-    /// The next member, if the text is JSON. If a later call returns `NotJson`, this value means nothing.
+    /// The next member, if the text is JSON. If a later call returns `NotJson`, this value is unspecified.
     Value(Value),
     /// The array ends, and the text with it.
     End,
@@ -31,10 +31,10 @@ pub enum Member {
 /// Returns the members of the array that `bytes` begin with, or `None` if they are not UTF-8 or do not begin with an
 /// array.
 ///
-/// Whether the bytes are JSON is found out as the members are read: if they are not, the last call of
-/// [`ArrayMembers::next`] returns [`Member::NotJson`] in place of [`Member::End`]. The last value of a duplicate key
-/// counts, and arrays and objects nest at most 127 deep, including the array itself. The scratch grows to the longest
-/// string; its earlier content does not matter. The only error is `NoMemory`.
+/// Reading the members shows whether the bytes are JSON: if they are not, the last call of [`ArrayMembers::next`]
+/// returns [`Member::NotJson`] in place of [`Member::End`]. The last value of a duplicate key counts, and arrays and
+/// objects nest at most 127 deep, including the array itself. The scratch grows to the length of the longest string;
+/// its earlier content does not matter. The only error is `NoMemory`.
 pub fn members_of<'a>(
     scratch: &'a mut Scratch,
     bytes: &'a [u8],
@@ -75,7 +75,7 @@ impl<'a> ArrayMembers<'a> {
     /// Returns the next member; or `End`, if the array and the text end; or `NotJson`, if the text is found not to be
     /// JSON.
     ///
-    /// The only error is `NoMemory`. After an error, `End` or `NotJson`, the results of further calls mean nothing.
+    /// The only error is `NoMemory`. After an error, `End` or `NotJson`, the results of further calls are unspecified.
     pub fn next(&mut self, alloc: Global) -> Result<Member, NoMemory>
         ensures told { IfOk result (λ member. IsNextMember member (unread_members self.old) (unread_members self.new)) }
         ensures fewer { IfOk result (λ member. IsFewer member (length self.old.reader) (length self.new.reader)) }
@@ -94,8 +94,8 @@ impl<'a> ArrayMembers<'a> {
 
     /// Reads the rest of the text and returns whether it is JSON. Drops each member as soon as it is read.
     ///
-    /// A caller that rejects a member calls this first, so that it reports the member's error only for text that is
-    /// JSON. The only error is `NoMemory`.
+    /// A caller that rejects a member calls this, and reports the member's error only if the text is JSON. The only
+    /// error is `NoMemory`.
     pub fn rest_is_json(&mut self, alloc: Global) -> Result<bool, NoMemory>
         ensures { IfOk result (λ b. b ≡ is_some (unread_members self.old)) }
     {

@@ -8,8 +8,8 @@ pub fn json_keys_ascend()
     ensures { JsonAscends }
 {}
 
-/// Proves that the compact text of plain JSON, nested at most 127 deep, parses as that JSON; so values with equal texts
-/// are equal. Plain JSON has no floats, its strings are UTF-8, and the keys of its objects ascend. No-op.
+/// Proves that the compact text of plain JSON, nested at most 127 deep, parses as that JSON; so two such values with
+/// equal texts are equal. Plain JSON has no floats, its strings are UTF-8, and the keys of its objects ascend. No-op.
 pub fn compact_texts_read_back()
     ensures back { CompactReadsBack }
     ensures one { CompactIsOne }

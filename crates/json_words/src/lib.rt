@@ -1,9 +1,9 @@
-//! What all readers and writers of JSON share: parsing, also in reused memory; the members of an array, one by one; the
+//! What readers and writers of JSON share: parsing, also in reused memory; the members of an array, one by one; the
 //! keys of an object; and the compact text.
 //!
-//! Contracts of readers in other crates state reading as a function that gives a value or the first error, by the
-//! definitions `ReadsAs`, `each`, `demand` and `or_fault` of `specs/`. The lemmas of `proofs/` are for the loops of
-//! these readers.
+//! Contracts of readers in other crates describe reading as a function that returns a value or the first error. These
+//! contracts use the definitions `ReadsAs`, `each`, `demand` and `or_fault` of `specs/`; `proofs/` has lemmas for the
+//! loops of these readers.
 #![tactic(auto)]
 
 ghost use Rattle.std.specs.Prelude.{◌≡◌, ◌≤◌, Some, false, option_map, IfOk, IfSome, map, string_bytes};
@@ -32,7 +32,7 @@ use std::alloc::Global;
 pub use with_scratch::read_json_by;
 
 /// Parses JSON. Returns `None` if the bytes are not UTF-8 or not JSON, if arrays and objects nest deeper than 127, if
-/// an escape has half of a surrogate pair, or if a number is beyond a double.
+/// an escape has half of a surrogate pair, or if a number is too large for a double.
 ///
 /// The last value of a duplicate key counts. The only error is `NoMemory`.
 pub fn read_json(alloc: Global, bytes: &[u8]) -> Result<Option<Value>, NoMemory>
@@ -52,8 +52,8 @@ pub fn read_json(alloc: Global, bytes: &[u8]) -> Result<Option<Value>, NoMemory>
 
 /// Returns the compact text of a value, without whitespace and, in each object, with the keys ascending by bytes.
 ///
-/// The text of a value that nests at most 127 deep parses as that value. The digits of a float are not specified
-/// otherwise. The only error is `NoMemory`.
+/// The text of a value that nests at most 127 deep parses as that value. The contract specifies nothing else of the
+/// text of a value with a float. The only error is `NoMemory`.
 pub fn write_json(alloc: Global, value: &Value) -> Result<Vec<u8>, NoMemory>
     ensures text { IfOk result (λ b. has_float (view value.now) ≡ false → b.items ≡ compact_text (view value.now)) }
     ensures reads_back { IfOk result

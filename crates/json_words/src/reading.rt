@@ -1,5 +1,5 @@
-//! Parsing of JSON values from the tokens of a reader. A function that parses a value returns `None` if the tokens are
-//! not such a value.
+//! Parsing of JSON values from the tokens of a reader. A function that parses a value returns `None` if the tokens do
+//! not describe such a value.
 ghost use Rattle.std.specs.Prelude.{◌≡◌, ◌<◌, length, option_map, IfOk, IfSome};
 ghost use Rattle.json.specs.Reads.{token_of};
 ghost use Rattle.serde_json.specs.View.{view};
@@ -13,8 +13,8 @@ use plain::NoMemory;
 use serde_json::{Map, Value};
 use std::alloc::Global;
 
-/// Returns the next value of the reader, or `None` if no value follows, or if its arrays and objects nest more than
-/// `deep` levels.
+/// Returns the next value of the reader, or `None` if no value follows, if the value's arrays and objects nest more
+/// than `deep` levels, or if a number is too large for a float.
 #[cycle(value_in)]
 pub(crate) fn value_in(
     alloc: Global,

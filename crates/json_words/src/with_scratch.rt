@@ -1,7 +1,7 @@
 //! Parsing of JSON values that reuses memory from text to text.
 //!
-//! `serde_json::Value::from_slice` allocates and zeroes 16 KiB for each text. A caller that parses many texts keeps one
-//! [`Scratch`] and passes it here.
+//! `serde_json::Value::from_slice` makes a [`Scratch`] for each text, and zeroes its 16 KiB. A caller that parses many
+//! texts keeps one [`Scratch`], and passes it to [`read_json_by`].
 ghost use Rattle.std.specs.Prelude.{◌≡◌, ◌≤◌, option_map, IfOk, IfSome};
 ghost use Rattle.serde_json.specs.Data.{depth};
 ghost use Rattle.serde_json.specs.Read.{max_depth, read};
@@ -18,10 +18,10 @@ use std::alloc::Global;
 pub(crate) const MOST_DEPTH: usize = 127;
 
 /// Parses JSON. Returns `None` if the bytes are not UTF-8 or not JSON, if arrays and objects nest deeper than 127, if
-/// an escape has half of a surrogate pair, or if a number is beyond a double.
+/// an escape has half of a surrogate pair, or if a number is too large for a double.
 ///
-/// The last value of a duplicate key counts. The scratch grows to the longest string; its earlier content does not
-/// matter. The only error is `NoMemory`.
+/// The last value of a duplicate key counts. The scratch grows to the length of the longest string; its earlier content
+/// does not matter. The only error is `NoMemory`.
 pub fn read_json_by(
     scratch: &mut Scratch,
     alloc: Global,

@@ -1,4 +1,4 @@
-//! Results of evaluation, with a request and stored entities given one by one or as one environment.
+//! Tests of evaluation, with a request and a store passed as two arguments or as one environment.
 use crate::shared::{holds, uid_of};
 use entities::{Entities, EntityStore, NoActions};
 use evaluator::{

@@ -1,4 +1,4 @@
-//! Texts of decimals and addresses when allocations fail.
+//! Tests of writing the canonical strings of decimals and addresses when allocations fail.
 use crate::shared::{finished, holds};
 use extensions::{Decimal, IpNet, NoMemory};
 use std::alloc::Global;
@@ -38,7 +38,7 @@ fn shown<T: Written>(rt: &impl Abort, alloc: Global, value: T) -> Result<String,
     finished(out, done)
 }
 
-// Returns the canonical text; after a failed allocation tries once more.
+// Like [`shown`]; after a failed allocation tries once more.
 fn shown_at_last<T: Written>(rt: &impl Abort, alloc: Global, value: T) -> Result<String, NoMemory> {
     match shown(rt, alloc, value) {
         Ok(shown) => Ok(shown),

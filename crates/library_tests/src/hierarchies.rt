@@ -1,6 +1,6 @@
-//! Hierarchies: queries, changes, cycles, and failed allocations. Each test applies to any type of hierarchy.
+//! Tests of hierarchies: queries, changes, cycles, and failed allocations. Each test applies to any type of hierarchy.
 //!
-//! A test is a text of rows, which `/` separates. A row is a change or, with a colon, an expectation:
+//! A test is a string of rows, separated by `/`. A row is a change or, with a colon, an expectation:
 //!
 //! - `CHILD in PARENT ..` sets the parents of an entity; a word alone deletes its entity; `new` empties the hierarchy.
 //! - `ID: ANCESTORS | CYCLIC | CYCLE` expects the ancestors of the entity, the cyclic entities, and the least cycle.
@@ -192,7 +192,7 @@ fn answered<H: Hierarchy>(
     )
 }
 
-// Returns how a row writes an answer of [`answered`].
+// Returns the expectation that a row has for an answer of [`answered`].
 fn words_of(answer: (bool, bool)) -> &'static str {
     match answer {
         (true, true) => " above cycle",
@@ -321,7 +321,7 @@ fn all_hold<H: TestedHierarchy>(
     Ok(())
 }
 
-// Makes a change again that failed. Fails the test unless the expectations `before` it still hold.
+// Makes a failed change again. Fails the test unless `before`, the expectations of the step before, still hold.
 fn change_again<H: TestedHierarchy>(
     rt: &impl Abort,
     alloc: Global,
@@ -382,10 +382,10 @@ fn steps<H: TestedHierarchy>(rt: &impl Abort, alloc: Global, steps: &str) -> Res
     steps_hold(rt, alloc, &mut hierarchy, steps)
 }
 
-// These rows test, in this order: a cycle that is closed and broken; two cycles that share an entity, where entities
-// that lead to a cycle, and those that it leads to, are not cyclic; parents that repeat, or are not stored; from the
-// least cyclic entity, a shortest cycle, and of these the least, item by item; queries on u, a child of g1, and g1, a
-// child of g2; entities with one id and two types, which are different, also if one of the two is deleted or added.
+// These rows test, in this order: a cycle that is closed and broken; two cycles that share an entity, with entities
+// that lead to or from a cycle and are not cyclic; parents that repeat, or are not stored; from the least cyclic
+// entity, a shortest cycle, and of these the least, item by item; queries on u, a child of g1, and g1, a child of g2;
+// entities with one id and two types, which are different, also if one of the two is deleted or added.
 const ROWS: &str = "\
     u in g1/u: g1 | |/\
     g1 in g2/u: g1 g2 | |/\
@@ -453,8 +453,8 @@ const ROWS: &str = "\
     a in a' b/: a a'";
 
 // These steps test a path that grows, is cut by a deletion, and is closed to a cycle by a parent that is not the first;
-// an entity that is its own parent; the cycles broken in turn. After each change come the ancestors of each entity that
-// it affects.
+// an entity that is its own parent; the cycles broken in turn. After each change come the ancestors of entities that
+// the change affects.
 const SURVIVED: &str = "\
     u in g1; u: g1 | |; v: | |; g1: | |; touched:1/\
     g1 in g2; u: g1 g2 | |; g1: g2 | |; g2: | |; touched:2/\

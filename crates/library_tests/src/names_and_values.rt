@@ -1,4 +1,4 @@
-//! Names and values: their orders, and copies, also when allocations fail.
+//! Tests of names and values: their orders, and copies, also when allocations fail.
 use crate::shared::{Copied, ended, finished, holds, is_copied, uid_of};
 use extensions::{Decimal, IpNet};
 use plain::{NoMemory, Text, both};
@@ -152,7 +152,7 @@ fn above<T: Ord + Drop>(rt: &impl Abort, pair: Result<(T, T), NoMemory>) -> Resu
     Ok(next)
 }
 
-// Fails the test unless a value is less than the next one, and that is equal to its copy.
+// Fails the test unless a value is less than the next one, and the next one is equal to its copy.
 fn is_below_the_next(rt: &impl Abort, alloc: Global, place: u8) -> Result<(), NoMemory> {
     let pair = both(
         value_had(alloc, place),

@@ -1,4 +1,4 @@
-//! Tests of the containers: each call once with ample memory, at concrete types.
+//! Tests of the containers of the crate `plain`, with ample memory, at concrete types.
 use crate::shared::{Copied, ascend, finished, holds, is_copied};
 use plain::*;
 use std::alloc::Global;

@@ -1,4 +1,4 @@
-//! The index of policies by their scopes: the candidates of a request, and failed changes.
+//! Tests of the index of policies by their scopes: the candidates of a request, and failed changes.
 //!
 //! A test is a string of rows, separated by `/`. A row is a change or, with a colon, an expectation:
 //!
@@ -8,8 +8,8 @@
 //! - `POLICY gone` removes a policy; `CHILD below PARENT` sets the parent of an entity.
 //! - `PRINCIPAL: POLICY ..` expects the candidates of a request of this principal on Doc x.
 //!
-//! In the test of failed allocations, of which each run makes one fail (tools/faults/refused_tests.py), `/` separates
-//! steps: `CHANGE; ROW; ROW ..`, a change and the expectations after it.
+//! In the test of failed allocations `/` separates steps: `CHANGE; ROW; ROW ..`, a change and the expectations after
+//! it. Each run of tools/faults/refused_tests.py makes one allocation fail.
 use crate::shared::{ended, holds, uid_of};
 use ancestor_closure::{Closed, Hierarchy};
 use plain::{NoMemory, Shared, both};
@@ -92,7 +92,7 @@ fn policy_of(alloc: Global, scope: Scope) -> Result<Policy, NoMemory> {
     })
 }
 
-// Returns the policy of a row, given its second word and its id.
+// Returns the policy of a row, given the second word of the row (`how`) and the third (`id`).
 fn policy(alloc: Global, how: &str, id: &str) -> Result<Policy, NoMemory> {
     policy_of(alloc, scope(alloc, how, id)?)
 }
@@ -247,8 +247,8 @@ fn lost_by(change: &str) -> &str {
     }
 }
 
-// Makes a change again that failed. Fails the test unless the expectations of the step before (`before`) still hold,
-// apart from the removed policy.
+// Makes a failed change again. Fails the test unless the expectations of the step before (`before`) still hold, apart
+// from the removed policy.
 fn change_again(
     rt: &impl Abort,
     alloc: Global,
@@ -309,8 +309,8 @@ fn table(rt: &impl Abort, alloc: Global, rows: &str) -> Result<(), NoMemory> {
 }
 
 // These rows test, in this order: a principal that is not stored, then is a child of a group; a policy whose constraint
-// is removed, and one that is removed; policies constrained by the resource, Doc x, where each that names x or an
-// ancestor is a candidate; a new constraint, and a cyclic entity, for which each policy is a candidate once.
+// is removed, and a policy that is removed; policies that constrain the resource, which are candidates if they name Doc
+// x or its ancestor; a new constraint, and a cyclic entity, for which each policy is a candidate once.
 const ROWS: &str = "\
     a:/\
     a == a/b == b/c any/d in g/e in a/\

@@ -19,7 +19,7 @@ pub(crate) fn ended<T: Drop, R>(_kept: T, came: R) -> R {
     came
 }
 
-/// Fails the test if something does not hold.
+/// Fails the test with the message `what` unless `truth` is true.
 pub(crate) fn holds(rt: &impl Abort, truth: bool, what: &str) {
     assert!(rt; truth, "{what}");
 }

@@ -1,4 +1,4 @@
-//! Stores: look-ups and joins.
+//! Tests of stores: look-ups and joins.
 use crate::shared::{ended, finished, holds, uid_of};
 use plain::{NoMemory, Text, both};
 use stamped_store::{Entry, ReadText, SiteName, Stamp, Stamped, StampedStore, laws};
@@ -44,7 +44,7 @@ impl Named for EntityUid {
     }
 }
 
-// Returns the body of an entry: the text, parsed as its length; an empty text is a tombstone.
+// Returns the body of an entry: the text, with its length as its parsed form; a tombstone if the text is empty.
 fn body(alloc: Global, text: &str) -> Result<Option<ReadText<usize>>, NoMemory> {
     if text.is_empty() {
         return Ok(None);
@@ -54,7 +54,7 @@ fn body(alloc: Global, text: &str) -> Result<Option<ReadText<usize>>, NoMemory> 
     Ok(Some(ReadText { text, read }))
 }
 
-// Returns the site of this name; for a text that is not a site name, that of number 0.
+// Returns `name` as a site name; if it is not a site name, the name of site number 0.
 fn site(name: &str) -> SiteName {
     match SiteName::parse(name) {
         Some(site) => site,
@@ -165,7 +165,7 @@ fn is_among<K: Named>(names: &str, count: usize, key: &K) -> bool {
     false
 }
 
-// Returns whether a key has its entry after a join with exactly the first `taken` names of the other store.
+// Returns whether `entry` is the entry of a key after a join with exactly the first `taken` names of the other store.
 fn is_joined<K: Named>(merge: Merge<'_>, taken: usize, key: &K, entry: &Entry<usize>) -> bool {
     if is_among(merge.other, taken, key) {
         return entry.stamp == stamp((9, "2", "")) && text_of(entry) == FORBID;
@@ -247,7 +247,7 @@ fn merge_at_last(
     }
 }
 
-// Merges into a store that stays in use. Fails the test unless all names are joined.
+// Merges into `store`. Fails the test unless all names are then joined.
 fn merge_into(
     rt: &impl Abort,
     alloc: Global,
@@ -282,7 +282,7 @@ fn a_refused_merge_joins_the_first_names(rt: HostRuntime) -> Result<(), NoMemory
     merged(&rt, alloc, "a b c g h i j k l m n o p q", "d e f @x @y")
 }
 
-// Returns whether the calls that look up find what the store of this test holds.
+// Returns whether look-ups find what the store of this test has.
 fn is_looked_up(store: &Store, uid: &EntityUid) -> bool {
     store.greatest_count() == 4
         && store.issue(site("7")) == stamp((5, "7", ""))

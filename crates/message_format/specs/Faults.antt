@@ -1,4 +1,5 @@
--- Defines the codes of the errors of messages, and their places.
+-- Defines, for each error of a message, its code, the index of the entry or stamp that has it, and the code of its
+-- inner error.
 -- Source: docs/codes.md.
 -- Rules of this product: the codes.
 use Rattle.std.specs.Prelude.{ℕ, Option, Some, None}
@@ -17,7 +18,8 @@ code_of (CountRange place) = 54
 code_of (BadEntry place within) = 55
 code_of (BodyOfOtherName place) = 56
 
--- `place_of f` is the index of the entry or stamp that has the error `f`, if `f` is not of the message as a whole.
+-- `place_of f` is the index of the entry or stamp that has the error `f`, or `None` if `f` is of the message as a
+-- whole.
 abbrev pub place_of : MessageFault → Option ℕ
 place_of NoMemory = None
 place_of NotJson = None
@@ -28,7 +30,7 @@ place_of (CountRange place) = Some place
 place_of (BadEntry place within) = Some place
 place_of (BodyOfOtherName place) = Some place
 
--- `within_of f` is the code of the inner error of `f`, if there is one.
+-- `within_of f` is the code of the inner error of `f`, or `None` if it has none.
 abbrev pub within_of : MessageFault → Option ℕ
 within_of NoMemory = None
 within_of NotJson = None

@@ -49,7 +49,7 @@ message_json kind label us = object (member (codes "entries") (array (items_of (
 abbrev pub state_json : List ℕ → Store → Data
 state_json label s = message_json (codes "state") label (updates s)
 
--- `delta_json label s` is the JSON of a part `s` of a store as a delta for the schema with the label `label`.
+-- `delta_json label s` is the JSON of `s`, a part of a store, as a delta for the schema with the label `label`.
 abbrev pub delta_json : List ℕ → Store → Data
 delta_json label s = message_json (codes "delta") label (updates s)
 

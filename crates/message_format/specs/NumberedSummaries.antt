@@ -1,7 +1,7 @@
 -- Defines summaries of version 1, whose sites are numbers.
 -- Rules of this product: such a summary is {"kind":"summary","schema":label,"stamps":[{"count":n,"name":N,"site":m},
 -- ..],"version":1}, with m from 1 to 65,535. It is parsed as the summary in which each number is replaced by its five
--- digits, and never written.
+-- digits. It is never written.
 use Rattle.std.specs.Prelude.{ℕ, List, map, codes}
 use Rattle.std.specs.List.{AllByRecursion}
 use Rattle.serde_json.specs.Data.{Data, number, unsigned, string, array, object, no_members, member}

@@ -63,7 +63,8 @@ HasTexts (Entity uid) = IsUtf8 uid.type_name × IsUtf8 uid.id
 abbrev pub HaveTexts : Summary → Type 0
 HaveTexts m = AllByRecursion (λ u. HasTexts u.0) m
 
--- `IsWritten m` holds if `m` may be written: names and stamps in their ranges, strings in UTF-8, names ascending.
+-- `IsWritten m` holds if the summary `m` meets the conditions of the round trip: names and stamps in their ranges,
+-- strings in UTF-8, names ascending.
 pub record IsWritten (m : Summary) : Type 0 where
   pub stamped : AreStamped m
   pub texts : HaveTexts m

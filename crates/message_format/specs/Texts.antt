@@ -17,6 +17,6 @@ pub record IsText (u : Update) : Type 0 where
   pub name : HasTexts u.0
   pub body : IsBodyText u.1.body
 
--- `AreTexts us` holds if the strings of each of `us` are UTF-8.
+-- `AreTexts us` holds if the strings of the name and of the body of each of `us` are UTF-8.
 abbrev pub AreTexts : List Update → Type 0
 AreTexts us = AllByRecursion IsText us

@@ -76,14 +76,14 @@ module _ {P E : Type 0} (Policies : List ℕ → List ℕ → P → Type 0) (Ent
   AreValid us = AllByRecursion IsValid us
 
   -- `IsMessage label bytes us` holds if `bytes` are a state or delta for the schema with the label `label`, with the
-  -- updates `us`, in this order. Each update is in its ranges, and has a value of its text.
+  -- updates `us`, in this order. Each update is in its ranges and, unless it is a tombstone, has a value of its text.
   pub record IsMessage (label bytes : List ℕ) (us : List (Update P E)) : Type 0 where
     pub stated : updates_stated label bytes ≡ Ok (plain_updates us)
     pub in_range : AreInRange (plain_updates us)
     pub are_read : AllByRecursion IsUpdateRead us
 
--- `NoPolicies` relates an id and a text to the errors of the text as a policy, and `NoEntities` a uid and a text to its
--- errors as an entity.
+-- `NoPolicies` relates an id and a text to the errors of the text as a policy, and `NoEntities` a uid and a text to the
+-- errors of the text as an entity.
 module _ (NoPolicies : List ℕ → List ℕ → BodyFault → Type 0)
     (NoEntities : EntityUid → List ℕ → BodyFault → Type 0) where
   -- `IsUnreadable n body why` holds if `body` is a text that is rejected under the name `n` with the error `why`.
@@ -113,7 +113,8 @@ module _ {P E : Type 0} (Policies : List ℕ → List ℕ → P → Type 0) (Ent
       ⊎ (IsStamped (stamped u) × IsValid Policies Entities u × IsFirstFault (suc place) us why)
 
   -- `IsMessageFault label bytes why` holds if `why` is the first error of `bytes` as a message for the schema with the
-  -- label `label`: that of their JSON, version, shape or label or, if they describe updates, the first error of these.
+  -- label `label`. This is the error of their JSON, version, shape or label; or, if they describe updates, the first
+  -- error of these.
   abbrev pub IsMessageFault : List ℕ → List ℕ → MessageFault → Type 0
   IsMessageFault label bytes why = MatchResult (updates_stated label bytes) (λ us. IsFirstFault 0 us why)
       (λ first. why ≡ first)

@@ -17,7 +17,7 @@ pub enum BodyFault {
     /// Code 1: an allocation failed.
     #[error("message 1: out of memory")]
     NoMemory,
-    /// Code 55: the text is rejected, with this code within.
+    /// Code 55: the text is rejected; holds the code of the inner error.
     #[error("message 55: body refused with code {0}")]
     Refused(u8),
     /// Code 56: the text is that of an entity with another uid.
@@ -37,7 +37,7 @@ impl From<plain::NoMemory> for BodyFault {
 ///
 /// An implementation specifies what a text is parsed as, by the members of [`Readings`], and with which errors it is
 /// rejected. If each text is parsed as one value or rejected with one error, and never both, then a message has one
-/// outcome too: this is the premise of [`crate::messages_have_one_outcome`].
+/// outcome too, by [`crate::messages_have_one_outcome`].
 pub trait Bodies<P, E>: Readings<P, E> {
     /// The errors of a text as the policy with an id: a relation of the id, the text and the error.
     ghost refuses_policy: { Self → List ℕ → List ℕ → BodyFault → Type 0 };
@@ -49,7 +49,7 @@ pub trait Bodies<P, E>: Readings<P, E> {
     ///
     /// # Errors
     ///
-    /// - An error of the text by `refuses_policy`.
+    /// - An error that `refuses_policy` relates to the id and the text.
     /// - `NoMemory`: an allocation failed; possible at any point.
     fn read_policy(&self, alloc: Global, id: &str, text: &str) -> Result<P, BodyFault>
         ensures read { IfOk result (Self.reads_policy self.now id.now text.now) }
@@ -61,7 +61,7 @@ pub trait Bodies<P, E>: Readings<P, E> {
     ///
     /// # Errors
     ///
-    /// - An error of the text by `refuses_entity`.
+    /// - An error that `refuses_entity` relates to the uid and the text.
     /// - `NoMemory`: an allocation failed; possible at any point.
     fn read_entity(
         &self,

@@ -27,7 +27,8 @@ pub enum MessageFault {
     /// Code 54: the count of the entry or stamp at this index is 0 or over 10^18.
     #[error("message 54: count of 0, or over 10^18, at entry {0}")]
     CountRange(usize),
-    /// Code 55: the name of the entry or stamp at this index, or the body of this entry, is rejected with this code.
+    /// Code 55: at this index, the name of an entry or stamp, or the body of an entry, is rejected. The second field is
+    /// the code of the inner error.
     #[error("message 55: entry {0} refused with code {1}")]
     BadEntry(usize, u8),
     /// Code 56: the entry at this index is of an entity, and its body has another uid.

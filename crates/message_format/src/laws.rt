@@ -29,8 +29,8 @@ use stamped_store::laws::site_names_are_recognized;
 ///
 /// If the names and stamps of the updates are in their ranges, the JSON of a state or delta is parsed as the updates
 /// that it was written from. If also the label and the strings of the updates are UTF-8, the text is parsed as these
-/// updates. If the same bytes are the states of two stores, or deltas with the entries of two stores, these stores are
-/// equal.
+/// updates. If the same bytes are the states of two stores, or deltas with the entries of two stores, under one label,
+/// these stores are equal.
 pub fn messages_read_back()
     ensures states { (label : List ℕ) (s : Store) → AreInRange (updates s)
         → updates_in label (state_json label s) ≡ Ok (updates s) }
@@ -50,7 +50,7 @@ pub fn messages_read_back()
     compact_texts_read_back();
 }
 
-/// Proves that bytes have one outcome as a message. No-op.
+/// Proves that bytes have one outcome as a message, if each text of a body has one. No-op.
 ///
 /// Let each text of a body have at most one outcome. Then bytes are a message of at most one list of updates, or have
 /// at most one error, and never both. If each text is also parsed or rejected, bytes are a message or have an error. If

@@ -1,5 +1,5 @@
-//! The writing of members of JSON objects (RFC 8259, section 4), token by token: no JSON value is built, and no string
-//! copied. The caller writes the brackets around the members.
+//! The writing of members of JSON objects (RFC 8259, section 4), token by token: no JSON value is built, and strings
+//! are copied only to the output. The caller writes the brackets around the members.
 ghost use Rattle.std.specs.Prelude.{◌≡◌, OnOk, codes};
 ghost use Rattle.std.specs.declared.cmp.Ordering.{Ordering};
 ghost use Rattle.serde_json.specs.Data.{number, unsigned, string};

@@ -22,9 +22,10 @@ use values::path_tests_are_exact;
 ///
 /// If the names and stamps of a summary are in their ranges and its names ascend, its JSON is parsed as that summary.
 /// If also the label and the strings of the summary are UTF-8, its text is parsed as that summary, and two such
-/// summaries with one text are equal. The JSON of a summary of version 1, under the first conditions, is parsed as the
-/// summary in which five digits replace each site's number. A parsed summary has names and stamps in their ranges, and
-/// its names ascend. The names of a store's summary ascend.
+/// summaries with one text under one label are equal. The JSON of a summary of version 1 has numbers from 1 to 65,535
+/// as sites. It is parsed as the summary in which five digits replace each number, if that summary meets the first
+/// conditions. A parsed summary has names and stamps in their ranges, and its names ascend. The names of a store's
+/// summary ascend.
 pub fn summaries_read_back()
     ensures back { (label : List ℕ) (m : Summary) → AreStamped m → ascend m ≡ true
         → summary_in label (summary_json label m) ≡ Ok m }

@@ -3,9 +3,11 @@ use plain::Text;
 use stamped_store::Entry;
 use values::EntityUid;
 
-/// An update that was parsed from a message: a name with an entry, whose body holds the text and its parsed value.
+/// An update that was parsed from a message: a name with an entry. The body is the text with its parsed value, or
+/// `None` for a tombstone.
 ///
-/// A store applies it without parsing the text again, and converts a policy's id to a `String` without an allocation.
+/// A store applies the update without parsing the text again, and converts a policy's id to a `String` without an
+/// allocation.
 #[derive(Drop)]
 pub enum Update<P, E> {
     /// An update of a policy.

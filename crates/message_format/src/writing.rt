@@ -41,7 +41,7 @@ fn write_body<P>(out: &mut Writer, body: &Option<ReadText<P>>) -> Result<(), NoM
     }
 }
 
-/// Writes an entry with its name as an object.
+/// Writes an entry and its name as one object.
 fn write_entry<N: Lent, P>(out: &mut Writer, name: &N, entry: &Entry<P>) -> Result<(), NoMemory>
     ensures { OnOk result (AppendsValue out.old out.new (entry_json (N.named name.now, plain_entry entry.now))) }
 {
@@ -102,7 +102,7 @@ fn push_missing<N: Lent, P>(
 }
 
 /// Writes the entries whose names `known` lacks or has with a smaller stamp. The names of `entries` and those of
-/// `known` ascend. Returns the part of `known` from the name of the last entry on.
+/// `known` ascend. Returns the part of `known` from the name of the last entry on, or `known` if there are no entries.
 fn push_all<'a, N: Lent + Drop, P: Drop>(
     out: &mut Writer,
     entries: Iter<'_, N, Entry<P>>,
@@ -183,8 +183,8 @@ fn write_message<P: Drop, E: Drop>(
 
 /// Returns a whole store, as a state of the schema with this label: compact, keys and names ascending.
 ///
-/// If each name and stamp is in its range, the message is parsed as the updates that it was written from. Allocates
-/// only the returned bytes.
+/// If each name and stamp is in its range, the message describes the updates that it was written from. Allocates only
+/// the returned bytes.
 ///
 /// # Errors
 ///
@@ -205,8 +205,9 @@ pub fn write_state<P: Drop, E: Drop>(
 
 /// Returns a delta of the schema with this label: the entries whose names `since` lacks or has with a smaller stamp.
 ///
-/// The text has the form of [`write_state`]'s, and is parsed likewise. Takes one walk over the names of the store and
-/// of `since`. Allocates only the returned bytes.
+/// The text is compact, with keys and names ascending. If each of these names and stamps is in its range, the message
+/// describes these entries. Takes one walk over the names of the store and of `since`. Allocates only the returned
+/// bytes.
 ///
 /// # Errors
 ///

@@ -1,4 +1,5 @@
--- Defines the keys, which must be distinct, of a policy's annotations. In each definition `text` is the policy's text.
+-- Defines the keys, which must be distinct, of a policy's annotations. In each definition `text` is the text that the
+-- policy's tokens are in.
 -- Source: Cedar reference guide 4.0, "Annotations": a key occurs once in a policy.
 use Rattle.std.specs.Prelude.{ℕ, List, map}
 use Rattle.grammar_desugaring.specs.grammar_tokens.Lexing.{spelling_of}

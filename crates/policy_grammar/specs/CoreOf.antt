@@ -70,7 +70,7 @@ pub record IsCoreOf (text : List ℕ) (tree : PolicyTree) (policy : Policy) : Ty
   pub condition : policy.condition ≡ conditions_of text tree.conditions
 
 -- `IsValueOf text token value` holds if `value` is the value of an annotation: that of the string `token`, or the empty
--- string without a token.
+-- string if `token` is `None`.
 abbrev pub IsValueOf : List ℕ → Option Token → List ℕ → Type 0
 IsValueOf text None value = value ≡ []
 IsValueOf text (Some token) value = IsStringOf value (spelling_of text token)
@@ -79,7 +79,7 @@ IsValueOf text (Some token) value = IsStringOf value (spelling_of text token)
 abbrev pub is_id : List ℕ → Annotation → Bool
 is_id text annotation = bytes_eq (spelling_of text annotation.key) (codes "id")
 
--- `IsNameBy text place id name` holds if `name` is the value of the annotation `id`; or, where `id` is `None`, if
+-- `IsNameBy text place id name` holds if `name` is the value of the annotation `id`; without an annotation (`None`), if
 -- `name` is `policy` followed by the index `place` in decimal.
 abbrev pub IsNameBy : List ℕ → ℕ → Option Annotation → List ℕ → Type 0
 IsNameBy text place None name = name ≡ codes "policy" ++ decimal place

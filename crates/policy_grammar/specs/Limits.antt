@@ -1,6 +1,7 @@
 -- Defines the limits on the size of a policy.
--- Rules of this product: the core expression of a policy is at most 1,000 high and has at most 1,000,000 nodes; a
--- policy's id has 1 to 256 bytes, the text of a policy at most 262,144, and a file at most 8,388,608.
+-- Rules of this product: the core expression of a policy is at most 1,000 high and has at most 1,000,000 nodes. A
+-- policy's id has 1 to 256 bytes, the text of a policy that is parsed alone at most 262,144, and a file at most
+-- 8,388,608.
 use Rattle.std.specs.Prelude.{◌≡◌, ℕ, suc, ◌+◌, ◌≤◌, max, List, [], ◌∷◌, length}
 use Rattle.grammar_desugaring.specs.grammar_tokens.declared.tree.UidTree.{UidTree}
 use Rattle.grammar_policies.specs.declared.tree.PartTree.{PartTree}
@@ -41,8 +42,8 @@ height (both a b) = max (height a) (height b) + 1
 height (literals n) = 2
 height (sized high many) = high
 
--- `part_shape part` is the shape of `part`, a scope's part on the principal or the resource: without a constraint it is
--- `true`, and `e is T in f` is `(e is T) && (e in f)`.
+-- `part_shape part` is the shape of `part`, a scope's part on the principal or the resource. A part without a
+-- constraint is `true`, and `e is T in f` is `(e is T) && (e in f)`.
 abbrev pub part_shape : PartTree → Shape
 part_shape part.Any = leaf
 part_shape (part.Equal uid) = both leaf leaf
@@ -50,7 +51,7 @@ part_shape (part.In uid) = both leaf leaf
 part_shape (part.Is name) = over leaf
 part_shape (part.IsIn name uid) = both (over leaf) (both leaf leaf)
 
--- `action_shape action` is the shape of `action`, a scope's part on the action: without a constraint it is `true`,
+-- `action_shape action` is the shape of `action`, a scope's part on the action. A part without a constraint is `true`,
 -- `action in []` is `false`, and `action in [E, ..]` is `action in` that set.
 abbrev pub action_shape : ActionTree → Shape
 action_shape action.Any = leaf
@@ -79,8 +80,8 @@ most_id_bytes = 256
 abbrev pub IsSmallShape : Shape → Type 0
 IsSmallShape shape = (height shape ≤ most_height) × (node_count shape ≤ most_nodes)
 
--- `IsSmallOver tree high many` holds if the policy `tree` is within the limits, where its conditions have the height
--- `high` and `many` nodes.
+-- `IsSmallOver tree high many` holds if the policy `tree` is within the limits, given that its conditions have the
+-- height `high` and `many` nodes.
 abbrev pub IsSmallOver : PolicyTree → ℕ → ℕ → Type 0
 IsSmallOver tree high many = IsSmallShape (shape_over tree (sized high many))
 

@@ -1,5 +1,6 @@
--- Defines what a text is parsed as: a uid, a policy, a file of policies, or the error of a rejected text. The tokens of
--- a text are checked first, then the grammar, then the core expressions, then the limits.
+-- Defines what a text is parsed as: a uid, a policy, a file of policies, or the error of a rejected text. The length
+-- and the tokens of a text are checked first, then the grammar, then the core expressions, then the limits. In the
+-- definitions of trees, `text` is the text that the trees' tokens are in.
 -- Source: Cedar reference guide 4.0, "Grammar specification for Cedar policy syntax". The errors and their order are
 -- rules of this product.
 use Rattle.std.specs.Prelude.{◌≡◌, ◌⊎◌, ℕ, List, [], Some, All, ◌++◌}
@@ -40,7 +41,7 @@ pub record IsPolicyOf (text : List ℕ) (tree : PolicyTree) (policy : Policy) : 
   pub small : IsSmallPolicy policy
 
 -- `ArePoliciesOf text trees names policies` holds if `trees`, those of a file, have the names `names` and the policies
--- `policies`, have no errors, and are within the limits, and each name is an id.
+-- `policies`, and have no errors. The policies are also within the limits, and each name is an id.
 pub record ArePoliciesOf (text : List ℕ) (trees : List PolicyTree) (names : List (List ℕ)) (policies : List Policy) :
     Type 0 where
   pub named : AreNamesOf text trees names
@@ -83,9 +84,9 @@ abbrev pub IsOverLimit : List ℕ → PolicyTree → ReadFault → Type 0
 IsOverLimit text tree (fault.TooDeep at) = (IsSmallTree text tree → ⊥) × (at ≡ 0)
 IsOverLimit text tree _ = ⊥
 
--- `AreOverLimits text trees names why` holds if some policy of `trees` is over the limits of height and nodes, and
--- `why` is `TooDeep` at byte 0; or if no policy is over these limits, one of `names` is not an id, and `why` is
--- `BadId`.
+-- `AreOverLimits text trees names why` holds if `why` is `TooDeep` at byte 0, and some policy of `trees` is over the
+-- limits of height and nodes. It also holds if `why` is `BadId`, no policy of `trees` is over these limits, and one of
+-- `names` is not an id.
 abbrev pub AreOverLimits : List ℕ → List PolicyTree → List (List ℕ) → ReadFault → Type 0
 AreOverLimits text trees names (fault.TooDeep at) = (AllByRecursion (IsSmallTree text) trees → ⊥) × (at ≡ 0)
 AreOverLimits text trees names fault.BadId = AllByRecursion (IsSmallTree text) trees × (All IsId names → ⊥)
@@ -97,9 +98,9 @@ abbrev pub HasNoPolicy : List ℕ → PolicyTree → ReadFault → Type 0
 HasNoPolicy text tree why =
     IsReportedOf (tree_faults text tree) why ⊎ ((tree_faults text tree ≡ []) × IsOverLimit text tree why)
 
--- `HaveNoPolicies text trees names why` holds if `why` is the error of a file's trees with the names `names`: the
--- reported error of a tree or of a repeated name; else that of a policy over the limits; else that of a name that is
--- not an id.
+-- `HaveNoPolicies text trees names why` holds if `why` is the error of `trees`, the trees of a file, with the names
+-- `names`. This is the reported error of a tree or of a repeated name; else that of a policy over the limits; else that
+-- of a name that is not an id.
 abbrev pub HaveNoPolicies : List ℕ → List PolicyTree → List (List ℕ) → ReadFault → Type 0
 HaveNoPolicies text trees names why =
     IsReportedOf (file_faults text trees names) why

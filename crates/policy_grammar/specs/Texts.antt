@@ -12,7 +12,8 @@ use Rattle.grammar_desugaring.specs.grammar_tokens.ParseResults.{IsRefusedWithin
 use Rattle.policy_grammar.specs.declared.fault.ReadFault.{ReadFault}
 use Rattle.policy_grammar.specs.declared.fault.ReadFault.TheVariants as fault
 
--- `most_policy_bytes` and `most_file_bytes` are the greatest lengths of the text of a policy (or a uid) and of a file.
+-- `most_policy_bytes` is the greatest length, in bytes, of the text of a uid, or of a policy that is parsed alone;
+-- `most_file_bytes` is that of a file.
 abbrev pub most_policy_bytes : ℕ
 most_policy_bytes = 262_144
 
@@ -49,8 +50,9 @@ pub record StopsAt {A : Type 0} (L K : Lang A) (most : ℕ) (text : List ℕ) (w
   pub refused : IsRefusedWithin L K tokens (why place)
   pub byte : at ≡ byte_of text (slice_get tokens place)
 
--- `IsUnread L K most text why` holds if `why` is the error of `text`, which has no tree in `L`: the text has over
--- `most` bytes; else it is bad at a byte (`IsBadAt`); else its tokens leave the language, or nest too deep (`StopsAt`).
+-- `IsUnread L K most text why` holds if `why` is the error of `text`, which has no tree in `L`. The error is that the
+-- text has over `most` bytes; else that it is bad at a byte (`IsBadAt`); else that its tokens leave the language, or
+-- nest too deep (`StopsAt`, which also describes `K`).
 abbrev pub IsUnread : {A : Type 0} → Lang A → Lang A → ℕ → List ℕ → ReadFault → Type 0
 IsUnread L K most text fault.TooLong = most < length text
 IsUnread L K most text (fault.BadToken at) = (length text ≤ most) × IsBadAt text at

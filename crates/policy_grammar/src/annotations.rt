@@ -30,7 +30,7 @@ fn names_of_annotations<'a>(
     Ok(marks)
 }
 
-/// Returns the error of the repeated annotation of a policy at the least offset, or `None` if all keys are distinct.
+/// Returns the repeated-key error of a policy's annotations at the least offset, or `None` if all keys are distinct.
 ///
 /// The only error is `NoMemory`.
 pub fn repeated_annotation(

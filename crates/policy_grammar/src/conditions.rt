@@ -1,5 +1,5 @@
-//! The conditions of a policy: their measure, and their core expression. Both are composed from the last condition to
-//! the first, since the conditions are grouped to the right.
+//! The conditions of a policy: their measure (height, number of nodes, and error) and their core expression. Both are
+//! composed from the last condition to the first, since the conditions are grouped to the right.
 ghost use Rattle.std.specs.Prelude.{◌≡◌, [], IfOk, IsTrue};
 ghost use Rattle.std.specs.List.{AllByRecursion};
 ghost use Rattle.grammar_core.specs.declared.expr.Expr.TheVariants as core;
@@ -61,7 +61,7 @@ pub(crate) fn measure_conditions(
     Ok(joined)
 }
 
-/// Builds the core expression of a condition without errors.
+/// Builds the core expression of a condition that has no errors.
 fn build_condition(alloc: Global, text: &str, condition: &Condition) -> Result<Expr, NoMemory>
     requires is_well_formed { IsBuiltFrom text.now (λ tokens. WellFormedCondition tokens condition.now) }
     requires sound { faults_of text.now condition.now.expression ≡ [] }
@@ -89,7 +89,7 @@ fn join_before(
     Expr::and(alloc, first, joined)
 }
 
-/// Builds the core expression of conditions without errors.
+/// Builds the core expression of conditions that have no errors.
 pub(crate) fn build_conditions(
     alloc: Global,
     text: &str,
@@ -129,8 +129,8 @@ fn shared_truth(alloc: Global, known: Option<&Shared<Expr>>) -> Result<Shared<Ex
     }
 }
 
-/// Returns the core expression of conditions without errors. Without any conditions the expression is `true`, and is
-/// shared with `known`, such as that of the previous policy, if `known` is `true` too.
+/// Returns the core expression of conditions that have no errors. If there are no conditions, the expression is `true`;
+/// it shares `known`, such as the condition of the previous policy, if that is `true` too.
 pub(crate) fn conditions_like(
     alloc: Global,
     text: &str,

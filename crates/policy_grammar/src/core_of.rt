@@ -1,4 +1,4 @@
-//! Translation of the syntax tree of a policy, without errors, into the policy.
+//! Translates the syntax tree of a policy that has no errors into the policy.
 ghost use Rattle.std.specs.Prelude.{◌≡◌, [], true, IfOk};
 ghost use Rattle.std.specs.List.{AllByRecursion};
 ghost use Rattle.grammar_policies.specs.Grammar.{effects};
@@ -18,7 +18,8 @@ use std::alloc::Global;
 use values::EntityUid;
 
 /// Returns the uid of a tree, or `NoMemory`. The uid shares the string of its type name with `known` if the names are
-/// equal and of one word. It shares that of its id if the ids are equal and the string has no escapes.
+/// equal and consist of one word. It shares the string of its id if the ids are equal and the id is written without
+/// escapes.
 fn uid_like(
     alloc: Global,
     text: &str,
@@ -59,8 +60,8 @@ fn uids_of(alloc: Global, text: &str, trees: &Items<UidTree>) -> Result<Items<En
     Ok(Items::from_vec(uids))
 }
 
-/// Returns the constraint on the principal or the resource, or `NoMemory`. Names are shared with `known` as by
-/// `uid_like`.
+/// Returns the constraint on the principal or the resource, or `NoMemory`. Names are shared with `known` as `uid_like`
+/// describes.
 fn entity_scope_of(
     alloc: Global,
     text: &str,
@@ -92,8 +93,8 @@ fn entity_scope_of(
     }
 }
 
-/// Returns the constraint on the action, or `NoMemory`. The names of a single uid are shared with `known` as by
-/// `uid_like`.
+/// Returns the constraint on the action, or `NoMemory`. The names of a single uid are shared with `known` as `uid_like`
+/// describes.
 fn action_scope_of(
     alloc: Global,
     text: &str,
@@ -132,7 +133,7 @@ fn effect_of(kind: TokenKind) -> Effect
     }
 }
 
-/// Returns the scope of a tree, or `NoMemory`. Names are shared with the same part of `known` as by `uid_like`.
+/// Returns the scope of a tree, or `NoMemory`. Names are shared with the same part of `known` as `uid_like` describes.
 fn scope_of(
     alloc: Global,
     text: &str,
@@ -165,9 +166,9 @@ fn scope_of(
     })
 }
 
-/// Returns the policy of a tree, or `NoMemory`. Names of the policy's scope are shared with the scope of `known`, such
-/// as the previous policy, as by `scope_of`. The policy's condition is shared with `known` if `tree` has no conditions
-/// and the condition of `known` is `true`.
+/// Returns the policy of a tree, or `NoMemory`. `known` is another policy, such as the previous one. Names of the
+/// policy's scope are shared with the scope of `known` as in `scope_of`. The policy's condition is shared with `known`
+/// if `tree` has no conditions and the condition of `known` is `true`.
 pub(crate) fn core_like(
     alloc: Global,
     text: &str,

@@ -17,30 +17,32 @@ pub enum ReadFault {
     /// closed, or has a bad escape.
     #[error("policy 10: invalid token at byte {0}")]
     BadToken(usize),
-    /// The first token that cannot follow those before it, or the text's length if the text ends too early.
+    /// The first token that cannot follow those before it. The offset is the text's length if the text ends too early.
     #[error("policy 11: unexpected token at byte {0}")]
     Unexpected(usize),
-    /// A number outside signed 64 bits, at its first digit. A minus before a number belongs to the number.
+    /// A number outside signed 64 bits, at its first digit. A minus directly before a number belongs to it, unless the
+    /// minus is a subtraction, or `.` or `[` follows the number.
     #[error("policy 12: number outside signed 64 bits at byte {0}")]
     NumberRange(usize),
-    /// A call, at its name, where no function or no method has this name.
+    /// A call of an unknown function or method. The offset is that of its name.
     #[error("policy 13: unknown function or method at byte {0}")]
     UnknownCall(usize),
-    /// A call, at its name, of a known function or method with a wrong number of arguments.
+    /// A call of a known function or method with a wrong number of arguments. The offset is that of its name.
     #[error("policy 14: wrong number of arguments at byte {0}")]
     Arity(usize),
     /// A name that occurs earlier: a key of a record, an annotation (at its `@`), or a policy's name in a file (at the
     /// policy's first token).
     #[error("policy 15: repeated key, annotation or policy id at byte {0}")]
     RepeatedKey(usize),
-    /// In place of `Unexpected`, if the token is `?principal` or `?resource`.
+    /// The first token that cannot follow those before it, if it is `?principal` or `?resource`.
     #[error("policy 16: template slot at byte {0}; templates are not supported")]
     Slot(usize),
     /// The token that would open level 65 of nesting; or, at offset 0, a policy whose core expression is higher than
     /// 1,000 or has over 1,000,000 nodes.
     #[error("policy 17: nested too deeply, or too large, at byte {0}")]
     TooDeep(usize),
-    /// A policy or a uid of over 262,144 bytes, or a file of over 8,388,608.
+    /// A policy parsed alone, or a uid, of over 262,144 bytes; or a file of over 8,388,608. A policy in a file has no
+    /// limit of its own.
     #[error("policy 18: text longer than 262,144 bytes, or file longer than 8,388,608")]
     TooLong,
     /// The name of a policy in a file is empty, or has over 256 bytes.
@@ -68,7 +70,7 @@ impl ReadFault {
         }
     }
 
-    /// Returns the byte offset of the error; `None` for `NoMemory`.
+    /// Returns the byte offset of the error: 0 for `TooLong` and `BadId`, and `None` for `NoMemory`.
     pub fn place(self) -> Option<usize>
         ensures { result ≡ place_of self }
     {

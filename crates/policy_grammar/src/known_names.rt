@@ -1,4 +1,4 @@
-//! Sharing of strings with known names, so that equal names are stored once.
+//! Sharing of strings with known names, such as those of the previous policy.
 ghost use Rattle.std.specs.Prelude.{◌≡◌, IsTrue, IfOk, IfSome};
 ghost use Rattle.grammar_desugaring.specs.grammar_tokens.Lexing.{IsSpelledIn, spelling_of};
 ghost use Rattle.grammar_desugaring.specs.grammar_tokens.Strings.{IsStringOf};
@@ -43,8 +43,8 @@ pub(crate) fn type_name_like(
     }
 }
 
-/// Returns the value of the string at `token`, the text between its quotes, if the string has no escapes. Does not
-/// allocate.
+/// Returns the text between the quotes of the string at `token`, which is the string's value, or `None` if the string
+/// has escapes. Does not allocate.
 fn unescaped(text: &str, token: Token) -> Option<&str>
     requires spelled { IsSpelledIn text.now token }
     requires string { token.kind ≡ k.Text }
@@ -85,7 +85,8 @@ pub(crate) fn id_like(
     }
 }
 
-/// Returns the uid that a known scope names for the action, if it names one.
+/// Returns the uid in a scope's constraint `==` or `in` on the action. Returns `None` if the constraint is a list of
+/// uids, or if there is no constraint or no scope.
 pub(crate) fn action_in(scope: Option<&Scope>) -> Option<&EntityUid> {
     match &scope?.action {
         ActionScope::Equal(uid) | ActionScope::In(uid) => Some(uid),

@@ -71,9 +71,9 @@ pub(crate) fn are_ids(names: &[Text]) -> bool
     names.iter().all(|name| is_id(name))
 }
 
-/// Proves that the size of a policy's core expression is the one computed of its tree. A policy without conditions,
-/// whose only constraint is a nonempty list of actions, has nine nodes more than that list has actions. A scope adds at
-/// most three to the height of the conditions, unless the whole is at most 6 high. No-op.
+/// Proves that the size computed from a policy's tree is that of the policy's core expression. A policy without
+/// conditions, whose only constraint is a nonempty list of actions, has nine nodes more than that list has actions. A
+/// scope adds at most three to the height of the conditions, unless the whole is at most 6 high. No-op.
 pub fn heads_are_small()
     ensures sizes { ShapesAreSizes }
     ensures list { NineNodesMore }

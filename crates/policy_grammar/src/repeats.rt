@@ -47,8 +47,8 @@ fn some_index_name(text: &str, names: &[Text], trees: &[PolicyTree]) -> bool
     false
 }
 
-/// Returns whether the name of a policy may repeat another: any name may if `wide` is true, else only the value of an
-/// `@id`.
+/// Returns whether the name of a policy may equal that of another policy: any name may if `wide` is true, else only the
+/// value of an `@id`.
 fn may_repeat(text: &str, wide: bool, tree: &PolicyTree) -> bool
     requires { IsBuiltFrom text.now (λ tokens. WellFormedPolicy tokens tree.now) }
     ensures { result ≡ (wide || has_id text.now tree.now) }
@@ -56,8 +56,8 @@ fn may_repeat(text: &str, wide: bool, tree: &PolicyTree) -> bool
     wide || has_id(text, tree)
 }
 
-/// Returns the names that may repeat another, each with the offset of its policy's first token: those of an `@id`, or
-/// all names if `wide` is true.
+/// Returns the names that may equal another policy's name, each with the offset of its policy's first token: those of
+/// an `@id`, or all names if `wide` is true.
 fn names_to_compare<'a>(
     alloc: Global,
     text: &str,
@@ -83,7 +83,7 @@ fn names_to_compare<'a>(
     Ok(marks)
 }
 
-/// Returns the error of the repeated policy name in a file at the least offset, or `None` if all names are distinct.
+/// Returns the repeated-name error of a file's policies at the least offset, or `None` if all names are distinct.
 ///
 /// Names by index are distinct, so they are compared only if some `@id` may equal one.
 pub(crate) fn repeated_name(

@@ -72,11 +72,11 @@ fn policy_of(alloc: Global, text: &str, tree: &PolicyTree) -> Result<Policy, Rea
     Ok(core_like(alloc, text, tree, None)?)
 }
 
-/// Parses a policy. Its annotations are not kept, and the length of an `@id` is not checked.
+/// Parses a policy. Annotations are not part of the result, and the length of an `@id` is not checked.
 ///
 /// # Errors
 ///
-/// In this order, all before any part of the core expression is built:
+/// In this order, all except `NoMemory` before any part of the core expression is built:
 ///
 /// - `TooLong` (18): over 262,144 bytes.
 /// - `BadToken` (10): the first invalid token, anywhere in the text.
@@ -133,7 +133,7 @@ fn policies_of(
 ///
 /// # Errors
 ///
-/// In this order, all before any part of a core expression is built:
+/// In this order, all except `NoMemory` before any part of a core expression is built:
 ///
 /// - `TooLong` (18): over 8,388,608 bytes.
 /// - `BadToken` (10): the first invalid token, anywhere in the file.

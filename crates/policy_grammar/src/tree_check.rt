@@ -24,7 +24,8 @@ pub(crate) struct TreeCheck {
     pub(crate) small: bool,
 }
 
-/// Returns the verdict on the policies of both verdicts together.
+/// Combines the results of checking two groups of policies: returns the earlier error, and whether all are within the
+/// limits.
 fn both(one: TreeCheck, other: TreeCheck) -> TreeCheck
     ensures fault { result.fault ≡ spec.earlier_of one.fault other.fault }
     ensures small { IsTrue result.small ↔ (IsTrue one.small × IsTrue other.small) }
@@ -35,7 +36,7 @@ fn both(one: TreeCheck, other: TreeCheck) -> TreeCheck
     }
 }
 
-/// Returns the verdict on a policy. Allocates only for the keys of annotations and of records.
+/// Returns the result of checking a policy. Allocates only for the keys of annotations and of records.
 pub(crate) fn check_tree(
     alloc: Global,
     text: &str,
@@ -54,7 +55,7 @@ pub(crate) fn check_tree(
     })
 }
 
-/// Returns the verdict on the policies of a file, without errors of repeated policy names.
+/// Returns the result of checking the policies of a file, except for repeated policy names.
 pub(crate) fn check_trees(
     alloc: Global,
     text: &str,

@@ -16,7 +16,7 @@ use grammar_desugaring::{Token, tokens};
 use grammar_policies::{PolicyTree, SyntaxFault, UidTree, read_policies, read_policy, read_uid};
 use std::alloc::Global;
 
-/// The greatest number of bytes of the text of a policy, or of a uid.
+/// The greatest number of bytes of the text of a policy that is parsed alone, or of a uid.
 pub const MOST_POLICY_BYTES: usize = 262_144;
 
 /// The greatest number of bytes of a file of policies.
@@ -37,7 +37,7 @@ fn tokens_of(alloc: Global, text: &str, most: usize) -> Result<Vec<Token>, ReadF
     Ok(found)
 }
 
-/// Returns the byte offset of the token at an index, or the text's length after the last token.
+/// Returns the byte offset of the token at an index, or the text's length if there is no token at this index.
 fn byte(text: &str, tokens: &[Token], place: usize) -> usize
     ensures { result ≡ byte_of text.now (slice_get tokens.now place) }
 {

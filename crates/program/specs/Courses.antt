@@ -29,7 +29,8 @@ module _ {L : Type 0} where
   IsRefusedFor Refused events end =
       ((refusal : Refusal) × Refused refusal × IsRefusalReported refusal events end) ⊎ IsMemoryReported events end
 
-  -- `IsLineOrRefusal Decided Refused`: a line for which `Decided` holds is printed, or an error is reported.
+  -- `IsLineOrRefusal Decided Refused`: a line for which `Decided` holds is printed, or an error for which `Refused`
+  -- holds, or out of memory, is reported.
   abbrev pub IsLineOrRefusal : (List ℕ → Type 0) → (Refusal → Type 0) → Course L
   IsLineOrRefusal Decided Refused events end =
       ((line : List ℕ) × Decided line × IsAnswerReported line events end) ⊎ IsRefusedFor Refused events end
@@ -40,90 +41,95 @@ module _ {L : Type 0} where
   GoesOnWith name goes_on (Ok bytes) = goes_on bytes
   GoesOnWith name goes_on (Err fault) = IsFileReported name fault
 
-  -- `Reads name goes_on`: the file is read, and the run goes on with its bytes, or reports the error and ends.
+  -- `Reads name goes_on`: the file `name` is read, and the run goes on by `goes_on` with its bytes, or reports the
+  -- error and ends.
   abbrev pub Reads : List ℕ → (List ℕ → Course L) → Course L
   Reads name goes_on events end = (came : Result (List ℕ) FileFault) × (rest : List (Event L))
       × (events ≡ read name came ∷ rest) × GoesOnWith name goes_on came rest end
 
-  -- `ReadsIfNamed name goes_on`: the file is read if its name is present, and the run goes on with its bytes, or with
-  -- `None`; or the run reports the error and ends.
+  -- `ReadsIfNamed name goes_on`: the file `name` is read, if the name is present, and the run goes on by `goes_on` with
+  -- its bytes, or with `None`; or the run reports the error and ends.
   abbrev pub ReadsIfNamed : Option (List ℕ) → (Option (List ℕ) → Course L) → Course L
   ReadsIfNamed None goes_on = goes_on None
   ReadsIfNamed (Some name) goes_on = Reads name (λ bytes. goes_on (Some bytes))
 
-  -- `GoesOnIfThere name goes_on came`: like `GoesOnWith`, but a missing file is not an error.
+  -- `GoesOnIfThere name goes_on came`: like `GoesOnWith name goes_on came`, but if the file is missing, the run goes on
+  -- by `goes_on` with `None`.
   abbrev pub GoesOnIfThere : List ℕ → (Option (List ℕ) → Course L) → Result (List ℕ) FileFault → Course L
   GoesOnIfThere name goes_on (Ok bytes) = goes_on (Some bytes)
   GoesOnIfThere name goes_on (Err file.Missing) = goes_on None
   GoesOnIfThere name goes_on (Err file.Failed) = IsFileReported name file.Failed
   GoesOnIfThere name goes_on (Err file.NoMemory) = IsFileReported name file.NoMemory
 
-  -- `ReadsIfThere name goes_on`: the file is read if it exists, and the run goes on with its bytes, or with `None`; or
-  -- the run reports the error and ends.
+  -- `ReadsIfThere name goes_on`: the file `name` is read if it exists, and the run goes on by `goes_on` with its bytes,
+  -- or with `None`; or the run reports the error and ends.
   abbrev pub ReadsIfThere : List ℕ → (Option (List ℕ) → Course L) → Course L
   ReadsIfThere name goes_on events end = (came : Result (List ℕ) FileFault) × (rest : List (Event L))
       × (events ≡ read name came ∷ rest) × GoesOnIfThere name goes_on came rest end
 
-  -- `GoesOnWritten name goes_on came`: the run goes on if the file was written; if `came` is an error, it is reported
-  -- and the run ends.
+  -- `GoesOnWritten name goes_on came`: the run goes on by `goes_on` if the file `name` was written; if `came` is an
+  -- error, it is reported and the run ends.
   abbrev pub GoesOnWritten : List ℕ → Course L → Result (Unit {0}) FileFault → Course L
   GoesOnWritten name goes_on (Ok done) = goes_on
   GoesOnWritten name goes_on (Err fault) = IsFileReported name fault
 
-  -- `Stores name bytes goes_on`: `bytes` are written into the file `name`, and the run goes on, or reports the error
-  -- and ends.
+  -- `Stores name bytes goes_on`: `bytes` are written into the file `name`, and the run goes on by `goes_on`, or reports
+  -- the error and ends.
   abbrev pub Stores : List ℕ → List ℕ → Course L → Course L
   Stores name bytes goes_on events end = (came : Result (Unit {0}) FileFault) × (rest : List (Event L))
       × (events ≡ stored name bytes came ∷ rest) × GoesOnWritten name goes_on came rest end
 
-  -- `GoesOnConnected address goes_on came`: the run goes on over the connection; without one, the address is reported
-  -- and the run ends.
+  -- `GoesOnConnected address goes_on came`: the run goes on by `goes_on` over the connection in `came`; without one,
+  -- `address` is reported and the run ends.
   abbrev pub GoesOnConnected : List ℕ → (L → Course L) → Option L → Course L
   GoesOnConnected address goes_on (Some link) = goes_on link
   GoesOnConnected address goes_on None = IsFailureReported address
 
-  -- `Connects address goes_on`: a connection is opened, and the run goes on over it, or reports the error and ends.
+  -- `Connects address goes_on`: a connection to `address` is opened, and the run goes on over it by `goes_on`, or
+  -- reports the error and ends.
   abbrev pub Connects : List ℕ → (L → Course L) → Course L
   Connects address goes_on events end = (came : Option L) × (rest : List (Event L))
       × (events ≡ connected address came ∷ rest) × GoesOnConnected address goes_on came rest end
 
-  -- `GoesOnListening address goes_on done`: the run goes on if it listens; else the address is reported and the run
-  -- ends.
+  -- `GoesOnListening address goes_on done`: the run goes on by `goes_on` if it listens (`done`); else `address` is
+  -- reported and the run ends.
   abbrev pub GoesOnListening : List ℕ → Course L → Bool → Course L
   GoesOnListening address goes_on true = goes_on
   GoesOnListening address goes_on false = IsFailureReported address
 
-  -- `Listens address limit goes_on`: the run listens at the address, for connections with this time limit, if one is
-  -- given, and goes on, or reports the error and ends.
+  -- `Listens address limit goes_on`: the run listens at `address`, for connections with the time limit `limit`, if one
+  -- is given, and goes on by `goes_on`, or reports the error and ends.
   abbrev pub Listens : List ℕ → Option ℕ → Course L → Course L
   Listens address limit goes_on events end = (done : Bool) × (rest : List (Event L))
       × (events ≡ listened address limit done ∷ rest) × GoesOnListening address goes_on done rest end
 
-  -- `GoesOnOpened name goes_on done`: the run goes on with the log if it was opened; else the name of the log is
-  -- reported and the run ends.
+  -- `GoesOnOpened name goes_on done`: the run goes on by `goes_on` with the log if it was opened (`done`); else the
+  -- log's name, `name`, is reported and the run ends.
   abbrev pub GoesOnOpened : {G : Type 0} → List ℕ → (Option G → Course L) → Bool → Course L
   GoesOnOpened {G} name goes_on true events end = (log : G) × goes_on (Some log) events end
   GoesOnOpened name goes_on false events end = IsFailureReported name events end
 
-  -- `OpensIfNamed o goes_on`: a log is opened, if one is named, and the run goes on with it, or reports the error and
-  -- ends.
+  -- `OpensIfNamed o goes_on`: the log with the name in `o` is opened, if there is a name, and the run goes on by
+  -- `goes_on` with it, or with `None`; or the run reports the error and ends.
   abbrev pub OpensIfNamed : {G : Type 0} → Option (List ℕ) → (Option G → Course L) → Course L
   OpensIfNamed None goes_on events end = goes_on None events end
   OpensIfNamed (Some name) goes_on events end = (done : Bool) × (rest : List (Event L))
       × (events ≡ opened name done ∷ rest) × GoesOnOpened name goes_on done rest end
 
-  -- `GoesOnAnnounced goes_on done`: the run goes on if the line was written; else it ends with status 3.
+  -- `GoesOnAnnounced goes_on done`: the run goes on by `goes_on` if the line was written (`done`); else it ends with
+  -- status 3.
   abbrev pub GoesOnAnnounced : Course L → Bool → Course L
   GoesOnAnnounced goes_on true events end = goes_on events end
   GoesOnAnnounced goes_on false events end = (events ≡ []) × (end ≡ 3)
 
-  -- `Announces line goes_on`: a line is written to standard output, and the run goes on; if writing fails, the run ends
-  -- with status 3.
+  -- `Announces line goes_on`: `line` is written to standard output, and the run goes on by `goes_on`; if writing fails,
+  -- the run ends with status 3.
   abbrev pub Announces : List ℕ → Course L → Course L
   Announces line goes_on events end = (done : Bool) × (rest : List (Event L))
       × (events ≡ wrote Answers (ended line) done ∷ rest) × GoesOnAnnounced goes_on done rest end
 
-  -- `WarnsIf b line goes_on`: if `b`, a line is written to standard error first; the run goes on even if that fails.
+  -- `WarnsIf b line goes_on`: if `b`, `line` is written to standard error first; the run goes on by `goes_on` even if
+  -- that fails.
   abbrev pub WarnsIf : Bool → List ℕ → Course L → Course L
   WarnsIf false line goes_on events end = goes_on events end
   WarnsIf true line goes_on events end = (done : Bool) × (rest : List (Event L))

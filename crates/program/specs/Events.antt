@@ -23,7 +23,7 @@ pub data Event (L : Type 0) : Type 0 where
   -- this connection to this address was opened, or none could be
   connected : List ℕ → Option L → Event L
   -- the run began to listen at this address, or could not; if a limit is given, a read or a write of a connection there
-  -- fails after that number of seconds
+  -- fails if it takes longer than that number of seconds
   listened : List ℕ → Option ℕ → Bool → Event L
   -- this connection was accepted, or accepting one failed
   accepted : Option L → Event L
@@ -48,8 +48,8 @@ module _ {L H : Type 0} (does : H → Event L → H → Type 0) where
 -- `err` to `new_out` and `new_err`: `wrote` and `printed` leave the other stream unchanged, and every other event
 -- leaves both unchanged. `held` and `told` give the bytes that the streams accepted, if they are known. `Changes` does
 -- not constrain the content of a file, the text of an error, how much a stream accepted before it failed, or what is
--- read from a connection; nor the lines of a log on standard output: the log has a second writer of it, so its lines
--- leave `out` unchanged, and may occur on standard output between the bytes of `out`.
+-- read from a connection. Nor does it constrain the lines of a log on standard output: the log has a second writer, so
+-- its lines leave `out` unchanged, and may occur on standard output between the bytes of `out`.
 abbrev pub Changes : {L O E : Type 0} → (O → Option (List ℕ)) → (E → Option (List ℕ)) → O → E → Event L → O → E
     → Type 0
 Changes held told out err (read name bytes) new_out new_err = (new_out ≡ out) × (new_err ≡ err)

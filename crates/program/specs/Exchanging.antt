@@ -76,8 +76,8 @@ module _ {L : Type 0} where
   IsCallErrorReported at (Network fault) = IsCallReported at (cause.Network fault)
   IsCallErrorReported at (Refused refusal) = IsMemoryReported
 
-  -- `WritesTaken at line goes_on`: the count `line` is written to standard output, and the run goes on; or it is
-  -- reported that `line`, the reply to the call `at`, is not a count.
+  -- `WritesTaken at line goes_on`: the count `line` is written to standard output, and the run goes on by `goes_on`; or
+  -- it is reported that `line`, the reply to the call `at`, is not a count.
   abbrev pub WritesTaken : RoundCall → List ℕ → Course L → Course L
   WritesTaken at line goes_on events end = (IsTakenLine line × Announces line goes_on events end)
       ⊎ ((IsTakenLine line → ⊥) × IsCallReported at cause.NoCount events end)
@@ -89,9 +89,9 @@ module _ {L : Type 0} where
 -- ---- calls
 
 module _ {R W : Type 0} (reader : Source R) (writer : Sink W) where
-  -- `IsCalled at body link reply left` holds if the request of the call `at` with `body`, of a size that a site
-  -- accepts, was written over `link`, and what was read begins with a reply of status 200 and the body `reply`; no read
-  -- or write failed. `left` is the connection afterwards.
+  -- `IsCalled at body link reply left` holds if the request of the call `at` with `body` was written over `link`, and
+  -- what was read begins with a reply of status 200 and the body `reply`. No read or write failed, and a site accepts a
+  -- body of this size. `left` is the connection afterwards.
   abbrev pub IsCalled : RoundCall → List ℕ → Link R W → List ℕ → Link R W → Type 0
   IsCalled at body link reply left =
       IsAsked reader writer (call_request at.call at.address.now body) link reply left
@@ -113,7 +113,7 @@ module _ {R W : Type 0} (reader : Source R) (writer : Sink W) where
       × NoReadFailed reader writer link left × NoWriteFailed reader writer link left
 
   -- `CallsOver at body goes_on link`: the call `at` with `body` is made over `link`, `link` is closed, and the run goes
-  -- on with the reply; or it is reported why there is no reply.
+  -- on by `goes_on` with the reply; or it is reported why there is no reply.
   abbrev pub CallsOver : RoundCall → List ℕ → (List ℕ → Course (Link R W)) → Link R W → Course (Link R W)
   CallsOver at body goes_on link events end =
       ((reply : List ℕ) × (left : Link R W) × (rest : List (Event (Link R W)))
@@ -121,24 +121,24 @@ module _ {R W : Type 0} (reader : Source R) (writer : Sink W) where
       ⊎ ((fault : PullFault) × (left : Link R W) × (rest : List (Event (Link R W)))
       × IsNotCalled at body link fault left × (events ≡ closed left ∷ rest) × IsCallErrorReported at fault rest end)
 
-  -- `CallsIfReached at body goes_on came`: like `CallsOver` over the connection `came`; without one, it is reported
-  -- that there is no connection.
+  -- `CallsIfReached at body goes_on came`: like `CallsOver at body goes_on` over the connection in `came`; without one,
+  -- it is reported that there is no connection.
   abbrev pub CallsIfReached : RoundCall → List ℕ → (List ℕ → Course (Link R W)) → Option (Link R W)
       → Course (Link R W)
   CallsIfReached at body goes_on (Some link) = CallsOver at body goes_on link
   CallsIfReached at body goes_on None = IsCallReported at cause.NotReached
 
-  -- `Calls at body goes_on`: the call is made over a connection that the run opens, and the run goes on with the reply,
-  -- or reports the error and ends.
+  -- `Calls at body goes_on`: the call `at` with `body` is made over a connection that the run opens, and the run goes
+  -- on by `goes_on` with the reply, or reports the error and ends.
   abbrev pub Calls : RoundCall → List ℕ → (List ℕ → Course (Link R W)) → Course (Link R W)
   Calls at body goes_on events end = (came : Option (Link R W)) × (rest : List (Event (Link R W)))
       × (events ≡ connected at.address.now came ∷ rest) × CallsIfReached at body goes_on came rest end
 
   -- ---- rounds
 
-  -- `Direction first to from goes_on`: the run brings the site at `to` up to date from the one at `from`, by the calls
-  -- `first`, `first` + 1 and `first` + 2, and goes on: it gets the summary of `to`, posts it to `from`, posts the delta
-  -- in the reply to `to`, and writes the count in the last reply.
+  -- `Direction first to from goes_on`: the run brings the site at `to` up to date from the one at `from`. The calls
+  -- `first`, `first` + 1 and `first` + 2 get the summary of `to`, post it to `from`, and post the delta in the reply to
+  -- `to`. Then the run writes the count in the last reply, and goes on by `goes_on`.
   abbrev pub Direction : ℕ → Bor (List ℕ) → Bor (List ℕ) → Course (Link R W) → Course (Link R W)
   Direction first to from goes_on =
       Calls (record { number = first; call = call.Summary; address = to }) [] (λ summary.
@@ -150,13 +150,13 @@ module _ {R W : Type 0} (reader : Source R) (writer : Sink W) where
   abbrev pub IsRound : Bor (List ℕ) → Bor (List ℕ) → Course (Link R W)
   IsRound between and = Direction 1 between and (Direction 4 and between IsOver)
 
-  -- `IsExchanged options schema`: a round is made if the bytes `schema` are a schema; else their error is reported, and
-  -- nothing is sent.
+  -- `IsExchanged options schema`: the bytes `schema` are a schema, and a round between the sites of `options` is made;
+  -- or the error of `schema`, or out of memory, is reported, and nothing is sent.
   abbrev pub IsExchanged : ExchangeOptions → List ℕ → Course (Link R W)
   IsExchanged options schema events end =
       ((s : StatedSchema) × IsSchemaOf schema s × IsRound options.between options.and events end)
       ⊎ IsRefusedFor (IsSchemaRefused schema) events end
 
-  -- `IsExchangeRun options`: the schema's file is read, and then the exchange is made.
+  -- `IsExchangeRun options`: the schema's file that `options` name is read, and then the exchange is made.
   abbrev pub IsExchangeRun : ExchangeOptions → Course (Link R W)
   IsExchangeRun options = Reads options.schema.now (IsExchanged options)

@@ -18,16 +18,16 @@ use Rattle.program.specs.Reports.{ended, IsAnswerReported, IsRefusalReported, Is
 use Rattle.program.specs.Courses.{Course, IsRefusedFor}
 use Rattle.program.specs.ExplainCommand.{IsWithoutEnd}
 
--- `file_with_content name text` is a file with its content.
+-- `file_with_content name text` is the file with the name `name` and the content `text`.
 abbrev pub file_with_content : List ℕ → List ℕ → File
 file_with_content name text = record { name = name; text = text }
 
--- `policies_of file` is the given file of policies; if it is absent, an empty file with an empty name.
+-- `policies_of file` is the file of policies `file`; if it is absent, an empty file with an empty name.
 abbrev pub policies_of : Option File → File
 policies_of file = unwrap_or file (file_with_content [] [])
 
--- `schema_files name schema` are the files that a command over messages explains: the schema alone. An error of a
--- message is explained by the reported code.
+-- `schema_files name schema` are the files that a command over messages explains: the schema alone, with the file name
+-- `name` and the content `schema`. An error of a message is explained by the reported code.
 abbrev pub schema_files : List ℕ → List ℕ → Files
 schema_files name schema = record {
   schema = Some (file_with_content name schema);
@@ -38,7 +38,7 @@ schema_files name schema = record {
 
 -- ---- texts
 
--- `IsCodeText code text` holds if `text` is the text on this code; it is empty if there is no such code.
+-- `IsCodeText code text` holds if `text` is the text on the code `code`; it is empty if there is no such code.
 abbrev pub IsCodeText : ℕ → List ℕ → Type 0
 IsCodeText code text = ((words : Texts) × (words_on code ≡ Some words) × (text ≡ code_text words))
     ⊎ ((is_code code ≡ false) × (text ≡ []))
@@ -89,27 +89,27 @@ module _ {L : Type 0} where
   abbrev pub IsErrorReported : Refusal → Course L
   IsErrorReported refusal events end = IsRefusalReported refusal events end ⊎ IsMemoryReported events end
 
-  -- `IsErrorThenText wanted Is Refused`: an error for which `Refused` holds, or out of memory, is reported and, if
-  -- `wanted`, then a text for which `Is` holds with the error's code.
+  -- `IsErrorThenText wanted Is Refused`: an error for which `Refused` holds, or out of memory, is reported. If
+  -- `wanted`, a text for which `Is` holds with the error's code is then written to standard error.
   abbrev pub IsErrorThenText : Bool → (ℕ → List ℕ → Type 0) → (Refusal → Type 0) → Course L
   IsErrorThenText false Is Refused events end = IsRefusedFor Refused events end
   IsErrorThenText true Is Refused events end = (refusal : Refusal) × ((refusal ≡ no_memory) ⊎ Refused refusal)
       × Explains true (Is refusal.code) (IsErrorReported refusal) events end
 
   -- `IsLineOrErrorThenText wanted Is Decided Refused`: a line for which `Decided` holds is printed, or an error is
-  -- reported as by `IsErrorThenText`.
+  -- reported as by `IsErrorThenText wanted Is Refused`.
   abbrev pub IsLineOrErrorThenText : Bool → (ℕ → List ℕ → Type 0) → (List ℕ → Type 0) → (Refusal → Type 0) → Course L
   IsLineOrErrorThenText wanted Is Decided Refused events end =
       ((line : List ℕ) × Decided line × IsAnswerReported line events end)
       ⊎ IsErrorThenText wanted Is Refused events end
 
-  -- `IsErrorExplained wanted files Refused`: an error for which `Refused` holds, or out of memory, is reported and, if
-  -- `wanted`, then what is rejected in `files` is explained, or the code of the error.
+  -- `IsErrorExplained wanted files Refused`: an error for which `Refused` holds, or out of memory, is reported. If
+  -- `wanted`, what is rejected in `files` is then explained or, if nothing is, the code of the error.
   abbrev pub IsErrorExplained : Bool → Files → (Refusal → Type 0) → Course L
   IsErrorExplained wanted files Refused = IsErrorThenText wanted (IsRefusalText files) Refused
 
   -- `IsLineOrErrorExplained wanted files Decided Refused`: a line for which `Decided` holds is printed, or an error is
-  -- reported as by `IsErrorExplained`.
+  -- reported as by `IsErrorExplained wanted files Refused`.
   abbrev pub IsLineOrErrorExplained : Bool → Files → (List ℕ → Type 0) → (Refusal → Type 0) → Course L
   IsLineOrErrorExplained wanted files Decided Refused =
       IsLineOrErrorThenText wanted (IsRefusalText files) Decided Refused

@@ -31,7 +31,7 @@ BeginsWith s (Some bytes) m = (us : List (SentUpdate Policy Entity)) × IsMessag
     × (m ≡ store_of (plain_updates us))
 
 -- `IsInitialSite schema name state site` holds if `site` has the schema that the bytes `schema` describe, the name
--- `name`, and the updates of the message `state`, if it is present.
+-- `name`, and the store of the updates of the message `state`, or the empty store if `state` is absent.
 pub record IsInitialSite (schema : List ℕ) (name : List ℕ) (state : Option (List ℕ)) (site : SiteView) : Type 0 where
   pub schema_is : IsSchemaOf schema (schema_of site)
   pub name_is : site.name ≡ name

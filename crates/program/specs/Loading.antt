@@ -15,7 +15,7 @@ use Rattle.program.specs.ExplainOption.{IsLineOrErrorExplained}
 use Rattle.program.specs.ExplainCommand.{file_named}
 
 -- `load_files options schema policies entities` are the files that a run explains if a file or a put is rejected after
--- the initial site was created: those that `options` name, with these contents.
+-- the initial site was created: those that `options` name, with the contents `schema`, `policies` and `entities`.
 abbrev pub load_files : LoadOptions → List ℕ → Option (List ℕ) → Option (List ℕ) → Files
 load_files options schema policies entities = record {
   schema = Some (file_with_content options.schema.now schema);
@@ -25,16 +25,18 @@ load_files options schema policies entities = record {
 }
 
 module _ {L : Type 0} where
-  -- `IsPutOrRefused options site schema policies entities`: the state of `site` after the puts is printed, or the error
-  -- of one of the files or of a put is reported and, with `--explain`, explained.
+  -- `IsPutOrRefused options site schema policies entities`: the state of `site` after the puts of `policies` and
+  -- `entities` is printed; or the error of one of these files or of a put, or out of memory, is reported. If `options`
+  -- have `--explain`, the error is then explained; `schema` is the content of the schema's file.
   abbrev pub IsPutOrRefused : LoadOptions → SiteView → List ℕ → Option (List ℕ) → Option (List ℕ) → Course L
   IsPutOrRefused options site schema policies entities =
       IsLineOrErrorExplained options.explain (load_files options schema policies entities)
       (loads.IsLoadedState (schema_of site) site.name (store_in site) policies entities)
       (loads.IsRefused (schema_of site) site.name (store_in site) policies entities)
 
-  -- `IsLoadedOrRefused options schema state policies entities`: the files are put into the initial site; or the error
-  -- of the schema or of the state is reported and, with `--explain`, explained, and the files to put are not parsed.
+  -- `IsLoadedOrRefused options schema state policies entities`: `policies` and `entities` are put into the initial site
+  -- of `schema` and `state`. Or the error of `schema` or `state`, or out of memory, is reported and, if `options` have
+  -- `--explain`, explained, and the files to put are not parsed.
   abbrev pub IsLoadedOrRefused : LoadOptions → List ℕ → Option (List ℕ) → Option (List ℕ) → Option (List ℕ) → Course L
   IsLoadedOrRefused options schema state policies entities events end =
       ((site : SiteView) × IsInitialSite schema options.site state site
@@ -42,8 +44,8 @@ module _ {L : Type 0} where
       ⊎ IsErrorExplained options.explain (schema_files options.schema.now schema) (IsInitialSiteRefused schema state)
       events end
 
-  -- `IsLoadRun options`: the schema is read, then the state, the policies and the entities, each if it is named; the
-  -- policies and the entities are then put.
+  -- `IsLoadRun options`: of the files that `options` name, the schema is read, then the state, the policies and the
+  -- entities, each if it is named; the policies and the entities are then put.
   abbrev pub IsLoadRun : LoadOptions → Course L
   IsLoadRun options =
       Reads options.schema.now (λ schema.

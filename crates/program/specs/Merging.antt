@@ -1,7 +1,7 @@
 -- Defines the explanation of a rejected merge.
 -- Source: docs/operating.md, "Find out why a text is rejected".
--- Rules of this product: what is rejected in the schema is explained or, if nothing is, the error in the first of the
--- two messages that is rejected, with the name of its file.
+-- Rules of this product: what is rejected in the schema is explained or, if nothing is, the error of the first rejected
+-- message, with the name of its file.
 use Rattle.std.specs.Prelude.{◌≡◌, ◌⊎◌, ℕ, List}
 use Rattle.state_exchanges.specs.Merges.{IsMerged, AreRefused}
 use Rattle.program_drills.specs.http_service.answer_lines.declared.refusal.Refusal.{Refusal}
@@ -11,21 +11,21 @@ use Rattle.explanations.specs.Parts.{IsMessageExplained}
 use Rattle.explanations.specs.FileExplanations.{IsExplained}
 use Rattle.program.specs.ExplainOption.{IsThatOr}
 
--- `IsAtFault options schema first name` holds if the message `first` merges with itself and `name` is the file of the
--- second message, or `first` does not and `name` is its file.
+-- `IsAtFault options schema first name` holds if `name` is the file, in `options`, of the message at fault: of the
+-- second message if the first, `first`, merges with itself under `schema`, and else of the first.
 abbrev pub IsAtFault : MergeOptions → List ℕ → List ℕ → List ℕ → Type 0
 IsAtFault options schema first name =
     (((text : List ℕ) × IsMerged schema first first text) × (name ≡ options.second.now))
     ⊎ (((refusal : Refusal) × AreRefused schema first first refusal) × (name ≡ options.first.now))
 
--- `IsMessageText files name code text` holds if `text` explains what is rejected in `files`; if nothing is, the error
--- with this code of the message in the file `name`.
+-- `IsMessageText files name code text` holds if `text` explains what is rejected in `files` or, if nothing is, the
+-- error of code `code` of the message in the file `name`.
 abbrev pub IsMessageText : Files → List ℕ → ℕ → List ℕ → Type 0
 IsMessageText files name code text =
     (first : List ℕ) × IsExplained files first × IsThatOr (IsMessageExplained name code) first text
 
 -- `IsMergeText files options schema first code text` holds if `text` explains a rejected merge: what is rejected in
--- `files` or, if nothing is, the error with this code of the message at fault.
+-- `files` or, if nothing is, the error of code `code` of the message at fault (`IsAtFault options schema first`).
 abbrev pub IsMergeText : Files → MergeOptions → List ℕ → List ℕ → ℕ → List ℕ → Type 0
 IsMergeText files options schema first code text =
     (name : List ℕ) × IsAtFault options schema first name × IsMessageText files name code text

@@ -25,8 +25,9 @@ use Rattle.program.specs.Reports.{taken_report_line}
 use Rattle.program.specs.Courses.{Course, Reads, ReadsIfThere, Connects, Stores}
 
 -- `IsPullReported options r` is the course after a pull with the result `r`. If the pull succeeded, the new state is
--- written, and then the number of updates printed. If the network failed, the address is reported. Otherwise the error
--- of a text or of the message is reported. Unless the network failed, out of memory may be reported instead.
+-- written into the file that `options` name, and then the number of updates is printed. If the network failed, the
+-- address in `options` is reported. Otherwise the error of a text or of the message is reported. Unless the network
+-- failed, out of memory may be reported instead.
 abbrev pub IsPullReported : {L : Type 0} → PullOptions → Result Pulled PullFault → Course L
 IsPullReported options (Ok pulled) events end =
     Stores options.state.now pulled.state.items (IsAnswerReported (taken_report_line pulled.taken)) events end
@@ -40,34 +41,37 @@ module _ {R W : Type 0} (reader : Source R) (writer : Sink W) where
   abbrev pub NoReadFailed : Link R W → Link R W → Type 0
   NoReadFailed link left = reader.failed left.reader ≡ reader.failed link.reader
 
-  -- `NoWriteFailed link left` holds likewise if no write failed.
+  -- `NoWriteFailed link left` holds if no write failed while a connection went from the state `link` to `left`.
   abbrev pub NoWriteFailed : Link R W → Link R W → Type 0
   NoWriteFailed link left = writer.failed left.writer ≡ writer.failed link.writer
 
   -- `IsAsked request link body left` holds if `request` was written, and what was read begins with a reply of status
-  -- 200 and `body`.
+  -- 200 and `body`, over a connection that is `link` before and `left` after.
   abbrev pub IsAsked : List ℕ → Link R W → List ℕ → Link R W → Type 0
   IsAsked request link body left =
       IsAnswered reader.left reader.reads writer.holds request link.reader left.reader link.writer left.writer 200 body
 
-  -- `IsNotMoreThanAsked schema state address link left` holds if the connection is unchanged, or a prefix of the
-  -- request for the missing entries was written, possibly empty or whole.
+  -- `IsNotMoreThanAsked schema state address link left` holds if the connection is unchanged (`left` is `link`), or a
+  -- prefix of the request to `address` for the entries that `state` lacks under `schema` was written, possibly empty or
+  -- whole.
   abbrev pub IsNotMoreThanAsked : List ℕ → Option (List ℕ) → List ℕ → Link R W → Link R W → Type 0
   IsNotMoreThanAsked schema state address link left = (left ≡ link)
       ⊎ ((s : StatedSchema) × (m : Store) × IsReady schema state s m
       × IsRequestBegun reader.left writer.holds (request_for address s m) link.reader left.reader link.writer
       left.writer)
 
-  -- `IsPullRefused schema state address refusal link left` holds if `refusal` is the error of the schema or the state,
-  -- and nothing was read or written; or if the request was written, and `refusal` is the error of the received message.
+  -- `IsPullRefused schema state address refusal link left` holds if `refusal` is the error of `schema` or `state`, and
+  -- nothing was read or written; or if the request to `address` was written, and `refusal` is the error of the received
+  -- message. `link` and `left` are the connection before and after.
   abbrev pub IsPullRefused : List ℕ → Option (List ℕ) → List ℕ → Refusal → Link R W → Link R W → Type 0
   IsPullRefused schema state address refusal link left = (IsFirstError schema state refusal × (left ≡ link))
       ⊎ ((s : StatedSchema) × (m : Store) × (body : List ℕ) × IsReady schema state s m
       × IsAsked (request_for address s m) link body left × IsMessageRefused s body refusal)
 
-  -- `IsPull schema state address link r left` holds if `r` is the outcome of a pull over a connection: the request for
-  -- the missing entries was written, and the message in the reply was joined with the state; or a text or the message
-  -- is rejected, or an allocation failed; or there was no reply of status 200.
+  -- `IsPull schema state address link r left` holds if `r` is the outcome of a pull from `address` with `schema` and
+  -- `state`, over a connection that is `link` before and `left` after. Either the request for the missing entries was
+  -- written, and the message in the reply was joined with the state; or a text or the message is rejected, or an
+  -- allocation failed; or there was no reply of status 200.
   abbrev pub IsPull : List ℕ → Option (List ℕ) → List ℕ → Link R W → Result Pulled PullFault → Link R W → Type 0
   IsPull schema state address link (Ok pulled) left = (s : StatedSchema) × (m : Store) × (body : List ℕ)
       × IsReady schema state s m × IsAsked (request_for address s m) link body left
@@ -84,15 +88,15 @@ module _ {R W : Type 0} (reader : Source R) (writer : Sink W) where
       × (fault ≢ network.Read → NoReadFailed link left)
       × (fault ≢ network.Write → NoWriteFailed link left)
 
-  -- `IsPulledOver options schema state link` is the course of a pull over the connection `link`: then the connection is
-  -- closed and the outcome reported.
+  -- `IsPulledOver options schema state link` is the course of a pull with the texts `schema` and `state` over the
+  -- connection `link` to the address in `options`. The connection is then closed, and the outcome reported.
   abbrev pub IsPulledOver : PullOptions → List ℕ → Option (List ℕ) → Link R W → Course (Link R W)
   IsPulledOver options schema state link events end = (came : Result Pulled PullFault) × (left : Link R W)
       × IsPull schema state options.from.now link came left
       × ((rest : List (Event (Link R W))) × (events ≡ closed left ∷ rest) × IsPullReported options came rest end)
 
   -- `IsPullRun options` is a run of `pull`: it reads the schema and then the state, if the file exists, and then opens
-  -- the connection. The site's name makes no difference.
+  -- the connection. The name of a site in `options` has no effect.
   abbrev pub IsPullRun : PullOptions → Course (Link R W)
   IsPullRun options =
       Reads options.schema.now (λ schema.

@@ -21,7 +21,7 @@ ended line = line ++ code "\n" ∷ []
 abbrev pub status_after : Bool → ℕ → ℕ
 status_after done status = if done then status else 3
 
--- `taken_report_line count` is the line with the number of applied updates: {"taken":3}
+-- `taken_report_line count` is the line with the number `count` of applied updates: {"taken":3}
 unfoldable pub taken_report_line : ℕ → List ℕ
 taken_report_line count = codes "{\"taken\":" ++ decimal count ++ codes "}"
 
@@ -30,7 +30,7 @@ abbrev pub no_memory_line : List ℕ
 no_memory_line = codes "{\"error\":{\"code\":1,\"place\":null,\"within\":null}}"
 
 -- The last two arguments of each relation are the events of the rest of a run, over connections of type `L`, and its
--- status. The sentences do not name them.
+-- status. The sentences do not name them. If writing fails, the status is 3 instead of the one that a sentence gives.
 module _ {L : Type 0} where
   -- `IsReported stream line status`: `line` is written to `stream`, and the run ends with `status`, or with 3 if
   -- writing fails.
@@ -50,7 +50,7 @@ module _ {L : Type 0} where
   AreLinesReported (byte ∷ text) some_refused events end =
       IsReported Answers (byte ∷ text) (if some_refused then 1 else 0) events end
 
-  -- `IsRefusalReported refusal`: the error line is written to standard error, and the run ends with 1.
+  -- `IsRefusalReported refusal`: the error line of `refusal` is written to standard error, and the run ends with 1.
   abbrev pub IsRefusalReported : Refusal → List (Event L) → ℕ → Type 0
   IsRefusalReported refusal = IsReported Faults (error_line refusal) 1
 
@@ -60,7 +60,7 @@ module _ {L : Type 0} where
   IsMemoryReported events end = IsRefusalReported no_memory events end ⊎ IsReported Faults no_memory_line 1 events end
 
   -- `IsFailureReported name`: the line `fault: ` with `name` is written to standard error, and the run ends with 3.
-  -- `name` is that of a file that cannot be read or written, or what failed on the network, such as an address.
+  -- `name` names a file that cannot be read or written, or what failed on the network, such as an address.
   abbrev pub IsFailureReported : List ℕ → List (Event L) → ℕ → Type 0
   IsFailureReported name = IsReported Faults (codes "fault: " ++ name) 3
 
@@ -70,16 +70,16 @@ module _ {L : Type 0} where
   IsFileReported name file.Failed events end = IsFailureReported name events end
   IsFileReported name file.NoMemory events end = IsMemoryReported events end
 
-  -- `IsPrinted stream fault status`: the text of an error of the command line is written to `stream`, and the run ends
-  -- with `status`, or with 3 if writing fails.
+  -- `IsPrinted stream fault status`: the text of `fault`, an error of the command line, is written to `stream`, and the
+  -- run ends with `status`, or with 3 if writing fails.
   abbrev pub IsPrinted : Stream → LineFault → ℕ → List (Event L) → ℕ → Type 0
   IsPrinted stream fault status events end = (done : Bool)
       × (events ≡ printed stream fault done ∷ [])
       × (end ≡ status_after done status)
 
-  -- `IsFaultReported fault`: help is written to standard output, and the run ends with 0; any other error of the
-  -- command line is written to standard error, and the run ends with 2; out of memory is reported by
-  -- `IsMemoryReported`.
+  -- `IsFaultReported fault`: if `fault` is the help or the version, it is written to standard output, and the run ends
+  -- with 0. Out of memory is reported by `IsMemoryReported`. Any other error of the command line is written to standard
+  -- error, and the run ends with 2.
   abbrev pub IsFaultReported : LineFault → List (Event L) → ℕ → Type 0
   IsFaultReported (Help error) events end = IsPrinted Answers (Help error) 0 events end
   IsFaultReported (Words error) events end = IsPrinted Faults (Words error) 2 events end

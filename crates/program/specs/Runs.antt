@@ -37,19 +37,20 @@ use Rattle.program.specs.Merging.{IsMergeText}
 use Rattle.program.specs.Pulling.{IsPullRun}
 use Rattle.program.specs.Serving.{IsServeRun}
 
--- `IsDecided schema policies entities request line` holds if `line` is the answer line of these texts, with or without
--- a schema.
+-- `IsDecided schema policies entities request line` holds if `line` is the answer line of the request `request` over
+-- `policies` and `entities`, under the schema `schema` if it is present. All of these are texts.
 abbrev pub IsDecided : Option (List ℕ) → List ℕ → List ℕ → List ℕ → List ℕ → Type 0
 IsDecided None = bare.IsDecided bare_reading
 IsDecided (Some schema) = typed.IsDecided schema
 
--- `IsNotDecided schema policies entities request refusal` holds if `refusal` is the error of these texts.
+-- `IsNotDecided schema policies entities request refusal` holds if `refusal` is the error of deciding `request` over
+-- `policies` and `entities`, under the schema `schema` if it is present.
 abbrev pub IsNotDecided : Option (List ℕ) → List ℕ → List ℕ → List ℕ → Refusal → Type 0
 IsNotDecided None = bare.IsDecisionRefused bare_reading
 IsNotDecided (Some schema) = typed.IsSchemaDecisionRefused schema
 
 -- `decide_files options schema policies entities request` are the files that a run of `decide` explains: those that
--- `options` name, with these contents.
+-- `options` name, with the contents `schema`, `policies`, `entities` and `request`.
 abbrev pub decide_files : DecideOptions → Option (List ℕ) → List ℕ → List ℕ → List ℕ → Files
 decide_files options schema policies entities request = record {
   schema = file_named (option_map (λ s. s.now) options.schema) schema;
@@ -59,7 +60,7 @@ decide_files options schema policies entities request = record {
 }
 
 -- `check_files options schema policies` are the files that a run of `check` explains: those that `options` name, with
--- these contents.
+-- the contents `schema` and `policies`.
 abbrev pub check_files : CheckOptions → List ℕ → List ℕ → Files
 check_files options schema policies = record {
   schema = Some (file_with_content options.schema.now schema);
@@ -68,16 +69,17 @@ check_files options schema policies = record {
   request = None;
 }
 
+-- Where a sentence of this module says that an error is reported, the error may be out of memory.
 module _ {L : Type 0} where
-  -- `IsDecidedOrRefused options schema policies entities request`: the answer line of these texts is printed, or their
-  -- error is reported and, with `--explain`, explained.
+  -- `IsDecidedOrRefused options schema policies entities request`: the answer line of the texts `schema`, `policies`,
+  -- `entities` and `request` is printed, or their error is reported and, if `options` have `--explain`, explained.
   abbrev pub IsDecidedOrRefused : DecideOptions → Option (List ℕ) → List ℕ → List ℕ → List ℕ → Course L
   IsDecidedOrRefused options schema policies entities request =
       IsLineOrErrorExplained options.explain (decide_files options schema policies entities request)
       (IsDecided schema policies entities request) (IsNotDecided schema policies entities request)
 
-  -- `AreChecked options schema policies`: the lines of the policies under the schema are printed, or the error is
-  -- reported; with `--explain`, what is rejected is explained.
+  -- `AreChecked options schema policies`: the lines of `policies` under `schema` are printed, or the error is reported;
+  -- if `options` have `--explain`, what is rejected is explained.
   abbrev pub AreChecked : CheckOptions → List ℕ → List ℕ → Course L
   AreChecked options schema policies events end =
       ((text : List ℕ) × (some_refused : Bool) × checks.IsChecked schema policies text some_refused
@@ -86,22 +88,22 @@ module _ {L : Type 0} where
       ⊎ IsErrorExplained options.explain (check_files options schema policies) (checks.AreChecksRefused schema policies)
       events end
 
-  -- `AreMerged options schema first second`: the state with the updates of both messages, `first` and `second`, is
-  -- printed, or the error is reported and, with `--explain`, explained, with the name of the file of the message at
-  -- fault.
+  -- `AreMerged options schema first second`: the state with the updates of both messages of `schema`, `first` and
+  -- `second`, is printed, or the error is reported. If `options` have `--explain`, the error is then explained, with
+  -- the name of the file of the message at fault.
   abbrev pub AreMerged : MergeOptions → List ℕ → List ℕ → List ℕ → Course L
   AreMerged options schema first second = IsLineOrErrorThenText options.explain
       (IsMergeText (schema_files options.schema.now schema) options schema first)
       (merges.IsMerged schema first second) (merges.AreRefused schema first second)
 
-  -- `IsDrilledOrRefused sites schema script`: the lines of the script at this number of sites are printed, or the error
-  -- is reported.
+  -- `IsDrilledOrRefused sites schema script`: the lines of `script`, executed at `sites` sites of `schema`, are
+  -- printed, or the error is reported.
   abbrev pub IsDrilledOrRefused : ℕ → List ℕ → List ℕ → Course L
   IsDrilledOrRefused sites schema script =
       IsLineOrRefusal (drills.IsDrilled sites schema script) (drills.IsDrillRefused sites schema script)
 
-  -- `IsDecideRun options`: the files are read, first the schema, if one is named, then policies, entities and request;
-  -- then the request is decided.
+  -- `IsDecideRun options`: the files that `options` name are read, first the schema, if one is named, then policies,
+  -- entities and request; then the request is decided.
   abbrev pub IsDecideRun : DecideOptions → Course L
   IsDecideRun options =
       ReadsIfNamed (option_map (λ s. s.now) options.schema) (λ schema.
@@ -110,12 +112,14 @@ module _ {L : Type 0} where
       Reads options.request.now (λ request.
       IsDecidedOrRefused options schema policies entities request))))
 
-  -- `IsCheckRun options`: the schema is read, then the policies, which are then checked.
+  -- `IsCheckRun options`: of the files that `options` name, the schema is read, then the policies; then the policies
+  -- are checked.
   abbrev pub IsCheckRun : CheckOptions → Course L
   IsCheckRun options =
       Reads options.schema.now (λ schema. Reads options.policies.now (λ policies. AreChecked options schema policies))
 
-  -- `IsMergeRun options`: the schema is read, then the two messages, which are then merged.
+  -- `IsMergeRun options`: of the files that `options` name, the schema is read, then the two messages; then the
+  -- messages are merged.
   abbrev pub IsMergeRun : MergeOptions → Course L
   IsMergeRun options =
       Reads options.schema.now (λ schema.
@@ -123,7 +127,8 @@ module _ {L : Type 0} where
       Reads options.second.now (λ second.
       AreMerged options schema first second)))
 
-  -- `IsDrillRun options`: the schema is read, then the script, which is then executed.
+  -- `IsDrillRun options`: of the files that `options` name, the schema is read, then the script; then the script is
+  -- executed.
   abbrev pub IsDrillRun : DrillOptions → Course L
   IsDrillRun options =
       Reads options.schema.now (λ schema.
@@ -143,7 +148,7 @@ module _ {R W G : Type 0} (reader : Source R) (writer : Sink W) (log : Sink G) w
   IsLineRun (Drill options) = IsDrillRun options
   IsLineRun (Explain options) = IsExplainRun options
 
-  -- `IsRun words`: if the arguments are a command, it is run; else their error is reported.
+  -- `IsRun words`: if the arguments `words` are a command, it is run; else their error is reported.
   abbrev pub IsRun : List Text → Course (Link R W)
   IsRun words events end =
       ((line : Line) × IsCommandOf words line × (fault_of site_app words ≡ []) × IsLineRun line events end)

@@ -2,8 +2,8 @@
 -- Source: docs/operating.md.
 -- Rules of this product: schema and state are checked before the network is used; connections are served one after
 -- another, each from the site that the previous one left. If accepting one fails, the run warns of the first of
--- consecutive failures, pauses and tries again. With a log no reply is sent before its line; a connection whose line
--- fails ends, and the next is served.
+-- consecutive failures, pauses and tries again. With a log, the line of a reply is written before the reply is sent; if
+-- that fails, the connection ends, and the next is served.
 use Rattle.std.specs.Prelude.{◌≡◌, ◌≢◌, ◌⊎◌, ℕ, zero, suc, ◌*◌, ◌<◌, min, Bool, List, [], ◌∷◌, ◌++◌, Option, None, Some}
 use Rattle.std.specs.Prelude.{Result, Err, codes, option_map}
 use Rattle.state_exchanges.specs.http_streams.declared.devices.Source.{Ghosts as Source}
@@ -24,16 +24,16 @@ use Rattle.program.specs.Courses.{Course, Reads, ReadsIfNamed, Listens, Announce
 use Rattle.program.specs.ExplainOption.{schema_files, IsErrorExplained}
 use Rattle.program.specs.InitialSites.{IsInitialSite, IsInitialSiteRefused}
 
--- `most_of o` is the given number of connections; without one, more than any run can reach.
+-- `most_of o` is the number of connections in `o`; if `o` is `None`, more than any run can reach.
 abbrev pub most_of : Option ℕ → ℕ
 most_of None = 18446744073709551615
 most_of (Some number) = number
 
--- `own_stamps_line name` is the warning that the initial state has stamps of the site's name.
+-- `own_stamps_line name` is the warning that the initial state has stamps of `name`, the site's name.
 abbrev pub own_stamps_line : List ℕ → List ℕ
 own_stamps_line name = codes "warning: the state has stamps of this name, which is to be used once: " ++ name
 
--- `failing_line address` is the warning that accepting a connection failed.
+-- `failing_line address` is the warning that accepting a connection at `address` failed.
 abbrev pub failing_line : List ℕ → List ℕ
 failing_line address = codes "warning: accept failed, trying again: " ++ address
 
@@ -44,20 +44,21 @@ pause_after (suc before) = min (2 * pause_after before) 1000
 
 module _ {L : Type 0} where
   -- `IsFailure address n events` holds if `events` are a failure to accept a connection, after `n` others: the run
-  -- warns of the first, and then pauses.
+  -- warns of the first, with `address`, and then pauses.
   abbrev pub IsFailure : List ℕ → ℕ → List (Event L) → Type 0
   IsFailure address zero events = (done : Bool)
       × (events ≡ accepted None ∷ wrote Faults (ended (failing_line address)) done ∷ paused (pause_after zero) ∷ [])
   IsFailure address (suc before) events = events ≡ accepted None ∷ paused (pause_after (suc before)) ∷ []
 
-  -- `AreFailures address n events` holds if `events` are `n` such failures, one after another.
+  -- `AreFailures address n events` holds if `events` are `n` such failures, one after another, with `address` in the
+  -- warning.
   abbrev pub AreFailures : List ℕ → ℕ → List (Event L) → Type 0
   AreFailures address zero events = events ≡ []
   AreFailures address (suc before) events = (first last : List (Event L)) × AreFailures address before first
       × IsFailure address before last × (events ≡ first ++ last)
 
-  -- `IsGivenUp address events` holds if `events` are 2^64 - 1 failures, after which the run ends; their pauses take
-  -- more than 10^11 years.
+  -- `IsGivenUp address events` holds if `events` are 2^64 - 1 failures (`AreFailures address`), after which the run
+  -- ends; their pauses take more than 10^11 years.
   abbrev pub IsGivenUp : List ℕ → List (Event L) → Type 0
   IsGivenUp address events = (number : ℕ) × (number ≡ 18446744073709551615) × AreFailures address number events
 
@@ -67,8 +68,9 @@ pub record Serving (G : Type 0) : Type 0 where
   pub log : Option G
 
 module _ {R W G : Type 0} (reader : Source R) (writer : Sink W) (log : Sink G) where
-  -- `IsLoggedOver old link end left new` holds if the log, if there is one, got the line of each reply that was sent
-  -- over the connection, before it was sent; without a log serving did not end with the error `Log`.
+  -- `IsLoggedOver old link end left new` holds if the log `old`, if there is one, became `new` and got the line of each
+  -- reply before the reply was sent over the connection, whose states are `link` before and `left` after. `end` is how
+  -- serving ended; without a log it is not the error `Log`.
   abbrev pub IsLoggedOver : Option G → Link R W → Result (Unit {0}) StreamFault → Link R W → Option G → Type 0
   IsLoggedOver None link end left None = end ≢ Err stream_fault.Log
   IsLoggedOver (Some old) link end left (Some new) = IsLogged IsLogLine unread_line log.holds log.failed log.fails
@@ -76,62 +78,65 @@ module _ {R W G : Type 0} (reader : Source R) (writer : Sink W) (log : Sink G) w
   IsLoggedOver _ link end left _ = ⊥
 
   -- `IsServedOver old link end left new` holds if the site of `old` served the connection, from the state `link` to
-  -- `left`, serving ended as `end` says, and `new` has the site afterwards.
+  -- `left`, serving ended as `end` says, and `new` has the site and its log afterwards.
   abbrev pub IsServedOver : Serving G → Link R W → Result (Unit {0}) StreamFault → Link R W → Serving G → Type 0
   IsServedOver old link end left new = IsServed reader.left reader.failed reader.reads reader.fails writer.holds
       writer.failed writer.fails link.reader left.reader link.writer left.writer old.site new.site end
       × IsLoggedOver old.log link end left new.log
 
-  -- `IsNextServed address old events new` holds if, after any number of failures, a connection was accepted, served and
-  -- closed.
+  -- `IsNextServed address old events new` holds if, with `events`, a connection was accepted after any number of
+  -- failures (`AreFailures address`), and was served from `old` and closed. `new` has the site and its log afterwards.
   abbrev pub IsNextServed : List ℕ → Serving G → List (Event (Link R W)) → Serving G → Type 0
   IsNextServed address old events new = (number : ℕ) × (failures : List (Event (Link R W))) × (link left : Link R W)
       × (end : Result (Unit {0}) StreamFault) × AreFailures address number failures
       × (events ≡ failures ++ accepted (Some link) ∷ closed left ∷ served end ∷ [])
       × IsServedOver old link end left new
 
-  -- `AreServed address n old events new` holds if `n` connections were served, each from the site that the previous one
-  -- left.
+  -- `AreServed address n old events new` holds if, with `events`, `n` connections were served (`IsNextServed address`),
+  -- the first from `old`, and each other one from the site that the previous one left. `new` has the site and its log
+  -- afterwards.
   abbrev pub AreServed : List ℕ → ℕ → Serving G → List (Event (Link R W)) → Serving G → Type 0
   AreServed address zero old events new = (events ≡ []) × (new ≡ old)
   AreServed address (suc n) old events new = (first rest : List (Event (Link R W))) × (mid : Serving G)
       × IsNextServed address old first mid × AreServed address n mid rest new × (events ≡ first ++ rest)
 
-  -- `AreCutShort address most old events new` holds if fewer than `most` connections were served, and then accepting
-  -- one failed as often as the run tries (`IsGivenUp`).
+  -- `AreCutShort address most old events new` holds if, with `events`, fewer than `most` connections were served from
+  -- `old` (`AreServed address`), and then accepting one failed as often as the run tries (`IsGivenUp address`). `new`
+  -- has the site and its log afterwards.
   abbrev pub AreCutShort : List ℕ → ℕ → Serving G → List (Event (Link R W)) → Serving G → Type 0
   AreCutShort address most old events new = (n : ℕ) × (first rest : List (Event (Link R W))) × (n < most)
       × AreServed address n old first new × IsGivenUp address rest × (events ≡ first ++ rest)
 
-  -- `AreAllServed address most site`: `most` connections are served, and the run ends with 0; or the run gives up
-  -- before (`IsGivenUp`) and reports the address.
+  -- `AreAllServed address most site`: `most` connections are served from `site`, and the run ends with 0; or the run
+  -- gives up before (`IsGivenUp`) and reports `address`.
   abbrev pub AreAllServed : List ℕ → ℕ → Serving G → Course (Link R W)
   AreAllServed address most site events end =
       (((last : Serving G) × AreServed address most site events last) × (end ≡ 0))
       ⊎ ((last : Serving G) × (first rest : List (Event (Link R W))) × AreCutShort address most site first last
       × IsFailureReported address rest end × (events ≡ first ++ rest))
 
-  -- `IsServedListening options site`: the run prints where it listens, and serves.
+  -- `IsServedListening options site`: the run prints the address in `options`, at which it listens, and serves `site`.
   abbrev pub IsServedListening : ServeOptions → Serving G → Course (Link R W)
   IsServedListening options site = Announces (codes "listening " ++ options.listen.now)
       (AreAllServed options.listen.now (most_of options.connections) site)
 
-  -- `IsServedAt options site`: the run warns if the site begins with stamps of its own name, opens the log, if one is
-  -- named, listens, with the time limit, if one is given, and serves.
+  -- `IsServedAt options site`: the run warns if `site` begins with stamps of its own name. It then opens the log, if
+  -- `options` name one, listens, with the time limit, if they give one, and serves.
   abbrev pub IsServedAt : ServeOptions → SiteView → Course (Link R W)
   IsServedAt options site = WarnsIf (has_stamps_of options.site (store_in site)) (own_stamps_line options.site)
       (OpensIfNamed (option_map (λ s. s.now) options.log) (λ opened.
       Listens options.listen.now options.idle (IsServedListening options (record { site = site; log = opened }))))
 
-  -- `IsServedFrom options schema state`: the initial site is served, or the error reported and, with `--explain`,
-  -- explained.
+  -- `IsServedFrom options schema state`: the initial site of `schema` and `state` is served; or their error, or out of
+  -- memory, is reported and, if `options` have `--explain`, explained.
   abbrev pub IsServedFrom : ServeOptions → List ℕ → Option (List ℕ) → Course (Link R W)
   IsServedFrom options schema state events end =
       ((site : SiteView) × IsInitialSite schema options.site state site × IsServedAt options site events end)
       ⊎ IsErrorExplained options.explain (schema_files options.schema.now schema) (IsInitialSiteRefused schema state)
       events end
 
-  -- `IsServeRun options`: the schema is read, then the state, if one is named; then the site is served.
+  -- `IsServeRun options`: of the files that `options` name, the schema is read, then the state, if one is named; then
+  -- the site is served.
   abbrev pub IsServeRun : ServeOptions → Course (Link R W)
   IsServeRun options =
       Reads options.schema.now (λ schema.

@@ -78,8 +78,8 @@ pub trait Host {
         ensures { MatchResult result (λ link. does self.old (connected address.now (Some link)) self.new)
             (λ failed. does self.old (connected address.now None) self.new) };
 
-    /// Listens at an address. If `idle` is given, a read or a write of a connection accepted there fails after that
-    /// many seconds.
+    /// Listens at an address. If `idle` is given, a read or a write of a connection accepted there fails if it takes
+    /// longer than that many seconds.
     ///
     /// # Errors
     ///

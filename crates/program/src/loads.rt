@@ -86,8 +86,8 @@ fn load_contents<H: Host>(
     }
 }
 
-/// Reads the schema, then the initial state, the policies and the entities, each if it is named; then puts the policies
-/// and the entities into the site of this name, and prints the site's state.
+/// Reads the schema, then the initial state, the policies and the entities, each if it is named. Then puts the policies
+/// and the entities into the site that `options` names, and prints the site's state.
 pub(crate) fn run_load<H: Host>(alloc: Global, host: &mut H, options: &LoadOptions<'_>) -> ExitCode
     ensures { Runs H.does host.old host.new (λ events. IsLoadRun options.now events (exit_status result)) }
 {

@@ -35,7 +35,7 @@ pub(crate) fn policies_of<'n, 't>(source: Option<NamedText<'n, 't>>) -> NamedTex
     }
 }
 
-/// Returns the files for an explanation why a schema or a state is rejected: the schema alone.
+/// Returns the files for the explanation of a rejected schema or state: the schema alone.
 pub(crate) fn schema_given<'n, 't>(name: &'n str, schema: &'t [u8]) -> Given<'n, 't>
     ensures { files_of result ≡ schema_files name.entry.now schema.entry.now }
 {

@@ -1,4 +1,5 @@
-//! The last output of a run, and its status.
+//! The last output of a run, apart from an explanation, and the status of the run. Each function that writes returns
+//! this status, which is 3 if writing fails.
 ghost use Rattle.std.specs.Prelude.{◌≡◌, ◌⊎◌, ◌++◌, List, ℕ, codes, is_ok};
 ghost use Rattle.std.specs.Process.{exit_status};
 ghost use Rattle.program_drills.specs.http_service.answer_lines.Refusals.{error_line};
@@ -33,7 +34,7 @@ pub(crate) const FAILED: u8 = 3;
 /// The error line of out of memory, a constant, so that it needs no allocation.
 const NO_MEMORY_LINE: &[u8; 47] = b"{\"error\":{\"code\":1,\"place\":null,\"within\":null}}";
 
-/// Returns the status of a run: `status`, or 3 if the last write failed.
+/// Returns the status of a run: `status`, or 3 if writing failed.
 fn status_of(written: Result<(), StreamFailed>, status: u8) -> ExitCode
     ensures { exit_status result ≡ status_after (is_ok written) status }
 {
@@ -43,7 +44,7 @@ fn status_of(written: Result<(), StreamFailed>, status: u8) -> ExitCode
     }
 }
 
-/// Writes the last line of a run, and returns the status of the run: `status`, or 3 if writing fails.
+/// Writes the last line of a report, and returns the status of the run: `status`, or 3 if writing fails.
 fn report_last_line<H: Host>(
     host: &mut H,
     stream: Stream,
@@ -58,7 +59,7 @@ fn report_last_line<H: Host>(
     status_of(written, status)
 }
 
-/// Writes the line of an answer.
+/// Writes the line of an answer. The status is 0.
 pub(crate) fn report_answer<H: Host>(host: &mut H, line: &[u8]) -> ExitCode
     ensures { Runs H.does host.old host.new (λ events. IsAnswerReported line.now events (exit_status result)) }
 {
@@ -88,7 +89,7 @@ pub(crate) fn without_end(text: &str) -> &str
     }
 }
 
-/// Writes the explanation `text`, if it is not empty.
+/// Writes the explanation `text`, if it is not empty. The status is then 1, else 0.
 pub(crate) fn report_explained<H: Host>(host: &mut H, text: &str) -> ExitCode
     ensures { Runs H.does host.old host.new (λ events. (line : List ℕ) × IsWithoutEnd text.now line
         × AreLinesReported line (is_some_text text.now) events (exit_status result)) }
@@ -97,7 +98,7 @@ pub(crate) fn report_explained<H: Host>(host: &mut H, text: &str) -> ExitCode
     report_lines(host, line.as_bytes(), is_some_text(text))
 }
 
-/// Writes that no code has this number.
+/// Writes that no code has this number. The status is 2.
 pub(crate) fn report_no_code<H: Host>(host: &mut H, word: &str) -> ExitCode
     ensures { Runs H.does host.old host.new (λ events.
         IsReported Faults (codes "error: no code is " ++ word.now) 2 events (exit_status result)) }
@@ -111,14 +112,14 @@ pub(crate) fn report_no_code<H: Host>(host: &mut H, word: &str) -> ExitCode
     )
 }
 
-/// Writes the error line of out of memory.
+/// Writes the error line of out of memory. The status is 1.
 pub(crate) fn report_memory<H: Host>(host: &mut H) -> ExitCode
     ensures { Runs H.does host.old host.new (λ events. IsMemoryReported events (exit_status result)) }
 {
     report_last_line(host, Stream::Faults, "", NO_MEMORY_LINE, REFUSED)
 }
 
-/// Writes the line of an error or, if that cannot be allocated, the line of out of memory.
+/// Writes the line of an error or, if that cannot be allocated, the line of out of memory. The status is 1.
 pub(crate) fn report_refusal<H: Host>(alloc: Global, host: &mut H, refusal: Refusal) -> ExitCode
     ensures { Runs H.does host.old host.new
         (λ events. IsRefusalReported refusal events (exit_status result)
@@ -130,14 +131,14 @@ pub(crate) fn report_refusal<H: Host>(alloc: Global, host: &mut H, refusal: Refu
     }
 }
 
-/// Writes `fault: ` and `name`: that of a file, an address, or the report of a failed call.
+/// Writes `fault: ` and `name`: the name of a file, an address, or the report of a failed call. The status is 3.
 pub(crate) fn report_failure<H: Host>(host: &mut H, name: &str) -> ExitCode
     ensures { Runs H.does host.old host.new (λ events. IsFailureReported name.now events (exit_status result)) }
 {
     report_last_line(host, Stream::Faults, "fault: ", name.as_bytes(), FAILED)
 }
 
-/// Writes why a file was not read or written.
+/// Writes the name of a file that was not read or written (status 3), or the error line of out of memory (status 1).
 pub(crate) fn report_file<H: Host>(host: &mut H, name: &str, fault: FileFault) -> ExitCode
     ensures { Runs H.does host.old host.new (λ events. IsFileReported name.now fault events (exit_status result)) }
 {

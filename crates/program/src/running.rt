@@ -37,13 +37,13 @@ fn run_line<H: Host>(alloc: Global, host: &mut H, line: &Line<'_>) -> ExitCode
     }
 }
 
-/// Executes the command of the arguments, the first of which is the program's name: checks policies, decides a request,
-/// loads files into a site and prints its state, serves a site, pulls from one, exchanges between two, merges two
-/// messages, executes a script, explains a code or what is rejected in files, or writes help, the version, or the error
-/// of the arguments.
+/// Executes the command of the arguments, the first of which is the program's name. A command checks policies, decides
+/// a request, loads files into a site and prints its state, serves a site, pulls from one, exchanges between two,
+/// merges two messages, executes a script, or explains a code or what is rejected in files. If the arguments are not a
+/// command, writes help, the version, or the error of the arguments.
 ///
-/// The status is 0 for an answer or help, 1 for an error, also of one of the checked policies, 2 for arguments that are
-/// not a command, and 3 if a file can't be read or written, or the network or a stream fails.
+/// The status is 0 for an answer or help, 1 if something is rejected or out of memory, 2 for arguments that are not a
+/// command, and 3 if a file can't be read or written, or the network or a stream fails.
 pub fn run<H: Host>(alloc: Global, host: &mut H, words: &[String]) -> ExitCode
     ensures { Runs H.does host.old host.new (λ events.
         IsRun H.Reader.Source H.Writer.Sink H.Log.Sink (map string_bytes words.now) events (exit_status result)) }

@@ -202,8 +202,8 @@ fn serve_initial_site<H: Host>(
     }
 }
 
-/// Listens, prints the address, and serves one connection after another, as many as `--connections` states, if it is
-/// given.
+/// Listens, prints the address, and serves one connection after another, as many as `--connections` gives, if that
+/// option is present.
 fn serve_listening<H: Host>(
     alloc: Global,
     host: &mut H,

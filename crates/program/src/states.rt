@@ -77,8 +77,8 @@ fn message_text(
     explain_message(alloc, name, code)
 }
 
-/// Returns the text that explains a rejected merge: what is rejected in the schema or, if nothing is, the message at
-/// fault.
+/// Returns the text that explains a rejected merge: what is rejected in the given files or, if nothing is, the error of
+/// the message at fault.
 fn merge_text(
     alloc: Global,
     given: &Given<'_, '_>,
@@ -184,7 +184,7 @@ fn taken_line(alloc: Global, count: usize) -> Result<String, NoMemory>
     format!(in alloc; "{{\"taken\":{count}}}")
 }
 
-/// Writes the new state, and then prints how many updates were received. If that line cannot be allocated, reports out
+/// Writes the new state, and then prints how many updates were applied. If that line cannot be allocated, reports out
 /// of memory and does not write the state.
 fn write_pulled_state<H: Host>(alloc: Global, host: &mut H, name: &str, pulled: &Pulled) -> ExitCode
     ensures { Runs H.does host.old host.new (λ events.
@@ -243,8 +243,8 @@ fn pull<H: Host>(
     report_pull(alloc, host, options, came)
 }
 
-/// Reads the schema, and the state, if it exists; then fetches the entries that the state lacks from the site at an
-/// address, and writes the state. The site's name makes no difference: a pull issues no stamps.
+/// Reads the schema, and the state, if it exists; then fetches from the site at an address the entries that the state
+/// lacks, and writes the state. The name of a site in `options` has no effect: a pull issues no stamps.
 pub(crate) fn run_pull<H: Host>(alloc: Global, host: &mut H, options: &PullOptions<'_>) -> ExitCode
     ensures { Runs H.does host.old host.new (λ events.
         IsPullRun H.Reader.Source H.Writer.Sink options.now events (exit_status result)) }

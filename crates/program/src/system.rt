@@ -50,12 +50,12 @@ impl<F: Write, O: Write> Write for LogDevice<F, O> {
     }
 }
 
-/// The lines of a log, each of which begins on a line of its own: if a failure cut the last one off, in this run or an
-/// earlier one, a line feed is written first.
+/// The lines of a log, each on a line of its own: if a failure cut off the line before, in this run or an earlier one,
+/// a line feed is written first.
 #[derive(Drop)]
 pub struct LogLines<D> {
     device: D,
-    /// Whether the last accepted byte does not end a line.
+    /// Whether the last accepted write left a line open: it was accepted in part, or does not end in a line feed.
     open: bool,
     /// Whether the next write first ends the open line, since a write of that line failed, or the file ended in a line
     /// that was cut off when the log was opened.
@@ -170,7 +170,8 @@ fn ends_cut<R: Files>(files: &R, name: &str) -> bool {
     }
 }
 
-/// Returns where the lines of the log of this name go.
+/// Returns where the lines of the log of this name go: for `-` standard output, else a file. Fails if the file cannot
+/// be opened or, for `-`, if a log on standard output is already open.
 fn log_device<R: Files, O: Write>(
     files: &R,
     lines: &mut Option<O>,

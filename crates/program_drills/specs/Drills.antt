@@ -16,12 +16,12 @@ use Rattle.program_drills.specs.Lines.{line_end}
 use Rattle.program_drills.specs.Scripts.{AreEventsOf, IsScriptRefused}
 use Rattle.program_drills.specs.EventReports.{event_line, state_line}
 
--- `IsEventLine answer line` holds if `line` is printed for an event with this answer.
+-- `IsEventLine answer line` holds if `line` is printed for an event with the answer `answer`.
 abbrev pub IsEventLine : EventReply → List ℕ → Type 0
 IsEventLine answer line = event_line answer ≡ Some line
 
--- `IsOutputOf schema n events text` holds if `text` has the lines of the answers to `events` at `n` sites that are
--- empty at first, and then each site's last state.
+-- `IsOutputOf schema n events text` holds if `text` has the lines of the answers to `events`, and then each site's last
+-- state. The `n` sites of `schema` are empty at first.
 pub record IsOutputOf (schema : StatedSchema) (n : ℕ) (events : List Event) (text : List ℕ) : Type 0 where
   pub answers : List EventReply
   pub sites : List SiteView
@@ -41,8 +41,8 @@ pub record IsDrilled (n : ℕ) (schema script text : List ℕ) : Type 0 where
   pub read : AreEventsOf n script events
   pub out : IsOutputOf stated n events text
 
--- `IsDrillRefused n schema script refusal` holds if `refusal` is the error of the schema or, if the schema has none,
--- that of the script.
+-- `IsDrillRefused n schema script refusal` holds if `refusal` is the error of `schema`; or if `schema` describes a
+-- schema, and `refusal` is the error of `script` for `n` sites.
 abbrev pub IsDrillRefused : ℕ → List ℕ → List ℕ → Refusal → Type 0
 IsDrillRefused n schema script refusal = IsSchemaRefused schema refusal
     ⊎ ((stated : StatedSchema) × IsSchemaOf schema stated × IsScriptRefused n script refusal)

@@ -15,7 +15,7 @@ use Rattle.http_service.specs.site_calls.message_format.Messages.{state_text}
 abbrev pub message_json : ℕ → Data
 message_json k = object (member (codes "message") (number (unsigned k)) no_members)
 
--- `message_line k` is that JSON as a line: {"message":0}
+-- `message_line k` is the line of `message_json k`, as {"message":0}
 unfoldable pub message_line : ℕ → List ℕ
 message_line k = compact_text (message_json k)
 
@@ -23,11 +23,12 @@ message_line k = compact_text (message_json k)
 abbrev pub summary_json : ℕ → Data
 summary_json k = object (member (codes "summary") (number (unsigned k)) no_members)
 
--- `summary_line k` is that JSON as a line: {"summary":0}
+-- `summary_line k` is the line of `summary_json k`, as {"summary":0}
 unfoldable pub summary_line : ℕ → List ℕ
 summary_line k = compact_text (summary_json k)
 
--- `reply_line r` is the line of the reply `r` to a command, a request or a message. An event has no other reply.
+-- `reply_line r` is the line of the reply `r` to a command, a request or a message. It is `None` for any other reply,
+-- which no event has.
 abbrev pub reply_line : Reply → Option (List ℕ)
 reply_line (reply.Put outcome) = Some (put_reply outcome).1
 reply_line (reply.Stamped outcome) = Some (stamp_reply outcome).1

@@ -8,7 +8,7 @@ use Prim.Native.Char.{code}
 abbrev pub line_end : ℕ
 line_end = code "\n"
 
--- `begun_with b ls` are the lines `ls`, the first with the byte `b` in front.
+-- `begun_with b ls` are the lines `ls`, the first with the byte `b` in front; if `ls` is empty, the line of `b` alone.
 abbrev pub begun_with : ℕ → List (List ℕ) → List (List ℕ)
 begun_with b [] = (b ∷ []) ∷ []
 begun_with b (l ∷ ls) = (b ∷ l) ∷ ls

@@ -18,7 +18,7 @@ use Rattle.program_drills.specs.declared.made.MadeCounts.{MadeCounts}
 -- ---- what operations make
 
 -- `after_operation made d` counts the messages and summaries after the operation `d`, where `made` counts those before
--- it: an offer makes a message, which is a state or a delta.
+-- it. An offer makes a message: a state or a delta.
 abbrev pub after_operation : MadeCounts → Operation → MadeCounts
 after_operation made operation.Offer = record { messages = made.messages + 1; summaries = made.summaries }
 after_operation made (operation.OfferDelta k) = record { messages = made.messages + 1; summaries = made.summaries }
@@ -27,8 +27,8 @@ after_operation made _ = made
 
 -- ---- the operation that a line asks for
 
--- A `ScriptOperation` is what a line asks for: an operation; or the JSON of an entity to put, or that of a request to
--- decide, of which an operation has the bytes.
+-- A `ScriptOperation` is what a line asks for: the JSON of an entity to put, the JSON of a request to decide, or any
+-- other operation. An `Operation` has bytes in place of this JSON.
 pub data ScriptOperation : Type 0 where
   plain : Operation → ScriptOperation
   put_entity : Data → ScriptOperation
@@ -46,17 +46,18 @@ within least most None = None
 within least most (Some k) = if nat_le least k && nat_lt k most then Some k else None
 
 -- `number_in key least most d` is the number at `key` in the object `d`, if it is an integer from 0 to 2^64 - 1,
--- written without a point, at least `least` and below `most`.
+-- written without a point or an exponent, at least `least` and below `most`.
 abbrev pub number_in : List ℕ → ℕ → ℕ → Data → Option ℕ
 number_in key least most d = within least most (option_and_then as_u64 (option_and_then as_number (get key d)))
 
--- `policy_put id text` is the put of a policy, if both are present; neither is checked here.
+-- `policy_put id text` is the put of the policy with the id `id` and the text `text`, if both are present; neither is
+-- checked here.
 abbrev pub policy_put : Option (List ℕ) → Option (List ℕ) → Option ScriptOperation
 policy_put None text = None
 policy_put (Some id) None = None
 policy_put (Some id) (Some text) = Some (plain (operation.PutPolicy id text))
 
--- `policy_deleted id` is the deletion of a policy.
+-- `policy_deleted id` is the deletion of the policy `id`.
 abbrev pub policy_deleted : List ℕ → ScriptOperation
 policy_deleted id = plain (operation.DeletePolicy id)
 
@@ -117,8 +118,8 @@ script_line_of n made line = option_and_then (script_line_in n made) (json_of li
 
 -- ---- as events
 
--- `IsOperationOf asked d` holds if `d` is the operation `asked`, where its bytes may be any JSON text of the same
--- value.
+-- `IsOperationOf asked d` holds if `d` is the operation `asked`, where bytes in `d` may be any JSON text of the value
+-- in `asked`.
 abbrev pub IsOperationOf : ScriptOperation → Operation → Type 0
 IsOperationOf (plain asked) d = d ≡ asked
 IsOperationOf (put_entity json) d = (bytes : List ℕ) × (d ≡ operation.PutEntity bytes) × (json_of bytes ≡ Some json)

@@ -12,9 +12,9 @@ use Rattle.program_drills.specs.declared.made.MadeCounts.{MadeCounts}
 use Rattle.program_drills.specs.Lines.{lines}
 use Rattle.program_drills.specs.ScriptLines.{ScriptLine, script_line_of, after_script_operation, IsEventOf}
 
--- `script_lines_from n made place ls` are the events that the lines `ls` describe for `n` sites, where `made` counts
--- the messages and summaries of earlier lines and the first of `ls` has the index `place`; or the index of the first
--- line that is not an event.
+-- `script_lines_from n made place ls` are the events that the lines `ls` describe for `n` sites, or the index of the
+-- first line that is not an event. `made` counts the messages and summaries of earlier lines, and the first of `ls` has
+-- the index `place`.
 unfoldable pub script_lines_from : ℕ → MadeCounts → ℕ → List (List ℕ) → Result (List ScriptLine) ℕ
 script_lines_from n made place [] = Ok []
 script_lines_from n made place (l ∷ ls) = do
@@ -22,7 +22,7 @@ script_lines_from n made place (l ∷ ls) = do
   more ← script_lines_from n (after_script_operation made said.script_operation) (suc place) ls
   Ok (said ∷ more)
 
--- `none_made` is the counts before the first line: no message and no summary.
+-- `none_made` are the counts before the first line: no message and no summary.
 abbrev pub none_made : MadeCounts
 none_made = record { messages = 0; summaries = 0 }
 
@@ -31,14 +31,14 @@ none_made = record { messages = 0; summaries = 0 }
 abbrev pub script_of : ℕ → List ℕ → Result (List ScriptLine) ℕ
 script_of n script = script_lines_from n none_made 0 (lines script)
 
--- `AreEventsOf n script events` holds if `events` are those of the script, one for each line.
+-- `AreEventsOf n script events` holds if `events` are those that `script` describes for `n` sites, one for each line.
 pub record AreEventsOf (n : ℕ) (script : List ℕ) (events : List Event) : Type 0 where
   pub said : List ScriptLine
   pub is : script_of n script ≡ Ok said
   pub each : AllZip IsEventOf said events
 
--- `IsScriptRefused n script refusal` holds if a line of `script` is not an event, and `refusal` is the error 30 (bad
--- shape) with the index of the first such line.
+-- `IsScriptRefused n script refusal` holds if a line of `script` is not an event for `n` sites, and `refusal` is the
+-- error 30 (bad shape) with the index of the first such line.
 pub record IsScriptRefused (n : ℕ) (script : List ℕ) (refusal : Refusal) : Type 0 where
   pub place : ℕ
   pub is : script_of n script ≡ Err place

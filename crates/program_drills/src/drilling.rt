@@ -43,7 +43,7 @@ fn drill_under(
 }
 
 /// Executes a script at `count` empty sites of a schema, and returns its lines: one for each event, then the state of
-/// each site, joined by line feeds. The sites are named `00001`, `00002` and so on.
+/// each site, joined by line feeds. `count` is from 1 to 64. The sites are named `00001`, `00002` and so on.
 ///
 /// A line of the script is a JSON object with the number of a site at `site` and an operation at `do`, with its
 /// arguments at further keys: `put_policy` (`id`, `text`), `delete_policy` (`id`), `put_entity` (`entity`),
@@ -58,7 +58,7 @@ fn drill_under(
 /// In the order checked:
 ///
 /// - 20 to 25, without a place: the schema is rejected.
-/// - 30: a line of the script is not an event, or names a message or a summary that no earlier line makes; the place is
+/// - 30: a line of the script is not an event, or names a message or a summary that no earlier line makes. The place is
 ///   the index of the first such line, from 0. No event is executed.
 /// - 1, at any point: out of memory.
 pub fn drill_text(

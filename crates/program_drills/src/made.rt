@@ -4,7 +4,7 @@ ghost use Rattle.program_drills.specs.ScriptLines.{after_operation};
 
 use http_service::Operation;
 
-/// The number of messages, and that of summaries, that some first lines of a script make.
+/// The numbers of messages and of summaries that the first lines of a script make.
 #[derive(Clone, Copy)]
 pub(crate) struct MadeCounts {
     pub(crate) messages: usize,

@@ -108,7 +108,7 @@ fn entity_deleted(alloc: Global, value: &Value) -> Result<Option<Operation>, NoM
     }
 }
 
-/// Returns the decision of a request, if the request is present.
+/// Returns the operation that decides a request, if the request is present.
 fn authorized(alloc: Global, value: &Value) -> Result<Option<Operation>, NoMemory>
     requires { depth (view value.now) ≤ max_depth }
     ensures { IfOk result (IsReadAs (option_map authorize (get (codes "request") (view value.now)))) }

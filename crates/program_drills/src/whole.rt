@@ -25,9 +25,9 @@ fn unread_line(place: usize) -> Refusal
 ///
 /// # Errors
 ///
-/// - 30: a line is not an event: it is not a JSON object, names no operation at `do`, lacks a required member or has
-///   one of another JSON kind, or has the number of a site that does not exist, or of a message or a summary that no
-///   earlier line makes. The place is the index of the first such line, from 0.
+/// - 30: a line is not an event. The place is the index of the first such line, from 0. The line is not a JSON object,
+///   names no operation at `do`, lacks a required member, or has one of another JSON kind. Or it has the number of a
+///   site that does not exist, or of a message or a summary that no earlier line makes.
 /// - 1, at any point: out of memory.
 pub(crate) fn read_script(alloc: Global, count: u16, script: &[u8]) -> Result<Vec<Event>, Refusal>
     ensures read { IfOk result (λ events. AreEventsOf count script.now events.items) }

@@ -32,8 +32,8 @@ abbrev pub check_app : App
 check_app = with_rule (with_rule (with_rule (new_app (codes "check")) (demanded (value_option (codes "schema"))))
     (demanded (value_word (codes "policies")))) explain_flag
 
--- `decide_app` is the command `decide [--schema FILE] --policies FILE --entities FILE --request FILE [--explain]`, with
--- the options in any order, as in each command.
+-- `decide_app` is the command `decide [--schema FILE] --policies FILE --entities FILE --request FILE [--explain]`. The
+-- options of each command may be in any order.
 abbrev pub decide_app : App
 decide_app = with_rule (with_rule (with_rule (with_rule (with_rule (new_app (codes "decide"))
     (value_option (codes "schema"))) (demanded (value_option (codes "policies"))))
@@ -89,7 +89,7 @@ load_app = with_rule (with_rule (with_rule (with_rule (with_rule (with_rule (new
     (demanded (value_option (codes "schema")))) site_option) (value_option (codes "policies")))
     (value_option (codes "entities"))) (value_option (codes "state"))) explain_flag
 
--- `asks_for_command a` is `a` where a command is required.
+-- `asks_for_command a` is `a` with a command required.
 abbrev pub asks_for_command : App → App
 asks_for_command a = record a { top = record a.top { subcommand_required = true } }
 

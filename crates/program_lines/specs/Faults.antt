@@ -1,5 +1,5 @@
--- Defines why arguments are not a command: the first error of parsing them, a request for help, an invalid site name,
--- or out of memory.
+-- Defines why arguments are not a command: the first error of parsing them, a request for help, an invalid site name, a
+-- missing option, or out of memory.
 -- Source: the contracts of the crate clap.
 -- Rules of this product: the site name is checked last.
 use Rattle.std.specs.Prelude.{◌≡◌, Bool, true, false, List, [], ⊤}
@@ -12,18 +12,18 @@ use Rattle.program_lines.specs.declared.fault.LineFault.TheVariants.{Help, Words
 use Rattle.program_lines.specs.Apps.{site_app}
 use Rattle.program_lines.specs.Lines.{IsNoLine, HasInvalidSite}
 
--- `is_help kind` is whether `kind` is a request for help or for the version.
+-- `is_help kind` tests whether `kind` is a request for help or for the version.
 abbrev pub is_help : ErrorKind → Bool
 is_help DisplayHelp = true
 is_help DisplayVersion = true
 is_help _ = false
 
--- `is_memory kind` is whether `kind` is a failed allocation.
+-- `is_memory kind` tests whether `kind` is a failed allocation.
 abbrev pub is_memory : ErrorKind → Bool
 is_memory OutOfMemory = true
 is_memory _ = false
 
--- `IsFirstFault words error` holds if `error` may be the first error of parsing `words`.
+-- `IsFirstFault words error` holds if the kind of `error` is among the kinds of error that clap may report for `words`.
 abbrev pub IsFirstFault : List Text → Error → Type 0
 IsFirstFault words error = IsAmong (kind_of error) (fault_of site_app words)
 

@@ -1,4 +1,4 @@
--- Defines which command some arguments are, with the value of each of its options.
+-- Defines the command that some arguments form, with the value of each of its options.
 -- Source: the contracts of the crate clap; docs/operating.md.
 use Rattle.std.specs.Prelude.{◌≡◌, ◌≤◌, ℕ, Bool, true, false, List, Option, None, Some, option_map, codes}
 use Rattle.std.specs.Str.Parse.{digits_value, without_leading_plus}
@@ -9,7 +9,7 @@ use Rattle.program_lines.specs.declared.line.Line.TheVariants.{Check, Decide, Lo
 use Rattle.program_lines.specs.declared.line.Line.TheVariants.{Drill, Explain}
 use Rattle.program_lines.specs.Apps.{site_app}
 
--- `word_of line` is the name of a command.
+-- `word_of line` is the name of the command `line`.
 abbrev pub word_of : Line → Text
 word_of (Check options) = codes "check"
 word_of (Decide options) = codes "decide"
@@ -56,7 +56,8 @@ abbrev pub IsFlag : List Row → Text → Bool → Type 0
 IsFlag rows id true = IsGiven rows id (codes "true")
 IsFlag rows id false = IsGiven rows id (codes "true") → ⊥
 
--- `HasOptions rows line` holds if the options of `line` have the values that they have in `rows`.
+-- `HasOptions rows line` holds if the options of `line` have the values that they have in `rows`, and a site's name and
+-- the numbers are valid.
 abbrev pub HasOptions : List Row → Line → Type 0
 HasOptions rows (Check options) =
     IsGiven rows (codes "schema") options.schema.now

@@ -325,7 +325,7 @@ fn explain_command<'a>(alloc: Global) -> Result<Command<'a>, NoMemory>
 /// The text that `--version` prints after the program's name: the version of the Cedar language.
 const VERSION: &str = "4.0";
 
-/// Returns the program's command, which demands a subcommand and prints its version.
+/// Returns the program's command without subcommands yet. It requires a subcommand, and has the option `--version`.
 fn top_command<'a>(alloc: Global) -> Result<Command<'a>, NoMemory>
     ensures { IfOk result (IsApp (with_version (asks_for_command (new_app (codes "cedar_site"))))) }
 {

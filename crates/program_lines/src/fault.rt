@@ -13,17 +13,17 @@ pub enum LineFault {
     /// Help, or the version, is requested.
     #[error(transparent)]
     Help(clap::Error),
-    /// The arguments are not a command line.
+    /// clap rejects the arguments.
     #[error(transparent)]
     Words(clap::Error),
     /// The value of `--site` is not a site name. clap accepted the arguments.
     #[error("error: the value of '--site' is not a site name: 1 to 32 ASCII letters, digits, '-', '_' or '.'\n")]
     Site,
-    /// clap accepted the arguments, but a command or a required option is missing. clap demands these, so this does not
-    /// occur.
+    /// clap accepted the arguments, but a command or a required option is missing. This is not expected, since clap is
+    /// to reject such arguments.
     #[error("error: an option is missing\n")]
     Incomplete,
-    /// An argument is not UTF-8. `line_of` never returns this: its arguments are texts.
+    /// An argument is not UTF-8. `line_of` never returns this, since its arguments are strings.
     #[error("error: an argument is not UTF-8\n")]
     NotText,
     /// Out of memory.

@@ -26,8 +26,8 @@ pub struct CheckOptions<'a> {
     pub explain: bool,
 }
 
-/// The options of `decide`: the names of the files with policies, with entities and with a request, perhaps that of a
-/// schema's file, and whether what is rejected is explained.
+/// The options of `decide`: the names of the files with policies, with entities and with a request, and whether what is
+/// rejected is explained. The name of a schema's file is optional.
 #[derive(Clone, Copy)]
 pub struct DecideOptions<'a> {
     pub schema: Option<&'a str>,
@@ -37,8 +37,8 @@ pub struct DecideOptions<'a> {
     pub explain: bool,
 }
 
-/// The options of `load`: the name of a schema's file, a site's name, perhaps the names of files with policies, with
-/// entities, and with an initial state, and whether what is rejected is explained.
+/// The options of `load`: the name of a schema's file, a site's name, and whether what is rejected is explained.
+/// The names of files with policies, with entities and with an initial state are optional.
 #[derive(Clone, Copy)]
 pub struct LoadOptions<'a> {
     pub schema: &'a str,
@@ -49,9 +49,9 @@ pub struct LoadOptions<'a> {
     pub explain: bool,
 }
 
-/// The options of `serve`: the name of a schema's file, a site's name, an address, and perhaps the name of a file with
-/// an initial state, the number of connections, the seconds that each may be idle (1 to 86,400), and the name of the
-/// log; and whether what is rejected is explained.
+/// The options of `serve`: the name of a schema's file, a site's name, an address, and whether what is rejected is
+/// explained. These are optional: the name of a file with an initial state, the number of connections, the seconds that
+/// each connection may be idle (1 to 86,400), and the name of the log.
 #[derive(Clone, Copy)]
 pub struct ServeOptions<'a> {
     pub schema: &'a str,
@@ -133,7 +133,7 @@ pub enum Line<'a> {
     Explain(ExplainOptions<'a>),
 }
 
-/// Returns the name of the command that clap found, and its options.
+/// Returns the name of the command that clap found, if it found one, and the command's options.
 fn found_command<'m, 'a>(matches: &'m ArgMatches<'a>) -> Option<(&'a str, &'m ArgMatches<'a>)>
     ensures { option_map (λ p. (p.0.now, rows_of (found_of p.1.now))) result ≡ subcommand_rows_of matches.now }
 {
@@ -409,7 +409,7 @@ fn has_invalid_site(matches: &ArgMatches<'_>) -> bool
     }
 }
 
-/// Returns why the command that clap found is incomplete.
+/// Returns why clap found no complete command: an invalid site name, else a missing command or option.
 fn why_incomplete(matches: &ArgMatches<'_>) -> LineFault
     ensures { IsWhyIncomplete (subcommand_rows_of matches.now) result }
 {
@@ -420,10 +420,10 @@ fn why_incomplete(matches: &ArgMatches<'_>) -> LineFault
     }
 }
 
-/// Returns the command of the arguments, the first of which is the program's name.
+/// Returns the command of the arguments `words`, the first of which is the program's name.
 ///
-/// The command has every required option: `--site` with a site name (1 to 32 bytes, each an ASCII letter, a digit, `-`,
-/// `_` or `.`), `--sites` from 1 to 64, and, if given, `--connections` from 0 to 4,294,967,295 and `--idle` from 1 to
+/// The command has each of its required options. `--site` has a site name (1 to 32 bytes, each an ASCII letter, a
+/// digit, `-`, `_` or `.`). `--sites` is from 1 to 64, `--connections` from 0 to 4,294,967,295, and `--idle` from 1 to
 /// 86,400.
 ///
 /// # Errors

@@ -58,8 +58,8 @@ pub(crate) fn is_given_invalid_site(options: &ArgMatches<'_>) -> bool
     !is_site_name(text)
 }
 
-/// Returns the number of connections, or `Some(None)` if it is not given; `None` if the value is not a number within
-/// the bounds.
+/// Returns the number of connections: `Some(Some(n))` for `n` from 0 to 4,294,967,295, `Some(None)` if the option is
+/// absent, and `None` for another value.
 pub(crate) fn connections_in(options: &ArgMatches<'_>) -> Option<Option<u32>>
     ensures { MatchOption result
         (IsNone (MayBeGivenNumber (rows_of (found_of options.now)) (codes "connections") 0 4294967295))
@@ -74,8 +74,8 @@ pub(crate) fn connections_in(options: &ArgMatches<'_>) -> Option<Option<u32>>
     }
 }
 
-/// Returns the seconds that a connection may be idle, or `Some(None)` if they are not given; `None` if the value is not
-/// a number within the bounds.
+/// Returns the seconds that a connection may be idle: `Some(Some(n))` for `n` from 1 to 86,400, `Some(None)` if the
+/// option is absent, and `None` for another value.
 pub(crate) fn idle_in(options: &ArgMatches<'_>) -> Option<Option<u32>>
     ensures { MatchOption result
         (IsNone (MayBeGivenNumber (rows_of (found_of options.now)) (codes "idle") 1 86400))
@@ -90,7 +90,7 @@ pub(crate) fn idle_in(options: &ArgMatches<'_>) -> Option<Option<u32>>
     }
 }
 
-/// Returns the number of sites; `None` if the value is absent or not a number within the bounds.
+/// Returns the number of sites, or `None` if the value is absent or not a number from 1 to 64.
 pub(crate) fn sites_in(options: &ArgMatches<'_>) -> Option<u16>
     ensures { MatchOption result
         (IsNone (IsGivenNumber (rows_of (found_of options.now)) (codes "sites") 1 64))

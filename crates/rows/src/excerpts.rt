@@ -6,7 +6,7 @@ use explanation_texts::{place_of, push_excerpt};
 use plain::NoMemory;
 use std::alloc::Global;
 
-/// Appends a character, a line feed or a tab as its escape.
+/// Appends a character; appends a line feed or a tab as its escape.
 fn push_shown(told: &mut Line, letter: char) {
     match letter {
         '\n' => told.push("\\n"),

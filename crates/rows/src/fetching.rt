@@ -86,7 +86,7 @@ fn is_outcome_in(
     Ok(found.as_str() == said)
 }
 
-/// Returns whether the outcome is `said`, however the reply is split in two.
+/// Returns whether the outcome is `said` for each split of the reply into two pieces.
 fn is_outcome(alloc: Global, bytes: &[u8], said: &str) -> Result<bool, NoMemory> {
     for at in 0..bytes.len() {
         let reads = [at, usize::MAX];

@@ -9,7 +9,7 @@
 //!   begins.
 //! - `place`: for a byte offset and a text, the line and the column of that byte, and the offset of the first byte of
 //!   its character.
-//! - `excerpt`: the lines that show the part between two bars, in one line, with `\n` and `\t` as in a text.
+//! - `excerpt`: the lines that show the part between two bars, in one line, with line feeds and tabs as `\n` and `\t`.
 //!
 //! Policies (`spans`), after the digits of a path, or `-`:
 //!
@@ -21,14 +21,16 @@
 //!   service; and the lengths of the prefixes of the text that get more replies than all shorter ones. The outcome must
 //!   be the same for the text split in two at each byte, and read byte by byte and written in pieces; else it is
 //!   `differs`.
-//! - `whole`: only the statuses, of a long text that is not split; `slow`: of one that is read byte by byte.
+//! - `whole`: only the statuses, for a long text that is not split; `slow`: only the statuses, for a text that is read
+//!   byte by byte and written in pieces.
 //! - `reply`: the replies themselves.
 //!
 //! Fetched replies (`fetching`):
 //!
 //! - `fetch`: the outcome of fetching the text as the reply, however it is split, and the number of unread bytes if it
 //!   is read in pieces of 7 bytes.
-//! - `far`: the outcome for a reply that is not split: its status and the size of its body; `refused` if out of memory.
+//! - `far`: the outcome for a reply that is not split: its status and the size of its body, or the error; `refused` if
+//!   out of memory.
 //!
 //! In a text `\r`, `\n`, `\t` and `\\` have their usual meaning, `\v` is the byte 11, `\p` 12 and `\f` 255, `\d`
 //! is U+202E, `\k` 1,024 letters and `\h` a header field with its line end.

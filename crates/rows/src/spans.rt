@@ -1,4 +1,4 @@
-//! Cases of spans in policies: the text of a core node, or of its name, at a path.
+//! Test cases of spans in policies: the text of the core node at a path, or of its name.
 use crate::written::shown;
 use plain::NoMemory;
 use std::alloc::Global;
@@ -15,7 +15,7 @@ fn path_of(alloc: Global, digits: &str) -> Result<Vec<usize>, NoMemory> {
     Ok(path)
 }
 
-/// Returns the span of the node at a path, or for the word `named` of its name.
+/// Returns the span of the node at a path or, for the word `named`, of its name.
 fn span_by(
     alloc: Global,
     word: &str,
@@ -39,7 +39,7 @@ fn outcome_text(alloc: Global, text: &str, span: Option<Span>) -> Result<String,
     }
 }
 
-/// Returns the text that a policy has at a path; the path's digits precede the policy, `-` for the empty path.
+/// Returns the text that a policy has at a path. In `row` the path's digits precede the policy; `-` is the empty path.
 fn spanned(alloc: Global, word: &str, row: &str) -> Result<String, NoMemory> {
     let (digits, text) = row.split_once(' ').unwrap_or((row, ""));
     let path = path_of(alloc, digits)?;

@@ -1,4 +1,4 @@
-//! Cases of streams, answered by a service that counts.
+//! Test cases of streams, answered by a service that counts.
 ghost use Rattle.std.specs.Prelude.{◌≡◌, ℕ, List};
 ghost use Rattle.http_streams.specs.Laws.{AgreeOn, AnswersAll, HasOneAnswer, in_memory};
 ghost use Rattle.rows.specs.Counts.{asked_alike, counts};
@@ -85,7 +85,7 @@ struct Outcome {
 }
 
 impl Outcome {
-    /// Returns whether the stream was answered to its end, by the same replies to equally many requests.
+    /// Returns whether the stream was answered to its end, with the bytes of `whole` for as many requests.
     fn is_as(&self, whole: &Outcome) -> bool {
         self.out == whole.out && self.requests == whole.requests && self.fault.is_none()
     }
@@ -110,7 +110,7 @@ fn run(alloc: Global, bytes: &[u8], way: StreamSplit<'_>) -> Result<Outcome, NoM
     })
 }
 
-/// Returns whether the bytes, split in this way, have the same outcome.
+/// Returns whether the bytes, split in this way, have the outcome `whole`.
 fn is_same(
     alloc: Global,
     bytes: &[u8],
@@ -121,8 +121,8 @@ fn is_same(
     Ok(found.is_as(whole))
 }
 
-/// Returns whether the bytes have one outcome, however they are split in two, and read byte by byte and written in
-/// pieces.
+/// Returns whether the bytes have the outcome `whole` for each split into two pieces, and if they are read byte by byte
+/// and written in pieces.
 fn is_one_answer(alloc: Global, bytes: &[u8], whole: &Outcome) -> Result<bool, NoMemory> {
     agrees();
     if !whole.is_as(whole) {
@@ -154,7 +154,7 @@ fn place_told(alloc: Global, place: usize) -> Result<String, NoMemory> {
 }
 
 /// Appends the length of each prefix of the bytes that gets more of the replies than the prefix that is one byte
-/// shorter. Returns `false` if a prefix gets less, or has an error.
+/// shorter. Returns `false` if a prefix gets less, gets bytes with which the replies do not begin, or has an error.
 fn push_steps(
     alloc: Global,
     bytes: &[u8],
@@ -233,7 +233,7 @@ fn outcome_of_steps(alloc: Global, bytes: &[u8], whole: &Outcome) -> Result<Stri
     String::from_str(alloc, "differs")
 }
 
-/// Returns the outcome of a case `serve`; `differs` if it depends on how the stream is split.
+/// Returns the outcome of a test case `serve`; `differs` if it depends on how the stream is split.
 fn served(alloc: Global, bytes: &[u8], whole: &Outcome) -> Result<String, NoMemory> {
     if is_one_answer(alloc, bytes, whole)? {
         return outcome_of_steps(alloc, bytes, whole);

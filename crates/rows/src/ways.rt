@@ -9,7 +9,7 @@ pub(crate) struct StreamSplit<'a> {
     pub(crate) writes: &'a [usize],
 }
 
-/// The stream is read and written at once.
+/// The stream is not split: reads and writes have any size.
 pub(crate) const PLAIN: StreamSplit<'static> = StreamSplit {
     reads: &[],
     writes: &[],

@@ -49,7 +49,7 @@ pub(crate) fn unescaped(alloc: Global, written: &str) -> Result<Vec<u8>, NoMemor
     bytes.ended()
 }
 
-/// Appends a byte, a carriage return or a line feed as its escape.
+/// Appends a byte as the character with its code; appends a carriage return or a line feed as its escape.
 fn push_shown(told: &mut Line, byte: u8) {
     match byte {
         b'\r' => told.push("\\r"),

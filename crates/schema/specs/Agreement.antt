@@ -1,8 +1,8 @@
--- Defines when a parsing function gives exactly what JSON states, and when JSON has exactly one outcome.
+-- Defines when a parsing function gives exactly what JSON describes, and when JSON has exactly one outcome.
 use Rattle.std.specs.Prelude.{◌≡◌, ◌↔◌, ◌⊎◌, Result, Ok, Err}
 
--- `Gives r Describes Refuses` holds if `r` is `Ok a` exactly for the value `a` of which `Describes` holds, and `Err f`
--- exactly for the error `f` of which `Refuses` holds.
+-- `Gives r Describes Refuses` holds if, for each value `a`, `r` is `Ok a` if and only if `Describes a` holds and, for
+-- each error `f`, `r` is `Err f` if and only if `Refuses f` holds.
 pub record Gives {A F : Type 0} (r : Result A F) (Describes : A → Type 0) (Refuses : F → Type 0) : Type 0 where
   pub value : (a : A) → (r ≡ Ok a) ↔ Describes a
   pub fault : (f : F) → (r ≡ Err f) ↔ Refuses f

@@ -14,29 +14,30 @@ use Rattle.schema.specs.Schemas.{HasDeclarations}
 
 -- ---- types
 
--- `TypesAreRead`: the function `type_of` gives the type that `d` states, or the error if it states none.
+-- `TypesAreRead`: the function `type_of` gives the type that JSON describes, or the error if JSON describes none.
 abbrev pub TypesAreRead : Type 0
 TypesAreRead = (is_attribute : Bool) (d : Data)
     → Gives (type_of is_attribute d) (StatesType is_attribute d) (RefusesType is_attribute d)
 
--- `TypesHaveOneOutcome`: JSON states exactly one type, or is rejected with exactly one error, and never both.
+-- `TypesHaveOneOutcome`: JSON describes exactly one type, or is rejected with exactly one error, and never both.
 abbrev pub TypesHaveOneOutcome : Type 0
 TypesHaveOneOutcome = (is_attribute : Bool) (d : Data)
     → HasOneOutcome (StatesType is_attribute d) (RefusesType is_attribute d)
 
 -- ---- files
 
--- `FilesAreRead`: the function `stated` gives the namespaces that `d` states, or the error if it states no file.
+-- `FilesAreRead`: the function `stated` gives the namespaces that JSON describes, or the error if JSON describes no
+-- file.
 abbrev pub FilesAreRead : Type 0
 FilesAreRead = (d : Data) → Gives (stated d) (DescribesNamespaces d) (RefusesFile d)
 
--- `FilesHaveOneOutcome`: JSON states exactly one file, or is rejected with exactly one error, and never both.
+-- `FilesHaveOneOutcome`: JSON describes exactly one file, or is rejected with exactly one error, and never both.
 abbrev pub FilesHaveOneOutcome : Type 0
 FilesHaveOneOutcome = (d : Data) → HasOneOutcome (DescribesNamespaces d) (RefusesFile d)
 
 -- ---- names
 
--- `NamesAreResolved`: the function `qualified` gives the declarations of `ns` with their names resolved, or the error
+-- `NamesAreResolved`: the function `qualified` gives the declarations of a file with their names resolved, or the error
 -- if a name means nothing.
 abbrev pub NamesAreResolved : Type 0
 NamesAreResolved = (ns : List NamespaceOf) → Gives (qualified ns) (ResolvesFile ns) (RefusesNames ns)
@@ -46,6 +47,6 @@ NamesAreResolved = (ns : List NamespaceOf) → Gives (qualified ns) (ResolvesFil
 abbrev pub NamesHaveOneOutcome : Type 0
 NamesHaveOneOutcome = (ns : List NamespaceOf) → HasOneOutcome (ResolvesFile ns) (RefusesNames ns)
 
--- `DeclarationsAreRead`: parsing `bytes` gives the declarations `s` if and only if `bytes` state them.
+-- `DeclarationsAreRead`: parsing bytes gives declarations if and only if the bytes describe these declarations.
 abbrev pub DeclarationsAreRead : Type 0
 DeclarationsAreRead = (bytes : List ℕ) (s : ResolvedSchema) → DescribesFile bytes s ↔ HasDeclarations bytes s

@@ -18,14 +18,14 @@ has_number_at None i = false
 has_number_at (Some spans) i = has_number spans i
 
 -- `is_numbered_at spans place o` tests whether the spans at the index `place` contain the number `o`; false if `o` is
--- `None`.
+-- `None`, or if `spans` has no such index.
 abbrev pub is_numbered_at : List (List NumberSpan) → ℕ → Option ℕ → Bool
 is_numbered_at spans place None = false
 is_numbered_at spans place (Some i) = has_number_at (slice_get spans place) i
 
--- `is_ancestor_at numbers spans o n` tests whether the type `n` is an ancestor of the type with the number `o`:
--- `numbers` has the number of each type, and `spans` has, at each number, the numbers of the ancestors of that number's
--- type.
+-- `is_ancestor_at numbers spans o n` tests whether the type `n` is an ancestor of the type with the number `o`; false
+-- if `o` is `None`. `numbers` has the number of each type, and `spans` has, at the index of each number, the numbers of
+-- the type's ancestors.
 abbrev pub is_ancestor_at : List (List ℕ × ℕ) → List (List NumberSpan) → Option ℕ → List ℕ → Bool
 is_ancestor_at numbers spans None n = false
 is_ancestor_at numbers spans (Some place) n = is_numbered_at spans place (lookup (is_at (text_cmp n)) numbers)
@@ -36,7 +36,7 @@ abbrev pub is_ancestor : List (List ℕ × ℕ) → List (List NumberSpan) → L
 is_ancestor numbers spans child parent = is_ancestor_at numbers spans (lookup (is_at (text_cmp child)) numbers) parent
 
 -- `is_action_ancestor_at numbers spans o above` is the same test for actions: whether `above` is an ancestor of the
--- action with the number `o`, where `numbers` and `spans` are those of actions.
+-- action with the number `o`, where `numbers` and `spans` are those of actions; false if `o` is `None`.
 abbrev pub is_action_ancestor_at : List (EntityUid × ℕ) → List (List NumberSpan) → Option ℕ → EntityUid → Bool
 is_action_ancestor_at numbers spans None above = false
 is_action_ancestor_at numbers spans (Some place) above =

@@ -142,23 +142,22 @@ pub record ResolvesCommon (ns : List NamespaceOf) (own : Option (List ℕ)) (c :
   pub name : d.0 ≡ full_name own c.0
   pub type : ResolvesType ns own c.1 d.1
 
--- `ResolvesEntityType ns own e f`, `ResolvesAppliesTo ns own u v` and `ResolvesAction ns own a b` state the same of an
--- entity type, of what an action applies to, and of an action: the last argument is the one before it with its names
--- resolved.
+-- `ResolvesEntityType ns own e f` holds if `f` is the entity type `e`, of the namespace `own`, with its names resolved.
 pub record ResolvesEntityType (ns : List NamespaceOf) (own : Option (List ℕ)) (e : EntityTypeOf)
     (f : ResolvedEntityType) : Type 0 where
   pub name : f.name ≡ full_name own e.name
   pub parents : AllZip (Means (IsEntityType ns) own) e.parents f.parents
   pub shape : BothOrNeither (ResolvesType ns own) e.shape f.shape
 
--- what an action applies to
+-- `ResolvesAppliesTo ns own u v` holds if `v` is `u`, what an action of the namespace `own` applies to, with its names
+-- resolved.
 pub record ResolvesAppliesTo (ns : List NamespaceOf) (own : Option (List ℕ)) (u : AppliesToOf) (v : ResolvedAppliesTo)
     : Type 0 where
   pub principals : AllZip (Means (IsEntityType ns) own) u.principals v.principals
   pub resources : AllZip (Means (IsEntityType ns) own) u.resources v.resources
   pub context : BothOrNeither (ResolvesType ns own) u.context v.context
 
--- an action
+-- `ResolvesAction ns own a b` holds if `b` is the action `a`, of the namespace `own`, with its names resolved.
 pub record ResolvesAction (ns : List NamespaceOf) (own : Option (List ℕ)) (a : ActionOf) (b : ResolvedAction) : Type 0
   where
     pub uid : b.uid ≡ action_uid (action_type own) a.id

@@ -1,4 +1,5 @@
--- Defines the parts of a schema, with each map as the list of its entries, which ascend by key.
+-- Defines the parts of a schema, with each map as the list of its entries, which ascend by key. Actions and entity
+-- types are numbered, and the ancestors of each are given as spans of numbers.
 use Rattle.std.specs.Prelude.{ℕ, List}
 use Rattle.std.specs.BTreeMap.{BTreeMap}
 use Rattle.schema.specs.declared.spans.NumberSpan.{NumberSpan}
@@ -13,7 +14,7 @@ pub record SchemaEntries : Type 0 where
   pub actions : List EntityUid
   -- the entity types by their names
   pub entity_types : List (List ℕ × EntityDecl)
-  -- the parents of each action, as its `memberOf` states them
+  -- the parents of each action, as its `memberOf` lists them
   pub member_of : List (EntityUid × List EntityUid)
   -- the number of each action
   pub action_numbers : List (EntityUid × ℕ)
@@ -24,7 +25,9 @@ pub record SchemaEntries : Type 0 where
   -- at the index that is a type's number, the spans of the numbers of the type's ancestors
   pub type_ancestor_spans : List (List NumberSpan)
 
--- `kept label environments ..` collects these parts of a schema, with each map as the list of its entries.
+-- `kept label environments actions shapes member_of action_numbers action_spans type_numbers type_spans` collects these
+-- parts of a schema, with each map as the list of its entries. `action_spans` and `type_spans` are the spans of
+-- ancestors.
 abbrev pub kept : List ℕ → List Environment → List EntityUid → BTreeMap (List ℕ) EntityDecl
     → BTreeMap EntityUid (List EntityUid) → BTreeMap EntityUid ℕ → List (List NumberSpan) → BTreeMap (List ℕ) ℕ
     → List (List NumberSpan) → SchemaEntries

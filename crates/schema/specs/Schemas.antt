@@ -1,8 +1,9 @@
--- Defines the schema that bytes state, and the error of bytes that state none, by its cause.
+-- Defines the schema that bytes describe, and the error of bytes that describe none, by its cause.
 -- Source: Cedar reference guide 4.0, "Schema JSON format": `shape`, `memberOfTypes`, `memberOf`, `appliesTo`.
 -- Rules of this product: the limits on types (10,000 nodes, 64 deep); no action is its own ancestor; the order of the
 -- errors: not JSON (20), then the form of the whole file (21), unknown names (22), cycles of common types (23), cycles
--- of actions (24), types that are too large (25); the label of a schema is SHA-256 (FIPS 180-4) of its bytes.
+-- of actions (24), types that are too large (25); the label of a schema is SHA-256 (FIPS 180-4) of its bytes, in lower
+-- case hexadecimal digits.
 use Rattle.std.specs.Prelude.{◌≡◌, ◌↔◌, ℕ, List, [], ◌∷◌, map, Contains, IsTrue, IsSome, Bool, Option, Some, None}
 use Rattle.std.specs.List.Sorted.{IsStrictlySortedBy}
 use Rattle.sha2.specs.Sha256.{sha256}
@@ -44,7 +45,7 @@ pub record StatedSchema : Type 0 where
   pub actions : List EntityUid
   -- the attributes of a declared entity type, as a record
   pub shape : List ℕ → Option Cedar
-  -- the parents of a declared action, as `memberOf` states them
+  -- the parents of a declared action, as `memberOf` lists them
   pub member_of : EntityUid → Option (List EntityUid)
   -- the ancestors of a declared action
   pub ancestors : EntityUid → Option (List EntityUid)
@@ -62,7 +63,7 @@ abbrev pub with_actions : Parents → List ResolvedAction → Parents
 with_actions parents [] = parents
 with_actions parents (a ∷ rest) = with_actions (with_parents parents a.uid a.parents) rest
 
--- `action_parents s` are the parents of each action of `s`, as its `memberOf` states them.
+-- `action_parents s` are the parents of each action of `s`, as its `memberOf` lists them.
 abbrev pub action_parents : ResolvedSchema → Parents
 action_parents s = with_actions no_parents s.actions
 
@@ -77,7 +78,7 @@ with_types parents [] = parents
 with_types parents (e ∷ rest) =
     with_types (with_parents parents (type_uid e.name) (map type_uid e.parents)) rest
 
--- `type_parents s` are the parents of each entity type of `s`, as its `memberOfTypes` states them.
+-- `type_parents s` are the parents of each entity type of `s`, as its `memberOfTypes` lists them.
 abbrev pub type_parents : ResolvedSchema → Parents
 type_parents s = with_types no_parents s.entity_types
 
@@ -121,8 +122,8 @@ IsAction s u = (a : ResolvedAction) × Contains s.actions a × (a.uid ≡ u)
 abbrev pub IsShape : ResolvedSchema → List ℕ → Cedar → Type 0
 IsShape s n t = (e : ResolvedEntityType) × Contains s.entity_types e × (e.name ≡ n) × IsRecordOf s.commons e.shape t
 
--- `Applies s p applied` holds if `applied` is the `appliesTo` of the action of `p`, which is declared in `s`, and lists
--- the types of `p`.
+-- `Applies s p applied` holds if the action of the place `p` is declared in `s`, and `applied` is the `appliesTo` of
+-- this action and lists the types of `p`.
 pub record Applies (s : ResolvedSchema) (p : EnvironmentKey) (applied : ResolvedAppliesTo) : Type 0 where
   pub action : ResolvedAction
   pub declared : Contains s.actions action
@@ -167,13 +168,13 @@ pub record IsSound (s : ResolvedSchema) : Type 0 where
   pub no_cycle : SomeActionIsOnCycle s → ⊥
   pub is_written : (r : Qualified) → IsSchemaType s r → IsWritten s.commons r
 
--- `HasContent bytes ns` holds if `bytes` are JSON that states the namespaces `ns`.
+-- `HasContent bytes ns` holds if `bytes` are JSON that describes the namespaces `ns`.
 pub record HasContent (bytes : List ℕ) (ns : List NamespaceOf) : Type 0 where
   pub value : Data
   pub json : json_of bytes ≡ Some value
   pub states : DescribesNamespaces value ns
 
--- `HasDeclarations bytes s` holds if `bytes` state a file whose shapes and contexts are records, and `s` are its
+-- `HasDeclarations bytes s` holds if `bytes` describe a file whose shapes and contexts are records, and `s` are its
 -- declarations with their names resolved.
 pub record HasDeclarations (bytes : List ℕ) (s : ResolvedSchema) : Type 0 where
   pub namespaces : List NamespaceOf
@@ -181,10 +182,10 @@ pub record HasDeclarations (bytes : List ℕ) (s : ResolvedSchema) : Type 0 wher
   pub records : SomeIsNotRecord namespaces → ⊥
   pub resolved : ResolvesFile namespaces s
 
--- `IsSchemaOf bytes v` holds if `bytes` state the schema `v`: they state a file (`HasDeclarations`) in which no action
--- is its own ancestor and each type has an expansion within the limits, `v` has their label, and each look-up of `v`
--- finds what the file declares. Nothing is declared twice, since the keys of a parsed object are distinct: a theorem of
--- `schema_names`.
+-- `IsSchemaOf bytes v` holds if `bytes` describe the schema `v`. The bytes describe a file (`HasDeclarations`) in which
+-- no action is its own ancestor and each type has an expansion within the limits. `v` has the label of `bytes`, and
+-- each look-up of `v` finds what the file declares. Nothing is declared twice, since the keys of a parsed object are
+-- distinct: a theorem of `schema_names`.
 pub record IsSchemaOf (bytes : List ℕ) (v : StatedSchema) : Type 0 where
   pub named : ResolvedSchema
   pub states : HasDeclarations bytes named
@@ -197,11 +198,11 @@ pub record IsSchemaOf (bytes : List ℕ) (v : StatedSchema) : Type 0 where
 abbrev pub SomeCommonLeadsBack : ResolvedSchema → Type 0
 SomeCommonLeadsBack s = (q : List ℕ) × Leads s.commons q q
 
--- `RefusedFor bytes fault` holds if `bytes` state no schema, and `fault` is the first error, by its cause.
+-- `RefusedFor bytes fault` holds if `bytes` describe no schema, and `fault` is the first error, by its cause.
 pub data RefusedFor (bytes : List ℕ) : SchemaFault → Type 0 where
   -- 20: the bytes are not JSON
   not_json : json_of bytes ≡ None → RefusedFor bytes NotJson
-  -- 21: the JSON states no file, or some shape or context is not a record
+  -- 21: the JSON describes no file, or some shape or context is not a record
   no_file : (d : Data) → json_of bytes ≡ Some d → IsNoFile d → RefusedFor bytes BadShape
   no_record : (ns : List NamespaceOf) → HasContent bytes ns → SomeIsNotRecord ns → RefusedFor bytes BadShape
   -- 22: some name denotes no declaration

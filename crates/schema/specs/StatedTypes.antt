@@ -1,4 +1,4 @@
--- Defines which JSON states which type of a schema, and why other JSON does not.
+-- Defines which JSON describes which type of a schema, and why other JSON describes none.
 -- Source: Cedar reference guide 4.0, "Schema JSON format": types `String`, `Long`, `Boolean`, `Set`, `Record`,
 -- `Entity`, `Extension`, `EntityOrCommon`, names of common types.
 -- Rules of this product: `Bool` is `Boolean`; other keys are rejected; `annotations` has any value; null at an optional
@@ -18,12 +18,13 @@ use Rattle.schema.specs.ObjectKeys.{HasOnly, HasOther, IsAbsent}
 
 -- ---- forms
 
--- `form_words` are the strings at the key `type` that name a form of types; any other one names a common type.
+-- `form_words` are the strings at the key `type` that name a form of types; any other string names a common type.
 abbrev pub form_words : List (List ℕ)
 form_words = codes "String" ∷ codes "Long" ∷ codes "Boolean" ∷ codes "Bool" ∷ codes "Set" ∷ codes "Record"
     ∷ codes "Entity" ∷ codes "Extension" ∷ codes "EntityOrCommon" ∷ []
 
--- `HasKeys word keys` holds if a type with `word` at `type` may have `keys`, in addition to `type` and `annotations`.
+-- `HasKeys word keys` holds if a type with the string `word` at the key `type` may have the keys `keys`, in addition to
+-- `type` and `annotations`.
 pub data HasKeys : List ℕ → List (List ℕ) → Type 0 where
   of_string : HasKeys (codes "String") []
   of_long : HasKeys (codes "Long") []
@@ -58,7 +59,8 @@ pub data IsExtension : List ℕ → Raw → Type 0 where
   decimal : IsExtension (codes "decimal") raw.decimal
 
 -- `IsEither name t` holds if an `EntityOrCommon` with the name `name` is the type `t`, before names are resolved: after
--- `__cedar::` a primitive or an extension type; else any path. (No path contains the word `__cedar`.)
+-- `__cedar::` a primitive or an extension type; else the name itself, if it is a Path. (No Path contains the word
+-- `__cedar`.)
 pub data IsEither : List ℕ → Raw → Type 0 where
   of_string : IsEither (codes "__cedar::String") raw.text
   of_long : IsEither (codes "__cedar::Long") raw.long
@@ -84,7 +86,7 @@ pub data IsRequired (d : Data) : Bool → Type 0 where
 -- ---- types
 
 mutual
-  -- `StatesType is_attribute d t` holds if `d` states the type `t`, by one case for each form. If `is_attribute` is
+  -- `StatesType is_attribute d t` holds if `d` describes the type `t`, by one case for each form. If `is_attribute` is
   -- true, `d` is an attribute of a record, and may have the key `required`.
   pub data StatesType : Bool → Data → Raw → Type 0 where
     text : (a : Bool) (d : Data) → HasForm a (codes "String") d → StatesType a d raw.text
@@ -105,7 +107,7 @@ mutual
     common : (a : Bool) (d : Data) (word : List ℕ) → HasForm a word d → (Contains form_words word → ⊥) → IsPath word
         → StatesType a d (raw.common word)
 
-  -- `StatesFields ms fields` holds if `ms`, the members of `attributes`, state `fields`: each a key, its type, and
+  -- `StatesFields ms fields` holds if `ms`, the members of `attributes`, describe `fields`: each a key, its type, and
   -- whether it is required.
   pub data StatesFields : Members → RawFields → Type 0 where
     no_attribute : StatesFields no_members raw.no_fields
@@ -113,11 +115,12 @@ mutual
         → StatesType true d t → IsRequired d required → StatesFields ms fields
         → StatesFields (member key d ms) (raw.field key t required fields)
 
--- ---- JSON that states no type
+-- ---- JSON that describes no type
 
 mutual
-  -- `IsNoType is_attribute d` holds if `d` states no type (`is_attribute` as in `StatesType`), by the cause: it has no
-  -- word at `type`, it has a key that this word does not allow, or something that the form demands is missing or wrong.
+  -- `IsNoType is_attribute d` holds if `d` describes no type (`is_attribute` as in `StatesType`), by the cause: it has
+  -- no word at `type`, it has a key that this word does not allow, or something that the form demands is missing or
+  -- wrong.
   pub data IsNoType : Bool → Data → Type 0 where
     no_word : (a : Bool) (d : Data) → text_at (codes "type") d ≡ None → IsNoType a d
     other_key : (a : Bool) (d : Data) (word : List ℕ) (keys : List (List ℕ)) → text_at (codes "type") d ≡ Some word
@@ -141,7 +144,8 @@ mutual
     no_common : (a : Bool) (d : Data) (word : List ℕ) → text_at (codes "type") d ≡ Some word
         → (Contains form_words word → ⊥) → (IsPath word → ⊥) → IsNoType a d
 
-  -- `SomeIsNoAttribute ms` holds if one of `ms` states no type, or has at `required` neither a boolean nor null.
+  -- `SomeIsNoAttribute ms` holds if one of the attributes `ms` describes no type, or has at `required` a value that is
+  -- neither a boolean nor null.
   pub data SomeIsNoAttribute : Members → Type 0 where
     bad_type : (key : List ℕ) (d : Data) (ms : Members) → IsNoType true d → SomeIsNoAttribute (member key d ms)
     bad_required : (key : List ℕ) (d : Data) (ms : Members) → ((required : Bool) → IsRequired d required → ⊥)
@@ -149,7 +153,7 @@ mutual
     later_attribute : (key : List ℕ) (d : Data) (ms : Members) → SomeIsNoAttribute ms
         → SomeIsNoAttribute (member key d ms)
 
--- `RefusesType is_attribute d fault` holds if `d` states no type (`is_attribute` as in `StatesType`), and `fault` is
+-- `RefusesType is_attribute d fault` holds if `d` describes no type (`is_attribute` as in `StatesType`), and `fault` is
 -- `BadShape`, whatever the cause.
 abbrev pub RefusesType : Bool → Data → SchemaFault → Type 0
 RefusesType is_attribute d fault = (fault ≡ BadShape) × IsNoType is_attribute d

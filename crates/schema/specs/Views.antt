@@ -39,6 +39,6 @@ schema_view k = record {
   may_have_parent = is_ancestor k.type_numbers k.type_ancestor_spans;
 }
 
--- `IsStated k` holds if some bytes state the schema with the entries `k`.
+-- `IsStated k` holds if some bytes describe the schema with the entries `k`.
 abbrev pub IsStated : SchemaEntries → Type 0
 IsStated k = (bytes : List ℕ) × IsSchemaOf bytes (schema_view k)

@@ -1,4 +1,4 @@
--- Defines the invariants of each schema that bytes state.
+-- Defines the invariants of each schema that bytes describe.
 use Rattle.std.specs.Prelude.{◌≡◌, ◌↔◌, ℕ, List, map, Contains, IsTrue, IsSome, Option, Some}
 use Rattle.std.specs.List.Sorted.{IsStrictlySortedBy}
 use Rattle.values.specs.declared.entity_uid.EntityUid.{EntityUid}
@@ -22,7 +22,7 @@ pub record AreAttributes (t : Cedar) : Type 0 where
 abbrev pub IsActionType : List ℕ → Type 0
 IsActionType name = (namespace : Option (List ℕ)) × (name ≡ action_type namespace)
 
--- `IsWellFormed v` holds if the schema `v` satisfies these invariants.
+-- `IsWellFormed v` holds if the schema `v` satisfies the following invariants.
 pub record IsWellFormed (v : StatedSchema) : Type 0 where
   pub shapes : (n : List ℕ) (t : Cedar) → v.shape n ≡ Some t → AreAttributes t
   pub contexts : (e : EnvironmentOf) → Contains v.environments e → AreAttributes e.context
@@ -57,6 +57,6 @@ pub record IsWellFormed (v : StatedSchema) : Type 0 where
   pub children : (child parent : List ℕ) → IsTrue (v.may_have_parent child parent) → IsSome (v.shape child)
   pub parents : (child parent : List ℕ) → IsTrue (v.may_have_parent child parent) → IsSome (v.shape parent)
 
--- `StatedSchemasAreWellFormed`: each schema that bytes state satisfies the invariants.
+-- `StatedSchemasAreWellFormed`: each schema that bytes describe satisfies the invariants.
 abbrev pub StatedSchemasAreWellFormed : Type 0
 StatedSchemasAreWellFormed = (bytes : List ℕ) (v : StatedSchema) → IsSchemaOf bytes v → IsWellFormed v

@@ -13,8 +13,9 @@ use values::{EntityUid, TypeName};
 ///
 /// Look-ups do not allocate and take logarithmic time. Actions and entity types are numbered, and the numbers of the
 /// ancestors of each are stored as spans of consecutive numbers. A test for an ancestor also takes time linear in the
-/// number of these spans: one in a chain or in layers. Contracts see the entries of a schema, which are plain data, and
-/// state properties of the abstract schema (`schema_view`). Some bytes state each schema: [`Schema::is_stated`].
+/// number of these spans, which is one in a chain, for example (numbering.rt). Contracts see the entries of a schema,
+/// which are plain data, and state properties of the abstract schema (`schema_view`). Each schema is one that some
+/// bytes describe ([`Schema::is_stated`]).
 #[derive(Drop)]
 pub struct Schema {
     pub(crate) label: Text,
@@ -57,7 +58,7 @@ impl Schema {
     ghost use Rattle.schema.specs.Schemas.{ActionHasAncestor};
     ghost use Rattle.schema.specs.Views.{environment_view, schema_view, action_has_ancestor, IsStated};
 
-    /// Proves the schema's invariant: some bytes state it. No-op.
+    /// Proves the schema's invariant: some bytes describe it. No-op.
     pub fn is_stated(&self)
         ensures { IsStated self.now }
     {
@@ -85,7 +86,7 @@ impl Schema {
         self.shapes.get(name)
     }
 
-    /// Returns the parents of an action, as its `memberOf` states them; `None` if it is not declared.
+    /// Returns the parents of an action, as its `memberOf` lists them; `None` if it is not declared.
     pub fn action_parents(&self, uid: &EntityUid) -> Option<&[EntityUid]>
         ensures { option_map (λ us. us.now) result ≡ (schema_view self.now).member_of uid.now }
     {
@@ -115,7 +116,7 @@ impl Schema {
         false
     }
 
-    /// Returns whether both are declared actions.
+    /// Returns whether `uid` and `above` are declared actions.
     fn are_actions(&self, uid: &EntityUid, above: &EntityUid) -> bool
         ensures { result ≡ (is_some ((schema_view self.now).member_of uid.now)
             && is_some ((schema_view self.now).member_of above.now)) }

@@ -127,7 +127,7 @@ fn add_member(
     Ok(())
 }
 
-/// Returns the parents of actions, by their uids.
+/// Returns the parents of each action, by the action's uid.
 pub(crate) fn make_members(
     alloc: Global,
     edges: &Searched,

@@ -16,9 +16,9 @@ use schema_types::{
 };
 use values::path_tests_are_exact;
 
-/// Proves that parsing a type gives the type that JSON states, or the error if it states none. No-op.
+/// Proves that parsing a type gives the type that JSON describes, or the error if it describes none. No-op.
 ///
-/// JSON states exactly one type or is rejected with exactly one error, never both.
+/// JSON describes exactly one type or is rejected with exactly one error, never both.
 pub fn types_are_read_as_stated()
     ensures read { TypesAreRead }
     ensures one { TypesHaveOneOutcome }
@@ -26,9 +26,9 @@ pub fn types_are_read_as_stated()
     path_tests_are_exact();
 }
 
-/// Proves that parsing a file gives the namespaces that JSON states, or the error if it states none. No-op.
+/// Proves that parsing a file gives the namespaces that JSON describes, or the error if it describes none. No-op.
 ///
-/// JSON states exactly one file or is rejected with exactly one error, never both.
+/// JSON describes exactly one file or is rejected with exactly one error, never both.
 pub fn files_are_read_as_stated()
     ensures read { FilesAreRead }
     ensures one { FilesHaveOneOutcome }
@@ -45,7 +45,7 @@ pub fn names_are_resolved_as_stated()
     ensures one { NamesHaveOneOutcome }
 {}
 
-/// Proves that parsing bytes gives exactly the declarations that the bytes state. No-op.
+/// Proves that parsing bytes gives exactly the declarations that the bytes describe. No-op.
 pub fn declarations_are_read_as_stated()
     ensures { DeclarationsAreRead }
 {
@@ -56,7 +56,7 @@ pub fn declarations_are_read_as_stated()
     files_are_in_order();
 }
 
-/// Proves that parsing bytes gives the schema that they state, or their first error. No-op.
+/// Proves that parsing bytes gives the schema that they describe, or their first error. No-op.
 pub(crate) fn schemas_are_read_as_stated()
     ensures { SchemasAreRead }
 {
@@ -67,7 +67,7 @@ pub(crate) fn schemas_are_read_as_stated()
     files_are_in_order();
 }
 
-/// Proves that bytes state exactly one schema, or are rejected with exactly one error. No-op.
+/// Proves that bytes describe exactly one schema, or are rejected with exactly one error. No-op.
 pub fn bytes_have_one_outcome()
     ensures some_outcome { SomeOutcome }
     ensures one_schema { OneSchema }
@@ -87,11 +87,11 @@ pub fn bytes_have_one_outcome()
     schemas_are_read_as_stated();
 }
 
-/// Proves the invariants of a schema that bytes state. No-op.
+/// Proves the invariants of a schema that bytes describe. No-op.
 ///
-/// Attributes and contexts are records, within the limits and with ascending keys; environments, actions and
-/// ancestors ascend; no action is its own ancestor; the ancestor relation is transitive; each named entity type is
-/// declared, and so is each ancestor of an action; and only actions have a type whose last word is `Action`.
+/// Attributes and contexts are records, within the limits and with ascending keys. Environments, actions and ancestors
+/// ascend. No action is its own ancestor, and the ancestor relation is transitive. Each named entity type is declared,
+/// and so is each ancestor of an action. Only actions have a type whose last word is `Action`.
 pub fn stated_schemas_are_well_formed()
     ensures { StatedSchemasAreWellFormed }
 {

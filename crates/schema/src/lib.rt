@@ -1,4 +1,4 @@
-//! The schema that bytes state: its entity types with their shapes, its actions, the hierarchies of both, and the
+//! The schema that bytes describe: its entity types with their shapes, its actions, the hierarchies of both, and the
 //! environments of requests; and the look-ups in a schema.
 #![tactic(auto)]
 

@@ -1,4 +1,4 @@
-//! Creation of places, and of environments from a map.
+//! Creation of the places of environments ([`EnvironmentKey`]), and of environments from a map.
 ghost use Rattle.std.specs.Prelude.{◌≡◌, IfOk, map};
 ghost use Rattle.std.specs.BTreeMap.{IsOrdered};
 ghost use Rattle.schema.specs.Places.{place_cmp, place_of, environment_of};

@@ -1,5 +1,5 @@
 //! Look-ups in the parts of a schema. They do not allocate, and take logarithmic time. A test for an ancestor also
-//! takes time linear in the number of spans that contain the ancestors' numbers; these spans are few in layers
+//! takes time linear in the number of spans that contain the ancestors' numbers; often there are few of these spans
 //! (numbering.rt).
 ghost use Rattle.std.specs.Prelude.{◌≡◌, option_map};
 ghost use Rattle.std.specs.List.{slice_get};
@@ -12,7 +12,7 @@ use plain::Items;
 use std::collections::BTreeMap;
 use values::{EntityUid, TypeName};
 
-/// Returns the parents of an action; `None` if `uid` is not an action.
+/// Returns the parents of the action `uid`; `None` if `parents` has no entry for it.
 pub fn parents_at<'a>(
     parents: &'a BTreeMap<EntityUid, Items<EntityUid>>,
     uid: &EntityUid,
@@ -35,7 +35,7 @@ fn has_number_at(spans: &[Items<NumberSpan>], place: usize, number: usize) -> bo
     }
 }
 
-/// Returns whether a type has a number, and the spans at an index contain it.
+/// Returns whether a type has a number, and the spans at an index contain this number.
 fn is_numbered_at(
     numbers: &BTreeMap<TypeName, usize>,
     spans: &[Items<NumberSpan>],
@@ -50,8 +50,8 @@ fn is_numbered_at(
     }
 }
 
-/// Returns whether the type `parent` is an ancestor of `child`. At the number of each type, `spans` has the spans of
-/// the numbers of the type's ancestors.
+/// Returns whether the type `parent` is an ancestor of `child`. `numbers` has the number of each type, and `spans` has,
+/// at the index of each number, the spans of the numbers of the type's ancestors.
 pub fn may_have_parent(
     numbers: &BTreeMap<TypeName, usize>,
     spans: &[Items<NumberSpan>],
@@ -66,7 +66,7 @@ pub fn may_have_parent(
     }
 }
 
-/// Returns whether an action has a number, and the spans at an index contain it.
+/// Returns whether an action has a number, and the spans at an index contain this number.
 fn is_action_numbered_at(
     numbers: &BTreeMap<EntityUid, usize>,
     spans: &[Items<NumberSpan>],
@@ -81,8 +81,8 @@ fn is_action_numbered_at(
     }
 }
 
-/// Returns whether the action `above` is an ancestor of `action`. At the number of each action, `spans` has the spans
-/// of the numbers of the action's ancestors.
+/// Returns whether the action `above` is an ancestor of `action`. `numbers` has the number of each action, and `spans`
+/// has, at the index of each number, the spans of the numbers of the action's ancestors.
 pub fn action_has_ancestor(
     numbers: &BTreeMap<EntityUid, usize>,
     spans: &[Items<NumberSpan>],

@@ -5,7 +5,7 @@ ghost use Rattle.std.specs.BTreeMap.{Updates};
 use plain::NoMemory;
 use std::collections::BTreeMap;
 
-/// Sets the value of a key, in place of the one that it has, if any. The only error is `NoMemory`.
+/// Sets the value of a key, replacing its earlier value, if there is one. The only error is `NoMemory`.
 pub(crate) fn put<K: Ord + Drop, V: Drop>(
     map: &mut BTreeMap<K, V>,
     key: K,

@@ -1,8 +1,8 @@
 //! The ancestors of each entity, as numbers.
 //!
-//! Entities are numbered, each after its ancestors unless these lead back to it. So the numbers of the ancestors of one
-//! entity are mostly consecutive, and few spans contain them: one span for each entity in a chain, in layers, and where
-//! each entity is a member of several entities before it.
+//! Entities are numbered, each after its ancestors unless these lead back to it. So the numbers of an entity's
+//! ancestors are often consecutive, and few spans contain them. One span suffices for each entity of a chain, and of
+//! layers in which each entity is a member of all entities of the layer before.
 ghost use Rattle.std.specs.Prelude.{◌≡◌, ◌++◌, ◌∷◌, ⊤, [], Contains, Some, None, true, IfOk, OnOk, MatchOption};
 ghost use Rattle.std.specs.Prelude.{option_map};
 ghost use Rattle.std.specs.List.{slice_get};
@@ -48,7 +48,7 @@ fn places_of(alloc: Global, uids: &[EntityUid]) -> Result<BTreeMap<EntityUid, us
     Ok(places)
 }
 
-/// Returns the indices of those parents of an entity that have one in `places`.
+/// Returns the indices that `places` has for the parents of an entity. Skips a parent without an index.
 fn parents_at(
     alloc: Global,
     edges: &Searched,
@@ -104,7 +104,7 @@ fn append_all<'e>(uids: &'e [EntityUid], found: &mut Vec<&'e EntityUid>) -> Resu
 }
 
 /// Returns the uids of the list, first in an order in which each follows its parents unless these lead back to it, and
-/// then all again in the order of the list. The ancestors of the uids are found in any order, and fastest in this one.
+/// then all again in the order of the list. Any order is correct; this one saves searches ([`spans_above`]).
 fn in_order<'e>(
     alloc: Global,
     edges: &Searched,
@@ -165,7 +165,8 @@ fn reached_at(reached: &[Items<NumberSpan>], number: usize) -> Option<&[NumberSp
     }
 }
 
-/// Appends a number and the numbers of its entity's ancestors to `spans`; returns `false` if these are not found yet.
+/// Appends a number and the numbers of its entity's ancestors to `spans`; returns `false` if `reached` does not have
+/// these ancestors yet.
 fn add_reached(
     reached: &[Items<NumberSpan>],
     number: usize,
@@ -181,7 +182,8 @@ fn add_reached(
     Ok(true)
 }
 
-/// Appends the numbers of a parent and of its ancestors to `spans`; returns `false` if these are not found yet.
+/// Appends the numbers of a parent and of its ancestors to `spans`; returns `false` if the parent has no number, or if
+/// `reached` does not have these ancestors yet.
 fn add_parent(
     numbers: &BTreeMap<EntityUid, usize>,
     reached: &[Items<NumberSpan>],
@@ -197,7 +199,8 @@ fn add_parent(
     }
 }
 
-/// Returns the numbers of parents and of their ancestors; `None` if the ancestors of one are not found yet.
+/// Returns the numbers of parents and of their ancestors; `None` if one of the parents has no number, or if `reached`
+/// does not have its ancestors yet.
 fn add_parents(
     alloc: Global,
     numbers: &BTreeMap<EntityUid, usize>,
@@ -272,7 +275,8 @@ fn spans_found(
     joined(alloc, spans)
 }
 
-/// Returns the numbers of the ancestors of an entity: from those of its parents, if these are found, else by a search.
+/// Returns the numbers of the ancestors of an entity. If `reached` has the ancestors of each parent, they give these
+/// numbers; otherwise a search does.
 fn spans_above(
     alloc: Global,
     edges: &Searched,

@@ -62,8 +62,8 @@ fn demand_edges(alloc: Global, found: &ResolvedFile) -> Result<Searched, SchemaF
     Ok(edges)
 }
 
-/// Returns the shapes and the environments of a file whose common types are expanded. The only errors are
-/// `TypeTooLarge` (25), and `NoMemory`.
+/// Returns the shapes and the environments of a file, where `table` has the file's expanded common types. The only
+/// errors are `TypeTooLarge` (25), and `NoMemory`.
 fn make_types(alloc: Global, found: &ResolvedFile, table: &Table) -> Result<Types, SchemaFault>
     ghost commons: { Declarations }
     requires written { AreWritten commons (type_table table.now) }
@@ -82,7 +82,7 @@ fn make_types(alloc: Global, found: &ResolvedFile, table: &Table) -> Result<Type
     })
 }
 
-/// Returns the hierarchies of a file, given that of its actions.
+/// Returns the hierarchies of a file, where `edges` is the hierarchy of its actions.
 fn make_hierarchies(
     alloc: Global,
     found: &ResolvedFile,
@@ -106,8 +106,8 @@ fn make_hierarchies(
     })
 }
 
-/// Returns the schema of bytes that state this file, once its actions and its common types are checked. The only errors
-/// are `TypeTooLarge` (25), for a shape or a context, and `NoMemory`.
+/// Returns the schema of `bytes`, which describe the file `found`. The hierarchy of its actions and the sizes of its
+/// common types are already checked. The only errors are `TypeTooLarge` (25), for a shape or a context, and `NoMemory`.
 fn make_schema(
     alloc: Global,
     bytes: &[u8],
@@ -142,13 +142,13 @@ fn make_schema(
     })
 }
 
-/// Returns the schema of bytes that state this file.
+/// Returns the schema of `bytes`, which describe the file `found`.
 ///
 /// # Errors
 ///
 /// In this order:
 ///
-/// - `TypeCycle` (23): a common type refers to itself.
+/// - `TypeCycle` (23): a common type refers to itself, directly or indirectly.
 /// - `ActionCycle` (24): an action is its own ancestor.
 /// - `TypeTooLarge` (25): a type, expanded, has over 10,000 nodes or is over 64 deep.
 /// - `NoMemory` (1): an allocation failed; possible at any point.
@@ -172,9 +172,10 @@ fn sound_schema(alloc: Global, bytes: &[u8], found: &ResolvedFile) -> Result<Sch
 /// In this order; `NoMemory` is possible at any point:
 ///
 /// - `NotJson` (20): the bytes are not JSON.
-/// - `BadShape` (21): the JSON does not have the form of a schema; then, a shape or a context is not a record.
+/// - `BadShape` (21): the JSON does not have the form of a schema, or, checked after the whole form, a shape or a
+///   context is not a record.
 /// - `UnknownName` (22): a name is not declared.
-/// - `TypeCycle` (23): a common type refers to itself.
+/// - `TypeCycle` (23): a common type refers to itself, directly or indirectly.
 /// - `ActionCycle` (24): an action is its own ancestor.
 /// - `TypeTooLarge` (25): a type, expanded, has over 10,000 nodes or is over 64 deep.
 /// - `NoMemory` (1): an allocation failed.

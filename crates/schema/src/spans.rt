@@ -31,7 +31,8 @@ pub fn has_number(spans: &[NumberSpan], number: usize) -> bool
     false
 }
 
-/// Returns the span of the numbers of both spans, if `next` is not empty and begins in `span` or directly after it.
+/// Returns the span of the numbers of both spans, if `next` is not empty and begins in `span` or directly after it;
+/// else `None`.
 fn over(span: NumberSpan, next: NumberSpan) -> Option<NumberSpan>
     ensures { MatchOption result ⊤ (λ whole. (n : ℕ) → in_span n whole ≡ (in_span n span || in_span n next)) }
 {
@@ -47,7 +48,7 @@ fn over(span: NumberSpan, next: NumberSpan) -> Option<NumberSpan>
     })
 }
 
-/// Appends a span, merged with the last one if they touch.
+/// Appends a span, merged with the last one if [`over`] can merge them.
 fn append(spans: &mut Vec<NumberSpan>, next: NumberSpan) -> Result<(), NoMemory>
     ensures { OnOk result ((n : ℕ) → has_number spans.new.items n
         ≡ (has_number spans.old.items n || in_span n next)) }

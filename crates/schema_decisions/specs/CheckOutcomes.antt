@@ -4,8 +4,8 @@ use Rattle.std.specs.Prelude.{◌≡◌, ℕ, Bool, List}
 use Rattle.decision_texts.specs.answer_lines.declared.refusal.Refusal.{Refusal}
 use Rattle.schema_decisions.specs.Checks.{IsChecked, AreChecksRefused}
 
--- A `CheckOutcome` is `checked text some_refused`, with the lines `text` and whether one is of a rejected policy, or
--- `refused refusal`, with the error of the texts.
+-- A `CheckOutcome` is `checked text some_refused`, with the lines `text` and whether any of them is of a rejected
+-- policy, or `refused refusal`, with the error of the texts.
 pub data CheckOutcome : Type 0 where
   checked : List ℕ → Bool → CheckOutcome
   refused : Refusal → CheckOutcome

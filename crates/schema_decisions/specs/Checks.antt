@@ -32,8 +32,8 @@ abbrev pub IsReportOf : StatedSchema → NamedPolicy → PolicyReport → Type 0
 IsReportOf s policy report = (report.id ≡ policy.id) × IsCheckResult s policy.policy report.outcome
 
 -- `AreReportsOf s policies text some_refused` holds if `text` has a line for the outcome of each of `policies` under
--- the schema `s`, in their order, with a line feed between each two lines; and if `some_refused` is whether one of the
--- policies is rejected.
+-- the schema `s`, and `some_refused` is whether any of the policies is rejected. The lines are in the order of
+-- `policies`, with a line feed between each two.
 pub record AreReportsOf (s : StatedSchema) (policies : List NamedPolicy) (text : List ℕ)
     (some_refused : Bool) : Type 0 where
   pub report : List PolicyReport
@@ -42,7 +42,7 @@ pub record AreReportsOf (s : StatedSchema) (policies : List NamedPolicy) (text :
   pub some_refused_is : some_refused ≡ list_any (λ t. is_refusal t.outcome) report
 
 -- `AreReportsOnFile s policies text some_refused` holds if `policies` is a file of policies, `text` has their lines
--- under the schema `s`, and `some_refused` is whether one of the policies is rejected.
+-- under the schema `s`, and `some_refused` is whether any of the policies is rejected.
 pub record AreReportsOnFile (s : StatedSchema) (policies text : List ℕ) (some_refused : Bool) : Type 0 where
   pub names : List (List ℕ)
   pub cores : List Policy
@@ -52,7 +52,7 @@ pub record AreReportsOnFile (s : StatedSchema) (policies text : List ℕ) (some_
 -- ---- the two texts
 
 -- `IsChecked schema policies text some_refused` holds if `schema` is a schema and `policies` a file of policies, `text`
--- has the lines of the policies, and `some_refused` is whether one of the policies is rejected.
+-- has the lines of the policies, and `some_refused` is whether any of the policies is rejected.
 pub record IsChecked (schema policies text : List ℕ) (some_refused : Bool) : Type 0 where
   pub stated : StatedSchema
   pub schema_is : IsSchemaOf schema stated

@@ -16,7 +16,7 @@ pub record IsDecided (schema policies entities request line : List ℕ) : Type 0
   pub decided : under.IsDecided (reading_under stated) policies entities request line
 
 -- `IsSchemaDecisionRefused schema policies entities request refusal` holds if `refusal` is the first error of the four
--- texts: that of `schema` or, under the schema that it describes, that of `policies`, `entities` and `request`.
+-- texts: that of `schema` or, under the schema that `schema` describes, the first error of the other three.
 pub data IsSchemaDecisionRefused (schema policies entities request : List ℕ) (refusal : Refusal) : Type 0 where
   by_schema : IsSchemaRefused schema refusal → IsSchemaDecisionRefused schema policies entities request refusal
   under_schema : (s : StatedSchema) → IsSchemaOf schema s

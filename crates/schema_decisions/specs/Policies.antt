@@ -10,14 +10,14 @@ use Rattle.decision_texts.specs.answer_lines.declared.refusal.Refusal.{Refusal}
 use Rattle.schema_decisions.specs.CheckRefusals.{check_refusal}
 
 -- `IsUnpassed s place policy refusal` holds if `policy`, at the index `place` of its file, does not pass validation
--- under `s`, and `refusal` reports the error.
+-- under the schema `s`, and `refusal` reports the error.
 pub record IsUnpassed (s : StatedSchema) (place : ℕ) (policy : Policy) (refusal : Refusal) : Type 0 where
   pub fault : TypeFault
   pub is_fault : IsCheckRefused s policy fault
   pub is : refusal ≡ check_refusal place fault
 
 -- `FirstUnpassed s place policies refusal` holds if `refusal` reports the error of the first of `policies` that does
--- not pass validation under `s`, where `policies` begin at the index `place` of their file.
+-- not pass validation under the schema `s`. The first of `policies` has the index `place` in its file.
 pub data FirstUnpassed (s : StatedSchema) : ℕ → List Policy → Refusal → Type 0 where
   unpassed_here : {place : ℕ} {p : Policy} {ps : List Policy} {refusal : Refusal} → IsUnpassed s place p refusal
       → FirstUnpassed s place (p ∷ ps) refusal

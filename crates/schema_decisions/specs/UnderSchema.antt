@@ -1,7 +1,7 @@
 -- Defines how texts are parsed under a schema: entities, requests, and policies, which must pass validation.
 -- Source: Cedar reference guide 4.0, "Policy validation".
--- Rules of this product: a request is decided only if each policy passes validation; the schema's actions are added
--- to the entities, each with the parents that its `memberOf` names.
+-- Rules of this product: a request is decided only if each policy passes validation; the schema's actions, each with
+-- the parents that its `memberOf` names, are added to the entities.
 use Rattle.std.specs.Prelude.{◌≡◌, All}
 use Rattle.serde_json.specs.Data.{Data}
 use Rattle.entity_hierarchy.specs.schema.Schemas.{StatedSchema}
@@ -14,8 +14,8 @@ use Rattle.decision_texts.specs.Settings.{Reading, reported_by}
 use Rattle.schema_decisions.specs.Policies.{FirstUnpassed}
 use Rattle.schema_decisions.specs.Refusals.{entity_refusal}
 
--- `IsRequestFault s d refusal` holds if the JSON value `d` does not describe a request under `s`, and `refusal` reports
--- its first error.
+-- `IsRequestFault s d refusal` holds if the JSON value `d` does not describe a request under the schema `s`, and
+-- `refusal` reports its first error.
 pub record IsRequestFault (s : StatedSchema) (d : Data) (refusal : Refusal) : Type 0 where
   pub fault : EntityFault
   pub is_fault : RequestRefused s d fault

@@ -4,7 +4,7 @@ ghost use Rattle.schema_decisions.specs.CheckOutcomes.{TextsHaveOneOutcome};
 use decision_texts::texts_have_one_reading;
 use validator::{bytes_have_one_outcome, policies_have_one_outcome};
 
-/// Proves that the texts of a schema and of policies have exactly one outcome: the lines and whether one of them is of
+/// Proves that the texts of a schema and of policies have exactly one outcome: the lines and whether any of them is of
 /// a rejected policy, or one error. No-op.
 pub fn checks_have_one_outcome()
     ensures { TextsHaveOneOutcome }

@@ -47,7 +47,7 @@ fn either(first: bool, second: bool) -> bool
     first || second
 }
 
-/// Returns the lines of the policies, in their order, and whether one of the policies is rejected.
+/// Returns the lines of the policies, in their order, and whether any of the policies is rejected.
 fn check_each(
     alloc: Global,
     schema: &Schema,
@@ -67,7 +67,7 @@ fn check_each(
     Ok((text, some_refused))
 }
 
-/// Returns the lines of a file's policies under a schema, and whether one of the policies is rejected.
+/// Returns the lines of a file's policies under a schema, and whether any of the policies is rejected.
 fn check_file(alloc: Global, schema: &Schema, policies: &[u8]) -> Result<(Vec<u8>, bool), Refusal>
     ensures report { IfOk result
         (λ report. AreReportsOnFile (schema_view schema.now) policies.now report.0.items report.1) }
@@ -77,13 +77,13 @@ fn check_file(alloc: Global, schema: &Schema, policies: &[u8]) -> Result<(Vec<u8
     Ok(check_each(alloc, schema, &policies)?)
 }
 
-/// Validates the policies of a file under a schema. Returns a line for each, and whether one of them is rejected.
+/// Validates the policies of a file under a schema. Returns a line for each, and whether any of them is rejected.
 ///
 /// The lines have the order of the file, with a line feed between each two:
 ///
 /// - `{"id":"policy0","verdict":"accepted"}`: the policy passes validation.
 /// - `{"id":"policy0","verdict":"impossible"}`: the policy passes, and its type is False in each environment of the
-///   schema, so that no request that conforms to the schema satisfies it.
+///   schema, so that no request satisfies it if the request and the entities conform to the schema.
 /// - `{"code":44,"id":"policy0","verdict":"refused"}`: the policy does not pass; `code` is the code of its error (40 to
 ///   46).
 ///

@@ -21,8 +21,9 @@ use std::alloc::Global;
 /// - 20 to 25, without a place: the schema is rejected.
 /// - 10 to 19, at a byte offset: the file of policies is rejected.
 /// - 40 to 46, at the index of a policy: the first policy of the file that does not pass validation.
-/// - 30 to 38, at the index of an entity: the first entity of the array that has an error; 30 also if an earlier entity
-///   has its uid, and, without a place, if the text is not an array.
+/// - 30, without a place: the text of the entities is not a JSON array.
+/// - 30 to 38: the error of the first rejected entity, at its index in the array: its own error, or 30 if an earlier
+///   entity has its uid.
 /// - 30, 33, 34, 35 or 39, without a place: the request is rejected.
 /// - `NoMemory` (1): an allocation failed; possible at any point.
 ///

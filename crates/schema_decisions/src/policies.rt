@@ -12,7 +12,8 @@ use entity_hierarchy::Schema;
 use std::alloc::Global;
 use validator::check;
 
-/// Checks that the policy at the index `place` of its file passes validation. Its error has this place.
+/// Checks that the policy at the index `place` of its file passes validation. The error of a policy that does not pass
+/// has this index as its place.
 fn check_at(alloc: Global, schema: &Schema, place: usize, policy: &Policy) -> Result<(), Refusal>
     ensures passes { IfOk result (λ _. Passes (schema_view schema.now) policy.now) }
     ensures refused { IfErr result (OrNoMemory no_memory (IsUnpassed (schema_view schema.now) place policy.now)) }

@@ -1,6 +1,6 @@
 -- Defines the content of a schema file, before names are resolved.
 -- Source: Cedar reference guide, "Schema JSON format": namespaces, `commonTypes`, `entityTypes`, `actions`.
--- Rules of this product: a namespace may lack each of the three; null at an optional key counts as missing;
+-- Rules of this product: a namespace may lack any of the last three; null at an optional key counts as missing;
 -- `annotations` has any value; an action's `attributes` is an object without keys; other keys are rejected.
 use Rattle.std.specs.Prelude.{ℕ, List, [], ◌∷◌, Bool, true, false, not, codes, Option, Some, None, Result, Ok}
 use Rattle.std.specs.Str.{bytes_eq}
@@ -29,7 +29,7 @@ pub record EntityTypeOf : Type 0 where
   pub parents : List (List ℕ)
   pub shape : Option Raw
 
--- A `AppliesToOf` is what an action applies to: the types of principals and resources, and the context's type, if it
+-- An `AppliesToOf` is what an action applies to: the types of principals and resources, and the context's type, if it
 -- has one.
 pub record AppliesToOf : Type 0 where
   pub principals : List (List ℕ)
@@ -51,7 +51,8 @@ pub record NamespaceOf : Type 0 where
 
 -- ---- parsing
 
--- `members_in o` are the members of the object in `o`; none if `o` is `None`, and `BadShape` for another value.
+-- `members_in o` are the members of the object in `o`; none if `o` is `None`, and `BadShape` if the value in `o` is not
+-- an object.
 abbrev pub members_in : Option Data → Result Members SchemaFault
 members_in None = Ok no_members
 members_in (Some d) = or_fault BadShape (as_object d)
@@ -63,7 +64,7 @@ ident w = do
   one ← demand BadShape (not (is_qualified w))
   Ok path
 
--- `name_of d` is the name in the string `d`; `BadShape` if `d` is not a string, or the string is not a name.
+-- `name_of d` is the name in the string `d`; `BadShape` if `d` is not a string, or the string is not a Path.
 unfoldable pub name_of : Data → Result (List ℕ) SchemaFault
 name_of d = do
   w ← or_fault BadShape (as_str d)
@@ -173,7 +174,8 @@ applies_to_of d = do
   context ← type_in (optional (codes "context") d)
   Ok (record { principals = principals; resources = resources; context = context })
 
--- `applies_to_in o` is what an action applies to, as the value in `o` describes it; `None` if `o` is `None`.
+-- `applies_to_in o` is what an action applies to, as the value in `o` describes it, or the first error; `None` if `o`
+-- is `None`.
 abbrev pub applies_to_in : Option Data → Result (Option AppliesToOf) SchemaFault
 applies_to_in None = Ok None
 applies_to_in (Some d) = do

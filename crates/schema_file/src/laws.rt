@@ -3,8 +3,8 @@ ghost use Rattle.schema_file.specs.Laws.{FilesStateOnce, FilesTypesAscend};
 
 use schema_types::keys_ascend;
 
-/// Proves that, if the keys of each object ascend, as in parsed JSON, no two namespaces have the same name, nor any two
-/// common types, entity types or actions of one namespace; and that the keys of each record in a type ascend. No-op.
+/// Proves that, if the keys of each object ascend, as in parsed JSON, the names that a schema file declares are
+/// distinct (`HaveDistinctNames`), and the keys of each record in a type ascend. No-op.
 pub fn stated_files_are_in_order()
     ensures once { FilesStateOnce }
     ensures types { FilesTypesAscend }

@@ -17,7 +17,7 @@ use serde_json::{Map, Value};
 use std::alloc::Global;
 use values::TypeName;
 
-/// Returns the name of the namespace at a key; `None` for the empty key. The error is `BadShape` (21).
+/// Returns the name of the namespace at a key; `None` for the empty key, and `BadShape` (21) if the key is not a Path.
 #[tactic(auto, unfolding(crate::specs::FileForm::namespace_name))]
 fn read_namespace_name(alloc: Global, key: &str) -> Result<Option<TypeName>, SchemaFault>
     ensures { ReadsAs SchemaFault.NoMemory (λ n. n) result (namespace_name key.now) }

@@ -80,7 +80,7 @@ fn read_use(alloc: Global, value: &Value) -> Result<StatedAppliesTo, SchemaFault
     })
 }
 
-/// Returns what an action applies to, by an optional value; `None` if there is no value.
+/// Returns what an action applies to, as a value describes it; `None` if `found` is `None`.
 fn read_optional_use(
     alloc: Global,
     found: Option<&Value>,

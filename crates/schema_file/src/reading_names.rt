@@ -11,7 +11,7 @@ use serde_json::Value;
 use std::alloc::Global;
 use values::TypeName;
 
-/// Returns the name of a string that is an identifier; else the error `BadShape` (21).
+/// Returns the name that a string denotes, if the string is an identifier; else the error `BadShape` (21).
 #[tactic(auto, unfolding(crate::specs::FileForm::ident))]
 pub(crate) fn read_ident(alloc: Global, text: &str) -> Result<TypeName, SchemaFault>
     ensures { ReadsAs SchemaFault.NoMemory (λ t. t) result (ident text.now) }
@@ -23,7 +23,7 @@ pub(crate) fn read_ident(alloc: Global, text: &str) -> Result<TypeName, SchemaFa
     Ok(name)
 }
 
-/// Returns the name of a value that is a string and a Path; else the error `BadShape` (21).
+/// Returns the name that a value denotes, if the value is a string that is a Path; else the error `BadShape` (21).
 #[tactic(auto, unfolding(crate::specs::FileForm::name_of))]
 fn read_name(alloc: Global, value: &Value) -> Result<TypeName, SchemaFault>
     ensures { ReadsAs SchemaFault.NoMemory (λ t. t) result (name_of (view value.now)) }
@@ -34,7 +34,7 @@ fn read_name(alloc: Global, value: &Value) -> Result<TypeName, SchemaFault>
     }
 }
 
-/// Returns the names of the values.
+/// Returns the names in the values; `BadShape` (21) if one is not a string that is a Path.
 fn read_names(alloc: Global, values: &[Value]) -> Result<Items<TypeName>, SchemaFault>
     ensures { ReadsAs SchemaFault.NoMemory (λ ns. ns) result (names_of (items_view values.now)) }
 {
@@ -46,7 +46,8 @@ fn read_names(alloc: Global, values: &[Value]) -> Result<Items<TypeName>, Schema
     Ok(names)
 }
 
-/// Returns the names in an array; none if `found` is `None`, and `BadShape` (21) if it is not an array.
+/// Returns the names in an array; none if `found` is `None`, and `BadShape` (21) if it is not an array of strings that
+/// are Paths.
 pub(crate) fn read_optional_names(
     alloc: Global,
     found: Option<&Value>,
@@ -62,7 +63,7 @@ pub(crate) fn read_optional_names(
     }
 }
 
-/// Returns the names in the array at a required key; `BadShape` (21) if there is no array.
+/// Returns the names in the array at a required key; `BadShape` (21) if there is no array of strings that are Paths.
 pub(crate) fn read_names_at(
     alloc: Global,
     value: &Value,

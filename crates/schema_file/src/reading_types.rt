@@ -30,7 +30,7 @@ pub(crate) fn read_optional_type(
     }
 }
 
-/// Returns whether a word of this form may name a common type.
+/// Returns whether a name that selects this form may be that of a common type.
 fn is_common(form: Form) -> bool
     ensures { result ≡ is_common_form form }
 {

@@ -33,7 +33,7 @@ pub struct StatedAppliesTo {
 /// A parent of an action: its id, and its type if the file has one.
 #[derive(Drop)]
 pub struct StatedParent {
-    /// The action's type; `None` means the type of the actions of the same namespace.
+    /// The type of the parent; `None` means the type of the actions of the same namespace.
     pub type_name: Option<TypeName>,
     pub id: Text,
 }

@@ -1,5 +1,6 @@
--- Defines the theorems that bytes describe one schema file or are rejected with one error, and that a file declares
--- each type that it mentions.
+-- Defines the theorems that bytes describe one schema file or are rejected with one error, and theorems about such
+-- files. A file declares each type that it mentions, and nothing twice; the keys of its records ascend; its shapes and
+-- contexts are records.
 use Rattle.std.specs.Prelude.{◌≡◌, ◌⊎◌, ℕ, List, Contains, map, Some}
 use Rattle.schema_types.specs.Qualified.{Qualified}
 use Rattle.schema_types.specs.Cedar.{Cedar, CedarFields, record_of}
@@ -20,7 +21,7 @@ pub record DeclaresOnce (s : ResolvedSchema) : Type 0 where
   pub entity_types : AreApart (map (λ e. e.name) s.entity_types)
   pub actions : AreApart (map (λ a. a.uid) s.actions)
 
--- `IsShapeOrContext s r` holds if `r` is the shape of an entity type of the file `s`, or the context of an action.
+-- `IsShapeOrContext s r` holds if `r` is the shape of an entity type, or the context of an action, of the file `s`.
 abbrev pub IsShapeOrContext : ResolvedSchema → Qualified → Type 0
 IsShapeOrContext s r =
     ((e : ResolvedEntityType) × Contains s.entity_types e × (e.shape ≡ Some r))

@@ -1,6 +1,6 @@
 -- Defines the schema file that bytes describe, with resolved names, and the error if they describe none.
--- Rules of this product: the order of errors. `NotJson` comes first, then `BadShape`, wherever in the file, then a name
--- that is not declared.
+-- Rules of this product: the order of errors. `NotJson` comes first, then `BadShape`, wherever in the file, then
+-- `UnknownName`, a name that is not declared.
 use Rattle.std.specs.Prelude.{◌≡◌, ℕ, List, Some, None, Ok, Err}
 use Rattle.json_words.specs.Json.{json_of}
 use Rattle.serde_json.specs.Data.{Data}
@@ -10,8 +10,8 @@ use Rattle.schema_names.specs.Records.{SomeIsNoRecord}
 use Rattle.schema_types.specs.declared.fault.SchemaFault.{SchemaFault}
 use Rattle.schema_types.specs.declared.fault.SchemaFault.TheVariants.{NotJson, BadShape}
 
--- `IsNamed ns s` holds if `s` are the namespaces `ns` with resolved names, and no shape or context of `ns` leads to a
--- type other than a record (`SomeIsNoRecord`).
+-- `IsNamed ns s` holds if `s` is the file of the namespaces `ns` with resolved names, and no shape or context of `ns`
+-- leads to a type other than a record (`SomeIsNoRecord`).
 pub record IsNamed (ns : List NamespaceOf) (s : ResolvedSchema) : Type 0 where
   pub records : SomeIsNoRecord ns → ⊥
   pub found : qualified ns ≡ Ok s

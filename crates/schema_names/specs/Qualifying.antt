@@ -23,7 +23,7 @@ use Rattle.schema_types.specs.declared.fault.SchemaFault.TheVariants.{UnknownNam
 
 -- ---- declarations
 
--- `all_of f xs` are the lists `f x` of each `x` of `xs`, one after another.
+-- `all_of f xs` is the concatenation of the lists `f x` for each `x` of `xs`, in order.
 abbrev pub all_of : {A B : Type 0} → (A → List B) → List A → List B
 all_of f [] = []
 all_of f (x ∷ xs) = f x ++ all_of f xs
@@ -50,7 +50,7 @@ entity_types_declared ns = all_of (λ n. map (λ e. full_name n.name e.name) n.e
 abbrev pub actions_declared : List NamespaceOf → List EntityUid
 actions_declared ns = all_of (λ n. map (λ a. action_uid (action_type n.name) a.id) n.actions) ns
 
--- `scope_in ns` are the tests of the full names that the namespaces `ns` declare.
+-- `scope_in ns` has two tests: whether the namespaces `ns` declare a common type, and an entity type, with a full name.
 abbrev pub scope_in : List NamespaceOf → Scope
 scope_in ns = record {
   commons = λ q. list_any (λ c. bytes_eq c.name q) (commons_declared ns);
@@ -63,8 +63,8 @@ is_action_in ns u = list_any (λ a. is_eq (uid_cmp a u)) (actions_declared ns)
 
 -- ---- resolved names
 
--- In the rest of this file `s` has the tests of the declared types of the file, and `is_action` tests for its declared
--- actions.
+-- In the following definitions `s` tests which types the schema file declares (`scope_in`), `is_action` tests which
+-- actions it declares (`is_action_in`), and `own` is the namespace that uses a name; `None` is the empty one.
 
 -- A `ResolvedEntityType` is an entity type with its full name, and with the names in it resolved.
 pub record ResolvedEntityType : Type 0 where
@@ -108,8 +108,8 @@ type_named s own (Some r) = do
   t ← qualified_of s own r
   Ok (Some t)
 
--- `action_meant_at is_action own o id` is the declared action to which the id `id` and the type in `o` refer in the
--- namespace `own`, if there is one; without a type (`None`) it is an action of that namespace.
+-- `action_meant_at is_action own o id` is the declared action, if there is one, to which the id `id` and the type in
+-- `o` refer in the namespace `own`. Without a type (`None`) it is an action of that namespace.
 abbrev pub action_meant_at : (EntityUid → Bool) → Option (List ℕ) → Option (List ℕ) → List ℕ → Option EntityUid
 action_meant_at is_action own None id = declared_action is_action (action_type own) id
 action_meant_at is_action own (Some w) id = action_of_type is_action own w id
@@ -199,7 +199,7 @@ unfoldable pub qualified_namespaces : Scope → (EntityUid → Bool) → List Na
     → Result (List ResolvedSchema) SchemaFault
 qualified_namespaces s is_action ns = each (λ i n. qualified_namespace s is_action n) 0 ns
 
--- `both a b` has the declarations of `a` and of `b`.
+-- `both a b` has the declarations of `a`, then those of `b`.
 abbrev pub both : ResolvedSchema → ResolvedSchema → ResolvedSchema
 both a b = record {
   commons = a.commons ++ b.commons;

@@ -9,7 +9,7 @@ use Rattle.schema_file.specs.FileForm.{EntityTypeOf, AppliesToOf, ActionOf, Name
 use Rattle.schema_names.specs.Qualifying.{CommonOf, commons_declared, scope_in}
 
 -- `common_meant s own r` is the full name of the declared common type to which `r` refers; `None` if it refers to none.
--- `r` is a type written in the namespace `own`, and `s` has the tests of the declared names.
+-- `r` is a type written in the namespace `own` (`None`: the empty one), and `s` has the tests of the declared names.
 abbrev pub common_meant : Scope → Option (List ℕ) → Raw → Option (List ℕ)
 common_meant s own raw.text = None
 common_meant s own raw.long = None
@@ -22,9 +22,9 @@ common_meant s own (raw.entity w) = None
 common_meant s own (raw.common w) = found s.commons own w
 common_meant s own (raw.entity_or_common w) = found s.commons own w
 
--- `is_no_record s own r` tests whether `r`, a type written in the namespace `own`, is of a form other than a record,
--- where `r` does not refer to a declared common type of `s`. For an undeclared name, which is another error, it is
--- false, unless `r` says that the name is an entity type's.
+-- `is_no_record s own r` tests whether `r`, a type written in the namespace `own`, is of a form other than a record. It
+-- is used if `r` does not refer to a declared common type of `s`. For an undeclared name, which is another error, the
+-- result is false, unless `r` says that the name is an entity type's.
 abbrev pub is_no_record : Scope → Option (List ℕ) → Raw → Bool
 is_no_record s own raw.text = true
 is_no_record s own raw.long = true
@@ -50,8 +50,8 @@ pub data MeansNoRecord (ns : List NamespaceOf) : Option (List ℕ) → Raw → T
 abbrev pub HasContext : ActionOf → Raw → Type 0
 HasContext a r = (u : AppliesToOf) × (a.applies_to ≡ Some u) × (u.context ≡ Some r)
 
--- `MustBeRecord n r` holds if `r` must be a record: it is the shape of an entity type of the namespace `n`, or the
--- context of an action.
+-- `MustBeRecord n r` holds if `r` must be a record: it is the shape of an entity type, or the context of an action, of
+-- the namespace `n`.
 abbrev pub MustBeRecord : NamespaceOf → Raw → Type 0
 MustBeRecord n r =
     ((e : EntityTypeOf) × Contains n.entity_types e × (e.shape ≡ Some r))

@@ -1,10 +1,11 @@
-//! Appending to parsed items. Generic, so that the drop of the items after an error is one step of a proof.
+//! Appending to parsed items. The function is generic, so that the drop of the items after an error is one step of a
+//! proof.
 ghost use Rattle.std.specs.Prelude.{◌≡◌, ◌≢◌, ◌++◌, ◌∷◌, [], IfOk, IfErr, Ok, Err};
 
 use plain::Items;
 use schema_types::SchemaFault;
 
-/// Returns the items with the parsed item appended, or the error of parsing that item, or `NoMemory` (1).
+/// Returns `items` with the item in `read` appended, or the error in `read`, or `NoMemory` (1) for a failed allocation.
 pub(crate) fn followed_by<T: Drop>(
     items: Items<T>,
     read: Result<T, SchemaFault>,

@@ -20,8 +20,8 @@ pub fn files_name_their_entity_types()
     found_names_are_declared();
 }
 
-/// Proves that no common type of a schema file has two definitions, that no two entity types and no two actions have
-/// the same name, and that the keys of each record in a type ascend strictly. No-op.
+/// Proves that a schema file declares nothing twice: no common type has two definitions, and no two entity types and no
+/// two actions have the same name. The keys of each record in a type ascend strictly. No-op.
 pub fn files_are_in_order()
     ensures once { FilesDeclareOnce }
     ensures types { FilesTypesAscend }

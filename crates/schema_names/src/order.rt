@@ -1,5 +1,5 @@
-//! The common types of a file, in an order in which one round finds all that are not records: a common type whose
-//! definition is only the name of another comes after that other.
+//! The common types of a file, in an order in which one pass finds all that are not records (records.rt). A common type
+//! whose definition is only the name of another comes after that other, unless the other leads back to it.
 ghost use Rattle.std.specs.Prelude.{◌≡◌, ◌++◌, ℕ, List, IfOk, OnOk, map};
 ghost use Rattle.std.specs.BTreeMap.{get_by_text};
 ghost use Rattle.schema_written_types.specs.Orders.{graph_of, IsSuccessorsFirst};
@@ -57,7 +57,7 @@ pub(crate) fn list_all<'a>(
     Ok(listed)
 }
 
-/// Returns the index of each declared name; the last one for a name that is declared twice.
+/// Returns the index of each declared name; the last index for a name that is declared more than once.
 fn places_of(
     alloc: Global,
     commons: &[ListedCommon<'_>],
@@ -109,9 +109,9 @@ fn in_list(alloc: Global, place: Option<usize>) -> Result<Vec<usize>, NoMemory>
     Ok(places)
 }
 
-/// Returns a list of one index, that of the common type whose name is the definition of `listed`; an empty list if the
-/// definition is not such a name.
-fn applies_to_of(
+/// Returns the index that `places` has for the common type whose name is the definition of `listed`, as a list. The
+/// list is empty if the definition is not such a name, or if `places` has no index for it.
+fn reference_of(
     alloc: Global,
     names: &Names,
     listed: &ListedCommon<'_>,
@@ -137,14 +137,14 @@ fn uses_of(
 {
     let mut edges = Vec::new(alloc);
     for listed in commons {
-        let used = applies_to_of(alloc, names, listed, places)?;
+        let used = reference_of(alloc, names, listed, places)?;
         edges.push(used)?;
     }
     Ok(edges)
 }
 
 /// Returns the indices of the common types, without duplicates. A common type whose definition is only the name of
-/// another comes after that other, unless the other leads back to it. In this order one round finds each common type
+/// another comes after that other, unless the other leads back to it. In this order one pass finds each common type
 /// that is not a record.
 pub(crate) fn order_of(
     alloc: Global,

@@ -1,5 +1,5 @@
 //! The resolution of the names in a schema file. `own` is the name of the namespace that uses a name; `None` is the
-//! empty namespace.
+//! empty namespace. The only errors are `UnknownName` (22), for a name that is not declared, and `NoMemory` (1).
 ghost use Rattle.std.specs.Prelude.{◌≡◌, IfOk, map, option_map};
 ghost use Rattle.json_words.specs.ReadsAs.{ReadsAs};
 ghost use Rattle.schema_types.specs.Views.{raw_view};

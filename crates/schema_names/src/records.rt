@@ -52,8 +52,8 @@ pub(crate) fn find_common(
     }
 }
 
-/// Returns whether a type that does not name a declared common type is of a form other than a record; `false` for an
-/// undeclared name, which is another error.
+/// Returns whether a type that does not name a declared common type is of a form other than a record. For an undeclared
+/// name, which is another error, the result is `false` unless the form is `Entity`.
 fn is_no_record(
     alloc: Global,
     names: &Names,
@@ -153,7 +153,7 @@ fn add_non_records(
     Ok(())
 }
 
-/// Adds the common types that, by `known`, are not records, and returns whether there was one.
+/// Adds the common types that, by `known`, are not records. Returns whether it added any.
 fn has_added_non_record(
     alloc: Global,
     names: &Names,

@@ -19,14 +19,14 @@ action_uid type_name id = record { type_name = type_name; id = id }
 abbrev pub declared_action : (EntityUid → Bool) → List ℕ → List ℕ → Option EntityUid
 declared_action is_action t id = if is_action (action_uid t id) then Some (action_uid t id) else None
 
--- `first_of a b` is `a`, or `b` if `a` is `None`.
+-- `first_of o later` is `o`, or `later` if `o` is `None`.
 abbrev pub first_of : {A : Type 0} → Option A → Option A → Option A
 first_of (Some x) later = Some x
 first_of None later = later
 
--- `action_of_type is_action own w id` is the action to which the type `w`, written in the namespace `own`, and the id
--- `id` refer, if it is declared: an unqualified type is resolved in that namespace, then in the empty one. `is_action`
--- tests for declared actions.
+-- `action_of_type is_action own w id` is the declared action to which the type `w`, written in the namespace `own`, and
+-- the id `id` refer, if there is one. An unqualified type is resolved in `own`, then in the empty namespace.
+-- `is_action` tests for declared actions.
 unfoldable pub action_of_type : (EntityUid → Bool) → Option (List ℕ) → List ℕ → List ℕ → Option EntityUid
 action_of_type is_action own w id =
     if is_qualified w then declared_action is_action w id

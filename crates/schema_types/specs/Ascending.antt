@@ -10,7 +10,8 @@ use Rattle.schema_types.specs.Cedar.{entity, CedarFields, no_fields, field}
 
 -- ---- types as they are written
 
--- `raw_keys rs` are the keys of the fields `rs`; `RawAscends r` holds if the keys of each record in `r` ascend.
+-- `raw_keys rs` are the keys of the fields `rs`. `RawAscends r` holds if the keys of each record in the type `r`
+-- ascend, and `RawFieldsAscend rs` if those in the types of the fields `rs` do.
 abbrev pub raw_keys : RawFields → List (List ℕ)
 raw_keys raw.no_fields = []
 raw_keys (raw.field k r required rs) = k ∷ raw_keys rs
@@ -34,8 +35,8 @@ abbrev mutual
 
 -- ---- types with resolved names
 
--- `qualified_keys rs` are the keys of the fields `rs`; `QualifiedAscends r` holds if the keys of each record in `r`
--- ascend.
+-- `qualified_keys rs` are the keys of the fields `rs`. `QualifiedAscends r` holds if the keys of each record in the
+-- type `r` ascend, and `QualifiedFieldsAscend rs` if those in the types of the fields `rs` do.
 abbrev pub qualified_keys : QualifiedFields → List (List ℕ)
 qualified_keys qualified.no_fields = []
 qualified_keys (qualified.field k r required rs) = k ∷ qualified_keys rs
@@ -58,7 +59,8 @@ abbrev mutual
 
 -- ---- expanded types
 
--- `keys_of fs` are the keys of the fields `fs`; `KeysAscend t` holds if the keys of each record in `t` ascend.
+-- `keys_of fs` are the keys of the fields `fs`. `KeysAscend t` holds if the keys of each record in the type `t` ascend,
+-- and `FieldKeysAscend fs` if those in the types of the fields `fs` do.
 abbrev pub keys_of : CedarFields → List (List ℕ)
 keys_of no_fields = []
 keys_of (field k t required fs) = k ∷ keys_of fs

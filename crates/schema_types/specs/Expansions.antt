@@ -16,7 +16,8 @@ Declares [] q r = ⊥
 Declares (d ∷ ds) q r = ((d.0 ≡ q) × (d.1 ≡ r)) ⊎ Declares ds q r
 
 -- `IsExpansion commons r t` holds if `t` is the expansion of the type `r`, by one case for each form; `commons` are the
--- declared common types. A common type that refers to itself has no expansion, since its expansion would not be finite.
+-- declared common types. If no name has two definitions, a common type that refers to itself has no expansion, since
+-- its expansion would not be finite.
 mutual
   pub data IsExpansion (commons : Declarations) : Qualified → Cedar → Type 0 where
     text : IsExpansion commons qualified.text cedar.text

@@ -1,5 +1,5 @@
--- Defines the theorems on the expansion of a type (it has at most one, and the condition for it), and on the names that
--- a type mentions (they are declared). In this file `commons` are the declared common types, each with its definition.
+-- Defines the theorems that a type has at most one expansion, when it has one, and that the names that a type mentions
+-- are declared. In this file `commons` are the declared common types, each with its definition.
 -- Source: Cedar reference guide 4.0, "Schema JSON format".
 use Rattle.std.specs.Prelude.{◌≡◌, ◌⊎◌, ℕ, List, true, Option, Ok}
 use Rattle.schema_types.specs.Raw.{Raw}
@@ -31,14 +31,14 @@ abbrev pub AreClosed : Declarations → Type 0
 AreClosed commons = (q : List ℕ) (r : Qualified) → Declares commons q r → IsClosed commons r
 
 -- `WhatHasNoExpansionLeadsBack`: conversely, if `AreClosed` holds, a common type without an expansion refers to itself,
--- or leads to a common type that does.
+-- directly or not, or leads to a common type that does.
 abbrev pub WhatHasNoExpansionLeadsBack : Type 0
 WhatHasNoExpansionLeadsBack =
     (commons : Declarations) → AreClosed commons → (q : List ℕ) (r : Qualified) → Declares commons q r
     → HasNoExpansion commons q → (p : List ℕ) × ((q ≡ p) ⊎ Leads commons q p) × Leads commons p p
 
--- `TypesExpandOrSomeCommonDoesNot`: if each name that is used is declared, with one definition, then each type has an
--- expansion, or some common type has none.
+-- `TypesExpandOrSomeCommonDoesNot`: if each common type that is mentioned is declared, with one definition, then each
+-- type has an expansion, or some declared common type has none.
 abbrev pub TypesExpandOrSomeCommonDoesNot : Type 0
 TypesExpandOrSomeCommonDoesNot =
     (commons : Declarations) → AreOnce commons → AreClosed commons → (r : Qualified) → IsClosed commons r

@@ -8,7 +8,8 @@ use Rattle.schema_types.specs.Cedar as cedar
 use Rattle.schema_types.specs.Cedar.{Cedar, CedarFields}
 use Rattle.schema_types.specs.Expansions.{Declarations, Declares}
 
--- `Mentions r q` holds if the common type `q` is mentioned in `r`.
+-- `Mentions r q` holds if the common type `q` is mentioned in the type `r`, and `FieldsMention rs q` if it is mentioned
+-- in a type of the fields `rs`.
 abbrev mutual
   pub Mentions : Qualified → List ℕ → Type 0
   Mentions qualified.text q = ⊥
@@ -25,7 +26,8 @@ abbrev mutual
   FieldsMention qualified.no_fields q = ⊥
   FieldsMention (qualified.field k r b rs) q = Mentions r q ⊎ FieldsMention rs q
 
--- `MentionsEntity r q` holds if the entity type `q` is mentioned in `r`.
+-- `MentionsEntity r q` holds if the entity type `q` is mentioned in the type `r`, and `FieldsMentionEntity rs q` if it
+-- is mentioned in a type of the fields `rs`.
 abbrev mutual
   pub MentionsEntity : Qualified → List ℕ → Type 0
   MentionsEntity qualified.text q = ⊥
@@ -42,7 +44,8 @@ abbrev mutual
   FieldsMentionEntity qualified.no_fields q = ⊥
   FieldsMentionEntity (qualified.field k r b rs) q = MentionsEntity r q ⊎ FieldsMentionEntity rs q
 
--- `NamesEntity t q` holds if the entity type `q` is mentioned in the expanded type `t`.
+-- `NamesEntity t q` holds if the entity type `q` is mentioned in the expanded type `t`, and `FieldsNameEntity ts q` if
+-- it is mentioned in a type of the fields `ts`.
 abbrev mutual
   pub NamesEntity : Cedar → List ℕ → Type 0
   NamesEntity cedar.text q = ⊥
@@ -62,7 +65,7 @@ abbrev mutual
 abbrev pub IsClosed : Declarations → Qualified → Type 0
 IsClosed commons r = (q : List ℕ) → Mentions r q → (s : Qualified) × Declares commons q s
 
--- `Leads commons p q` holds if one or more steps lead from the common type `p` to `q`: a step leads from a common type
+-- `Leads commons p q` holds if one or more steps lead from the common type `p` to `q`. A step leads from a common type
 -- to one that its declaration mentions.
 pub data Leads (commons : Declarations) : List ℕ → List ℕ → Type 0 where
   step : (p q : List ℕ) (r : Qualified) → Declares commons p r → Mentions r q → Leads commons p q

@@ -34,8 +34,7 @@ unfoldable pub as_declared : (List ℕ → Bool) → List ℕ → Option (List �
 as_declared declared w = if declared w then Some w else None
 
 -- `found declared own w` is the full name of the declaration that `w`, written in the namespace `own`, means, if there
--- is one: an unqualified name is resolved in that namespace, then in the empty one. `declared` tests for declared
--- names.
+-- is one. An unqualified name is resolved in `own`, then in the empty namespace. `declared` tests for declared names.
 unfoldable pub found : (List ℕ → Bool) → Option (List ℕ) → List ℕ → Option (List ℕ)
 found declared own w =
     if is_qualified w then as_declared declared w else
@@ -61,8 +60,8 @@ abbrev pub or_common : Option (List ℕ) → Option Qualified → Option Qualifi
 or_common (Some q) later = Some (qualified.common q)
 or_common None later = later
 
--- `any_named s own w` is the type that `w`, written in the namespace `own`, means, if there is one: a common type of
--- `s`, else an entity type of `s`, else a primitive or extension type.
+-- `any_named s own w` is the type that `w`, written in the namespace `own`, means, if there is one. A common type of
+-- `s` takes precedence over an entity type of `s`, and that over a primitive or extension type.
 unfoldable pub any_named : Scope → Option (List ℕ) → List ℕ → Option Qualified
 any_named s own w = or_common (found s.commons own w) (or_entity (found s.entities own w) (built_in w))
 

@@ -6,7 +6,7 @@ use Rattle.values.specs.Names.{uid_cmp}
 use Rattle.schema_types.specs.declared.names.Names.{Names}
 use Rattle.schema_types.specs.Names.{Scope}
 
--- `scope_of n` are the tests of the full names that `n` declares.
+-- `scope_of n` tests for the full names of the common types and entity types that `n` declares.
 abbrev pub scope_of : Names → Scope
 scope_of n = record { commons = λ q. contains_text n.commons q; entities = λ q. contains_text n.entities q }
 

@@ -43,7 +43,7 @@ is_false true = false
 is_false false = true
 
 -- `closed_in o` checks that a record allows no further attributes: `o`, the record's value at `additionalAttributes`,
--- is absent or false.
+-- is absent or false. Its error is `BadShape`.
 abbrev pub closed_in : Option Data → Result ⊤ SchemaFault
 closed_in o = do
   more ← truth_or false o

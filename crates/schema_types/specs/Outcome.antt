@@ -35,14 +35,17 @@ pub record IsLarge (commons : Declarations) (r : Qualified) : Type 0 where
 
 -- ---- errors
 
--- `CommonsRefused commons f` holds if `f` is the error of expanding the common types: one of them has no expansion.
+-- `CommonsRefused commons f` holds if `f` is the error of expanding the common types: `TypeCycle`, since one of them
+-- has no expansion.
 pub data CommonsRefused (commons : Declarations) : SchemaFault → Type 0 where
   cycle : SomeHasNoExpansion commons → CommonsRefused commons TypeCycle
 
--- `SizesRefused commons f` holds if `f` is the error of the sizes of the common types: some expansion is too large.
+-- `SizesRefused commons f` holds if `f` is the error of the sizes of the common types: `TypeTooLarge`, since the
+-- expansion of one of them is too large.
 pub data SizesRefused (commons : Declarations) : SchemaFault → Type 0 where
   large_common : SomeIsTooLarge commons → SizesRefused commons TypeTooLarge
 
--- `TypeRefused commons r f` holds if `f` is the error of expanding the type `r`: its expansion is too large.
+-- `TypeRefused commons r f` holds if `f` is the error of expanding the type `r`: `TypeTooLarge`, since its expansion is
+-- too large.
 pub data TypeRefused (commons : Declarations) (r : Qualified) : SchemaFault → Type 0 where
   large_type : IsLarge commons r → TypeRefused commons r TypeTooLarge

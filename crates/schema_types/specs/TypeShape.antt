@@ -42,14 +42,15 @@ reserved_type w =
     if bytes_eq w (codes "__cedar::ipaddr") then Some raw.ipaddr else
     if bytes_eq w (codes "__cedar::decimal") then Some raw.decimal else None
 
--- `or_path o w` is the type in `o`, or the type with the unresolved name `w` if `o` is `None`.
+-- `or_path o w` is the type in `o`. If `o` is `None`, it is the type with the unresolved name `w`, or `BadShape` if `w`
+-- is not a Path.
 abbrev pub or_path : Option Raw → List ℕ → Result Raw SchemaFault
 or_path (Some t) w = Ok t
 or_path None w = do
   n ← type_name w
   Ok (raw.entity_or_common n)
 
--- `entity_or_common w` is the type with the name `w` at an `EntityOrCommon`, before it is resolved.
+-- `entity_or_common w` is the type with the name `w` at an `EntityOrCommon`, before it is resolved, or `BadShape`.
 abbrev pub entity_or_common : List ℕ → Result Raw SchemaFault
 entity_or_common w = or_path (reserved_type w) w
 
@@ -102,7 +103,7 @@ formed is_attribute d element fields = do
   by_form (form_named w) w d element fields
 
 -- `required_in d` is whether the attribute `d` is required: its boolean at the key `required`, true if the key is
--- missing, or `BadShape` for another value.
+-- missing or null, or `BadShape` for another value.
 abbrev pub required_in : Data → Result Bool SchemaFault
 required_in d = truth_or true (optional (codes "required") d)
 

@@ -25,7 +25,7 @@ pub enum CedarType {
     Ipaddr,
     /// A set of values of one type.
     Set(Shared<CedarType>),
-    /// Each key with its type, and whether it is required.
+    /// A record: each key with its type, and whether it is required.
     Record(Shared<Items<(Text, CedarType, bool)>>),
     /// Entities of one type.
     Entity(TypeName),

@@ -59,7 +59,8 @@ pub fn form_named(word: &str) -> Form
     }
 }
 
-/// Returns whether a value has only keys that its form allows; only an attribute may have `required`.
+/// Returns whether a value of the form `form` has only keys that this form allows. Only an attribute may have
+/// `required`.
 pub(crate) fn has_keys_of(value: &Value, is_attribute: bool, form: Form) -> bool
     ensures { result ≡ has_only (keys_of is_attribute form) (view value.now) }
 {

@@ -45,8 +45,8 @@ pub(crate) fn truth_or(missing: bool, value: Option<&Value>) -> Result<bool, Sch
     }
 }
 
-/// Checks that a record allows no further attributes: its `additionalAttributes` is absent or `false`. The error is
-/// `BadShape` (21).
+/// Checks that a record allows no further attributes: `additional`, its value at `additionalAttributes`, is `None` or
+/// `false`. The error is `BadShape` (21).
 pub(crate) fn demand_closed(additional: Option<&Value>) -> Result<(), SchemaFault>
     ensures { AlwaysReadsAs (λ u. tt) result (closed_in (option_map (λ v. view v.now) additional.entry)) }
 {

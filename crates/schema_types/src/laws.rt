@@ -17,14 +17,14 @@ pub fn cycles_have_no_expansion()
     ensures { CyclesHaveNoExpansion }
 {}
 
-/// Proves that a common type without an expansion refers to itself or leads to one that does, if all names are
-/// declared. No-op.
+/// Proves that a common type without an expansion refers to itself, directly or not, or leads to one that does, if each
+/// common type that a declaration mentions is declared. No-op.
 pub fn what_has_no_expansion_leads_back()
     ensures { WhatHasNoExpansionLeadsBack }
 {}
 
-/// Proves that, if each name that is used is declared with one definition, each type has an expansion, or some common
-/// type has none. No-op.
+/// Proves that, if each common type that is mentioned is declared, with one definition, each type has an expansion, or
+/// some declared common type has none. No-op.
 pub fn types_expand_or_some_common_does_not()
     ensures { TypesExpandOrSomeCommonDoesNot }
 {
@@ -43,8 +43,8 @@ pub fn written_entities_are_named()
     ensures { WrittenEntitiesAreNamed }
 {}
 
-/// Proves that the keys of each record ascend strictly: in parsed JSON, in the types that it describes, in these with
-/// resolved names, and in their expansions. No-op.
+/// Proves that the keys of each record ascend strictly: in parsed JSON, in the types that it describes, and in these
+/// types with resolved names. If the keys in each declared common type ascend, so do those in the expansions. No-op.
 pub fn keys_ascend()
     ensures json { JsonAscends }
     ensures stated { StatedTypesAscend }

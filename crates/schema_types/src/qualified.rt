@@ -17,7 +17,7 @@ pub enum QualifiedType {
     Ipaddr,
     /// A set of values of one type.
     Set(Box<QualifiedType>),
-    /// Each key with its type, and whether it is required.
+    /// A record: each key with its type, and whether it is required.
     Record(Vec<(String, QualifiedType, bool)>),
     /// Entities of the type with this full name.
     Entity(TypeName),

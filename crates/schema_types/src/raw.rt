@@ -17,12 +17,12 @@ pub enum RawType {
     Ipaddr,
     /// A set of values of one type.
     Set(Box<RawType>),
-    /// Each key with its type, and whether it is required.
+    /// A record: each key with its type, and whether it is required.
     Record(Vec<(String, RawType, bool)>),
     /// Entities of the type with this name.
     Entity(TypeName),
     /// The common type with this name.
     Common(TypeName),
-    /// A name that may be a common type, an entity type, or a primitive or extension type.
+    /// A name that may mean a common type, an entity type, or a primitive or extension type.
     EntityOrCommon(TypeName),
 }

@@ -16,7 +16,7 @@ use serde_json::{Map, Value};
 use std::alloc::Global;
 use values::{TypeName, path_tests_are_exact};
 
-/// Returns the type name of a string, or `BadShape` (21) if it is not a Path.
+/// Returns the type name that a string denotes, or `BadShape` (21) if the string is not a Path.
 pub fn read_type_name(alloc: Global, word: &str) -> Result<TypeName, SchemaFault>
     ensures { ReadsAs SchemaFault.NoMemory (λ t. t) result (type_name word.now) }
 {
@@ -61,8 +61,8 @@ fn reserved_type(word: &str) -> Option<RawType>
     None
 }
 
-/// Returns the type with this name at an `EntityOrCommon`, before it is resolved; `BadShape` (21) if the name is not a
-/// Path and not one of the six with the prefix `__cedar::`.
+/// Returns the type with this name at an `EntityOrCommon`, before the name is resolved; `BadShape` (21) if the name is
+/// neither a Path nor one of the six with the prefix `__cedar::`.
 fn entity_or_common(alloc: Global, word: &str) -> Result<RawType, SchemaFault>
     ensures { ReadsAs SchemaFault.NoMemory raw_view result (entity_or_common word.now) }
 {

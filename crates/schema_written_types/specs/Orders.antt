@@ -1,4 +1,4 @@
--- Defines orders of the nodes of a graph in which each node comes after its successors.
+-- Defines orders of a graph's nodes in which each node comes after its successors.
 -- Source: topological order by depth-first search; Tarjan, "Edge-disjoint spanning trees and depth-first search",
 -- 1976.
 -- Rules of this product: there may be cycles; a node need not come after a successor that leads back to it.
@@ -42,8 +42,8 @@ times a (b ∷ bs) = one_if_same a b + times a bs
 abbrev pub ComesAfterTargets : Graph → List ℕ → ℕ → Type 0
 ComesAfterTargets g before a = (b : ℕ) → Contains (ends_of g a) b → b < length g → Contains before b ⊎ Leads g b a
 
--- `ComeAfterSuccessors g before rest` holds if each node of `rest` satisfies `ComesAfterTargets` for `before` with the
--- nodes of `rest` that precede it.
+-- `ComeAfterSuccessors g before rest` holds if `ComesAfterTargets` holds for each node of `rest`, with `before` and the
+-- nodes of `rest` that precede it as the earlier nodes.
 abbrev pub ComeAfterSuccessors : Graph → List ℕ → List ℕ → Type 0
 ComeAfterSuccessors g before [] = ⊤
 ComeAfterSuccessors g before (a ∷ rest) = ComesAfterTargets g before a × ComeAfterSuccessors g (before ++ a ∷ []) rest

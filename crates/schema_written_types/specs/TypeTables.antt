@@ -27,8 +27,8 @@ pub record TableEntry : Type 0 where
 abbrev pub TypeTable : Type 0
 TypeTable = List ℕ → Option TableEntry
 
--- `IsEntryFor commons q k` holds if the common type `q` has an expansion, and the entry `k` has the size of the
--- expansion, and the expansion itself if and only if it is not too large.
+-- `IsEntryFor commons q k` holds if the common type `q` has an expansion, and the entry `k` has its size. The entry has
+-- the expansion itself if and only if the expansion is not too large.
 pub record IsEntryFor (commons : Declarations) (q : List ℕ) (k : TableEntry) : Type 0 where
   pub type : Cedar
   pub is_written : IsExpansion commons (common q) type

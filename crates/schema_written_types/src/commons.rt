@@ -1,4 +1,4 @@
-//! The common types of a schema, expanded.
+//! Expands the common types of a schema.
 ghost use Rattle.std.specs.Prelude.{◌≡◌, ◌≢◌, ◌<◌, ◌^◌, OnOk, IfOk, MatchResult, map, option_map, is_some, Some, false};
 ghost use Rattle.std.specs.Prelude.{true};
 ghost use Rattle.std.specs.BTreeMap.{btree_map_len};
@@ -21,8 +21,8 @@ use schema_types::{CedarType, QualifiedType, ResolvedCommon, SchemaFault};
 use std::alloc::Global;
 use std::collections::BTreeMap;
 
-/// Returns the expansion of a type, given the size of the expansion. If it is too large, returns `None` and builds
-/// nothing.
+/// Returns the expansion of a type, given the size of the expansion. If the size is not within the limits, returns
+/// `None` and builds nothing.
 #[tactic(auto, using(crate::proofs::Sizes::counted))]
 fn write_within(
     alloc: Global,
@@ -92,7 +92,7 @@ fn add_in_order(
     Ok(())
 }
 
-/// Adds an entry for each declaration that is ready.
+/// Adds, in one pass, an entry for each declaration that is ready when the pass reaches it.
 fn round(alloc: Global, commons: &[ResolvedCommon], table: &mut Table) -> Result<(), NoMemory>
     ensures { OnOk result (Rounds (map resolved_common_view commons.now) table.old table.new) }
 {
@@ -102,7 +102,7 @@ fn round(alloc: Global, commons: &[ResolvedCommon], table: &mut Table) -> Result
     Ok(())
 }
 
-/// Adds an entry for each declaration that is ready, and returns whether there was one.
+/// Adds entries in one pass, as [`round`] does, and returns whether any was added.
 fn has_grown(alloc: Global, commons: &[ResolvedCommon], table: &mut Table) -> Result<bool, NoMemory>
     ensures rounds { OnOk result (Rounds (map resolved_common_view commons.now) table.old table.new) }
     ensures grown { IfOk result (λ b. b ≡ true → btree_map_len table.old < btree_map_len table.new) }
@@ -141,7 +141,8 @@ fn are_all_known(commons: &[ResolvedCommon], table: &Table) -> bool
 ///
 /// # Errors
 ///
-/// - `TypeCycle` (23): a common type has no expansion; if all names are declared, some common type refers to itself.
+/// - `TypeCycle` (23): a common type has no expansion. If all names that the common types mention are declared, some
+///   common type refers to itself, directly or through others.
 /// - `NoMemory` (1): an allocation failed; possible at any point.
 pub fn write_commons(alloc: Global, commons: &[ResolvedCommon]) -> Result<Table, SchemaFault>
     ensures { MatchResult result (λ table. AreWritten (map resolved_common_view commons.now) (type_table table))

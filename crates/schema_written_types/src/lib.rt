@@ -1,5 +1,5 @@
-//! The expansion of a schema's types: their sizes, and the expanded types; and an order of a graph's nodes in which
-//! each node comes after its successors.
+//! Expands the types of a schema: replaces each common type by its definition, and computes the sizes of the results.
+//! Also finds an order of a graph's nodes in which each node comes after its successors.
 #![tactic(auto)]
 
 mod commons;

@@ -1,5 +1,5 @@
-//! An order of common types in which each comes after those that it mentions, so that one round expands each that has
-//! an expansion.
+//! An order of common types in which each comes after those that it mentions, except those that lead back to it. So, if
+//! no name is declared twice, one pass expands each type that has an expansion.
 ghost use Rattle.std.specs.Prelude.{◌≡◌, ◌++◌, ℕ, List, IfOk, OnOk, map};
 ghost use Rattle.std.specs.BTreeMap.{get_by_text};
 ghost use Rattle.schema_written_types.specs.Orders.{graph_of, IsSuccessorsFirst};
@@ -114,8 +114,9 @@ fn uses_of(
     Ok(edges)
 }
 
-/// Returns the indices of the common types, without duplicates, each after those of the types that it mentions, except
-/// those that lead back to it. In this order one round expands each type that has an expansion.
+/// Returns the indices of the common types, without duplicates. The index of a type comes after those of the types that
+/// it mentions, except types that lead back to it. If no name is declared twice, one pass in this order expands each
+/// type that has an expansion.
 pub(crate) fn order_of(alloc: Global, commons: &[ResolvedCommon]) -> Result<Vec<usize>, NoMemory>
     ensures { IfOk result (λ order. IsSuccessorsFirst (uses (map resolved_common_view commons.now)) order.items) }
 {

@@ -1,4 +1,4 @@
-//! An order of the nodes of a graph in which each node comes after its successors.
+//! An order of a graph's nodes in which each node comes after its successors.
 ghost use Rattle.std.specs.Prelude.{◌≡◌, ◌∷◌, ◌<◌, [], true, false, length, replicate, slice_set, IfOk, OnOk};
 ghost use Rattle.schema_written_types.specs.Orders.{graph_of, ends_of as ends_at, IsSuccessorsFirst};
 ghost use Rattle.schema_written_types.specs.inner.Ordering.{is_new, entered, IsWalk, WalksOn, KeepsSeen, one_if_seen};
@@ -78,7 +78,8 @@ fn go_on(
     Ok(())
 }
 
-/// Appends the nodes that are reachable from a node and were not seen before, each after its successors.
+/// Appends the nodes that are reachable from `root` and were not seen before, each after its successors except those
+/// that lead back to it.
 fn add_from(
     alloc: Global,
     edges: &[Vec<usize>],

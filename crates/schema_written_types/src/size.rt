@@ -23,7 +23,7 @@ fn leaf() -> Size
     Size { parts: 1, deep: 1 }
 }
 
-/// Returns the size of no fields.
+/// Returns the size of an empty list of fields.
 fn nothing() -> Size
     ensures { size_view result ≡ none_of }
 {

@@ -1,4 +1,4 @@
-//! The expansion of any type, by the table of common types.
+//! Expands any type, by the table of common types.
 ghost use Rattle.std.specs.Prelude.{◌≢◌, MatchResult};
 ghost use Rattle.schema_types.specs.QualifiedViews.{qualified_view};
 ghost use Rattle.schema_types.specs.CedarViews.{cedar_view};

@@ -1,5 +1,5 @@
--- Defines the key of a policy in the index: an entity that its scope names for the principal, or else for the
--- resource.
+-- Defines the key of a policy in the index: the entity that its scope names for the principal, or else for the
+-- resource, if any; and the candidate policies of a request, those whose key matches the request.
 -- Source: Cedar reference guide 4.0, "Policy scope", for the meaning of a scope.
 -- Rules of this product: the principal comes first; a part names an entity by `==` or `in`, and not by `is` alone; a
 -- scope that names no entity has a key that matches every request.
@@ -35,7 +35,7 @@ entity_named (Is t) = None
 entity_named (IsOfTypeIn t e) = Some e
 
 -- `key_by p r` is the key of a policy whose scope names the entity in `p` for the principal and that in `r` for the
--- resource, where `None` means no entity: the key of `p`, else that of `r`, else `Always`.
+-- resource, where `None` means no entity: `Principal` of the first, else `Resource` of the second, else `Always`.
 abbrev pub key_by : Option EntityUid → Option EntityUid → IndexKey
 key_by (Some e) r = Principal e
 key_by None (Some e) = Resource e
@@ -45,7 +45,7 @@ key_by None None = Always
 abbrev pub index_key : Scope → IndexKey
 index_key scope = key_by (entity_named scope.principal) (entity_named scope.resource)
 
--- `IsMet parents q key` holds if the request `q` matches `key` in the hierarchy `parents`.
+-- `IsMet parents q key` holds if `key` matches the request `q` in the hierarchy `parents`.
 abbrev pub IsMet : Parents → Request → IndexKey → Type 0
 IsMet parents q Always = Unit {0}
 IsMet parents q (Principal e) = IsIn parents q.principal e

@@ -14,19 +14,19 @@ use std::alloc::Global;
 use std::collections::BTreeMap;
 use values::{EntityUid, SharedText, TypeName};
 
-/// The buckets of the entities of one type, by their ids.
+/// The buckets of the entities of one type, by the id of the entity.
 pub(crate) type TypeBuckets = BTreeMap<SharedText, BTreeMap<String, Policy>>;
 
-/// The buckets of entities, by their types and then by their ids: a look-up finds the type first, and then compares ids
-/// alone.
+/// The buckets of entities, by the type of the entity and then by its id: a look-up finds the type first, and then
+/// compares ids alone.
 pub(crate) type EntityBuckets = BTreeMap<TypeName, TypeBuckets>;
 
 /// Policies by id, in a bucket for each key.
 #[derive(Drop)]
 pub(crate) struct Buckets {
-    /// The policies whose scope names no entity for the principal or the resource.
+    /// The policies whose scope names an entity neither for the principal nor for the resource.
     pub(crate) always: BTreeMap<String, Policy>,
-    /// The policies by the entity that their scope names for the principal.
+    /// The policies whose scope names an entity for the principal, by that entity.
     pub(crate) principals: EntityBuckets,
     /// The other policies, by the entity that their scope names for the resource.
     pub(crate) resources: EntityBuckets,
@@ -63,7 +63,7 @@ fn put_named(
     Ok(())
 }
 
-// Returns the buckets of a type, with one bucket for the entity's id (`entity`), which has one policy.
+// Returns the buckets of a type: a single bucket, that of the entity with the id `entity`. The bucket has one policy.
 fn only(
     alloc: Global,
     entity: &SharedText,
@@ -97,8 +97,8 @@ fn put_under(
     Ok(())
 }
 
-// Removes the policy of an id from the bucket of an entity, given the buckets of the entity's type. Returns whether
-// this leaves an empty bucket.
+// Removes the policy of an id from the bucket of an entity, given the buckets of the entity's type. Returns whether the
+// entity then has an empty bucket.
 fn remove_from_bucket(named: &mut TypeBuckets, entity: &SharedText, id: &str) -> bool
     ensures turns { IsSetAtId entity.now id.now None named.old named.new }
     ensures none { IsTrue result → (q : List ℕ) → policy_of_entity_id named.new entity.now q ≡ None }
@@ -122,8 +122,8 @@ fn take_named(named: &mut TypeBuckets, entity: &SharedText, id: &str)
     }
 }
 
-// Removes the policy of an id from the bucket of an entity. Returns whether the entry of the entity's type then has
-// no buckets.
+// Removes the policy of an id from the bucket of an entity. Returns whether the entity's type then has an entry without
+// buckets.
 fn remove_from_type(under: &mut EntityBuckets, uid: &EntityUid, id: &str) -> bool
     ensures turns { IsSetAtUid uid.now id.now None under.old under.new }
     ensures none { IsTrue result → (u : PlainUid) (q : List ℕ) → IsTrue (is_text uid.now.type_name u.type_name)

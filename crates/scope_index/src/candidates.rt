@@ -1,4 +1,4 @@
-//! The candidate policies of a request: those in the buckets of the keys that it matches.
+//! The candidate policies of a request: those in the buckets of the keys that match it.
 ghost use Rattle.std.specs.Prelude.{◌≡◌, ◌↔◌, ◌⊎◌, Some, Contains, IfOk, OnOk};
 ghost use Rattle.std.specs.Option.{option_copied};
 ghost use Rattle.std.specs.List.Sorted.{IsPermutation, IsSortedByKey, IsStrictlySortedBy};
@@ -177,7 +177,7 @@ fn in_order<'a>(found: Vec<(&'a str, &'a Policy)>) -> Vec<(&'a str, &'a Policy)>
     policies
 }
 
-// Returns the policies of a bucket, ascending, in a list with capacity for `FEW` more.
+// Returns the policies of a bucket, ascending by id, in a list with capacity for `FEW` more.
 fn all_of<'a>(
     alloc: Global,
     bucket: &'a BTreeMap<String, Policy>,
@@ -193,7 +193,7 @@ fn all_of<'a>(
     Ok(all)
 }
 
-// Inserts a policy at its position in an ascending list, unless the list has it.
+// Inserts a policy at its position in a list that ascends by id, unless the list has it.
 fn place<'a>(
     all: &mut Vec<(&'a str, &'a Policy)>,
     id: &'a str,
@@ -214,7 +214,7 @@ fn place<'a>(
     }
 }
 
-// Inserts policies at their positions in an ascending list.
+// Inserts policies at their positions in a list that ascends by id, except those that the list has.
 fn place_each<'a>(
     all: &mut Vec<(&'a str, &'a Policy)>,
     policies: &[(&'a str, &'a Policy)],
@@ -237,7 +237,8 @@ fn are_few(others: usize, all: usize) -> bool {
     others <= FEW && others <= all / 4
 }
 
-// Returns the policies of the ascending list `all` and the others, ascending and without duplicates.
+// Returns the policies of both lists, ascending by id and without duplicates. `all` ascends by id; `others` may be in
+// any order.
 fn joined<'a>(
     all: Vec<(&'a str, &'a Policy)>,
     others: &[(&'a str, &'a Policy)],

@@ -66,7 +66,8 @@ fn entry_of(alloc: Global, id: &str, policy: &Policy) -> Result<(String, Policy)
 ///
 /// # Errors
 ///
-/// - `NoMemory`: an allocation failed. The id then has no policy.
+/// - `NoMemory`: an allocation failed, or a count of references to the policy would overflow. The id then has no
+///   policy.
 pub(crate) fn keep(
     alloc: Global,
     kept: &mut BTreeMap<String, Policy>,

@@ -6,14 +6,15 @@ ghost use Rattle.scope_index.specs.Buckets.{represented_key};
 use policy_grammar::{EntityScope, Scope};
 use values::EntityUid;
 
-/// The key of a policy, borrowed from its scope. It selects each request that the scope matches, and possibly others.
+/// The key of a policy, borrowed from its scope. It matches each request of which the scope is true, and possibly
+/// others.
 #[derive(Clone, Copy)]
 pub(crate) enum ScopeKey<'a> {
-    /// Selects every request: the scope names no entity for the principal or for the resource.
+    /// Matches every request: the scope names an entity neither for the principal nor for the resource.
     Always,
-    /// Selects requests whose principal is this entity or a descendant of it.
+    /// Matches the requests whose principal is this entity or a descendant of it.
     Principal(&'a EntityUid),
-    /// Selects requests whose resource is this entity or a descendant of it.
+    /// Matches the requests whose resource is this entity or a descendant of it.
     Resource(&'a EntityUid),
 }
 

@@ -1,4 +1,5 @@
--- Defines what holds in every system at every moment, whatever is delivered, in whatever order and however often.
+-- Defines what holds in every system of sites at every moment, whatever is delivered, in whatever order and however
+-- often.
 -- Source: "Delta state replicated data types" (Almeida, Shoker, Baquero 2018), for deltas in place of states.
 -- Rules of this product: the other promises.
 use Rattle.std.specs.Prelude.{◌≡◌, ℕ, List, slice_get, Some, Ok, Err, Contains}
@@ -31,8 +32,8 @@ module _ (Steps : SiteName → Store → Input → Reply → Store → Type 0) (
   -- `KeepsPromises sites es rs w` holds if each promise below holds in the state `w` of a system of the sites `sites`,
   -- after the events `es` with the replies `rs`.
   pub record KeepsPromises (sites : List SiteName) (es : List Event) (rs : List EventReply) (w : World) : Type 0 where
-    -- No entry is invented: each entry in a store, and each entry in a message, was issued by a local command, whose
-    -- reply has the entry's stamp, at the site that the stamp names.
+    -- No entry is invented: each entry in a store or in a message was issued by a local command at the site that its
+    -- stamp names. The reply to this command has the stamp.
     pub stored : (k : ℕ) (s : Store) → numbered w.stores k ≡ Some s → (u : Update) → Contains (updates s) u
         → WasIssued Issues sites es rs u
     pub sent : (k : ℕ) (m : SentMessage) (us : List Update) → slice_get w.messages k ≡ Some m → Describes m.bytes us
@@ -57,8 +58,8 @@ module _ (Steps : SiteName → Store → Input → Reply → Store → Type 0) (
     pub answered : (k : ℕ) (m : SentSummary) (n : SiteName) (s t : Store) (f : SiteFault)
         → slice_get w.summaries k ≡ Some m → Steps n s (input.Delta m.bytes) (reply.Written (Err f)) t → f ≡ NoMemory
 
-  -- `AlwaysKeepsPromises sites es rs` holds if the promises hold in each state to which the events `es` with the
-  -- replies `rs` lead.
+  -- `AlwaysKeepsPromises sites es rs` holds if the promises hold in each state of the sites `sites` to which the events
+  -- `es` with the replies `rs` lead.
   abbrev pub AlwaysKeepsPromises : List SiteName → List Event → List EventReply → Type 0
   AlwaysKeepsPromises sites es rs = (w : World) → IsWorld Steps sites es rs w → KeepsPromises sites es rs w
 
@@ -75,12 +76,13 @@ module _ (Steps : SiteName → Store → Input → Reply → Store → Type 0) (
 abbrev pub DescribesBy : StatedSchema → List ℕ → List Update → Type 0
 DescribesBy schema bytes us = updates_stated schema.label bytes ≡ Ok us
 
--- `IssuesBy schema d r u` holds if `u` is the update that the operation `d` with the reply `r` got a stamp for.
+-- `IssuesBy schema d r u` holds if `u` is the update that the operation `d` with the reply `r` got a stamp for at a
+-- site of `schema`.
 abbrev pub IssuesBy : StatedSchema → Operation → Reply → Update → Type 0
 IssuesBy schema d r u = Contains (issued_by schema d r) u
 
--- `WorldKeepsPromises schema sites es rs` holds if the promises hold in each state of sites of `schema` to which the
--- events `es` with the replies `rs` lead.
+-- `WorldKeepsPromises schema sites es rs` holds if the promises hold in each state of the sites `sites` of `schema` to
+-- which the events `es` with the replies `rs` lead.
 abbrev pub WorldKeepsPromises : StatedSchema → List SiteName → List Event → List EventReply → Type 0
 WorldKeepsPromises schema sites es rs =
     AlwaysKeepsPromises (Step schema) (DescribesBy schema) (IssuesBy schema) sites es rs

@@ -22,12 +22,12 @@ abbrev pub first_sites : ℕ → List SiteName
 first_sites zero = []
 first_sites (suc n) = first_sites n ++ five_digits (suc n) ∷ []
 
--- `numbered xs k` is the item of `xs` with the number `k`, from 1.
+-- `numbered xs k` is the item of `xs` with the number `k`, from 1, if there is one.
 abbrev pub numbered : {X : Type 0} → List X → ℕ → Option X
 numbered xs zero = None
 numbered xs (suc k) = slice_get xs k
 
--- `set_numbered xs k x` is `xs` with `x` in place of the item with the number `k`, from 1.
+-- `set_numbered xs k x` is `xs` with `x` in place of the item with the number `k`, from 1, if there is one.
 abbrev pub set_numbered : {X : Type 0} → List X → ℕ → X → List X
 set_numbered xs zero x = xs
 set_numbered xs (suc k) x = set xs k x
@@ -49,7 +49,7 @@ pub record SentMessage : Type 0 where
   pub since : Option SentSummary
 
 -- A `World` is the state of a system: the store of each site, in the order of the sites, and the messages and summaries
--- that were made so far, in the order in which they were made.
+-- made so far, in the order in which they were made.
 pub record World : Type 0 where
   pub stores : List Store
   pub messages : List SentMessage

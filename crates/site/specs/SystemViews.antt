@@ -30,8 +30,8 @@ pub record IsViewOf (schema : StatedSchema) (sites : List SiteName) (seen : List
   pub messages : ms ≡ map (λ m. m.bytes) w.messages
   pub summaries : ss ≡ map (λ m. m.bytes) w.summaries
 
--- `IsRunTo schema sites es rs seen messages summaries` holds if the sites `seen` and the bytes `messages` and
--- `summaries` are those of a state to which the events `es` with the replies `rs` lead.
+-- `IsRunTo schema sites es rs seen messages summaries` holds if the events `es` with the replies `rs` lead the sites of
+-- `schema` named `sites`, empty at first, to a state that `seen`, `messages` and `summaries` represent (`IsViewOf`).
 pub record IsRunTo (schema : StatedSchema) (sites : List SiteName) (es : List Event) (rs : List EventReply)
     (seen : List SiteView) (messages summaries : List (List ℕ)) : Type 0 where
   pub world : World

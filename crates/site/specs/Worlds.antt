@@ -1,7 +1,7 @@
 -- Defines the runs of a system of sites: each event is one step of one site. A message or summary that the step makes
--- is added to those of the system, and may be delivered to any site, again and in any order.
+-- is added to those of the system, and may be delivered to any site, any number of times and in any order.
 -- Rules of this product: an event that names a site, a message or a summary that does not exist gets the reply
--- `Unknown` (30, bad shape) and changes nothing; there is no promise of time or order, or that a message is delivered.
+-- `Unknown` (30, bad shape) and changes nothing. There is no promise of time or order, or that a message is delivered.
 use Rattle.std.specs.Prelude.{◌≡◌, ℕ, List, [], ◌∷◌, ◌++◌, length, map, slice_get}
 use Rattle.std.specs.Prelude.{Option, Some, None, option_map, Ok, Err}
 use Rattle.std.specs.Str.{IsUtf8}
@@ -48,7 +48,8 @@ input_of w d =
     (λ k. option_map (λ m. m.bytes) (slice_get w.summaries k)) d
 
 -- `answer_among m n d r` is the event's reply for the operation `d` with the site's reply `r`, where `m` messages and
--- `n` summaries were made before: the number of the message or summary that was made, else the site's reply.
+-- `n` summaries were made before. For an operation that makes a message or summary, it has the number of the one made,
+-- or the error; otherwise it is the site's reply.
 abbrev pub answer_among : ℕ → ℕ → Operation → Reply → EventReply
 answer_among m n operation.Summary (reply.Written (Ok bytes)) = Summary (Ok n)
 answer_among m n operation.Summary (reply.Written (Err f)) = Summary (Err f)
@@ -88,8 +89,8 @@ message_made w d s r = map (λ bytes. record { bytes = bytes; whole = s; since =
 abbrev pub summary_made : ℕ → Operation → Store → Reply → List SentSummary
 summary_made i d s r = map (λ bytes. record { bytes = bytes; site = i; store = s }) (summary_bytes d r)
 
--- `after w e s r t` is the state after the event `e` in the state `w`: the site of `e`, which had the store `s` and
--- replied `r`, now has the store `t`, and a message or summary that the event made is added.
+-- `after w e s r t` is the state after the event `e` in the state `w`, where the site of `e` had the store `s`, replied
+-- `r`, and now has the store `t`. A message or summary that the event made is added.
 abbrev pub after : World → Event → Store → Reply → Store → World
 after w e s r t = record {
   stores = set_numbered w.stores e.site t;
@@ -146,7 +147,8 @@ RepliesDetermineWorlds = (schema : StatedSchema) (sites : List SiteName) (es : L
 -- ---- what was issued
 
 -- `WasIssued Issues sites es rs u` holds if one of the events `es`, with its reply in `rs`, issued the update `u` at
--- the site that the stamp of `u` names. `Issues d r u` says that the operation `d` with the reply `r` issues `u`.
+-- the one of `sites` that the stamp of `u` names. `Issues d r u` holds if the operation `d` with the reply `r` issues
+-- `u`.
 pub record WasIssued (Issues : Operation → Reply → Update → Type 0) (sites : List SiteName) (es : List Event)
     (rs : List EventReply) (u : Update) : Type 0 where
   pub place : ℕ
@@ -157,8 +159,8 @@ pub record WasIssued (Issues : Operation → Reply → Update → Type 0) (sites
   pub named : numbered sites event.site ≡ Some u.1.site
   pub issues : Issues event.operation reply u
 
--- `issued_by schema d r` is the list of the update that the operation `d` with the reply `r` got a stamp for, if `d` is
--- a local command that got one.
+-- `issued_by schema d r` is the list of the update that the operation `d` with the reply `r` got a stamp for at a site
+-- of `schema`. It is empty if `d` is not a local command, or got no stamp.
 abbrev pub issued_by : StatedSchema → Operation → Reply → List Update
 issued_by schema (operation.PutPolicy id text) r = took_by schema (input.PutPolicy id text) r
 issued_by schema (operation.DeletePolicy id) r = took_by schema (input.DeletePolicy id) r

@@ -43,8 +43,8 @@ pub enum EventReply {
     Unknown,
     /// The site's reply to a command, a request or a delivered message.
     Replied(Reply),
-    /// The number of the message that was made, from 0; or why none was made.
+    /// The number of the message that was made, from 0; or the error if none was made.
     Message(Result<usize, SiteFault>),
-    /// The number of the summary that was made, from 0; or why none was made.
+    /// The number of the summary that was made, from 0; or the error if none was made.
     Summary(Result<usize, SiteFault>),
 }

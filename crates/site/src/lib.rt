@@ -1,7 +1,7 @@
 //! A system of sites: sites of one schema that exchange messages.
 //!
-//! Each message and summary that was made may be delivered to any site, again and in any order. Theorems prove what
-//! holds in all systems at every moment. [`simulate`] runs a system event by event.
+//! Each message and summary that was made may be delivered to any site, any number of times and in any order. Theorems
+//! prove what holds in all systems at every moment. [`simulate`] runs a system event by event.
 #![tactic(auto)]
 
 mod event;

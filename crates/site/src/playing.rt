@@ -1,4 +1,4 @@
-//! The run of a system of sites, event by event.
+//! Runs a system of sites, event by event.
 ghost use Rattle.site_steps.specs.schema.Schemas.{StatedSchema};
 ghost use Rattle.site.specs.Sites.{SiteName, start};
 ghost use Rattle.std.specs.Prelude.{◌≡◌, List, ◌++◌, IfOk, OnOk, length, option_map};
@@ -13,7 +13,7 @@ use plain::{Items, NoMemory};
 use site_steps::{Input, Reply, Scratch, Site, answer};
 use std::alloc::Global;
 
-/// Proves that the strings of an operation are UTF-8. No-op.
+/// Proves that the id and the text of a policy that an operation puts are UTF-8. No-op.
 pub(crate) fn has_texts(operation: &Operation)
     ensures { HasTexts operation.now }
 {

@@ -73,7 +73,7 @@ fn new_sites(alloc: Global, schema: &Shared<Schema>, count: u16) -> Result<Vec<S
 /// # Errors
 ///
 /// - `NoMemory`: an allocation failed for the sites, or to store a message, a summary or a reply. Any other failed
-///   allocation is reported in the reply to its event.
+///   allocation is reported in the reply to its event, or only makes a cache absent or unused.
 pub fn simulate(
     alloc: Global,
     schema: &Shared<Schema>,

@@ -1,4 +1,4 @@
--- Defines the calls of a site over bytes, and the input that each asks for.
+-- Defines the calls of a site over bytes, and what each asks of the site.
 -- Source: docs/formats.md, "Routes of a site".
 -- Rules of this product: bytes that are not UTF-8 are not an id.
 use Rattle.std.specs.Prelude.{ℕ, List, option_and_then, if◌then◌else◌}

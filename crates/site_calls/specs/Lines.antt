@@ -25,7 +25,7 @@ put_line s impossible = compact_text (object
 unfoldable pub taken_line : ℕ → List ℕ
 taken_line count = compact_text (object (member (codes "taken") (number (unsigned count)) no_members))
 
--- `found_json text s` is the text of a policy with its stamp, as JSON.
+-- `found_json text s` is the text `text` of a policy with its stamp `s`, as JSON.
 abbrev pub found_json : List ℕ → Stamp → Data
 found_json text s = object
     (member (codes "count") (number (unsigned s.count))
@@ -37,7 +37,7 @@ found_json text s = object
 unfoldable pub found_line : List ℕ → Stamp → List ℕ
 found_line text s = compact_text (found_json text s)
 
--- `fault_line code place within` is the line of an error with this code, its place, and the code of the inner error:
--- {"error":{"code":30,"place":0,"within":null}}
+-- `fault_line code place within` is the line of an error with the code `code`, the place `place`, and the code `within`
+-- of the inner error: {"error":{"code":30,"place":0,"within":null}}
 abbrev pub fault_line : ℕ → Option ℕ → Option ℕ → List ℕ
 fault_line code place within = error_line (record { code = code; place = place; within = within })

@@ -22,35 +22,35 @@ fault_reply f = (refusal_status (code_of f), fault_line (code_of f) (place_of f)
 abbrev pub status_reply : StatusCode → StatusCode × List ℕ
 status_reply s = (s, fault_line s None None)
 
--- `put_reply r` is the reply to a put of a policy.
+-- `put_reply r` is the reply to a put of a policy with the result `r`.
 abbrev pub put_reply : Result Put SiteFault → StatusCode × List ℕ
 put_reply (Ok put) = (200, put_line put.stamp put.impossible)
 put_reply (Err f) = fault_reply f
 
--- `stamp_reply r` is the reply to a put of an entity, and to a deletion.
+-- `stamp_reply r` is the reply to a put of an entity, or to a deletion, with the result `r`.
 abbrev pub stamp_reply : Result Stamp SiteFault → StatusCode × List ℕ
 stamp_reply (Ok stamp) = (200, stamp_line stamp)
 stamp_reply (Err f) = fault_reply f
 
--- `taken_reply r` is the reply to a message: the number of applied updates. If memory ran out after some updates, the
--- reply is the error of code 1 with the number of applied updates as its place.
+-- `taken_reply r` is the reply to a message with the result `r`: the number of applied updates. If memory ran out at an
+-- update, the reply is the error of code 1 with the number of applied updates as its place.
 abbrev pub taken_reply : Result Taken SiteFault → StatusCode × List ℕ
 taken_reply (Ok (All count)) = (200, taken_line count)
 taken_reply (Ok (Short count)) = (503, fault_line 1 (Some count) None)
 taken_reply (Err f) = fault_reply f
 
--- `answer_reply r` is the reply to a request for a decision.
+-- `answer_reply r` is the reply to a request for a decision with the result `r`.
 abbrev pub answer_reply : Result Answer SiteFault → StatusCode × List ℕ
 answer_reply (Ok answer) = (200, answer_line answer)
 answer_reply (Err f) = fault_reply f
 
--- `found_reply o` is the reply to a query for a policy: the policy's text and stamp, or the error `NotThere` (60) if
--- the policy has no text.
+-- `found_reply o` is the reply to a query for a policy: the policy's text and stamp in `o`, or the error `NotThere`
+-- (60) if `o` is `None`.
 abbrev pub found_reply : Option (List ℕ × Stamp) → StatusCode × List ℕ
 found_reply (Some found) = (200, found_line found.0 found.1)
 found_reply None = fault_reply fault.NotThere
 
--- `message_reply r` is the reply to a query for a state, a summary or a delta: the message.
+-- `message_reply r` is the reply to a query for a state, a summary or a delta: the message in `r`, or its error.
 abbrev pub message_reply : Result (List ℕ) SiteFault → StatusCode × List ℕ
 message_reply (Ok bytes) = (200, bytes)
 message_reply (Err f) = fault_reply f

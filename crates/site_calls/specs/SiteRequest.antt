@@ -1,7 +1,7 @@
--- Defines the input of a site that bytes ask for.
+-- Defines what bytes ask of a site: an input, or a reply for which the site is not called.
 -- Source: docs/formats.md, "Routes of a site".
 -- Rules of this product: a policy's id is checked before its text, and the length of a text before whether it is UTF-8;
--- a body that should name an entity and does not has the error `BadShape` (30).
+-- if a body should name an entity and does not, the error is `BadShape` (30).
 use Rattle.std.specs.Prelude.{ℕ, Bool, ◌&&◌, List, length, Option, Some, None, if◌then◌else◌, nat_le}
 use Rattle.std.specs.Str.{is_utf8}
 use Rattle.values.specs.declared.entity_uid.EntityUid.{EntityUid}
@@ -28,8 +28,8 @@ pub data SiteRequest : Type 0 where
 abbrev pub is_policy_id : List ℕ → Bool
 is_policy_id id = nat_le 1 (length id) && nat_le (length id) most_id_bytes
 
--- `not_text id text` is the first error of a policy whose text is not UTF-8: of its id (`BadId`), of its length
--- (`TooLong`), else of its bytes (`BadToken` at 0).
+-- `not_text id text` is the first error of a policy with the id `id` whose text `text` is not UTF-8: of the id
+-- (`BadId`), of the length of the text (`TooLong`), else of its bytes (`BadToken` at 0).
 abbrev pub not_text : List ℕ → List ℕ → ReadFault
 not_text id text =
     if is_policy_id id then if nat_le (length text) most_policy_bytes then BadToken 0 else TooLong else BadId

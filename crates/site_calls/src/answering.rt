@@ -1,4 +1,6 @@
 //! Calls of a site, each answered by a status and a body.
+//!
+//! Each public function requires that `text` has spare capacity for a short line (`LINE_ROOM` bytes).
 ghost use Rattle.std.specs.Prelude.{◌≡◌, ◌≤◌, ◌+◌, ℕ, List, IfOk, vec_len};
 ghost use Rattle.std.specs.Prelude.{option_and_then, option_map};
 ghost use Rattle.std.specs.Vec.{vec_capacity};
@@ -25,7 +27,7 @@ use serde_json::Value;
 use std::alloc::Global;
 use values::EntityUid;
 
-/// Gives an input to the site, appends the body of its reply to `text`, and returns the status. `scratch` is reused
+/// Passes an input to the site, appends the body of its reply to `text`, and returns the status. `scratch` is reused
 /// memory; its earlier content has no effect.
 pub fn reply_to(
     alloc: Global,
@@ -88,7 +90,8 @@ fn not_text(id: &str, text: &[u8]) -> ReadFault
     }
 }
 
-/// Puts the policy with the text `policy` under `id`, and appends the body of the reply. Returns the status.
+/// Puts the policy with the text `policy` under `id`, appends the body of the reply to `text`, and returns the status.
+/// If `policy` is not UTF-8, the error is the first of these: of the id (19), of the length (18), of the bytes (10).
 pub fn put_text(
     alloc: Global,
     scratch: &mut Scratch,
@@ -179,7 +182,8 @@ fn named_entity(
     }
 }
 
-/// Deletes the entity that `uid` names as JSON, and appends the body of the reply. Returns the status.
+/// Deletes the entity that `uid` names as JSON, appends the body of the reply to `text`, and returns the status. If
+/// `uid` names no entity, the error is `BadShape` (30), or `NoMemory` (1) if an allocation failed.
 pub fn delete_entity(
     alloc: Global,
     scratch: &mut Scratch,

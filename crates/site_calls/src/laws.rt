@@ -11,7 +11,8 @@ pub fn errors_have_one_line()
     ensures { (n : ℕ) → fault_line n None None ≡ error_line n }
 {}
 
-/// Proves that the line of a stamp has the bytes of the site's name between quotes: a site name needs no escape. No-op.
+/// Proves that the line of a stamp, and that of a put of a policy, have the bytes of the site's name between quotes: a
+/// site name needs no escape. No-op.
 pub fn stamps_have_plain_lines()
     ensures stamp { (s : Stamp) → IsSiteName s.site → stamp_line s
         ≡ codes "{\"count\":" ++ decimal s.count ++ codes ",\"site\":\"" ++ s.site ++ codes "\"}" }

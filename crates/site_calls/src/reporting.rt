@@ -1,8 +1,8 @@
 //! Reports each outcome: appends the body of the reply to a text, and returns the status of the reply.
 //!
-//! Each function requires that the text has spare capacity for a short line (`LINE_ROOM` bytes). If a longer body
-//! cannot be allocated, the error of code 1 (out of memory) is appended there, so there is always a reply. The text
-//! keeps its memory.
+//! Each public function requires that the text has spare capacity for a short line (`LINE_ROOM` bytes). If a longer
+//! body cannot be allocated, the error of code 1 (out of memory) is appended in its place, so there is always a reply.
+//! The capacity of the text does not shrink.
 ghost use Rattle.std.specs.Prelude.{◌≡◌, ◌≤◌, ◌+◌, ◌++◌, List, ℕ, OnOk, OnErr, option_map, vec_len};
 ghost use Rattle.std.specs.Vec.{vec_capacity};
 ghost use Rattle.site_calls.specs.Replies.{answer_reply, fault_reply, found_reply, message_reply, put_reply};

@@ -1,7 +1,7 @@
 -- Defines the load of a file of policies and an array of entities into a site, and its errors.
 -- Rules of this product: the policies are put first, each under its name in the file and with its own text from the
--- file; then the entities, in their order. The file and the array are each parsed whole before any item is put; an
--- error of the parsing is the one that a decision reports.
+-- file; then the entities, in their order. The whole file is parsed before any of its policies is put, and the whole
+-- array before any of its entities is put. A parsing error is the one that a decision reports.
 use Rattle.std.specs.Prelude.{◌≡◌, ℕ, List, [], ◌∷◌, length, map, Option, None, Some, option_and_then, option_map}
 use Rattle.std.specs.Prelude.{Ok, Err}
 use Rattle.serde_json.specs.Data.{Data}
@@ -30,7 +30,8 @@ pub record AreNamedTexts (bytes : List ℕ) (names texts : List (List ℕ)) : Ty
   pub cut : AreTextsOf bytes texts
   pub as_many : length texts ≡ length names
 
--- `policy_puts names texts` is the list of the puts of each of `texts` under its name in `names`.
+-- `policy_puts names texts` is the list of the puts of each of `texts` under its name in `names`, up to the end of the
+-- shorter list.
 abbrev pub policy_puts : List (List ℕ) → List (List ℕ) → List Operation
 policy_puts [] texts = []
 policy_puts (name ∷ names) [] = []

@@ -1,5 +1,5 @@
 -- Defines puts of policies and entities into a site, one after another, up to the first that is rejected.
--- Rules of this product: each put is accepted or rejected as it would be by itself.
+-- Rules of this product: each put is accepted or rejected as a single put to the store that the earlier puts left.
 use Rattle.std.specs.Prelude.{◌≡◌, ◌⊎◌, ℕ, suc, List, [], ◌∷◌, Some, Ok, Err}
 use Rattle.serde_json.specs.Data.{Data}
 use Rattle.schema_decisions.specs.schema.Schemas.{StatedSchema}

@@ -17,7 +17,7 @@ use serde_json::Value;
 use site_steps::Site;
 use std::alloc::Global;
 
-/// Puts one entity, and reports an error at the index `place`.
+/// Puts one entity. An error other than `NoMemory` is returned with the index `place`.
 fn put_entity(site: &mut Site, place: usize, value: &Value) -> Result<(), Refusal>
     ensures accepted { OnOk result (Accepts (schema_of site.old) site.old.name (store_in site.old)
         (entity_put (view value.now)) (store_in site.new)) }

@@ -12,7 +12,7 @@ use schema_decisions::Refusal;
 use site_steps::Site;
 use std::alloc::Global;
 
-/// Puts the policies of a file, if there is one.
+/// Puts the policies of a file, if a file is given.
 fn load_policies_if_named(
     alloc: Global,
     site: &mut Site,
@@ -32,7 +32,7 @@ fn load_policies_if_named(
     }
 }
 
-/// Puts the entities of an array, if there is one.
+/// Puts the entities of an array, if an array is given.
 fn load_entities_if_named(
     alloc: Global,
     site: &mut Site,

@@ -15,7 +15,7 @@ use schema_decisions::{Policy, Refusal, policies_of_file};
 use site_steps::Site;
 use std::alloc::Global;
 
-/// Puts one policy, and reports an error at the index `place`.
+/// Puts one policy. An error other than `NoMemory` is returned with the index `place`.
 fn put_policy(site: &mut Site, place: usize, id: &str, text: &str) -> Result<(), Refusal>
     ensures accepted { OnOk result (Accepts (schema_of site.old) site.old.name (store_in site.old)
         (policy_put id.now text.now) (store_in site.new)) }
@@ -30,7 +30,8 @@ fn put_policy(site: &mut Site, place: usize, id: &str, text: &str) -> Result<(),
     }
 }
 
-/// Returns the texts of the policies of a file, in order. The file must be UTF-8 and have tokens.
+/// Returns the texts of the policies of a file, in order. The file must be UTF-8, and the lexer must split it into
+/// tokens without an error.
 fn texts_of<'t>(alloc: Global, bytes: &'t [u8]) -> Result<Vec<&'t str>, NoMemory>
     requires { HasTokens bytes.now }
     ensures { IfOk result (λ texts. AreTextsOf bytes.now (map (λ t. t.now) texts.items)) }

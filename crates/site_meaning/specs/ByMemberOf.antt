@@ -41,7 +41,7 @@ module _ {bytes : List ℕ} {schema : StatedSchema} (stated : IsSchemaOf bytes s
     pub are_entities : AreEntities Entities s entities
     pub is_answer : IsAnswer (stated_world_under entities) q policies a
 
-  -- `MakesCycleByMemberOf Entities s e` holds if putting the entity `e` into the store `s` makes `e` cyclic, where each
+  -- `MakesCycleByMemberOf Entities s e` holds if the entity `e` is cyclic once it is put into the store `s`, where each
   -- action has the parents that its `memberOf` names.
   pub record MakesCycleByMemberOf (Entities : EntityUid → List ℕ → Entity → Type 0) (s : Store) (e : Entity) : Type 0
     where
@@ -49,7 +49,7 @@ module _ {bytes : List ℕ} {schema : StatedSchema} (stated : IsSchemaOf bytes s
       pub are_entities : AreEntities Entities s entities
       pub cycle : IsOnCycle (stated_parents_with entities e) e.uid
 
-  -- `MakesNoCycleByMemberOf Entities s e` holds if putting the entity `e` into the store `s` does not make `e` cyclic,
+  -- `MakesNoCycleByMemberOf Entities s e` holds if the entity `e` is not cyclic once it is put into the store `s`,
   -- where each action has the parents that its `memberOf` names.
   pub record MakesNoCycleByMemberOf (Entities : EntityUid → List ℕ → Entity → Type 0) (s : Store) (e : Entity) : Type 0
     where

@@ -1,4 +1,5 @@
--- Proves that `uids_read es` (TextsRead.antt) lists exactly the uids for which the entries `es` have an entity.
+-- Defines the proof that `uids_read es` (TextsRead.antt) lists exactly the uids for which the entries `es` have an
+-- entity.
 use Rattle.std.specs.Prelude.{◌≡◌, List, [], ◌∷◌, Contains, Option, Some, None, IsSome, is_some, Bool, true, false}
 use Rattle.std.specs.Prelude.{cond, refl, option_and_then, option_map}
 use Rattle.std.proofs.Common.{subst, sym, ◌∙◌, inl, inr}
@@ -17,7 +18,7 @@ use Rattle.stamped_store.specs.JoinMaps.{value_at}
 use Rattle.site_meaning.specs.StoreMeaning.{data_of, data_in}
 use Rattle.site_meaning.specs.TextsRead.{entity_at, uids_read}
 
--- each member of `filter p xs` is a member of `xs` and satisfies `p`
+-- `out_of_filter`: each member of `filter p xs` is a member of `xs` and satisfies `p`.
 out_of_filter : (p : EntityUid → Bool) (xs : List EntityUid) (u : EntityUid) → Contains (filter p xs) u
     → Contains xs u × (p u ≡ true)
 out_of_filter p [] u h = Contains-none u h
@@ -31,7 +32,7 @@ out_of_filter p (x ∷ xs) u h =
       | false ↦ λ is m. let rest = out_of_filter p xs u m in (Contains-there x xs u rest.0, rest.1)
     ] refl h
 
--- each member of `xs` that satisfies `p` is a member of `filter p xs`
+-- `into_filter`: each member of `xs` that satisfies `p` is a member of `filter p xs`.
 into_filter : (p : EntityUid → Bool) (xs : List EntityUid) (u : EntityUid) → Contains xs u → p u ≡ true
     → Contains (filter p xs) u
 into_filter p [] u h is = Contains-none u h
@@ -46,7 +47,7 @@ into_filter p (x ∷ xs) u h is = elim (Contains-cases x xs u h) [
       ]
 ]
 
--- each uid at which the entries `es` have a value is one of their keys
+-- `key_at`: each uid at which the entries `es` have a value is one of their keys.
 key_at : (es : List (EntityUid × Entry Entity)) (u : EntityUid) → IsSome (value_at uid_cmp es u)
     → Contains (keys_of es) u
 key_at [] u h = cc h
@@ -59,12 +60,12 @@ key_at (e ∷ es) u h =
       | false ↦ λ apart h. Contains-there e.0 (keys_of es) u (key_at es u h)
     ] refl h
 
--- `o` has a value if `option_and_then f o` has one
+-- `some_before`: `o` has a value if `option_and_then f o` has one.
 some_before : {A B : Type 0} (f : A → Option B) (o : Option A) → IsSome (option_and_then f o) → IsSome o
 some_before f None h = h
 some_before f (Some x) h = refl
 
--- `option_map f o` has a value exactly when `o` has one
+-- `some_mapped`: `option_map f o` has a value if and only if `o` has one.
 some_mapped : {A B : Type 0} (f : A → B) (o : Option A) → is_some (option_map f o) ≡ is_some o
 some_mapped f None = refl
 some_mapped f (Some x) = refl

@@ -40,10 +40,11 @@ pub fn stores_have_one_reading<R: Readings<Policy, Entity>>()
     contents_are_the_texts();
 }
 
-/// Proves that a request has one answer over a store, under a schema that bytes describe: at least one if each text has
-/// a value, and at most one if a text has at most one value under each name. No-op.
+/// Proves when a request has an answer over a store, and when it has only one, under a schema that bytes describe.
+/// No-op.
 ///
-/// So equal stores give equal answers.
+/// There is at least one answer if each text has a value, and at most one if a text has at most one value under each
+/// name. So equal stores give equal answers.
 pub fn requests_have_one_answer<R: Readings<Policy, Entity>>()
     ensures some { (r : R) (bytes : List ℕ) (schema : StatedSchema) (s : Store) (ps : List NamedPolicy)
         (es : EntityUid → Option PlainEntity) (q : PlainRequest) → IsSchemaOf bytes schema

@@ -29,7 +29,7 @@ fn read_policies<'s>(
 
 /// Returns the parsed policies of a store with their ids, in ascending order of ids.
 ///
-/// Takes one pass over all names of policies, also deleted ones.
+/// Takes one pass over all names of policies, including deleted ones.
 ///
 /// # Errors
 ///

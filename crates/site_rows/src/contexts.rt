@@ -1,4 +1,4 @@
-//! Cases of contexts, each by itself. A run reads a context only within a request.
+//! Cases of contexts without a request. A run of a site reads a context only within a request.
 use crate::inputs::uid_of;
 use crate::line::{BAD_ROW, Line, NO_MEMORY};
 use crate::replies::push_fault;
@@ -18,7 +18,7 @@ fn action_of(alloc: Global, type_name: &str, id: &str) -> Result<Option<EntityUi
     }
 }
 
-/// Returns the context of an action that JSON describes.
+/// Returns the context that JSON describes for an action, or the first error.
 fn context_in(
     alloc: Global,
     schema: &Schema,
@@ -54,7 +54,7 @@ fn push_attrs(alloc: Global, line: &mut Line, uid: EntityUid, attrs: Record) {
     );
 }
 
-/// Appends the context of an action, or why the JSON does not describe one.
+/// Appends the context that JSON describes for an action, or the error of the JSON.
 fn push_read(alloc: Global, schema: &Schema, action: EntityUid, json: &str, line: &mut Line) {
     match context_in(alloc, schema, &action, json) {
         Ok(context) => push_attrs(alloc, line, action, context),

@@ -40,7 +40,7 @@ pub(crate) fn new_site(
     Ok(Site::new(alloc, schema.share()?, name.as_str()))
 }
 
-/// Adds an empty site of this name, which hides an older one.
+/// Adds an empty site of this name, which hides an older one of the same name.
 fn add_site(
     alloc: Global,
     schema: &Shared<Schema>,
@@ -159,8 +159,8 @@ impl Given {
         }
     }
 
-    /// Gives the site that the first word of a string names the inputs that the rest describes, and appends its
-    /// replies, with the messages of errors.
+    /// Gives a site inputs as one run, and appends its replies, with the messages of errors. The first word of `text`
+    /// names the site, and the rest describes the inputs.
     pub(crate) fn push_messages(&mut self, alloc: Global, text: &str, line: &mut Line) {
         let (name, inputs) = first_word(text);
         line.print_messages();

@@ -22,7 +22,7 @@ pub(crate) enum OwnedInput {
 }
 
 impl OwnedInput {
-    /// Lends the input.
+    /// Returns this input, with its strings and bytes borrowed.
     fn lent(&self) -> Input<'_> {
         match self {
             OwnedInput::PutPolicy(id, text) => Input::PutPolicy(id.as_str(), text.as_str()),
@@ -39,7 +39,7 @@ impl OwnedInput {
     }
 }
 
-/// Lends inputs.
+/// Returns these inputs, with their strings and bytes borrowed.
 pub(crate) fn all_lent(alloc: Global, inputs: &[OwnedInput]) -> Result<Vec<Input<'_>>, NoMemory> {
     let mut lent = Vec::with_capacity(alloc, inputs.len())?;
     for input in inputs {
@@ -128,7 +128,7 @@ fn push_input(alloc: Global, inputs: &mut Vec<OwnedInput>, text: &str) -> Result
     }
 }
 
-/// Returns the inputs that a string describes, if it describes inputs alone.
+/// Returns the inputs that a string describes; `None` if one of its parts does not describe an input.
 pub(crate) fn inputs_of(alloc: Global, text: &str) -> Result<Option<Vec<OwnedInput>>, NoMemory> {
     let mut inputs = Vec::new(alloc);
     for one in text.split(BETWEEN) {

@@ -4,13 +4,13 @@ use plain::NoMemory;
 use std::alloc::Global;
 use std::fmt::Display;
 
-/// The outcome of a case of another form.
+/// The outcome of a case that has none of the forms of the crate's head comment.
 pub(crate) const BAD_ROW: &[u8] = b"bad row";
 
 /// The outcome of a case for which an allocation fails.
 pub(crate) const NO_MEMORY: &[u8] = b"no memory";
 
-/// Separates the parts of a case, and those of its outcome.
+/// Separates the parts of a case, and the parts of its outcome.
 pub(crate) const BETWEEN: &str = " ¶ ";
 
 /// Bytes, built from pieces. Only [`Line::ended`] reports a failed allocation, so that no caller checks each piece.

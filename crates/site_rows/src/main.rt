@@ -1,9 +1,9 @@
-//! Runs test cases through the public calls of whole sites: [`run`], [`simulate`] and [`serve`].
+//! Runs test cases, most of them through the public calls of whole sites: [`run`], [`simulate`] and [`serve`].
 //!
 //! Each line of standard input is one case. The program prints the line, an arrow, and the outcome. It copies a line
 //! that is empty or begins with `#`, so line N of its output belongs to line N of its input.
 //!
-//! - `under SCHEMA` sets the schema of the cases below it.
+//! - `under SCHEMA` sets the schema of the cases after it.
 //! - `start NAME` starts an empty site of this name, and prints the label of the schema.
 //! - `NAME INPUT` gives the site of this name an input, and prints the reply. ` ¶ ` separates several inputs, which are
 //!   one run, and their replies. An input is `put_policy ID TEXT`, `delete_policy ID`, `put_entity JSON`,
@@ -11,9 +11,9 @@
 //!   `delta SUMMARY`.
 //! - `prefixes NAME INPUT` gives the site each proper prefix of the bytes of an input `put_entity`, `take`, `authorize`
 //!   or `delta`, and prints the replies. Equal consecutive replies are printed once, after their number and ` × `.
-//! - `says NAME INPUT` does as `NAME INPUT`, and prints the message of an error in place of its code.
-//! - `standing NAME` prints which caches of the site are present, its ancestors and its index of policies.
-//! - `tried NAME` prints how many policies its last answer evaluated.
+//! - `says NAME INPUT` does the same as `NAME INPUT`, but prints the message of an error in place of its code.
+//! - `standing NAME` prints which caches of the site are present: its ancestor cache and its index of policies.
+//! - `tried NAME` prints how many policies the last answer of the site evaluated.
 //! - `context TYPE ID JSON` reads the context of a request for this action, and prints it as the attributes of an
 //!   entity.
 //! - `network ERROR` prints the message of an error of a served stream (`served read`) or of a request (`read`).
@@ -26,16 +26,18 @@
 //!   state.
 //! - `reads STREAM` prints the outcome if the first read fails, if the second read fails, and so on, up to a read that
 //!   never happens. `writes SIZE STREAM` does the same for writes, each of at most SIZE bytes.
-//! - `logs SIZE STREAM` serves with a log whose first write fails, whose second write fails, and so on, up to a write
-//!   that never happens, each of at most SIZE bytes. An outcome is the code of the error, the numbers of whole replies
-//!   and of bytes after them, and what the log has.
-//! - `cuts STREAM` prints the outcome if two reads cut the stream after its first byte, after its second byte, and so
-//!   on, as `serve` does; and then the outcome if the second of these reads fails.
+//! - `logs SIZE STREAM` serves with a log that accepts at most SIZE bytes in each write. It prints the outcome if the
+//!   first write of the log fails, if the second fails, and so on, up to a write that never happens. An outcome is the
+//!   code of the error, the numbers of whole replies and of bytes after them, and what the log has.
+//! - `cuts STREAM` prints, as `serve` does, the outcome if two reads cut the stream after its first byte, after its
+//!   second byte, and so on; and then the outcomes if the second of these reads fails. Equal consecutive outcomes are
+//!   printed once, as by `prefixes`.
 //!
 //! A case of another form has the outcome `bad row`, and one for which an allocation fails `no memory`. An error is
-//! its code, its place and the code within. In an input `⟦3×ab⟧` is `ababab`, `⟦2№a#+⟧` is `a01a12` (`#` is the number
-//! of the repetition, from 0, and `+` the next number), and `⟦0a ff⟧` is the bytes 10 and 255. In a stream `\r` and
-//! `\n` are a carriage return and a line feed, and a backslash with any other byte is that byte.
+//! printed as `refused`, its code, its place and the code of its inner error, with `-` for what it does not have. In an
+//! input `⟦3×ab⟧` is `ababab`, `⟦2№a#+⟧` is `a01a12` (`#` is the number of the repetition, from 0, and `+` the next
+//! number), and `⟦0a ff⟧` is the bytes 10 and 255. In a stream `\r` and `\n` are a carriage return and a line feed, and
+//! a backslash with any other byte is that byte.
 //!
 //! [`run`]: site::run
 //! [`simulate`]: site::simulate

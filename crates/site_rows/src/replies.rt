@@ -11,7 +11,7 @@ fn push_place(line: &mut Line, place: Option<usize>) {
     }
 }
 
-/// Appends the code within an error, or `-` without one.
+/// Appends the code of an inner error, or `-` without one.
 fn push_within(line: &mut Line, within: Option<u8>) {
     match within {
         Some(code) => line.push_number(u64::from(code)),
@@ -19,7 +19,7 @@ fn push_within(line: &mut Line, within: Option<u8>) {
     }
 }
 
-/// Appends an error: its code, its place, and the code within.
+/// Appends an error: its code, its place, and the code of its inner error.
 fn push_error(line: &mut Line, code: u8, place: Option<usize>, within: Option<u8>) {
     line.push(b"refused ");
     line.push_number(u64::from(code));
@@ -29,7 +29,7 @@ fn push_error(line: &mut Line, code: u8, place: Option<usize>, within: Option<u8
     push_within(line, within);
 }
 
-/// Appends why a site rejects an input: the code, the place and the code within, or the message.
+/// Appends the error of a rejected input: its code, its place and the code of its inner error, or its message.
 pub(crate) fn push_fault(line: &mut Line, fault: SiteFault) {
     if line.has_messages() {
         return line.push_shown(&fault);
@@ -54,7 +54,8 @@ fn push_put(line: &mut Line, put: &Put) {
     }
 }
 
-/// Appends the number of updates that a site applied.
+/// Appends the number of updates that a site applied. If it did not apply all, appends the error 1 with this number as
+/// its place.
 fn push_taken(line: &mut Line, taken: Taken) {
     match taken {
         Taken::All(count) => {

@@ -119,7 +119,7 @@ fn push_fault(line: &mut Line, fault: Option<StreamFault>) {
     }
 }
 
-/// Appends the number of unread bytes, or `second read` if they are those of the second of two reads.
+/// Appends the number of unread bytes, or `second read` if they are as many as the second of two reads returns.
 fn push_unread(line: &mut Line, unread: usize, second: usize) {
     if second > 0 && unread == second {
         line.push(b"second read");
@@ -183,7 +183,8 @@ fn push_served_anew(
     }
 }
 
-/// Serves a stream once for each call of a device, with a failure of that call, up to a call that never happens.
+/// For `reads` and `writes`, serves a stream once for each call of the device, with a failure of that call, up to a
+/// call that never happens. For `serve`, serves the stream once, without a failure.
 fn push_in_turn(
     alloc: Global,
     schema: &Shared<Schema>,
@@ -201,7 +202,7 @@ fn push_in_turn(
     }
 }
 
-/// Serves a stream once for each byte after which two reads cut it.
+/// Serves a stream once for each byte after which two reads cut it, of which the second fails if `is_to_fail`.
 fn push_each_cut(
     alloc: Global,
     schema: &Shared<Schema>,

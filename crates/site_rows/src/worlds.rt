@@ -29,7 +29,8 @@ fn operation_by(input: OwnedInput) -> Option<Operation> {
     }
 }
 
-/// Returns the operation that a string describes, if it is an input too.
+/// Returns the operation that a string describes as an input; `None` if the string does not describe an input, or if
+/// the input is not an operation.
 fn input_operation(alloc: Global, text: &str) -> Result<Option<Operation>, NoMemory> {
     match input_of(alloc, text)? {
         Some(input) => Ok(operation_by(input)),
@@ -37,7 +38,7 @@ fn input_operation(alloc: Global, text: &str) -> Result<Option<Operation>, NoMem
     }
 }
 
-/// Returns the offer of a delta against the summary of a number.
+/// Returns the offer of a delta against the summary whose number a string spells, if it spells one.
 fn delta_offered(text: &str) -> Option<Operation> {
     match number_of(text) {
         Some(number) => Some(Operation::OfferDelta(number)),
@@ -45,7 +46,7 @@ fn delta_offered(text: &str) -> Option<Operation> {
     }
 }
 
-/// Returns the delivery of the message of a number.
+/// Returns the delivery of the message whose number a string spells, if it spells one.
 fn delivered(text: &str) -> Option<Operation> {
     match number_of(text) {
         Some(number) => Some(Operation::Deliver(number)),
@@ -87,7 +88,7 @@ fn push_event(alloc: Global, events: &mut Vec<Event>, text: &str) -> Result<bool
     }
 }
 
-/// Returns the events that a string describes, if it describes events alone.
+/// Returns the events that a string describes; `None` if one of its parts does not describe an event.
 fn events_of(alloc: Global, text: &str) -> Result<Option<Vec<Event>>, NoMemory> {
     let mut events = Vec::new(alloc);
     if text.is_empty() {
@@ -138,7 +139,7 @@ fn count_of(text: &str) -> u16 {
     text.parse().unwrap_or(0)
 }
 
-/// Executes events at the given number of sites. Returns None if a system cannot have that many.
+/// Executes events at `count` sites. Returns `None` if `count` is 0 or over 64.
 fn played(
     alloc: Global,
     schema: &Shared<Schema>,

@@ -8,7 +8,7 @@ pub(crate) fn first_word(text: &str) -> (&str, &str) {
     text.split_once(' ').unwrap_or((text, ""))
 }
 
-/// Appends a part in which `#` is a number and `+` the next one.
+/// Appends `part`, with `number` in place of each `#` and the next number in place of each `+`.
 fn push_numbered(bytes: &mut Line, part: &str, number: usize) {
     for byte in part.as_bytes() {
         match *byte {
@@ -78,7 +78,7 @@ pub(crate) fn expanded(alloc: Global, text: &str) -> Result<Vec<u8>, NoMemory> {
     bytes.ended()
 }
 
-/// Returns bytes in UTF-8 as a string.
+/// Returns bytes in UTF-8 as a string, and `no UTF-8` for other bytes.
 pub(crate) fn text_in(bytes: &[u8]) -> &str {
     match std::str::from_utf8(bytes) {
         Ok(text) => text,
@@ -92,7 +92,8 @@ pub(crate) fn expanded_text(alloc: Global, text: &str) -> Result<Text, NoMemory>
     Text::from_str(alloc, text_in(&bytes))
 }
 
-/// Appends the byte that a byte of a stream denotes. Returns whether the byte escapes the next one.
+/// Appends the byte that `byte` denotes, where `is_escaped` is whether the byte before it escapes it. If `byte` itself
+/// escapes the next byte, appends nothing and returns true.
 fn push_unescaped_byte(bytes: &mut Line, byte: u8, is_escaped: bool) -> bool {
     match (is_escaped, byte) {
         (false, b'\\') => return true,
@@ -111,7 +112,7 @@ pub(crate) fn push_unescaped(bytes: &mut Line, text: &str) {
     }
 }
 
-/// Appends bytes of a stream, its line ends escaped.
+/// Appends bytes of a stream, with each carriage return and line feed as its escape.
 pub(crate) fn push_escaped(line: &mut Line, bytes: &[u8]) {
     for byte in bytes {
         match *byte {

@@ -15,8 +15,8 @@ use sync_messages::{
 };
 use values::sets_hold_their_members;
 
-/// Proves that what is parsed from JSON under a schema has its declared type by the typing rules: a value, the
-/// attributes of an entity, and a request, which is of an environment of the schema. No-op.
+/// Proves that values, records and entity attributes that are parsed from JSON have their declared types, by the typing
+/// rules, and that a request that is parsed under a schema is of an environment of the schema. No-op.
 pub fn what_is_read_is_of_its_type()
     ensures values { ValuesAreOfTheirTypes }
     ensures records { RecordsAreOfTheirTypes }
@@ -26,8 +26,9 @@ pub fn what_is_read_is_of_its_type()
     sets_hold_their_members();
 }
 
-/// Proves that entities parsed under a schema together with the schema's actions, and a request parsed under it,
-/// conform to the schema. This is the premise of the soundness of validation. No-op.
+/// Proves that entities and a request that were parsed under a schema, which bytes describe, conform to an environment
+/// of the schema, with the schema's actions added to the entities. This is the premise of the soundness of validation.
+/// No-op.
 pub fn parsed_data_conforms()
     ensures { ParsedDataConforms }
 {
@@ -38,9 +39,10 @@ pub fn parsed_data_conforms()
     parents_determine_ancestors();
 }
 
-/// Proves that validation is sound over parsed entities: if each of finitely many entities and the request were parsed
-/// under the schema, a policy that passes validation gives a boolean, `EntityDoesNotExist` or `ArithBoundsError`; an
-/// impossible policy never gives true. No-op.
+/// Proves that validation is sound over parsed entities. No-op.
+///
+/// If finitely many entities and a request were parsed under a schema that bytes describe, a policy that passes
+/// validation gives a boolean, `EntityDoesNotExist` or `ArithBoundsError`; an impossible policy never gives true.
 pub fn validation_is_sound()
     ensures { ValidationIsSound }
 {
@@ -52,9 +54,10 @@ pub fn validation_is_sound()
 
 /// Proves that answers over a store are sound. No-op.
 ///
-/// If each text of the store and the request were parsed under the schema, each policy gives a boolean,
-/// `EntityDoesNotExist` or `ArithBoundsError`, and an impossible policy never gives true. So no answer over the store
-/// reports an error of type, of an attribute or of an extension function.
+/// If each text of the store and the request were parsed under a schema that bytes describe, each policy of the store
+/// gives a boolean, `EntityDoesNotExist` or `ArithBoundsError`, and an impossible policy never gives true. (The text of
+/// a policy that does not pass validation is not parsed.) So no answer over the store reports an error of type, of an
+/// attribute or of an extension function.
 pub fn stored_answers_are_sound()
     ensures policies { StoredPoliciesAreSound }
     ensures answers { StoredAnswersAreSound }

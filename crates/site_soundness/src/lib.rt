@@ -2,8 +2,8 @@
 //!
 //! Values and the attributes of entities have their declared types, and requests are of an environment of the schema.
 //! So parsed entities and a parsed request conform to the schema, and policies that pass validation are sound over
-//! them. It follows that no answer over a store whose texts were parsed under the schema reports an error of type, of
-//! an attribute or of an extension function. All functions are no-ops.
+//! them. It follows that no answer to a parsed request, over a store whose texts were parsed under the schema, reports
+//! an error of type, of an attribute or of an extension function. The functions of this crate are no-ops.
 #![tactic(auto)]
 
 mod laws;

@@ -1,5 +1,5 @@
--- Defines the theorems that the example of specs/Example.antt meets the premises of soundness, so that these are not
--- vacuous.
+-- Defines the theorems that the example of specs/Example.antt meets the premises of soundness, so that the theorems on
+-- soundness are not vacuous.
 use Rattle.std.specs.Prelude.{[], ◌∷◌, true, Ok}
 use Rattle.values.specs.Values.{boolean}
 use Rattle.site_soundness.specs.policy_grammar.PolicyExpression.{expression_of}
@@ -27,7 +27,8 @@ abbrev pub ExampleDataIsParsed : Type 0
 ExampleDataIsParsed =
     AreRead schema entities × AreListed entities (alice ∷ []) × ParsesRequest schema request_json request
 
--- `ExampleDataConforms`: these entities and this request conform to the environment `viewing` of the schema.
+-- `ExampleDataConforms`: these entities and this request conform to the environment `viewing` of the schema, with the
+-- schema's action added to the entities.
 abbrev pub ExampleDataConforms : Type 0
 ExampleDataConforms = Conforms (typing_environment_of schema viewing) (closed_world schema entities) request
 

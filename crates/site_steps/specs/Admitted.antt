@@ -1,5 +1,5 @@
 -- Defines which inputs a site of a schema admits: policies, entities, requests and updates. Every site of the schema
--- admits the same inputs, whatever its store.
+-- admits the same inputs, whatever its store. Checks against the store are in Steps.antt.
 -- Source: Cedar reference guide 4.0, "Policy validation", "Entities and context: JSON format" and "Authorization
 -- request".
 -- Rules of this product: a policy's id has 1 to 256 bytes, and is checked before the text; an entity is given as
@@ -31,26 +31,26 @@ use Rattle.site_steps.specs.declared.fault.SiteFault.TheVariants as fault
 
 -- ---- what a text in the store is parsed as
 
--- `IsPolicyUnder schema id text p` holds if `text` is the text of the policy `p`, which passes validation, whatever
--- `id` is.
+-- `IsPolicyUnder schema id text p` holds if `text` is the text of the policy `p`, which passes validation under
+-- `schema`, whatever `id` is.
 abbrev pub IsPolicyUnder : StatedSchema → List ℕ → List ℕ → Policy → Type 0
 IsPolicyUnder schema id text p = ReadsPolicy schema text p
 
--- `IsEntityUnder schema uid text e` holds if `text` is the canonical text of the entity `e`, which the schema allows
--- and whose uid is `uid`.
+-- `IsEntityUnder schema uid text e` holds if `text` is the canonical text of the entity `e`, which `schema` allows and
+-- whose uid is `uid`.
 abbrev pub IsEntityUnder : StatedSchema → EntityUid → List ℕ → Entity → Type 0
 IsEntityUnder schema uid text e = ReadsEntity schema uid text e
 
 -- ---- policies
 
 -- `IsAdmitted schema id text p` holds if `text` may be put under `id`: `id` has 1 to 256 bytes, and `text` is the text
--- of the policy `p`, which passes validation.
+-- of the policy `p`, which passes validation under `schema`.
 pub record IsAdmitted (schema : StatedSchema) (id text : List ℕ) (p : Policy) : Type 0 where
   pub named : IsId id
   pub reads : ReadsPolicy schema text p
 
--- `IsNotAdmitted schema id text f` holds if `f` is the error of putting `text` under `id`: of the id, else of the
--- text, else of the policy.
+-- `IsNotAdmitted schema id text f` holds if `f` is the error of putting `text` under `id` at a site of `schema`: of the
+-- id, else of the text, else of the policy.
 pub data IsNotAdmitted (schema : StatedSchema) (id text : List ℕ) : SiteFault → Type 0 where
   bad_id : (IsId id → ⊥) → IsNotAdmitted schema id text (fault.Policy BadId)
   no_policy : (f : ReadFault) → IsId id → IsPolicyRefused text f → IsNotAdmitted schema id text (fault.Policy f)
@@ -83,8 +83,8 @@ IsNoRequest schema (Some d) f = RequestRefused schema d f
 -- ---- updates that another site sent
 
 -- `IsValidUnder schema u` holds if the name and stamp of the update `u` are in their ranges, and its text, if it has
--- one, is parsed under `schema` as the value that `u` has with it. (`IsValid` of message_format says only that the text
--- can be parsed.)
+-- one, is parsed under `schema` as the parsed value in `u`. (`IsValid` of message_format states only that the text can
+-- be parsed.)
 pub record IsValidUnder (schema : StatedSchema) (u : Update Policy Entity) : Type 0 where
   pub in_range : IsStamped (stamped (plain_update u))
   pub is_read : IsUpdateRead (IsPolicyUnder schema) (IsEntityUnder schema) u

@@ -37,8 +37,8 @@ IsWhole (reply.Answered r) = ReportsNoFailedAllocation r
 IsWhole (reply.Found r) = ReportsNoFailedAllocation r
 IsWhole (reply.Written r) = ReportsNoFailedAllocation r
 
--- `IsOutcome schema n s i r t` holds if, at the site named `n` with the store `s`, the input `i` may yield the reply
--- `r` and the store `t`, and `r` reports no failed allocation.
+-- `IsOutcome schema n s i r t` holds if the input `i` may yield the reply `r` and the store `t`, and `r` reports no
+-- failed allocation. The site is one of `schema`, named `n`, with the store `s`.
 pub record IsOutcome (schema : StatedSchema) (n : List ℕ) (s : Store) (i : Input) (r : Reply) (t : Store) : Type 0 where
   pub step : Step schema n s i r t
   pub whole : IsWhole r

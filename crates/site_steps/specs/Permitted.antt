@@ -1,4 +1,4 @@
--- Defines the theorem that no reply of a site has an error of type, of an attribute or of an extension function.
+-- Defines the theorem that no answer of a site has an error of type, of an attribute or of an extension function.
 -- Source: cedar-spec, cedar-lean/Cedar/Thm/Validation.lean (`validation_is_sound`).
 use Rattle.std.specs.Prelude.{ℕ, List, Ok}
 use Rattle.std.specs.List.{AllByRecursion}

@@ -38,8 +38,9 @@ IsNoMessageOf schema bytes fault.NoMemory = Unit {0}
 IsNoMessageOf schema bytes (fault.Message f) = IsMessageFaultOf schema bytes f
 IsNoMessageOf schema bytes _ = ⊥
 
--- `TakesMessage schema s bytes r t` holds if the message `bytes` leads from the store `s` to the store `t` with the
--- result `r`: all of its updates are applied, or the first ones, or the message is rejected whole.
+-- `TakesMessage schema s bytes r t` holds if, at a site of `schema`, the message `bytes` leads from the store `s` to
+-- the store `t` with the result `r`. All of its updates are applied, or the first ones, or the message is rejected
+-- whole.
 abbrev pub TakesMessage : StatedSchema → Store → List ℕ → Result taking.Taken SiteFault → Store → Type 0
 TakesMessage schema s bytes (Ok taken) t =
     (us : List (SentUpdate Policy Entity)) × IsMessageOf schema bytes us × TakesUpdates s (plain_updates us) taken t
@@ -72,8 +73,8 @@ WritesDelta schema s summary (Err _) = ⊥
 
 -- ---- one step
 
--- `Step schema n s i r t` holds if, at the site named `n` with the store `s`, the input `i` may yield the reply `r` and
--- the store `t`.
+-- `Step schema n s i r t` holds if, at the site of `schema` named `n` with the store `s`, the input `i` may yield the
+-- reply `r` and the store `t`.
 abbrev pub Step : StatedSchema → List ℕ → Store → Input → Reply → Store → Type 0
 Step schema n s (input.PutPolicy id text) (reply.Put r) t = PutsPolicy schema n s id text r t
 Step schema n s (input.DeletePolicy id) (reply.Stamped r) t = Deletes n s (policy_name id) r t
@@ -90,12 +91,12 @@ Step schema n s _ _ t = ⊥
 
 -- ---- runs
 
--- `Run schema n s is rs t` holds if a chain of steps, one for each of the inputs `is` with its reply in `rs`, leads
--- from the store `s` to the store `t` at the site named `n`. For example, the site `east` begins with an empty store.
--- Its inputs are a put of a text for the policy `a`, with the stamp (1, `east`); then a message in which the site
--- `west` has put another text for `a`, with the stamp (3, `west`); then a deletion of `a`, with the stamp (4, `east`).
--- These three inputs have three replies and apply three updates; in the store at the end, `a` has a tombstone with the
--- stamp (4, `east`).
+-- `Run schema n s is rs t` holds if a chain of steps leads from the store `s` to the store `t` at the site of `schema`
+-- named `n`. Each step has the next of the inputs `is` and the next of the replies `rs`. For example, the site `east`
+-- begins with an empty store. Its first input is a put of a text for the policy `a`, which gets the stamp (1, `east`).
+-- Then comes a message with a put of another text for `a`, which has the stamp (3, `west`). The last input is a
+-- deletion of `a`, which gets the stamp (4, `east`). These three inputs have three replies and apply three updates; in
+-- the store at the end, `a` has a tombstone with the stamp (4, `east`).
 abbrev pub Run : StatedSchema → List ℕ → Store → List Input → List Reply → Store → Type 0
 Run schema n s [] [] t = t ≡ s
 Run schema n s [] (r ∷ rs) t = ⊥
@@ -113,9 +114,9 @@ abbrev pub updates_of_message : Result (List Update) MessageFault → List Updat
 updates_of_message (Ok us) = us
 updates_of_message (Err f) = []
 
--- `took_by schema i r` is the list of the updates that the input `i` with the reply `r` applied: for a command that got
--- a stamp, its one update; for a message, all of its updates, or the first ones that `r` counts, including those that
--- lose to a greater entry.
+-- `took_by schema i r` is the list of the updates that the input `i` with the reply `r` applied at a site of `schema`.
+-- A command that got a stamp applied one update. A message applied all of its updates, or the first ones that `r`
+-- counts, including those that lose to a greater entry.
 abbrev pub took_by : StatedSchema → Input → Reply → List Update
 took_by schema (input.PutPolicy id text) (reply.Put (Ok put)) = (policy_name id, issued put.stamp (Some text)) ∷ []
 took_by schema (input.DeletePolicy id) (reply.Stamped (Ok stamp)) = (policy_name id, issued stamp None) ∷ []
@@ -128,15 +129,15 @@ took_by schema (input.Take bytes) (reply.Taken (Ok (Short k))) =
     take k (updates_of_message (updates_stated schema.label bytes))
 took_by schema _ _ = []
 
--- `took schema is rs` is the list of the updates that a run with the inputs `is` and the replies `rs` applied, in
--- order, including those that lose to a greater entry.
+-- `took schema is rs` is the list of the updates that a run of a site of `schema` with the inputs `is` and the replies
+-- `rs` applied, in order, including those that lose to a greater entry.
 abbrev pub took : StatedSchema → List Input → List Reply → List Update
 took schema [] rs = []
 took schema (i ∷ is) [] = []
 took schema (i ∷ is) (r ∷ rs) = took_by schema i r ++ took schema is rs
 
--- `IsLeftBy schema us t` holds if some run of some site of `schema` leads to the store `t`, and `us` are the updates
--- of the first store, followed by those that the run applied.
+-- `IsLeftBy schema us t` holds if some run of some site of `schema` leads to the store `t`, and `us` are the updates of
+-- the run's first store, followed by those that it applied.
 pub record IsLeftBy (schema : StatedSchema) (us : List Update) (t : Store) : Type 0 where
   pub name : List ℕ
   pub first : Store

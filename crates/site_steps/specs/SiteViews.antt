@@ -35,8 +35,9 @@ IsSameSite a b = (b.schema ≡ a.schema) × (b.name ≡ a.name)
 abbrev pub IsHeld : StatedSchema → StoreEntries Policy Entity → Type 0
 IsHeld schema k = AreEntriesRead (IsPolicyUnder schema) (IsEntityUnder schema) k
 
--- `IsSite schema name k` is the invariant of a site: each text of its store `k` is parsed under `schema` as the value
--- that is stored with it, each name and stamp of `k` is in its range, and `name` is a site name.
+-- `IsSite schema name k` is the invariant of a site of `schema` with the name `name` and the store `k`. Each text of
+-- `k` is parsed under `schema` as the value that is stored with it. Each name and stamp of `k` is in its range, and
+-- `name` is a site name.
 pub record IsSite (schema : StatedSchema) (name : List ℕ) (k : StoreEntries Policy Entity) : Type 0 where
   pub held : IsHeld schema k
   pub in_range : AreInRange (updates (abstract_store k))

@@ -36,8 +36,9 @@ use Rattle.site_steps.specs.Admitted.{IsRequestOf, IsNoRequest}
 abbrev pub most_count : ℕ
 most_count = 1_000_000_000_000_000_000
 
--- `Records n s name body stamp t` holds if `body` is stored under `name` with `stamp`, the next stamp of the site `n`:
--- `t` is the store of the updates of `s` and this one. Each use has its own conditions on what may be put as `body`.
+-- `Records n s name body stamp t` holds if a stamp is left in `s`, and `body` is stored under `name` with `stamp`, the
+-- next stamp of the site `n`: `t` is the store of the updates of `s` and this update. Each use has its own conditions
+-- on what may be put as `body`.
 pub record Records (n : List ℕ) (s : Store) (name : Name) (body : Option (List ℕ)) (stamp : Stamp) (t : Store) : Type 0
   where
     pub clock : greatest_count s < most_count
@@ -48,8 +49,8 @@ pub record Records (n : List ℕ) (s : Store) (name : Name) (body : Option (List
 abbrev pub IsClockFull : Store → Store → Type 0
 IsClockFull s t = (greatest_count s ≡ most_count) × (t ≡ s)
 
--- `PutsPolicy schema n s id text r t` holds if, at the site of `schema` named `n`, putting `text` under the policy's id
--- `id` may lead from `s` to `t` with the result `r`.
+-- `PutsPolicy schema n s id text r t` holds if, at the site of `schema` named `n`, a put of the policy text `text`
+-- under `id` may lead from `s` to `t` with the result `r`.
 abbrev pub PutsPolicy : StatedSchema → List ℕ → Store → List ℕ → List ℕ → Result Put SiteFault → Store → Type 0
 PutsPolicy schema n s id text (Ok put) t =
     (p : Policy) × IsAdmitted schema id text p × (IsTrue put.impossible ↔ IsImpossible schema p)
@@ -59,9 +60,9 @@ PutsPolicy schema n s id text (Err fault.ClockFull) t =
     ((p : Policy) × IsAdmitted schema id text p) × IsClockFull s t
 PutsPolicy schema n s id text (Err f) t = IsNotAdmitted schema id text f × (t ≡ s)
 
--- `PutsEntity schema n s json r t` holds if, at the site of `schema` named `n`, putting the entity that `json`
--- describes, as its canonical text, may lead from `s` to `t` with the result `r`. The cycle is checked before the
--- clock; `None` stands for bytes that are not JSON.
+-- `PutsEntity schema n s json r t` holds if, at the site of `schema` named `n`, a put of the entity that `json`
+-- describes may lead from `s` to `t` with the result `r`. The entity's canonical text is stored. A cycle is reported
+-- before a full clock. `None` stands for bytes that are not JSON.
 abbrev pub PutsEntity : StatedSchema → List ℕ → Store → Option Data → Result Stamp SiteFault → Store → Type 0
 PutsEntity schema n s json (Ok stamp) t =
     (e : Entity) × (entity_stated schema json ≡ Ok e) × MakesNoCycle (IsEntityUnder schema) schema s e
@@ -95,8 +96,8 @@ TakesUpdates s us (Short k) t = (k < length us) × (t ≡ store_of (updates s ++
 
 -- ---- queries, which change nothing
 
--- `Answers schema s json r` holds if `r` is an answer over `s` to the request that `json` describes, or the first error
--- of `json` as a request, or `NoMemory`. `None` stands for bytes that are not JSON.
+-- `Answers schema s json r` holds if, at a site of `schema`, `r` is an answer over `s` to the request that `json`
+-- describes, or the first error of `json` as a request, or `NoMemory`. `None` stands for bytes that are not JSON.
 abbrev pub Answers : StatedSchema → Store → Option Data → Result Answer SiteFault → Type 0
 Answers schema s json (Ok a) =
     (q : Request) × IsRequestOf schema json q × IsAnswerOver (IsPolicyUnder schema) (IsEntityUnder schema) schema s q a

@@ -54,8 +54,8 @@ fn put_entity(
     }
 }
 
-/// Returns the updates of a message, each valid under the schema, or the site's error for the first error of the
-/// message.
+/// Returns the updates of a message, each valid under the schema; or the site's error for the first error of the
+/// message, or `NoMemory`.
 fn updates_of(
     alloc: Global,
     schema: &Schema,
@@ -73,8 +73,8 @@ fn updates_of(
 
 /// Applies the updates of a message (a state or a delta of another site of the schema) in their order.
 ///
-/// If an allocation fails while updates are applied, the result is `Short(k)`, and exactly the first `k` updates are
-/// applied.
+/// If the allocation for an update fails, the result is `Short(k)`, and exactly the first `k` updates are applied. A
+/// failed allocation for a cache only makes the cache absent.
 ///
 /// # Errors
 ///
@@ -198,7 +198,8 @@ pub fn answer(alloc: Global, scratch: &mut Scratch, site: &mut Site, input: &Inp
 ///
 /// - `NoMemory` (1): the list of replies could not be allocated. The site is then unchanged.
 ///
-/// Any other failed allocation is reported in a reply, and the inputs after it are still answered.
+/// Any other failed allocation is reported in a reply, or only makes a cache absent or unused; the inputs after it are
+/// still answered.
 pub fn run(alloc: Global, site: &mut Site, inputs: &[Input<'_>]) -> Result<Vec<Reply>, NoMemory>
     ensures steps { IfOk result (λ replies. Run (schema_of site.old) site.old.name (store_in site.old)
         (map input_of inputs.now) replies.items (store_in site.new)) }

@@ -1,4 +1,4 @@
-//! The checks of inputs that depend on the schema alone, not on the store.
+//! Those checks of inputs that need only the schema, not the store.
 ghost use Rattle.std.specs.Prelude.{◌≡◌, ◌≢◌, ◌↔◌, ℕ, List, IsTrue, IfOk, IfErr, Some, Ok, Err, string_bytes};
 ghost use Rattle.serde_json.specs.View.{view};
 ghost use Rattle.plain.specs.Words.{IsPath};
@@ -55,7 +55,8 @@ pub(crate) struct CheckedPolicy<P> {
     pub(crate) impossible: bool,
 }
 
-/// Returns a parsed policy together with its id, its text and whether it is impossible, or the first error of these.
+/// Returns a parsed policy together with its id, its text and whether it is impossible; or the first error: that of
+/// `verdict`, else of `id`, else of `text`.
 fn with_verdict<P: Drop>(
     read: P,
     verdict: Result<bool, SiteFault>,
@@ -77,14 +78,15 @@ fn with_verdict<P: Drop>(
     })
 }
 
-/// Returns a copy of a text.
+/// Returns a copy of a string.
 fn copy_text(alloc: Global, text: &str) -> Result<Text, NoMemory>
     ensures { IfOk result (λ t. t ≡ text.now) }
 {
     Text::from_str(alloc, text)
 }
 
-/// Returns a policy that may be put, or the first error: of its id, else of its text, else of its validation.
+/// Returns a policy that may be put; or the first error, of its id, else of its text, else of its validation; or
+/// `NoMemory`.
 pub(crate) fn checked_policy(
     alloc: Global,
     schema: &Schema,
@@ -113,7 +115,7 @@ pub(crate) fn checked_policy(
 
 // ---- entities
 
-/// Returns the entity that `json` describes, or the site's error for `json`.
+/// Returns the entity that `json` describes, or the site's error for `json`, or `NoMemory`.
 fn entity_of(alloc: Global, schema: &Schema, json: &Value) -> Result<Entity, SiteFault>
     ensures states { IfOk result (λ e. entity_stated_in (schema_view schema.now) (view json.now) ≡ Ok e) }
     ensures path { IfOk result (λ e. IsPath e.uid.type_name) }
@@ -158,7 +160,8 @@ fn with_name_and_text<N: Drop, P: Drop>(
     Ok((name, ReadText { text, read }))
 }
 
-/// Returns the uid of the entity that JSON describes, and the entity with its canonical text, or the site's error.
+/// Returns the uid of the entity that `json` describes, and the entity with its canonical text; or the site's error for
+/// `json`, or `NoMemory`.
 pub(crate) fn stated_entity(
     alloc: Global,
     schema: &Schema,
@@ -181,7 +184,7 @@ pub(crate) fn stated_entity(
 
 // ---- requests
 
-/// Returns the request that `json` describes, or the site's error for `json`.
+/// Returns the request that `json` describes, or the site's error for `json`, or `NoMemory`.
 pub(crate) fn stated_request(
     alloc: Global,
     schema: &Schema,

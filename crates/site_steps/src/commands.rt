@@ -82,8 +82,8 @@ fn next_stamp(store: &StampedStore<Policy, Entity>, name: SiteName) -> Option<St
 }
 
 impl Site {
-    /// Stores the body of a policy with the next stamp. After an error (`ClockFull` or `NoMemory`) the store is
-    /// unchanged.
+    /// Stores the body of a policy, or a tombstone if `body` is `None`, with the next stamp. After an error
+    /// (`ClockFull` or `NoMemory`) the store is unchanged.
     fn record_policy(
         &mut self,
         id: String,
@@ -108,8 +108,8 @@ impl Site {
         }
     }
 
-    /// Stores the body of an entity with the next stamp. After an error (`ClockFull` or `NoMemory`) the store is
-    /// unchanged.
+    /// Stores the body of an entity, or a tombstone if `body` is `None`, with the next stamp. After an error
+    /// (`ClockFull` or `NoMemory`) the store is unchanged.
     fn record_entity(
         &mut self,
         uid: EntityUid,
@@ -236,7 +236,7 @@ impl Site {
         self.record_entity(uid, None)
     }
 
-    /// Deletes an entity by writing a tombstone. Other entities keep it as a parent that is not stored.
+    /// Deletes an entity by writing a tombstone. Its children keep it as a parent, which is then not stored.
     ///
     /// # Errors
     ///
@@ -271,8 +271,8 @@ impl Site {
         self.store.would_cycle::<SchemaTexts<'static>>(entity)
     }
 
-    /// Puts a parsed entity if `cycle` is false. The error is `WouldCycle` if `cycle` is true, and `NoMemory` if
-    /// `cycle` is an error.
+    /// Puts a parsed entity if `cycle` is false; an error is then `ClockFull` or `NoMemory`. Returns `WouldCycle` if
+    /// `cycle` is true, and `NoMemory` if `cycle` is an error. After an error the store is unchanged.
     fn put_unless(
         &mut self,
         cycle: Result<bool, NoMemory>,
@@ -295,9 +295,9 @@ impl Site {
     /// Puts the entity that JSON describes, as its canonical text, and replaces the text that the entity's uid has, if
     /// any.
     ///
-    /// The check for a cycle takes two look-ups for each parent or, if the ancestor cache is absent, a search that is
-    /// linear in the number of the entity's ancestors. If the parents change, the cached ancestors of all descendants
-    /// of the entity are rewritten.
+    /// The check for a cycle takes two look-ups for each parent or, if the ancestor cache is absent, a search of the
+    /// ancestors that the entity would have. If the parents change, the cached ancestors of the entity and of all its
+    /// descendants are rewritten.
     ///
     /// # Errors
     ///

@@ -24,11 +24,10 @@ pub enum SiteFault {
     /// Codes 30 to 38: the JSON does not describe an entity under the schema.
     #[error(transparent)]
     Entity(EntityFault),
-    /// Codes 50 to 56: the bytes are not a message of the expected kind.
+    /// Codes 50 to 56: the bytes are not a message of the expected kind for the site's schema.
     #[error(transparent)]
     Message(MessageFault),
-    /// Code 60: the name to be deleted has no text. The reply to a query for a policy without a text is reported by
-    /// this code too.
+    /// Code 60: the name to be deleted has no text. A query for a policy without a text is reported with this code too.
     #[error("site 60: nothing stored under this name")]
     NotThere,
     /// Code 61: the put would make the entity cyclic.
@@ -60,7 +59,8 @@ impl SiteFault {
         }
     }
 
-    /// Returns the byte offset in a policy's text, or the index of a message's entry or stamp; `None` for other errors.
+    /// Returns the byte offset in a policy's text, or the index of a message's entry or stamp; `None` if the error has
+    /// neither.
     pub fn place(self) -> Option<usize>
         ensures { result ≡ place_of self }
     {
@@ -71,7 +71,7 @@ impl SiteFault {
         }
     }
 
-    /// Returns the code of the inner error, which an error of a message's entry and an error of a request have; else
+    /// Returns the code of the inner error, if the error is that of a request or the error 55 of a message; else
     /// `None`.
     pub fn within(self) -> Option<u8>
         ensures { result ≡ within_of self }

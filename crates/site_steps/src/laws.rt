@@ -25,8 +25,8 @@ use site_store::{
 
 /// Proves convergence: sites of one schema that had and applied equal sets of updates have equal stores. No-op.
 ///
-/// This holds whatever the names of the sites, and in whatever order, as often and in whatever groups the updates
-/// arrived. So these sites write equal states and give equal answers.
+/// The names of the sites do not matter, nor do the order, the repeats and the grouping of the updates. So these sites
+/// write equal states and give equal answers.
 pub fn equal_updates_leave_equal_stores()
     ensures stores { (schema : StatedSchema) (us vs : List Update) (s t : Store) → IsLeftBy schema us s
         → IsLeftBy schema vs t → ((u : Update) → (Contains us u ↔ Contains vs u)) → s ≡ t }
@@ -71,10 +71,10 @@ pub fn inputs_have_one_outcome()
     paths_are_decided();
 }
 
-/// Proves that no reply of a run has an error of type, of an attribute or of an extension function: each error in an
-/// answer is `EntityDoesNotExist` or `ArithBoundsError`. No-op.
+/// Proves that no answer in a run has an error of type, of an attribute or of an extension function: each error in an
+/// answer is `EntityDoesNotExist` or `ArithBoundsError`. The schema must be one that bytes describe. No-op.
 ///
-/// Each reply to an HTTP request is that of a run of one step (`http_service::served_answers_are_sound`).
+/// The same holds of answers over HTTP (`http_service::served_answers_are_sound`).
 pub fn runs_are_sound()
     ensures { RunsAreSound }
 {

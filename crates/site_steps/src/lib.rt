@@ -1,11 +1,12 @@
 //! A site: a store of stamped texts under one schema, its commands, messages and queries; and runs of a site.
 //!
-//! The store is the only owner of policies and entities. Answers come from the parsed values of its texts. An index of
-//! the policies and an ancestor cache make answers faster; no contract mentions these caches.
+//! A site has policies and entities only as texts of its store, each with its parsed value. Answers come from these
+//! values. An index of the policies and an ancestor cache make answers faster; no contract of a site mentions these
+//! caches.
 //!
 //! The store at the end of a run is the join of the updates that the site had and those that it applied. So sites of
-//! one schema that had and applied equal sets of updates have equal stores, in whatever order, as often and in whatever
-//! groups the updates arrived.
+//! one schema that had and applied equal sets of updates have equal stores. The order, the repeats and the grouping of
+//! the updates do not matter.
 #![tactic(auto)]
 
 mod answering;

@@ -15,7 +15,7 @@ use site_store::{COUNT_MAX, deltas_are_joined, stamps_are_issued, updates_have_o
 ///
 /// The names and stamps of the empty store are in their ranges. If the names and stamps of a store are in their ranges:
 ///
-/// - the names and stamps of the store after the join of an update in its ranges are in their ranges;
+/// - so are those of the store after the join of an update whose name and stamp are in their ranges;
 /// - the names and stamps in a delta of the store and in its summary are in their ranges;
 /// - the greatest count of the store is at most 10^18;
 /// - each name that has a text is in its range.

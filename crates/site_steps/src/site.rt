@@ -92,9 +92,9 @@ impl Site {
         let _ = self.store.store().policies();
     }
 
-    /// Returns the text and the stamp of the policy with this id, or `None` if the policy was never put or was deleted.
+    /// Returns the text and the stamp of the policy with this id, or `None` if the id has no text.
     ///
-    /// O(log n) for n policies. Does not allocate.
+    /// O(log n) for n entries of policies, tombstones included. Does not allocate.
     pub fn get_policy(&self, id: &str) -> Option<(&str, Stamp)>
         ensures { option_map (λ f. (f.0.now, f.1)) result ≡ policy_found (store_in self.now) id.now }
     {
@@ -166,14 +166,15 @@ impl Site {
         )
     }
 
-    /// Returns the answer to the request that JSON describes, over the policies and entities that the texts of the
-    /// store are parsed as, and the actions of the schema.
+    /// Returns the answer to the request that JSON describes, over the policies and entities that are parsed from the
+    /// texts of the store, and the actions of the schema.
     ///
     /// Each error in the answer is `EntityDoesNotExist` or `ArithBoundsError`.
     ///
     /// Evaluates only the candidates that the policy index has for the request, and looks up ancestors in the ancestor
-    /// cache. If the index is absent, every policy is evaluated; if the cache is absent, the hierarchy is searched for
-    /// cycles. Both are linear in the store.
+    /// cache. If the index is absent, or there is no memory for its candidates, every policy is evaluated. If the cache
+    /// is absent, the hierarchy is searched for ancestors and, as a whole, for cycles. In either case the time grows
+    /// with the store.
     ///
     /// # Errors
     ///
@@ -192,9 +193,10 @@ impl Site {
         Ok(answered?)
     }
 
-    /// Rebuilds the absent caches, if there is memory, as each put, deletion or message does. No entry changes.
+    /// Rebuilds the absent caches, if there is memory, as each applied put, deletion or message does. No entry changes.
     ///
-    /// Intended for a site that is queried before anything was put into it.
+    /// After a build of the ancestor cache that found too many ancestors, the next build is postponed. Intended for a
+    /// site that is queried before anything was put into it.
     pub fn rebuild(&mut self)
         ensures { self.new ≡ self.old }
     {

@@ -21,8 +21,8 @@ use site_store::{Entity, Policy, readings_are_preserved};
 
 /// Proves an invariant of stores: each text is parsed as the value that is stored with it. No-op.
 ///
-/// The empty store has the invariant. The join of an entry keeps it, if the text of the entry is parsed as the value
-/// that the entry has with it.
+/// The empty store has the invariant. The join of an entry preserves it, if the text of the entry is parsed as the
+/// entry's parsed value.
 pub(crate) fn readings_stay()
     ensures empty { (schema : SchemaKept) → IsHeld (schema_view schema) (kept [] []) }
     ensures policy { (schema : SchemaKept) (k : StoreEntries Policy Entity) (id : String Global) (entry : Entry Policy)

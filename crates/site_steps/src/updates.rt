@@ -18,7 +18,7 @@ use site_soundness::Update;
 use site_store::{Entity, Entry, Policy, updates_have_one_store};
 use values::EntityUid;
 
-/// Returns whether an entry was stored.
+/// Returns whether a join succeeded.
 fn is_taken<T: Drop>(taken: Result<(), T>) -> bool
     ensures { MatchResult taken (λ _. result ≡ true) (λ _. result ≡ false) }
 {
@@ -29,7 +29,8 @@ fn is_taken<T: Drop>(taken: Result<(), T>) -> bool
 }
 
 impl Site {
-    /// Joins one update of a policy. Returns false, with the store unchanged, if an allocation fails.
+    /// Joins one update of a policy to the store. Returns false, with the store unchanged, if the allocation for the
+    /// entry fails.
     fn take_policy(&mut self, id: String, entry: Entry<Policy>) -> bool
         requires in_range { IsStamped (policy_name (string_bytes id), entry.stamp) }
         requires read { IsEntryRead (IsPolicyUnder (schema_of self.old) (string_bytes id)) entry }
@@ -44,7 +45,8 @@ impl Site {
         is_taken(taken)
     }
 
-    /// Joins one update of an entity. Returns false, with the store unchanged, if an allocation fails.
+    /// Joins one update of an entity to the store. Returns false, with the store unchanged, if the allocation for the
+    /// entry fails.
     fn take_entity(&mut self, uid: EntityUid, entry: Entry<Entity>) -> bool
         requires in_range { IsStamped (entity_name uid, entry.stamp) }
         requires read { IsEntryRead (IsEntityUnder (schema_of self.old) uid) entry }
@@ -59,7 +61,7 @@ impl Site {
         is_taken(taken)
     }
 
-    /// Joins one update. Returns false, with the store unchanged, if an allocation fails.
+    /// Joins one update to the store. Returns false, with the store unchanged, if the allocation for its entry fails.
     fn take_one(&mut self, update: Update<Policy, Entity>) -> bool
         requires { IsValidUnder (schema_of self.old) update }
         ensures taken { IsTrue result → store_in self.new
@@ -73,8 +75,8 @@ impl Site {
         }
     }
 
-    /// Applies updates in their order. Updates the caches after each, as long as that does not cost much more than a
-    /// rebuild.
+    /// Applies updates in their order, until the allocation for one fails, and updates the caches after each. The
+    /// ancestor cache is dropped once its updates have cost much more than a rebuild.
     fn take_all(&mut self, updates: Vec<Update<Policy, Entity>>) -> Taken
         requires { AllByRecursion (IsValidUnder (schema_of self.old)) updates.items }
         ensures takes { TakesUpdates (store_in self.old) (plain_updates updates.items) result (store_in self.new) }
@@ -93,11 +95,11 @@ impl Site {
 
     /// Applies updates of another site in their order: each is joined at its name, where the greater entry wins.
     ///
-    /// All applied updates are counted, also those that lose. If an allocation fails, exactly the first updates are
-    /// applied, and the others are not. An update that makes an entity cyclic is applied too. Absent caches are rebuilt
-    /// after the updates.
+    /// All applied updates are counted, also those that lose. If the allocation for an update fails, the result is
+    /// `Short(k)`, and exactly the first `k` updates are applied. An update that makes an entity cyclic is applied too.
+    /// After the updates, absent caches are rebuilt as [`Site::rebuild`] does.
     ///
-    /// Each update must be valid under the site's schema, as those are that `sync_messages::read_updates` returns.
+    /// Each update must be valid under the site's schema; `sync_messages::read_updates` returns such updates.
     pub fn take(&mut self, updates: Vec<Update<Policy, Entity>>) -> Taken
         requires { AllByRecursion (IsValidUnder (schema_of self.old)) updates.items }
         ensures takes { TakesUpdates (store_in self.old) (plain_updates updates.items) result (store_in self.new) }

@@ -18,7 +18,8 @@ PolicyEntries = List (String Global × Entry Policy)
 abbrev pub policy_in : Entry Policy → Option Policy
 policy_in e = option_map (λ t. t.read) e.body
 
--- `policy_at es id` is the parsed policy that the entries `es` have for `id`, if there is one.
+-- `policy_at es id` is the parsed policy of the first entry for `id` in `es`. It is `None` if there is no such entry,
+-- or if this entry is a tombstone.
 abbrev pub policy_at : PolicyEntries → List ℕ → Option Policy
 policy_at es id = option_and_then policy_in (value_at_text es id)
 

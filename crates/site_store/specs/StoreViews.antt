@@ -20,14 +20,14 @@ pub record StoreView : Type 0 where
   pub schema : kept_schema.SchemaEntries
   pub kept : StoreEntries Policy Entity
 
--- `world_stored s` is the entity data for evaluation: the parsed entities and the actions of the schema of the store
--- `s`.
+-- `world_stored s` is the entity data for evaluation that the store `s` has: its parsed entities, and the actions of
+-- its schema.
 abbrev pub world_stored : StoreView → Entities
 world_stored s = entity_data_under (schema_view s.schema) (entity_at s.kept.entities)
 
--- `AreValidCaches schema k index ancestors` holds if the caches of the store `k` under `schema` are valid: `index`, if
--- present, has exactly the policies of `k`, each under its id, and `ancestors`, if present, is the ancestor cache of
--- the entities of `k` and the actions of `schema`.
+-- `AreValidCaches schema k index ancestors` holds if the caches of the store `k` under `schema` are valid. `index`, if
+-- present, has exactly the policies of `k`, each under its id. `ancestors`, if present, is the ancestor cache of the
+-- entities of `k` and the actions of `schema`.
 pub record AreValidCaches (schema : StatedSchema) (k : StoreEntries Policy Entity) (index : Option Kept)
     (ancestors : Option AncestorCache) : Type 0 where
   pub index_is : IfSome index (AreIndexed k.policies)

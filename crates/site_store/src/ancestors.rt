@@ -19,7 +19,8 @@ use stamped_store::{Entry, StampedStore};
 use std::alloc::Global;
 use values::EntityUid;
 
-/// Builds the ancestor cache of a store: one search for each entity and each action.
+/// Builds the ancestor cache of a store, by one search for each entity and each action, and one for the cyclic
+/// entities.
 ///
 /// # Errors
 ///
@@ -58,7 +59,7 @@ fn update_cache(
     ancestors.follow(&world, uid, &mut rebuild_rule.budget)
 }
 
-/// Returns the cache, updated after the entity `uid` changed, or `None` if there was none or the update failed.
+/// Returns the cache, updated after the entity `uid` changed, or `None` if there was no cache or the update failed.
 ///
 /// The cache is also dropped if its updates for one message have cost so much that a rebuild after the message is
 /// cheaper (`RebuildRule::costs_more_than_rebuild`).

@@ -31,7 +31,8 @@ fn policy_under<'s, E: Drop>(store: &'s StampedStore<Policy, E>, id: &str) -> Op
     }
 }
 
-/// Returns the index, updated after the policy of `id` changed, or `None` if there was none or an allocation failed.
+/// Returns the index, updated after the policy of `id` changed, or `None` if there was no index or an allocation
+/// failed.
 fn updated_index<E: Drop>(
     index: Option<ScopeIndex>,
     store: &StampedStore<Policy, E>,

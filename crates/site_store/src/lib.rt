@@ -1,11 +1,11 @@
 //! A store of stamped texts with two caches: an index of the store's policies by their scopes, and the ancestors of the
 //! store's entities.
 //!
-//! With the index, a request is decided over only those policies whose scope the request may satisfy. With the ancestor
-//! cache, nothing is searched if the hierarchy has no cycle. A change is first joined into the store. Then each cache
-//! is updated to the entry that won, or is dropped, for example if an allocation fails. A dropped cache changes no
-//! answer: without the index every policy is evaluated, and without the ancestor cache the hierarchy is searched in
-//! place.
+//! With the index, a request can be decided over only the index's candidates, which include every policy whose scope
+//! is true for the request. With the ancestor cache, nothing is searched if the hierarchy has no cycle. A change is
+//! first joined into the store. Then the cache that it concerns is updated for the entry that won, or is dropped, for
+//! example if an allocation fails. A dropped cache changes no answer: without the index every policy is evaluated, and
+//! without the ancestor cache the hierarchy is searched in place.
 #![tactic(auto)]
 
 mod ancestors;

@@ -2,7 +2,7 @@
 
 use ancestor_closure::CacheBudget;
 
-/// The part of the limit on cached ancestors that grows with the store: for `n` entities the cache may have
+/// The number of cached ancestors that the limit allows for each entity: for `n` entities the cache may have
 /// `ANCESTORS_PER_ENTITY * n` ancestors, and [`EXTRA_ANCESTORS`] more.
 const ANCESTORS_PER_ENTITY: usize = 64;
 
@@ -10,12 +10,12 @@ const ANCESTORS_PER_ENTITY: usize = 64;
 const EXTRA_ANCESTORS: usize = 1_000_000;
 
 /// The number of changes of entities, in addition to one for each entity, between a build that found too many ancestors
-/// and the next attempt: 15,625. A build ends once it has found too many ancestors, so it costs some 64 ancestors for
-/// each of these changes.
+/// and the next attempt: 15,625. A build ends once it has found too many ancestors, so its cost is that of some 64
+/// ancestors for each change in between.
 const CHANGES_BEFORE_RETRY: usize = EXTRA_ANCESTORS / ANCESTORS_PER_ENTITY;
 
-/// The most ancestors that the incremental updates for a message may write or visit in addition to those that a rebuild
-/// writes.
+/// The number of ancestors that the incremental updates for a message may write or visit, in addition to those that a
+/// rebuild writes, before the cache is dropped.
 const EXTRA_WRITES: usize = 10_000;
 
 /// The counts that decide when the ancestor cache is rebuilt or dropped. No contract and no answer depends on them.
@@ -39,7 +39,8 @@ impl RebuildRule {
 
     /// Begins a put or ends a message, and returns whether to build the cache now.
     ///
-    /// `is_present` is whether the cache is present; the result is then false. `entities` is the number of entities.
+    /// `is_present` is whether the cache is present; if it is, the result is false. `entities` is the number of
+    /// entities.
     pub(crate) fn begin(&mut self, is_present: bool, entities: usize) -> bool {
         let most = entities
             .saturating_mul(ANCESTORS_PER_ENTITY)

@@ -4,9 +4,9 @@ use scope_index::{EntityScope, Policy};
 use stamped_store::Entry;
 use std::cell::Cell;
 
-/// The number of policies that the last answer evaluated, and whether any policy that was ever joined names an entity
-/// in its constraint on the principal or the resource. As long as no policy does, all are candidates, and listing the
-/// candidates would cost more than it saves.
+/// The number of policies that the last answer evaluated, and whether any policy that was ever to be joined names an
+/// entity in its constraint on the principal or the resource. As long as no policy does, all are candidates, and
+/// listing the candidates would cost more than it saves.
 ///
 /// No contract and no answer depends on these measures.
 #[derive(Drop)]

@@ -81,7 +81,7 @@ impl IndexedStore {
     /// Creates an empty store under a schema, with an index but without an ancestor cache. Does not allocate.
     ///
     /// The ancestor cache includes the schema's actions, so building it allocates. The first [`Self::record_policy`],
-    /// [`Self::record_entity`] or [`Self::rebuild`] builds it.
+    /// [`Self::record_entity`] or [`Self::rebuild`] builds it, if there is memory and it would not be too large.
     pub fn new(alloc: Global, schema: Shared<Schema>) -> Self
         ensures { result ≡ record { schema = schema; kept = kept [] [] } }
     {
@@ -173,7 +173,7 @@ impl IndexedStore {
         )
     }
 
-    /// Rebuilds the absent caches, if there is memory, and joins an entry at a policy's id.
+    /// Rebuilds the absent caches as [`Self::rebuild`] does, and joins an entry at a policy's id.
     ///
     /// Intended for an entry that wins. Otherwise like [`Self::take_policy`].
     pub fn record_policy(
@@ -204,7 +204,7 @@ impl IndexedStore {
         record_policy(self.alloc, &mut self.store, &mut self.index, id, entry)
     }
 
-    /// Rebuilds the absent caches, if there is memory, and joins an entry at an entity's uid.
+    /// Rebuilds the absent caches as [`Self::rebuild`] does, and joins an entry at an entity's uid.
     ///
     /// Intended for an entry that wins. Otherwise like [`Self::take_entity`].
     pub fn record_entity(
@@ -242,7 +242,7 @@ impl IndexedStore {
         )
     }
 
-    /// Rebuilds the absent caches, if there is memory, by one attempt each. No entry changes.
+    /// Rebuilds the absent caches, if there is memory, with one attempt for each. No entry changes.
     ///
     /// Intended for the end of a message. After a build of the ancestor cache that found too many ancestors, the next
     /// build waits for as many changes of entities as there were entities, and 15,625 more.

@@ -53,8 +53,8 @@ impl<'a, 's> Model for StoredWorld<'a, 's> {
 }
 
 impl StoredWorld<'_, '_> {
-    /// Returns whether an entity is an action of the schema without parents. A schema has few actions, so this is
-    /// faster than a look-up in the cache of all entities.
+    /// Returns whether an entity is an action of the schema without parents. A schema mostly has few actions, so this
+    /// is faster than a look-up in the cache of all entities.
     fn is_top_action(&self, uid: &EntityUid) -> bool
         ensures { IsTrue result → (world_stored self.now).parents uid.now ≡ [] }
     {

@@ -1,7 +1,7 @@
 -- Defines the main theorem about sites, over relations between bytes and what they describe: the promises that all runs
 -- of a site and all systems of sites keep.
 -- Rules of this product: each site's store is the join of the updates that it applied, whatever their order, repeats or
--- grouping; no reply has an error of type, of an attribute or of an extension function.
+-- grouping; no policy in an answer has an error of a type, of an attribute or of an extension function.
 use Rattle.site_theorems.specs.Runs.{RunsLeaveApplied, EqualUpdatesLeaveEqualStores, RunsHavePermittedErrors}
 use Rattle.site_theorems.specs.SiteStores.{SitesHoldApplied}
 use Rattle.site_theorems.specs.Promises.{AllWorldsKeepPromises}

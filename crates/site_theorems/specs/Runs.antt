@@ -1,7 +1,7 @@
 -- Defines the runs of a site over relations between bytes and what they describe, the updates that runs apply, and the
 -- stores that runs leave.
 -- Source: docs/formats.md, "Messages between sites".
--- Rules of this product: a command applies an update if its reply is a stamp; a message applies its updates in their
+-- Rules of this product: a command applies an update if its reply has a stamp; a message applies its updates in their
 -- order, all or the first ones that its reply counts, including those that lose to a greater entry; other inputs and
 -- replies apply none.
 use Rattle.std.specs.Prelude.{◌≡◌, ◌↔◌, ℕ, List, [], ◌∷◌, ◌++◌, take, Some, None, Ok, Contains}
@@ -24,10 +24,11 @@ use Rattle.site_theorems.specs.Steps.{JsonDescribes, IsStep}
 -- ---- runs
 
 -- `IsRun schema n s is rs t` holds if a chain of steps, one for each of the inputs `is` with its reply in `rs`, leads
--- the site named `n` from the store `s` to the store `t`. For example, the site `east`, empty at first, puts a text for
--- the policy `a`, with the stamp (1, `east`); applies a message in which the site `west` has put another text for `a`,
--- with the stamp (3, `west`); and deletes `a`, with the stamp (4, `east`). These three inputs have three replies and
--- apply three updates; in the store at the end, `a` has a tombstone with the stamp (4, `east`).
+-- the site of `schema` named `n` from the store `s` to the store `t`. For example, the site `east`, empty at first,
+-- puts a text for the policy `a`, with the stamp (1, `east`). It then applies a message with a put of another text for
+-- `a`, which has the stamp (3, `west`). Last, the site `east` deletes `a`, with the stamp (4, `east`). These three
+-- inputs have three replies and apply three updates; in the store at the end, `a` has a tombstone with the stamp
+-- (4, `east`).
 abbrev pub IsRun : StatedSchema → List ℕ → Store → List Input → List Reply → Store → Type 0
 IsRun schema n s [] [] t = t ≡ s
 IsRun schema n s [] (r ∷ rs) t = ⊥
@@ -36,7 +37,8 @@ IsRun schema n s (i ∷ is) (r ∷ rs) t = (m : Store) × IsStep schema n s i r 
 
 -- ---- the updates that runs apply
 
--- `Applies schema i r us` holds if `us` are the updates that the input `i` with the reply `r` applied.
+-- `Applies schema i r us` holds if `us` are the updates that the input `i` with the reply `r` applied at a site of
+-- `schema`.
 abbrev pub Applies : StatedSchema → Input → Reply → List Update → Type 0
 Applies schema (input.PutPolicy id text) (reply.Put (Ok put)) us =
     us ≡ (policy_name id, issued put.stamp (Some text)) ∷ []
@@ -51,7 +53,7 @@ Applies schema (input.Take bytes) (reply.Taken (Ok (Short k))) us =
 Applies schema _ _ us = us ≡ []
 
 -- `Applied schema is rs us` holds if `us` are the updates that the inputs `is` with the replies `rs` applied, in their
--- order.
+-- order, at a site of `schema`.
 abbrev pub Applied : StatedSchema → List Input → List Reply → List Update → Type 0
 Applied schema [] [] us = us ≡ []
 Applied schema [] (r ∷ rs) us = ⊥
@@ -62,8 +64,8 @@ Applied schema (i ∷ is) (r ∷ rs) us =
 
 -- ---- the stores that runs leave
 
--- `LeavesApplied schema s is rs t` holds if the inputs `is` with the replies `rs` applied exactly one list of updates,
--- and `t` is the join of the updates of `s` and these: at each name the greatest entry among them.
+-- `LeavesApplied schema s is rs t` holds if the inputs `is` with the replies `rs` applied exactly one list of updates
+-- at a site of `schema`, and `t` is the join of the updates of `s` and of this list: at each name the greatest entry.
 pub record LeavesApplied (schema : StatedSchema) (s : Store) (is : List Input) (rs : List Reply) (t : Store) : Type 0
   where
     pub us : List Update

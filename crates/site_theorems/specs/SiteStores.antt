@@ -14,21 +14,22 @@ use Rattle.site.specs.Worlds.{input_of, IsWorld}
 use Rattle.site_theorems.specs.Steps.{IsStep}
 use Rattle.site_theorems.specs.Runs.{Applies}
 
--- `AppliesIn schema i a us` holds if `us` are the updates that an event with the reply `a` applied at its site, where
--- `i` is the input that the event gave the site, if it gave one.
+-- `AppliesIn schema i a us` holds if `us` are the updates that an event with the reply `a` applied at its site, a site
+-- of `schema`. Here `i` is the input that the event gave the site, if it gave one.
 abbrev pub AppliesIn : StatedSchema → Option Input → EventReply → List Update → Type 0
 AppliesIn schema (Some i) (Replied r) us = Applies schema i r us
 AppliesIn schema _ _ us = us ≡ []
 
 -- `AppliesAt schema k w e a us` holds if `us` are the updates that the event `e` with the reply `a` applied at the site
--- with the number `k`. The state `w` has the messages and summaries that were made.
+-- of `schema` with the number `k`. The state `w` has the messages and summaries that were made.
 pub data AppliesAt (schema : StatedSchema) (k : ℕ) (w : World) (e : Event) (a : EventReply) (us : List Update) : Type 0
   where
     here : e.site ≡ k → AppliesIn schema (input_of w e.operation) a us → AppliesAt schema k w e a us
     elsewhere : (e.site ≡ k → ⊥) → us ≡ [] → AppliesAt schema k w e a us
 
 -- `AppliedAt schema k w es rs us` holds if `us` are the updates that the events `es` with the replies `rs` applied, in
--- their order, at the site with the number `k`. The state `w` has the messages and summaries that were made.
+-- their order, at the site of `schema` with the number `k`. The state `w` has the messages and summaries that were
+-- made.
 abbrev pub AppliedAt : StatedSchema → ℕ → World → List Event → List EventReply → List Update → Type 0
 AppliedAt schema k w [] [] us = us ≡ []
 AppliedAt schema k w [] (a ∷ rs) us = ⊥
@@ -38,8 +39,7 @@ AppliedAt schema k w (e ∷ es) (a ∷ rs) us =
     × (us ≡ first ++ more)
 
 -- `HoldsApplied schema k es rs w` holds if the events `es` with the replies `rs` applied exactly one list of updates at
--- the site with the number `k`, and the store of that site in `w` is the join of these: at each name the greatest
--- entry.
+-- the site of `schema` with the number `k`, and the store of this site in `w` is the join of this list.
 pub record HoldsApplied (schema : StatedSchema) (k : ℕ) (es : List Event) (rs : List EventReply) (w : World) : Type 0
   where
     pub us : List Update

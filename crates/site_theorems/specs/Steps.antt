@@ -1,8 +1,9 @@
 -- Defines the steps of a site over relations between bytes and what they describe: an input leads from a store to a
 -- store, with a reply.
 -- Source: Cedar reference guide 4.0, "Entities and context: JSON format" and "Authorization request"; docs/formats.md.
--- Rules of this product: bytes that are not JSON have the error `BadShape`; the cycle is checked before the clock; a
--- message is rejected whole or its updates are applied in order; rejected inputs and queries leave the store unchanged.
+-- Rules of this product: bytes of an entity or a request that are not JSON have the error `BadShape`; the put of an
+-- entity is checked for a cycle before the clock is checked; a message is rejected whole, or its updates are applied in
+-- order, all or the first ones; rejected inputs and queries leave the store unchanged.
 use Rattle.std.specs.Prelude.{◌≡◌, ℕ, List, Option, Some, None, Result, Ok, Err}
 use Rattle.serde_json.specs.Data.{Data}
 use Rattle.json_words.specs.Json.{json_of}
@@ -53,8 +54,8 @@ JsonRefused Refuses (Some d) f = Refuses d f
 
 -- ---- commands
 
--- `PutsEntity schema n s json r t` holds if, at the site named `n`, putting the entity that `json` describes, as its
--- canonical text, may lead from the store `s` to the store `t` with the result `r`.
+-- `PutsEntity schema n s json r t` holds if, at the site of `schema` named `n`, putting the entity that `json`
+-- describes, as its canonical text, may lead from the store `s` to the store `t` with the result `r`.
 abbrev pub PutsEntity : StatedSchema → List ℕ → Store → Option Data → Result Stamp SiteFault → Store → Type 0
 PutsEntity schema n s json (Ok stamp) t =
     (e : Entity) × JsonDescribes (DescribesEntity schema) json e × MakesNoCycle (DescribesText schema) schema s e
@@ -75,8 +76,9 @@ IsNoMessageOf schema bytes fault.NoMemory = Unit {0}
 IsNoMessageOf schema bytes (fault.Message f) = RefusesMessage schema bytes f
 IsNoMessageOf schema bytes _ = ⊥
 
--- `TakesMessage schema s bytes r t` holds if the message `bytes` leads from the store `s` to the store `t` with the
--- result `r`: all of its updates are applied, or the first ones, or the message is rejected whole.
+-- `TakesMessage schema s bytes r t` holds if, at a site of `schema`, the message `bytes` may lead from the store `s` to
+-- the store `t` with the result `r`. All of its updates are applied, or the first ones, or the message is rejected
+-- whole.
 abbrev pub TakesMessage : StatedSchema → Store → List ℕ → Result Taken SiteFault → Store → Type 0
 TakesMessage schema s bytes (Ok taken) t =
     (us : List (Update Policy Entity)) × DescribesMessage schema bytes us × TakesUpdates s (plain_updates us) taken t
@@ -84,8 +86,8 @@ TakesMessage schema s bytes (Err f) t = IsNoMessageOf schema bytes f × (t ≡ s
 
 -- ---- queries
 
--- `Answers schema s json r` holds if `r` is an answer over the store `s` to the request that `json` describes, or the
--- first error of `json` as a request, or `NoMemory`.
+-- `Answers schema s json r` holds if, at a site of `schema`, `r` is an answer over the store `s` to the request that
+-- `json` describes, or the first error of `json` as a request, or `NoMemory`.
 abbrev pub Answers : StatedSchema → Store → Option Data → Result Answer SiteFault → Type 0
 Answers schema s json (Ok a) =
     (q : Request) × JsonDescribes (DescribesRequest schema) json q
@@ -106,8 +108,8 @@ WritesDelta schema s summary (Err _) = ⊥
 
 -- ---- one step
 
--- `IsStep schema n s i r t` holds if, at the site named `n` with the store `s`, the input `i` may yield the reply `r`
--- and the store `t`.
+-- `IsStep schema n s i r t` holds if, at the site of `schema` named `n` with the store `s`, the input `i` may yield the
+-- reply `r` and the store `t`.
 abbrev pub IsStep : StatedSchema → List ℕ → Store → Input → Reply → Store → Type 0
 IsStep schema n s (input.PutPolicy id text) (reply.Put r) t = PutsPolicy schema n s id text r t
 IsStep schema n s (input.DeletePolicy id) (reply.Stamped r) t = Deletes n s (policy_name id) r t

@@ -14,8 +14,9 @@ use site::{
 /// Proves that the contracts of a site cite exactly the steps that bytes describe: `Step`, of the contracts, and
 /// `IsStep`, over bytes, relate the same inputs, replies and stores. No-op.
 ///
-/// So each answer is over the entities and the request that JSON describes, each update applied from a message is one
-/// that the message describes, and each error is the first that the bytes have.
+/// So each answer is over the entities and the request that JSON describes, and each update applied from a message is
+/// one that the message describes. Each error of an entity, a request, a message or a summary is the first that its
+/// bytes have.
 pub fn steps_are_as_stated()
     ensures { StepsAreAsStated }
 {
@@ -29,10 +30,10 @@ pub fn steps_are_as_stated()
 /// Proves, over relations between bytes and what they describe, what each run of each site leaves, from any store.
 /// No-op.
 ///
-/// - `leave`: the run applied exactly one list of updates, and the store at the end is the join of the updates that the
+/// - `leave`: the run applied exactly one list of updates. The store at the end is the join of the updates that the
 ///   site had and the applied ones: at each name the greatest entry.
-/// - `equal`: sites that had and applied equal sets of updates hold equal stores, whatever the order, the repeats and
-///   the grouping of the updates.
+/// - `equal`: sites of one schema that had and applied equal sets of updates hold equal stores, whatever the order, the
+///   repeats and the grouping of the updates.
 /// - `permitted`: under a schema that bytes describe, each error of a policy in an answer is `EntityDoesNotExist` or
 ///   `ArithBoundsError`: none is of a type, of an attribute or of an extension function.
 pub fn runs_leave_what_was_applied()

@@ -7,9 +7,9 @@ use Rattle.stamped_store.specs.declared.entry.Entry.{Entry}
 use Rattle.stamped_store.specs.EntryOrder.{PlainEntry, plain_entry}
 
 module _ {K N P : Type 0} (name : K → N) where
-  -- `abstract_entry e`, `abstract_entries es` and `abstract_map es` are the abstract views of the entry `e` with its
-  -- key, of the list `es` of such entries, and of the map with the entries `es`; `name` maps a key of the code to its
-  -- name.
+  -- Here `name` maps a key of the code to its name. `abstract_entry e` is the abstract view of `e`, an entry with its
+  -- key. `abstract_entries es` is that of the list `es` of such entries, and `abstract_map es` that of the map with the
+  -- entries `es`.
   abbrev pub abstract_entry : K × Entry P → N × PlainEntry
   abstract_entry e = (name e.0, plain_entry e.1)
 

@@ -13,15 +13,15 @@ use Rattle.stamped_store.specs.Store.{Store, updates}
 abbrev pub text_under : Store → Name → Option (List ℕ)
 text_under s name = option_and_then (λ e. e.body) (get s name)
 
--- `policy_text name body` is the id in `name` with the text `body`, as a list, if `name` is a policy's and there is a
--- text; else `[]`.
+-- `policy_text name body` is the list of one pair, the id in `name` and the text in `body`, if `name` is the name of a
+-- policy and `body` has a text; else `[]`.
 abbrev pub policy_text : Name → Option (List ℕ) → List (List ℕ × List ℕ)
 policy_text (Policy id) (Some text) = (id, text) ∷ []
 policy_text (Policy id) None = []
 policy_text (Entity uid) body = []
 
--- `entity_text name body` is the uid in `name` with the text `body`, as a list, if `name` is an entity's and there is a
--- text; else `[]`.
+-- `entity_text name body` is the list of one pair, the uid in `name` and the text in `body`, if `name` is the name of
+-- an entity and `body` has a text; else `[]`.
 abbrev pub entity_text : Name → Option (List ℕ) → List (EntityUid × List ℕ)
 entity_text (Entity uid) (Some text) = (uid, text) ∷ []
 entity_text (Entity uid) None = []

@@ -37,7 +37,8 @@ is_unseen known None = true
 is_unseen None (Some e) = true
 is_unseen (Some stamp) (Some e) = is_lt (stamp_cmp stamp (stamp_of e))
 
--- `delta s m` is the part of the store `s` whose names the summary `m` lacks or has with a smaller stamp.
+-- `delta s m` is the store of the entries of the store `s` whose names the summary `m` lacks or has with a smaller
+-- stamp.
 abbrev pub delta : Store → Summary → Store
 delta s m = store_map.retain_keys s (λ q. is_unseen (value_at name_cmp m q) (store_map.get s q))
 

@@ -1,7 +1,7 @@
 -- Defines entries as a stamp and a body, and their order.
 -- Rules of this product: entries are ordered by count, then site, then body; sites are ordered by the bytes of their
--- names; a tombstone is the least body; texts are ordered by their bytes. `EntryAt` takes the type of sites, since in
--- version 1 of messages a site is a number, not a name (specs/Raised.antt).
+-- names; a tombstone is the least body; texts are ordered by their bytes. `EntryAt` has the type of sites as its
+-- parameter, since in version 1 of messages a site is a number, not a name (specs/Raised.antt).
 use Rattle.std.specs.Prelude.{ℕ, List, Bool, Option, Some, None, if◌then◌else◌}
 use Rattle.std.specs.Ordering.{nat_cmp, ordering_then, is_le}
 use Rattle.std.specs.Cmp.Lexicographic.{slice_cmp}
@@ -11,7 +11,7 @@ use Rattle.stamped_store.specs.declared.entry.Entry.{Entry}
 use Rattle.stamped_store.specs.declared.entry.ReadText.{ReadText}
 
 -- An `EntryAt Site` is an entry without the parsed form of its text: a stamp, whose site has the type `Site`, and a
--- body that is the bytes of a text or a tombstone.
+-- body, which is a tombstone or the bytes of a text.
 pub record EntryAt (Site : Type 0) : Type 0 where
   pub count : ℕ
   pub site : Site

@@ -1,5 +1,5 @@
--- Defines the store of a list of updates: each name has the greatest entry that the updates have for it. Entries may be
--- of any type; in this file `cmp` is their order, and `R` is the order of the names.
+-- Defines the store of a list of updates, each a name with an entry: each name has the greatest entry that the updates
+-- have for it. Entries may be of any type; in this file `cmp` is their order, and `R` is the order of the names.
 use Rattle.std.specs.Prelude.{◌≡◌, ℕ, max, List, [], ◌∷◌, ◌++◌, Option, Some, None, true, if◌then◌else◌}
 use Rattle.std.specs.List.{Contains}
 use Rattle.std.specs.Ordering.{eq_by_cmp, is_le}

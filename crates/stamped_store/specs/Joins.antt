@@ -26,7 +26,8 @@ pub record IsJoin {V : Type 0} (Below : V → V → Type 0) (join : V → V → 
   pub commutative : (a b : V) → Alike Below (join a b) (join b a)
   pub idempotent : (a : V) → Alike Below (join a a) a
 
--- A preorder with least upper bounds has a join: the three other laws follow.
+-- `join_from_least`: if `Below` is a preorder and `join` gives least upper bounds, `IsJoin Below join` holds, since its
+-- three other laws follow.
 pub join_from_least : {V : Type 0} (Below : V → V → Type 0) (join : V → V → V)
     → ((a : V) → Below a a) → ((a b c : V) → Below a b → Below b c → Below a c)
     → ((a b : V) → Below a (join a b)) → ((a b : V) → Below b (join a b))

@@ -1,7 +1,7 @@
 -- Defines updates and stores of numbered sites, and their translation to named sites.
--- Rules of this product: sites once had numbers, from 1 to 65,535, and messages of version 1 name them so; number n
--- is now the site whose name is n's five digits, with leading zeros. So sites keep the order of their numbers, and
--- stored entries keep their order.
+-- Rules of this product: sites once had numbers, from 1 to 65,535, in place of names, and still have them in messages
+-- of version 1. Number n now means the site whose name is n's five digits, with leading zeros. So sites keep the order
+-- of their numbers, and stored entries keep their order.
 use Rattle.std.specs.Prelude.{◌≤◌, ℕ, List, map}
 use Rattle.std.specs.FinMap as store_map
 use Rattle.std.specs.List.{AllByRecursion}

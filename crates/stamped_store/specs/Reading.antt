@@ -7,8 +7,8 @@ use Rattle.stamped_store.specs.declared.entry.Entry.{Entry}
 use Rattle.stamped_store.specs.declared.entry.ReadText.{ReadText}
 use Rattle.stamped_store.specs.Store.{StoreEntries}
 
--- `AllNamed name F es` holds if `F` holds of the name and the value of each of `es`; `name` maps a key of the code to
--- its name.
+-- `AllNamed name F es` holds if `F` holds of the name and the value of each pair of `es`; `name` maps the key of a pair
+-- to its name.
 abbrev pub AllNamed : {K N V : Type 0} → (K → N) → (N → V → Type 0) → List (K × V) → Type 0
 AllNamed name F es = AllByRecursion (λ e. F (name e.0) e.1) es
 
@@ -22,8 +22,8 @@ IsBodyRead Reads (Some t) = Reads t.text t.read
 abbrev pub IsEntryRead : {P : Type 0} → (List ℕ → P → Type 0) → Entry P → Type 0
 IsEntryRead Reads e = IsBodyRead Reads e.body
 
--- `AreEntriesRead Policies Entities k` holds if each text of the entries `k` has a permitted parsed form: `Policies`
--- relates the id, the text and the form of a policy, and `Entities` those of an entity.
+-- `AreEntriesRead Policies Entities k` holds if each text of the entries `k` has a permitted parsed form. `Policies`
+-- relates the id and the text of a policy to the permitted forms, and `Entities` the uid and the text of an entity.
 pub record AreEntriesRead {P E : Type 0} (Policies : List ℕ → List ℕ → P → Type 0)
     (Entities : EntityUid → List ℕ → E → Type 0) (k : StoreEntries P E) : Type 0 where
   pub policies : AllNamed string_bytes (λ id. IsEntryRead (Policies id)) k.policies

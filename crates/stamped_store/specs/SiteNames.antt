@@ -1,6 +1,6 @@
 -- Defines names of sites.
--- Rules of this product: 1 to 32 bytes, each an ASCII letter, a digit, `-`, `_` or `.`. So a name needs no quoting in
--- a command line, a path, a JSON text and a line of a log, and it is short enough to be part of a stamp.
+-- Rules of this product: 1 to 32 bytes, each an ASCII letter, a digit, `-`, `_` or `.`. So a name needs no escapes in a
+-- command line, a path, a JSON string or a line of a log, and it is short enough to be part of a stamp.
 use Prim.Native.Char.{code}
 use Rattle.std.specs.Prelude.{◌≡◌, ◌↔◌, ◌≤◌, ◌<◌, ◌-◌, ℕ, Bool, true, ◌&&◌, ◌||◌, ◌==◌, nat_le}
 use Rattle.std.specs.Prelude.{List, [], ◌∷◌, ◌++◌, ◌+◌, ◌*◌, length, drop, take, replicate}
@@ -37,7 +37,7 @@ SiteNamesAreTexts = (name : List ℕ) → IsSiteName name → IsUtf8 name
 abbrev pub five_digits : ℕ → List ℕ
 five_digits n = replicate (5 - length (decimal n)) (code "0") ++ decimal n
 
--- `SiteDigitsAreNames`: the five digits of a number are the name of a site.
+-- `SiteDigitsAreNames`: the five digits of a number below 100,000 are the name of a site.
 abbrev pub SiteDigitsAreNames : Type 0
 SiteDigitsAreNames = (n : ℕ) → n < 100000 → IsSiteName (five_digits n)
 

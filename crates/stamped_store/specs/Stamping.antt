@@ -1,6 +1,6 @@
 -- Defines which sites stamped the updates of a store.
--- Rules of this product: a name belongs to one site and is not reused. So if the store with which a site starts has
--- stamps of the site's name, the name was used before.
+-- Rules of this product: a site's name belongs to that site alone and is not reused. So if the store with which a site
+-- starts has stamps of the site's name, the name was used before.
 use Rattle.std.specs.Prelude.{ℕ, Bool, List}
 use Rattle.std.specs.List.{list_any}
 use Rattle.std.specs.Str.{bytes_eq}

@@ -1,4 +1,5 @@
--- Defines the store of a site: at each name (policies before entities) at most one entry.
+-- Defines the store of a site: at each name at most one entry. In the order of the names, policies come before
+-- entities.
 use Rattle.std.specs.Prelude.{◌≡◌, ◌≢◌, ℕ, ◌+◌, ◌-◌, Bool, List, ◌++◌, length, take, Option, string_bytes}
 use Rattle.std.specs.FinMap as map
 use Rattle.std.specs.Ordering.{is_le}
@@ -17,11 +18,11 @@ use Rattle.stamped_store.specs.Greatest as updates_of
 use Rattle.stamped_store.specs.JoinMaps.{all_joined}
 use Rattle.stamped_store.specs.Abstraction.{abstract_entries}
 
--- `StoreAt Site` is the type of stores whose sites have the type `Site`.
+-- `StoreAt Site` is the type of stores whose entries have sites of the type `Site`.
 abbrev pub StoreAt : Type 0 → Type 0
 StoreAt Site = map.FinMap name_cmp (EntryAt Site)
 
--- A `Store` has named sites.
+-- A `Store` is a store whose entries have named sites.
 abbrev pub Store : Type 0
 Store = StoreAt (List ℕ)
 
@@ -29,7 +30,7 @@ Store = StoreAt (List ℕ)
 abbrev pub UpdateAt : Type 0 → Type 0
 UpdateAt Site = Name × EntryAt Site
 
--- An `Update` has a named site.
+-- An `Update` is an update whose entry has a named site.
 abbrev pub Update : Type 0
 Update = UpdateAt (List ℕ)
 
@@ -85,7 +86,7 @@ issued stamp body = record { count = stamp.count; site = stamp.site; body = body
 -- ---- the concrete store, and the abstract store that it represents
 
 -- `StoreEntries P E` are the concrete entries: policies by id, with parsed forms of the type `P`, and entities by uid,
--- with parsed forms of the type `E`, each ascending.
+-- with parsed forms of the type `E`. In a store both lists ascend.
 pub record StoreEntries (P E : Type 0) : Type 0 where
   pub policies : List (String Global × Entry P)
   pub entities : List (EntityUid × Entry E)
@@ -123,7 +124,7 @@ all_kept k l = kept (all_joined string_cmp greater k.policies l.policies)
 abbrev pub first_kept : {P E : Type 0} → ℕ → StoreEntries P E → StoreEntries P E
 first_kept n k = kept (take n k.policies) (take (n - length k.policies) k.entities)
 
--- `IsCounted k greatest` is the invariant of the concrete store: it holds if `greatest` is the greatest count of the
+-- `IsCounted k greatest` is the invariant of the concrete store. It holds if `greatest` is the greatest count of the
 -- entries `k`, and the updates of `k` are those of the abstract store, in order.
 pub record IsCounted {P E : Type 0} (k : StoreEntries P E) (greatest : ℕ) : Type 0 where
   pub counted : greatest ≡ updates_of.greatest_count (abstract_store k)

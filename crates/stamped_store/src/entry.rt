@@ -10,7 +10,8 @@ use crate::{Join, SiteName};
 use plain::Text;
 use std::cmp::Ordering;
 
-/// When and where an entry was issued: a Lamport timestamp. Ordered by count, then by the bytes of the site's name.
+/// When and where an entry was issued: a Lamport timestamp. Stamps are ordered by count, then by the bytes of the
+/// site's name.
 #[derive(Clone, Copy, PartialEq, Eq, PartialOrd, Ord)]
 pub struct Stamp {
     /// The count. Any count is allowed here; a message with a count outside 1 to 10^18 is rejected when it is parsed.
@@ -28,7 +29,7 @@ pub struct ReadText<P> {
     pub read: P,
 }
 
-/// A stamp and a body: a text, or a tombstone.
+/// An entry of the store: a stamp, and a body, which is a text or a tombstone.
 #[derive(Drop)]
 pub struct Entry<P> {
     /// When and where the entry was issued.

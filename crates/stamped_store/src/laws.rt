@@ -42,8 +42,8 @@ pub fn entries_are_joined()
     ensures least { (a b : PlainEntry) → IsLeastAbove (λ x y. plain_below x y ≡ true) a b (greater_entry a b) }
 {}
 
-/// Proves that the parsed forms of texts do not matter: entries are joined by their stamps and bodies, and two entries
-/// are at most each other if and only if their stamps and bodies are equal. No-op.
+/// Proves that the greater of two entries with parsed forms is their join. The parsed forms do not matter: entries are
+/// joined by their stamps and bodies, and are at most each other if and only if these are equal. No-op.
 pub fn read_entries_are_joined<P: Drop>()
     ensures laws { IsJoin (λ (a b : Entry P). entry_at_most a b ≡ true) greater }
     ensures plain { (a b : Entry P) → plain_entry (greater a b) ≡ greater_entry (plain_entry a) (plain_entry b) }
@@ -51,13 +51,14 @@ pub fn read_entries_are_joined<P: Drop>()
         ↔ (plain_entry a ≡ plain_entry b) }
 {}
 
-/// Proves that each implementation of `Join` has a preorder whose least upper bounds are its join. The join is
-/// associative, commutative and idempotent if values that are at most each other count as equal. No-op.
+/// Proves that the order of each implementation of `Join` is a preorder, in which the join of two values is a least
+/// upper bound. The join is associative, commutative and idempotent if values that are at most each other count as
+/// equal. No-op.
 pub fn joins_have_laws<V: Join>()
     ensures { IsJoin (λ a b. V.is_below a b ≡ true) V.joined }
 {}
 
-/// Proves the laws of [`joins_have_laws`] for the join of maps from keys to such values. No-op.
+/// Proves the laws of [`joins_have_laws`] for the join of maps from keys to values with a join. No-op.
 pub fn stamped_are_joined<K: Ord, V: Join>()
     ensures { IsJoin (IsBelowAt {K = K} V.is_below) (joined_at V.joined) }
 {}
@@ -95,7 +96,7 @@ pub fn stores_are_joined()
 /// - `greatest`, `reached`: the greatest count is at least that of each entry, and is that of some entry unless it is
 ///   0.
 /// - `joined`: the greatest count of a join is the greater of the greatest counts of the two stores.
-/// - `stays`: an entry with an issued stamp wins at its name.
+/// - `stays`: an entry with the stamp that a store issues wins at its name when that store applies it.
 pub fn stamps_are_issued()
     ensures greatest { (s : Store) (u : Update) → Contains (updates s) u → u.1.count ≤ greatest_count s }
     ensures reached { (s : Store) → (greatest_count s ≡ 0)
@@ -119,9 +120,9 @@ pub fn contents_are_the_texts()
 ///
 /// - `news`: a delta has exactly the entries of its store whose names the summary lacks or has with a smaller stamp.
 /// - `summary`: a summary has the stamp of each entry of its store.
-/// - `whole`: let `old` be a store that is at most `s`, such as `s` or an earlier state of it. The delta of a store `t`
-///   against the summary of `old`, joined into `s`, has the same effect as the whole of `t`, if equal stamps mean equal
-///   entries in `old` and `t`.
+/// - `whole`: let `old` be a store that is at most `s`, such as `s` or an earlier state of it. Let entries of `old` and
+///   of a store `t` with the same name and the same stamp be equal. Then the delta of `t` against the summary of `old`,
+///   joined into `s`, has the same effect as the whole of `t`.
 pub fn deltas_are_joined()
     ensures news { (t : Store) (m : Summary) (q : Name) (e : PlainEntry) → (get (delta t m) q ≡ Some e)
         ↔ ((get t q ≡ Some e) × (is_unseen (value_at name_cmp m q) (Some e) ≡ true)) }
@@ -132,8 +133,9 @@ pub fn deltas_are_joined()
 
 /// Proves that a store keeps the property that each text has a permitted parsed form ([`Readings`]). No-op.
 ///
-/// The empty store has the property. A store that has it keeps it if a policy or an entity with a permitted parsed form
-/// is applied, and if it is merged with a store that has it, whole or cut short.
+/// The empty store has the property. A store that has it keeps it if an entry is applied that has a permitted parsed
+/// form or is a tombstone. The merge of two stores with the property has it too, even if only the first entries of the
+/// second are merged.
 pub fn readings_are_preserved<P: Drop, E: Drop, R: Readings<P, E>>()
     ensures empty { (r : R) → AreEntriesRead {P = P} {E = E} (R.reads_policy r) (R.reads_entity r) (kept [] []) }
     ensures policy { (r : R) (k : StoreEntries P E) (id : String Global) (entry : Entry P)
@@ -154,9 +156,9 @@ pub fn readings_are_preserved<P: Drop, E: Drop, R: Readings<P, E>>()
         → AreEntriesRead (R.reads_policy r) (R.reads_entity r) (all_kept k (first_kept n l)) }
 {}
 
-/// Proves that the test `is_site_name` accepts exactly the names of sites, and that such a name is valid UTF-8; that
-/// the five digits of a number below 100,000 are a name; and that these names are ordered as the numbers are, and are
-/// equal only for equal numbers. No-op.
+/// Proves that the test `is_site_name` accepts exactly the names of sites, and that such a name is valid UTF-8. The
+/// five digits of a number below 100,000 are such a name; these names are ordered as the numbers are, and are equal
+/// only for equal numbers. No-op.
 pub fn site_names_are_recognized()
     ensures tested { SiteTestIsExact }
     ensures texts { SiteNamesAreTexts }
@@ -169,8 +171,8 @@ pub fn site_names_are_recognized()
 /// Proves that stores of numbered sites correspond to those of named sites. Raising updates or a store replaces each
 /// site's number by its five digits. No-op.
 ///
-/// - `greatest`, `only`: a store of numbered sites is the only store of its updates, as one of named sites is.
-/// - `least`: the join of two such stores is their least upper bound.
+/// - `greatest`, `only`: updates of numbered sites have exactly one store, as those of named sites do.
+/// - `least`: the join of two stores of numbered sites is their least upper bound.
 ///
 /// If each site's number is from 1 to 65,535 (`updates` needs no such condition):
 ///

@@ -1,4 +1,4 @@
-//! The relation between the texts of a store and their parsed forms, which the store's user chooses.
+//! A relation, chosen by the user of a store, between the texts of the store and their parsed forms.
 ghost use Rattle.std.specs.Prelude.{List, ℕ};
 ghost use Rattle.values.specs.declared.entity_uid.EntityUid.{EntityUid};
 
@@ -6,7 +6,7 @@ ghost use Rattle.values.specs.declared.entity_uid.EntityUid.{EntityUid};
 ///
 /// The trait has no methods. A contract cannot range over relations, so [`crate::laws::readings_are_preserved`] ranges
 /// over the implementations of this trait. A crate that maintains such a relation implements the trait for a type of
-/// its own, whose values may have what the relation depends on, such as a schema, and uses the theorem.
+/// its own, and uses the theorem. Values of this type may contain what the relation depends on, such as a schema.
 pub trait Readings<P, E> {
     /// Whether the policy with this id (the first list) and this text (the second) may have this parsed form.
     ghost reads_policy: { Self → List ℕ → List ℕ → P → Type 0 };

@@ -17,8 +17,8 @@ const NAME_MAX: usize = 32;
 
 /// The name of a site: 1 to 32 bytes, each an ASCII letter, a digit, `-`, `_` or `.`. Contracts see its bytes.
 ///
-/// Names are equal if their bytes are, and ordered by bytes: `1` and `00001` are two sites. A name is `Copy` and does
-/// not allocate.
+/// Names are equal if and only if their bytes are, and ordered by bytes: `1` and `00001` name two sites. A name is
+/// `Copy` and does not allocate.
 #[derive(Clone, Copy)]
 pub struct SiteName {
     // The name, followed by zeros.
@@ -107,7 +107,7 @@ impl SiteName {
     }
 
     /// Returns the name of the site that has this number in messages of version 1: five digits, with leading zeros. The
-    /// number 0, which no site has there, gives `00000`. Does not allocate.
+    /// number 0, which no site has in such messages, gives `00000`. Does not allocate.
     pub fn from_number(number: u16) -> SiteName
         ensures { result ≡ five_digits number }
     {
@@ -141,8 +141,8 @@ impl SiteName {
     }
 }
 
-// Names are compared by words of eight bytes: a name with its trailing zeros has four words. As big-endian numbers
-// these are ordered as their bytes are. No byte of a name is 0, so a name comes after each of its proper prefixes.
+// Names are compared by words of eight bytes: a name with its trailing zeros has four words. As big-endian numbers,
+// words are ordered as their bytes are. No byte of a name is 0, so a name comes after each of its proper prefixes.
 impl SiteName {
     // Returns the eight bytes at this offset, as a big-endian number.
     fn word(&self, at: usize) -> u64
@@ -214,7 +214,7 @@ impl Ord for SiteName {
 
     ghost matches_eq = { λ s t. refl };
 
-    // Not inlined: most callers find unequal counts before they call this.
+    // Not inlined: most callers find unequal counts and then do not call this.
     #[inline(never)]
     fn cmp(&self, other: &SiteName) -> Ordering {
         let first = self.word_cmp(other, 0);

@@ -16,12 +16,12 @@ use std::collections::btree_map::Iter;
 use std::marker::Model;
 use thiserror::Error;
 
-/// A failed allocation in a merge. Exactly the entries of the first `taken` keys of the other map were joined, and the
-/// rest of it was dropped.
+/// A failed allocation in a merge of two maps or stores. Exactly the first `taken` entries of the other map or store
+/// were joined, in the order of the keys or names, and the rest of it was dropped.
 #[derive(Clone, Copy, PartialEq, Eq, Debug, Error)]
 #[error("out of memory after {taken} entries")]
 pub struct Short {
-    /// How many keys of the other map were joined, from the least on.
+    /// How many entries of the other map or store were joined, from the least key or name on.
     pub taken: usize,
 }
 
@@ -124,7 +124,8 @@ impl<K: Ord + Drop, V: Join + Drop> Stamped<K, V> {
         Ok(())
     }
 
-    // Joins the next value of another map, of which `count` were joined before, and returns how many are joined then.
+    // Joins the next value of another map, after `count` of its values were joined, and returns `count + 1`. If an
+    // allocation fails, returns `Short` with `count`, and this map is unchanged.
     fn take_next(&mut self, count: usize, key: K, value: V) -> Result<usize, Short>
         requires { count < 2 ^ 63 }
         ensures count { IfOk result (λ n. n ≡ count + 1) }
@@ -162,7 +163,7 @@ impl<K: Ord + Drop, V: Join + Drop> Stamped<K, V> {
 }
 
 impl<V: Join + Drop> Stamped<String, V> {
-    /// Returns the value at the key with these characters, if there is one. O(log n). Does not allocate.
+    /// Returns the value at the key `text`, if there is one. O(log n). Does not allocate.
     pub fn get_str(&self, text: &str) -> Option<&V>
         ensures { option_copied result ≡ value_at_text self.now text.now }
     {

@@ -1,4 +1,4 @@
-//! Which sites stamped the updates of a store.
+//! Tests whether a site stamped any update of a store.
 ghost use Rattle.std.specs.Prelude.{◌≡◌};
 ghost use Rattle.std.specs.List.{list_any};
 ghost use Rattle.std.specs.Str.{bytes_eq};
@@ -15,7 +15,7 @@ fn is_stamped_at(stamp: &Stamp, site: SiteName) -> bool
     stamp.site.as_str() == site.as_str()
 }
 
-/// Returns whether one of these entries has a stamp of the site with this name.
+/// Returns whether any of these entries has a stamp of the site with this name.
 fn is_any_stamped_at<K, P>(entries: Iter<'_, K, Entry<P>>, site: SiteName) -> bool
     ensures { result ≡ list_any (λ e. bytes_eq e.1.stamp.site site) entries.entry }
 {
@@ -27,8 +27,8 @@ fn is_any_stamped_at<K, P>(entries: Iter<'_, K, Entry<P>>, site: SiteName) -> bo
 }
 
 impl<P: Drop, E: Drop> StampedStore<P, E> {
-    /// Returns whether some update of the store, which may be a tombstone, has a stamp of the site with this name.
-    /// O(n). Does not allocate.
+    /// Returns whether some update of the store, even a tombstone, has a stamp of the site with this name. O(n) for n
+    /// updates. Does not allocate.
     pub fn has_stamps_of(&self, site: SiteName) -> bool
         ensures { result ≡ has_stamps_of site (abstract_store self.now) }
     {

@@ -24,7 +24,7 @@ use std::collections::btree_map::Iter;
 use std::marker::Model;
 use values::EntityUid;
 
-/// The greatest count of a stamp: 10^18.
+/// The greatest count that a stamp may have in a message or from a local command: 10^18.
 pub const COUNT_MAX: u64 = 1_000_000_000_000_000_000;
 
 /// The store of a site: the entries of policies by id, with parsed forms of type `P`, and those of entities by uid,
@@ -107,8 +107,8 @@ impl<P: Drop, E: Drop> StampedStore<P, E> {
         self.greatest
     }
 
-    /// Returns the stamp of the next local command at a site: one more than the greatest count in the whole store,
-    /// with the site's name. The greatest count must be less than [`COUNT_MAX`].
+    /// Returns the stamp of the next local command at a site. Its count is one more than the greatest count in the
+    /// whole store, and its site is `site`. The greatest count must be less than [`COUNT_MAX`].
     pub fn issue(&self, site: SiteName) -> Stamp
         requires { greatest_count (abstract_store self.now) < COUNT_MAX }
         ensures { result ≡ issue (abstract_store self.now) site }
@@ -203,7 +203,7 @@ impl<P: Drop, E: Drop> StampedStore<P, E> {
 
 // The steps of the store's methods, on one of its two maps or both.
 
-// Joins an entry at a key, and returns the greatest count afterwards.
+// Joins an entry at a key, and returns the greater of `greatest` and the entry's count.
 fn take_counted<K: Ord + Drop, P: Drop>(
     entries: &mut Stamped<K, Entry<P>>,
     key: K,
@@ -230,7 +230,8 @@ fn all_below<K: Ord + Drop, P: Drop>(
     first.below(second)
 }
 
-// Returns the error of a merge in which an allocation failed after `before` policies and some entities were joined.
+// Returns the error of a merge in which an allocation failed after `before` policies and `short.taken` entities were
+// joined.
 fn short_behind(before: usize, short: Short) -> Short
     requires { before + short.taken < 2 ^ 64 }
     ensures { result.taken ≡ before + short.taken }

@@ -19,10 +19,11 @@ ReportsNoHost host fault = (fault ≡ network.NoHost) ↔ IsFalse (is_host host)
 abbrev pub ReportsTooLarge : List ℕ → ℕ → NetworkFault → Type 0
 ReportsTooLarge host size fault = (fault ≡ network.TooLarge) ↔ (IsTrue (is_host host) × (MAX_BODY < size))
 
--- In each module a call leads from the reader `r` and the writer `w` to `r2` and `w2`. Of a reader, `left` gives the
--- bytes left, `reads` and `read_fails` relate the states around a call and around a failed one, and `read_failed` gives
--- the number of failures. Of a writer, `holds` gives the accepted bytes, `write_fails` relates the states around a
--- failed call, and `write_failed` gives the number of failures.
+-- In each module a call leads from the reader `r` and the writer `w` to `r2` and `w2`. For a reader, `left` gives the
+-- bytes left, if they are known; `reads` relates the state before a read, the length of its buffer, the bytes that it
+-- read, and the state afterwards. `read_fails` relates the states before and after a failed read, and `read_failed`
+-- gives the number of failures. For a writer, `holds` gives the accepted bytes, if they are known; `write_fails`
+-- relates the states before and after a failed write, and `write_failed` gives the number of failures.
 module _ {R W : Type 0} (left : R → Option (List ℕ)) (holds : W → Option (List ℕ)) where
   -- `IsSent request r r2 w w2 bytes` holds if `request` was written and `bytes` were read.
   pub record IsSent (request : List ℕ) (r r2 : R) (w w2 : W) (bytes : List ℕ) : Type 0 where
@@ -42,7 +43,7 @@ module _ {R W : Type 0} (left : R → Option (List ℕ)) (holds : W → Option (
 module _ {R W : Type 0} (left : R → Option (List ℕ)) (reads : R → ℕ → List ℕ → R → Type 0)
     (holds : W → Option (List ℕ)) where
   -- `IsAnswered request r r2 w w2 status body` holds if `request` was written, and the bytes read begin with a reply of
-  -- this status and body. The reply was not complete before the last read.
+  -- the status `status` with the body `body`. The reply was not complete before the last read.
   pub record IsAnswered (request : List ℕ) (r r2 : R) (w w2 : W) (status : ℕ) (body : List ℕ) : Type 0 where
     pub bytes : List ℕ
     pub front : List ℕ
@@ -56,13 +57,14 @@ module _ {R W : Type 0} (left : R → Option (List ℕ)) (reads : R → ℕ → 
 module _ {R W : Type 0} (left : R → Option (List ℕ)) (reads : R → ℕ → List ℕ → R → Type 0) (read_failed : R → ℕ)
     (read_fails : R → R → Type 0) (holds : W → Option (List ℕ)) (write_failed : W → ℕ)
     (write_fails : W → W → Type 0) where
-  -- `IsUnanswered request r r2 w w2 fault` holds if `fault` is why there is no reply of status 200:
-  -- - NoHost, TooLarge: nothing was sent.
+  -- `IsUnanswered request r r2 w w2 fault` holds if `fault` is why there is no reply of status 200 to `request`:
+  -- - NoHost, TooLarge: nothing was sent, and nothing was read.
   -- - Read: the last read failed, before the reply was complete.
   -- - Write: the last write failed, and nothing was read.
-  -- - BadReply: the bytes read cannot begin a reply; those before the last read were less than a reply.
+  -- - BadReply: the bytes read cannot begin a reply of one length within the limits; those before the last read were
+  --   less than a reply.
   -- - Ended: the last read reported the end of the input, before the reply was complete.
-  -- - OtherStatus: the reply has another status.
+  -- - OtherStatus: the reply has this status, which is not 200.
   abbrev pub IsUnanswered : List ℕ → R → R → W → W → NetworkFault → Type 0
   IsUnanswered request r r2 w w2 network.NoHost = (r2 ≡ r) × (w2 ≡ w)
   IsUnanswered request r r2 w w2 network.TooLarge = (r2 ≡ r) × (w2 ≡ w)

@@ -1,4 +1,4 @@
--- Defines the outcome of a pull: the state with the updates that another site sent, or an error.
+-- Defines the outcome of a pull: the new state, into which the received updates are joined, or an error.
 -- Source: docs/operating.md.
 -- Rules of this product: the schema is checked first, then the state, both before the network is used, then the
 -- received message; there is a new state only if none of the three is rejected.
@@ -11,7 +11,7 @@ use Rattle.schema_decisions.specs.Checks.{IsSchemaRefused}
 use Rattle.state_exchanges.specs.Messages.{IsMessageRefused, IsReadBack, Joins}
 
 -- `IsPulled s m message state taken` holds if `message`, of the schema `s`, has `taken` updates, and `state` is the
--- state of the store of these updates and those of `m`. `state` is parsed again as exactly the updates of that store.
+-- state message of the join of `m` and these updates. `state` is parsed again as exactly the updates of that join.
 pub record IsPulled (s : StatedSchema) (m : Store) (message state : List ℕ) (taken : ℕ) : Type 0 where
   pub store : Store
   pub joins : Joins s m message store taken

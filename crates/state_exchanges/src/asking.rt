@@ -88,12 +88,12 @@ fn call_size(call: ExchangeCall, body: &[u8]) -> usize
 /// Makes one call to a site over a reader and a writer, and returns the body of the reply, whose status is 200.
 ///
 /// `host` is the value of the field `Host`. `body` is the summary or the message that the call sends; a call for a
-/// summary sends none. After an error a prefix of the request was sent, possibly empty or whole.
+/// summary sends no body. After an error a prefix of the request was sent, possibly empty or whole.
 ///
 /// # Errors
 ///
 /// - `Network(NoHost)` (75): `host` is not a host. Nothing was sent.
-/// - `Network(TooLarge)` (77): the body is longer than a site accepts, 8,388,608 bytes. Nothing was sent.
+/// - `Network(TooLarge)` (77): the body is longer than the 8,388,608 bytes that a site accepts. Nothing was sent.
 /// - `Refused` with code 1: out of memory, at any point.
 /// - `Network` (70 to 74): the network failed, or the reply has a status other than 200.
 pub fn ask<R: Source, W: Sink>(

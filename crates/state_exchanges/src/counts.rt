@@ -11,7 +11,8 @@ fn are_digits(bytes: &[u8]) -> bool
     bytes.iter().all(|byte| byte.is_ascii_digit())
 }
 
-/// Returns whether a line is `{"taken":n}`, with which a site answers a merge.
+/// Returns whether a line is `{"taken":n}`, where n is one or more decimal digits: the line with which a site answers a
+/// merge.
 pub fn is_taken_line(line: &[u8]) -> bool
     ensures { IsTrue result ↔ IsTakenLine line.now }
 {

@@ -1,4 +1,4 @@
-//! Errors of pulls.
+//! Errors of pulls, and of the calls of an exchange.
 ghost use Rattle.std.specs.Prelude.{◌≡◌};
 ghost use Rattle.schema_decisions.specs.answer_lines.Refusals.{no_memory};
 ghost use Rattle.state_exchanges.specs.declared.fault.PullFault.TheVariants as pull;
@@ -16,7 +16,7 @@ pub enum NetworkFault {
     /// The writer failed (71).
     #[error("network 71: writing failed")]
     Write,
-    /// The bytes read are not the beginning of a reply with one length within the limits (72).
+    /// The bytes read cannot begin a reply with a valid length, within the limits (72).
     #[error("network 72: no HTTP reply of one length within the limits")]
     BadReply,
     /// The input ended before the reply did (73).

@@ -70,7 +70,7 @@ fn take_all(
 pub struct Joined {
     /// The store of the updates of both, the earlier store and the message.
     pub store: StampedStore<Policy, Entity>,
-    /// The number of updates of the message, including those that lost.
+    /// The number of updates of the message, including those that lose to a greater entry.
     pub taken: usize,
 }
 
@@ -105,8 +105,8 @@ pub fn join_message(
     Ok(Joined { store, taken })
 }
 
-/// Returns a store as a state of the schema. If its updates are from messages of the schema, the state is parsed again
-/// as exactly these updates.
+/// Returns a store as a state of the schema. If each of its updates is in its ranges and valid under the schema, the
+/// state is parsed again as exactly these updates.
 ///
 /// # Errors
 ///

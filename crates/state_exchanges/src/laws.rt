@@ -14,7 +14,8 @@ use sync_messages::{
 };
 
 /// Proves that two messages merge to the same state in either order, that merging either again changes nothing, and
-/// that a third may be merged in any grouping. No-op.
+/// that a third may be merged in any grouping. The last two assume that the state of each merge on the way is parsed
+/// back (`IsMergedBack`). Each state that `merge_texts` returns is parsed back. No-op.
 pub fn order_and_repeats_do_not_matter()
     ensures order { OrderDoesNotMatter }
     ensures repeats { RepeatsDoNotMatter }
@@ -25,7 +26,7 @@ pub fn order_and_repeats_do_not_matter()
 }
 
 /// Proves that merging two messages under a schema, all given as texts, has exactly one outcome, a state or an error,
-/// whether the first text describes a schema or not. No-op.
+/// whether the text of the schema is accepted or not. No-op.
 pub fn merges_have_one_outcome()
     ensures stated { (bytes f g : List ℕ) (schema : SchemaKept) → IsSchemaOf bytes (schema_view schema)
         → HaveOneOutcome bytes f g }

@@ -31,7 +31,8 @@ fn joined_with(
     }
 }
 
-/// Returns the state with the updates of the messages `f` and `g`, or the error of the first that is rejected.
+/// Returns the state of the join of the updates of the messages `f` and `g`, or the error of the first that is
+/// rejected.
 fn merge_under(alloc: Global, schema: &Schema, f: &[u8], g: &[u8]) -> Result<Vec<u8>, Refusal>
     ensures merged { IfOk result (λ b. IsMergedUnder (schema_view schema.now) f.now g.now b.items) }
     ensures refused { IfErr result
@@ -45,7 +46,7 @@ fn merge_under(alloc: Global, schema: &Schema, f: &[u8], g: &[u8]) -> Result<Vec
     Ok(state_of(alloc, schema, &both)?)
 }
 
-/// Returns the state with the updates of two messages, each a state or a delta, under a schema.
+/// Returns the state of the join of the updates of two messages, each a state or a delta, under a schema.
 ///
 /// The order of the messages does not change the bytes, and neither does merging the result with either message again.
 /// Parsing the returned bytes gives the updates of the joined store.

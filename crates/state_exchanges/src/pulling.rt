@@ -74,7 +74,7 @@ fn take_reply(
     Ok(Pulled { state, taken })
 }
 
-/// Returns the result of joining a reply, with the error as that of a pull.
+/// Returns the result of joining a reply, with its error as the error of a pull.
 fn pull_result(pulled: Result<Pulled, Refusal>) -> Result<Pulled, PullFault>
     ensures { MatchResult pulled (λ p. result ≡ Ok p) (λ r. result ≡ Err (PullFault.Refused r)) }
 {

@@ -1,7 +1,7 @@
 -- Defines the parts of messages as JSON, and the error of bytes that do not have the form of a message.
 -- Source: docs/formats.md, "Messages between sites".
 -- Rules of this product: in version 2 a site is given by its name, in version 1 by a number from 1 to 65,535, whose
--- five digits are the site's name; the order of the errors: not JSON, the version, the rest of the form, the label of
+-- five digits are the site's name. The errors are, in order: not JSON, the version, the rest of the form, the label of
 -- another schema.
 use Rattle.std.specs.Prelude.{◌≡◌, ℕ, List, Some, None, codes}
 use Rattle.serde_json.specs.Data.{Data, number, unsigned, string}
@@ -34,7 +34,8 @@ pub data DescribesSite : MessageVersion → Data → List ℕ → Type 0 where
 
 -- ---- versions
 
--- `HasVersion d n` holds if `d` is an object with the number `n`, an integer in unsigned 64 bits, at `version`.
+-- `HasVersion d n` holds if `d` is an object with the number `n`, an integer in unsigned 64 bits, under the key
+-- `version`.
 abbrev pub HasVersion : Data → ℕ → Type 0
 HasVersion d n = get (codes "version") d ≡ Some (number (unsigned n))
 
@@ -46,7 +47,7 @@ number_of Two = 2
 -- ---- bytes
 
 -- `DescribesForm Form label bytes content` holds if `bytes` are a message in the form `Form` for the schema with the
--- label `label`, with the content `content`. `Form d schema content` says that the JSON `d` is a message for the schema
+-- label `label`, with the content `content`. `Form d schema content` holds if the JSON `d` is a message for the schema
 -- with the label `schema`, with the content `content`.
 pub record DescribesForm {A : Type 0} (Form : Data → List ℕ → A → Type 0) (label bytes : List ℕ) (content : A) : Type 0
   where
@@ -55,8 +56,8 @@ pub record DescribesForm {A : Type 0} (Form : Data → List ℕ → A → Type 0
     pub form : Form value label content
 
 -- `RefusesForm Form label bytes fault` holds if `bytes` are not a message in the form `Form` for the schema with the
--- label `label`, and `fault` is the first error: not JSON; no `version` that is an integer in unsigned 64 bits; a
--- version other than 1 and 2; another form, whatever the label and the content; or another label.
+-- label `label`, and `fault` is the first error. The errors are, in order: not JSON; no `version` that is an integer in
+-- unsigned 64 bits; a version other than 1 and 2; another form, whatever the label and the content; another label.
 pub data RefusesForm {A : Type 0} (Form : Data → List ℕ → A → Type 0) (label bytes : List ℕ) : MessageFault → Type 0
   where
     not_json : json_of bytes ≡ None → RefusesForm Form label bytes NotJson

@@ -24,8 +24,8 @@ use Rattle.sync_messages.specs.StatedMessages.{DescribesMessage, RefusesMessage}
 
 -- ---- states and deltas, before their texts are parsed
 
--- `UpdatesAreRead`: `updates_stated label bytes` gives the updates that `bytes` describe for the schema with the label
--- `label`, or the error if `bytes` describe none.
+-- `UpdatesAreRead`: the parsing function `updates_stated label bytes` (of `message_format`) gives the updates that
+-- `bytes` describe for the schema with the label `label`, or the error with which `bytes` are rejected.
 abbrev pub UpdatesAreRead : Type 0
 UpdatesAreRead = (label bytes : List ℕ)
     → Gives (updates_stated label bytes) (DescribesUpdates label bytes) (RefusesUpdates label bytes)
@@ -45,8 +45,8 @@ UpdatesAreWritten = (label bytes : List ℕ) (d : Data) (us : List PlainUpdate) 
 
 -- ---- summaries
 
--- `SummariesAreRead`: `summary_stated label bytes` gives the summary that `bytes` describe for the schema with the
--- label `label`, or the error if `bytes` describe none.
+-- `SummariesAreRead`: the parsing function `summary_stated label bytes` (of `message_format`) gives the summary that
+-- `bytes` describe for the schema with the label `label`, or the error with which `bytes` are rejected.
 abbrev pub SummariesAreRead : Type 0
 SummariesAreRead = (label bytes : List ℕ)
     → Gives (summary_stated label bytes) (DescribesSummary label bytes) (RefusesSummary label bytes)
@@ -65,16 +65,16 @@ SummariesAreWritten = (label bytes : List ℕ) (d : Data) (m : Summary) → json
 
 -- ---- texts of entities
 
--- `TextsAreRead`: `entity_of_text s uid text` gives the entity that has the uid `uid` and the canonical text `text`
--- under the schema `s`, or the error of `text`.
+-- `TextsAreRead`: the parsing function `entity_of_text s uid text` (Texts.antt) gives the entity that has the uid `uid`
+-- and the canonical text `text` under the schema `s`, or the error of `text`.
 abbrev pub TextsAreRead : Type 0
 TextsAreRead = (s : StatedSchema) (uid : EntityUid) (text : List ℕ)
     → Gives (entity_of_text s uid text) (DescribesText s uid text) (RefusesText s uid text)
 
 -- ---- messages of a schema
 
--- `MessageIsRead s bytes` holds if parsing `bytes` under the schema `s` gives exactly the updates that
--- `DescribesMessage` relates to them, and exactly the errors that `RefusesMessage` does.
+-- `MessageIsRead s bytes` holds if, for `bytes` under the schema `s`, `IsMessageOf` and `DescribesMessage` hold of the
+-- same updates, and `IsMessageFaultOf` and `RefusesMessage` of the same errors.
 pub record MessageIsRead (s : StatedSchema) (bytes : List ℕ) : Type 0 where
   pub states : (us : List (Update Policy Entity)) → IsMessageOf s bytes us ↔ DescribesMessage s bytes us
   pub refuses : (f : MessageFault) → IsMessageFaultOf s bytes f ↔ RefusesMessage s bytes f

@@ -18,12 +18,13 @@ use Rattle.sync_messages.specs.StatedUpdates.{DescribesUpdates, RefusesUpdates}
 use Rattle.sync_messages.specs.StatedSummaries.{Fits, RefusesRanges}
 use Rattle.sync_messages.specs.StatedTexts.{DescribesText, RefusesText}
 
--- `HasTextsOf s us` holds if each update of `us` that has a text has the value of that text under the schema `s`: a
--- policy that passes validation, or the entity that has this canonical text and the uid in the update's name.
+-- `HasTextsOf s us` holds if each update of `us` that has a text has the value of this text under the schema `s`: a
+-- policy that passes validation, or the entity with this canonical text and the uid in the update's name.
 abbrev pub HasTextsOf : StatedSchema → List (Update Policy Entity) → Type 0
 HasTextsOf s us = AllByRecursion (IsUpdateRead (λ id. ReadsPolicy s) (DescribesText s)) us
 
--- `HasBody s u` holds if the update `u` is a tombstone, or its body is the text of a policy or entity under `s`.
+-- `HasBody s u` holds if the update `u` is a tombstone, or its body is a text that can be parsed under the schema `s`
+-- and the name of `u`.
 abbrev pub HasBody : StatedSchema → PlainUpdate → Type 0
 HasBody s u = IsValid (λ id. ReadsPolicy s) (DescribesText s) u
 
@@ -42,7 +43,8 @@ pub data RefusesEntries (s : StatedSchema) : ℕ → List PlainUpdate → Messag
   later_entry : (place : ℕ) (u : PlainUpdate) (us : List PlainUpdate) (fault : MessageFault) → Fits (stamped u)
       → HasBody s u → RefusesEntries s (suc place) us fault → RefusesEntries s place (u ∷ us) fault
 
--- `DescribesMessage s bytes us` holds if `bytes` are a state or delta of the schema `s` with the updates `us`.
+-- `DescribesMessage s bytes us` holds if `bytes` are a state or delta of the schema `s` with the updates `us`. Each
+-- update has a count and a name in their ranges and, unless it is a tombstone, the value of its text.
 pub record DescribesMessage (s : StatedSchema) (bytes : List ℕ) (us : List (Update Policy Entity)) : Type 0 where
   pub stated : DescribesUpdates s.label bytes (plain_updates us)
   pub fit : AllByRecursion (λ u. Fits (stamped u)) (plain_updates us)

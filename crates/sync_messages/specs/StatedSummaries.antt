@@ -1,8 +1,9 @@
--- Defines the summary that bytes describe, and the error of bytes that describe none.
+-- Defines the summary that bytes describe, and the error of other bytes.
 -- Source: docs/formats.md, "Messages between sites".
--- Rules of this product: a summary and each of its stamps have exactly the keys below, in any order
--- (those of parsed JSON ascend: `json_keys_ascend`); names ascend strictly. In a summary of this form the error is that
--- of the first stamp whose count or name is out of its range: that of the count, else that of the name.
+-- Rules of this product: a summary and each of its stamps have exactly the keys below, in any order (those of parsed
+-- JSON ascend, by the theorem `json_keys_ascend`); names ascend strictly. A summary of this form with the schema's
+-- label is rejected for the first stamp whose count or name is out of its range. The error is that of the count, else
+-- that of the name.
 use Rattle.std.specs.Prelude.{◌≡◌, ◌≤◌, ℕ, suc, List, ◌∷◌, ⊤, length, map, codes}
 use Rattle.std.specs.List.{AllZip, AllByRecursion}
 use Rattle.std.specs.List.Sorted.{IsStrictlySortedBy}
@@ -20,8 +21,8 @@ use Rattle.sync_messages.specs.MessageForms.{DescribesName, DescribesSite, numbe
 
 -- ---- the form
 
--- `DescribesStamp version d u` holds if `d` is {"count":n,"name":N,"site":S} for the name and stamp `u`, in the form of
--- `version`.
+-- `DescribesStamp version d u` holds if `d` is {"count":n,"name":N,"site":S} in the form of `version` for `u`, a name
+-- with its stamp: n is the count, N describes the name, and S the site.
 pub record DescribesStamp (version : MessageVersion) (d : Data) (u : Name × Stamp) : Type 0 where
   pub name : Data
   pub site : Data
@@ -64,7 +65,7 @@ pub record Fits (u : Name × Stamp) : Type 0 where
   pub id : IdFits u.0
 
 -- `RefusesRanges place u fault` holds if the count or the name of `u` is out of its range, and `fault` is the error of
--- `u` at the index `place`: that of the count, else that of the name, with the inner code 19 (bad id).
+-- `u` at the index `place`. It is the error of the count, else that of the name, with the inner code 19 (bad id).
 pub data RefusesRanges (place : ℕ) (u : Name × Stamp) : MessageFault → Type 0 where
   bad_count : (CountFits u.1.count → ⊥) → RefusesRanges place u (CountRange place)
   bad_id : CountFits u.1.count → (IdFits u.0 → ⊥) → RefusesRanges place u (BadEntry place 19)

@@ -1,8 +1,8 @@
 -- Defines when a text is the canonical text of an entity, and the error of other texts.
 -- Source: Cedar reference guide 4.0, "Entities and context: JSON format".
--- Rules of this product: the order of the errors: 30 for a text that is not JSON; the error of JSON that does not
--- describe an entity of the schema; 57 for a spelling other than the canonical one; and last `OtherName` (56), for
--- another uid.
+-- Rules of this product: the order of the errors. First comes 30, for a text that is not JSON; then the error of JSON
+-- that does not describe an entity of the schema; then 57, for a spelling other than the canonical one; last
+-- `OtherName` (56), for another uid.
 use Rattle.std.specs.Prelude.{◌≡◌, ℕ, List, Some, None}
 use Rattle.serde_json.specs.Data.{Data}
 use Rattle.json_words.specs.Json.{json_of}

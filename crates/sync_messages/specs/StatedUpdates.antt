@@ -1,7 +1,7 @@
--- Defines the updates that bytes describe as a state or delta, and the error of bytes that describe none.
+-- Defines the updates that bytes describe as a state or delta, and the error of other bytes.
 -- Source: docs/formats.md, "Messages between sites".
--- Rules of this product: a message and each of its entries have exactly the keys below (the keys of parsed JSON ascend,
--- whatever their order in the bytes: `json_keys_ascend`); a body is null or a text.
+-- Rules of this product: a message and each of its entries have exactly the keys below; a body is null or a text. The
+-- keys of parsed JSON ascend, whatever their order in the bytes (theorem `json_keys_ascend`).
 use Rattle.std.specs.Prelude.{◌≡◌, ◌⊎◌, ℕ, List, codes}
 use Rattle.std.specs.List.{AllZip}
 use Rattle.serde_json.specs.Data.{Data, number, unsigned, string, array, object, Items, no_members, member}
@@ -12,8 +12,8 @@ use Rattle.message_format.specs.declared.fault.MessageFault.{MessageFault}
 use Rattle.message_format.specs.Messages.{body_json}
 use Rattle.sync_messages.specs.MessageForms.{DescribesName, DescribesSite, number_of, DescribesForm, RefusesForm}
 
--- `DescribesEntry version d u` holds if `d` is {"body":null or a text,"count":n,"name":N,"site":S} for the update `u`,
--- in the form of `version`, where N describes its name and S its site.
+-- `DescribesEntry version d u` holds if `d` is {"body":null or a text,"count":n,"name":N,"site":S} in the form of
+-- `version` for the update `u`: n is the count, N describes the name, and S the site.
 pub record DescribesEntry (version : MessageVersion) (d : Data) (u : Update) : Type 0 where
   pub name : Data
   pub site : Data

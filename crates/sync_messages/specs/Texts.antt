@@ -1,7 +1,7 @@
 -- Defines the policy or entity that a text of a store is parsed as under a schema, and the error of a rejected text.
 -- Source: Cedar reference guide 4.0, "Policy validation" and "Entities and context: JSON format".
--- Rules of this product: a policy's text must be that of a policy that passes validation; an entity's must be the one
--- canonical text of an entity that the schema allows, under that entity's uid. Whether a text is accepted does not
+-- Rules of this product: a policy's text must be that of a policy that passes validation. An entity's text must be the
+-- one canonical text of an entity that the schema allows, under that entity's uid. Whether a text is accepted does not
 -- depend on a store, so the order in which texts arrive does not matter.
 use Rattle.std.specs.Prelude.{◌≡◌, ℕ, List, Result, Ok, Err}
 use Rattle.std.specs.Str.{bytes_eq}
@@ -27,13 +27,13 @@ use Rattle.message_format.specs.declared.bodies.BodyFault.TheVariants.{Refused, 
 
 -- ---- policies: neither the id under which a text is stored nor its `@id` matters
 
--- `ReadsPolicy s text p` holds if `text` is the text of the policy `p`, which passes validation under `s`.
+-- `ReadsPolicy s text p` holds if `text` is the text of the policy `p`, which passes validation under the schema `s`.
 pub record ReadsPolicy (s : StatedSchema) (text : List ℕ) (p : Policy) : Type 0 where
   pub is_text : IsPolicyText text p
   pub passes : Passes s p
 
 -- `RefusesPolicy s text f` holds if `text` is not the text of a policy that passes validation under the schema `s`, and
--- `f` has the code of the error: that of the text as a policy, else that of validation.
+-- `f` has the code of the error. The error is that of the text as a policy, else that of validation.
 pub data RefusesPolicy (s : StatedSchema) (text : List ℕ) : BodyFault → Type 0 where
   no_policy : (f : ReadFault) → IsPolicyRefused text f → RefusesPolicy s text (Refused (grammar.code_of f))
   not_passing : (p : Policy) (f : TypeFault) → IsPolicyText text p → IsCheckRefused s p f
@@ -47,8 +47,8 @@ refused_by (Ok e) = Ok e
 refused_by (Err f) = Err (Refused (entities.code_of f))
 
 -- `entity_of_text s uid text` is the entity under the schema `s` with the canonical text `text` and the uid `uid`, or
--- the first error: 30 if `text` is not JSON; the error of JSON that does not describe an entity; 57 if the entity has
--- another canonical text; `OtherName` if it has another uid.
+-- the first error. The errors are, in order: 30 if `text` is not JSON; the error of JSON that does not describe an
+-- entity; 57 if the entity has another canonical text; `OtherName` if it has another uid.
 unfoldable pub entity_of_text : StatedSchema → EntityUid → List ℕ → Result Entity BodyFault
 entity_of_text s uid text = do
   json ← or_fault (Refused 30) (json_of text)

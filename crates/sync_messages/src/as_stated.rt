@@ -9,11 +9,11 @@ use message_format::{names_read_back, stamps_read_back};
 use stamped_store::laws::site_names_are_recognized;
 use validator::entities_are_read_as_stated;
 
-/// Proves that parsing the form of a state or delta gives the updates that bytes describe, or the first error. No-op.
+/// Proves that parsing a state or delta gives the updates that bytes describe, or the first error, before the ranges
+/// and texts of the updates are checked. No-op.
 ///
-/// Ranges and texts of entries are not checked here. Bytes describe exactly one list of updates or are rejected with
-/// exactly one error, never both. If bytes of version 2 are parsed as updates, their JSON has exactly the keys and
-/// values with which these updates are written.
+/// Bytes describe exactly one list of updates or are rejected with exactly one error, never both. If bytes of version 2
+/// are parsed as updates, their JSON has exactly the keys and values with which these updates are written.
 pub fn updates_are_read_as_stated()
     ensures read { UpdatesAreRead }
     ensures one { UpdatesHaveOneOutcome }

@@ -4,8 +4,8 @@ ghost use Rattle.sync_messages.specs.Laws.{PoliciesHaveNoOtherName, CanonicalTex
 
 use validator::policies_have_one_outcome;
 
-/// Proves that under a schema each text has exactly one outcome: as a policy, one policy that passes validation or one
-/// error; as an entity with a given uid, one entity or one error. No-op.
+/// Proves that under a schema each text has exactly one outcome. As a policy it gives one policy that passes
+/// validation, or one error; as an entity with a given uid, one entity, or one error. No-op.
 ///
 /// No text of a policy is rejected with `OtherName`.
 pub fn stored_texts_have_one_reading()
@@ -17,7 +17,7 @@ pub fn stored_texts_have_one_reading()
     policies_have_one_outcome();
 }
 
-/// Proves the round trip of entities: if an entity was parsed from bytes under a well-formed schema, its canonical text
+/// Proves the round trip of entities. If an entity was parsed from bytes under a well-formed schema, its canonical text
 /// is parsed as the same entity, under the same schema and the entity's uid. No-op.
 pub fn canonical_texts_are_read()
     ensures { CanonicalTextsAreRead }

@@ -42,7 +42,7 @@ pub fn read_updates(
     }
 }
 
-/// Parses a summary under the schema with this label.
+/// Parses a summary for the schema with the label `label`.
 ///
 /// In version 1 a site is a number, which becomes the name of five digits: 7 becomes `00007`.
 ///

@@ -23,7 +23,7 @@ use std::alloc::Global;
 use validator::{Entity, EntityFault, Schema, TypeFault, canonical_text, check, read_entity};
 use values::EntityUid;
 
-/// The parser of texts under a schema. Contracts see the schema's view.
+/// The parser of texts under a schema. Contracts state its results for the abstract schema (`schema_view`).
 #[derive(Clone, Copy)]
 pub struct SchemaTexts<'a> {
     /// The schema.
@@ -48,7 +48,7 @@ impl Readings<Policy, Entity> for SchemaTexts<'_> {
     ghost reads_entity = { λ t uid text e. ReadsEntity (schema_view t.schema.now) uid text e };
 }
 
-/// Converts the error of a text that is not a policy to the body's error with the same code.
+/// Converts the error of a text that is not a policy: `NoMemory` to `NoMemory`, any other to `Refused` with its code.
 fn grammar_fault(fault: ReadFault) -> BodyFault
     ensures memory { fault ≡ ReadFault.NoMemory → result ≡ BodyFault.NoMemory }
     ensures refused { fault ≢ ReadFault.NoMemory → result ≡ BodyFault.Refused (grammar.code_of fault) }
@@ -59,7 +59,8 @@ fn grammar_fault(fault: ReadFault) -> BodyFault
     }
 }
 
-/// Converts the error of a policy that does not pass validation to the body's error with the same code.
+/// Converts the error of a policy that does not pass validation: `NoMemory` to `NoMemory`, any other to `Refused` with
+/// its code.
 fn validation_fault(fault: TypeFault) -> BodyFault
     ensures memory { fault ≡ TypeFault.NoMemory → result ≡ BodyFault.NoMemory }
     ensures refused { fault ≢ TypeFault.NoMemory → result ≡ BodyFault.Refused (validation.code_of fault) }
@@ -70,7 +71,7 @@ fn validation_fault(fault: TypeFault) -> BodyFault
     }
 }
 
-/// Checks that a policy passes validation. Returns `Refused` with the code of its error if it does not.
+/// Checks that a policy passes validation. Returns `Refused` with the code of its error if it does not, or `NoMemory`.
 fn demand_passing(alloc: Global, schema: &Schema, policy: &Policy) -> Result<(), BodyFault>
     ensures passes { IfOk result (λ _. Passes (schema_view schema.now) policy.now) }
     ensures refused { IfErr result (λ f. (text : List ℕ) → IsPolicyText text policy.now
@@ -93,7 +94,7 @@ fn where_passing<P: Drop>(policy: P, passing: Result<(), BodyFault>) -> Result<P
 }
 
 /// Parses the text of a policy, and checks that the policy passes validation. Returns `Refused` with the code of the
-/// first error.
+/// first error, or `NoMemory`.
 fn passing_policy(alloc: Global, schema: &Schema, text: &str) -> Result<Policy, BodyFault>
     ensures read { IfOk result (ReadsPolicy (schema_view schema.now) text.now) }
     ensures refused { IfErr result (OrNoMemory BodyFault.NoMemory (RefusesPolicy (schema_view schema.now) text.now)) }

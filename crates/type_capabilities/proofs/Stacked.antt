@@ -10,9 +10,9 @@ use Rattle.std.specs.BTreeMap.{BTreeMap, Updates}
 use Rattle.std.proofs.lemmas.Bool.{cases_Bool, false≢true}
 use Rattle.plain.proofs.Members.{Contains-here, Contains-there, Contains-cases, Contains-none}
 use Rattle.values.specs.Uids.{equal-is}
-use Rattle.type_capabilities.specs.CapabilityList.{CapabilityValue, capability_of, capabilities, pair_cmp, borrowed_cmp, pair_cmp-IsTotalOrder, pair_cmp-IsAntisymmetric}
+use Rattle.type_capabilities.specs.CapabilityList.{CapabilityValue, capability_of, capabilities, capability_cmp, borrowed_cmp, capability_cmp-IsTotalOrder, capability_cmp-IsAntisymmetric}
 use Rattle.type_capabilities.specs.Stacks.{place_of, AreFound}
-use Rattle.type_capabilities.specs.declared.pair.Capability.{Capability}
+use Rattle.type_capabilities.specs.declared.capability.Capability.{Capability}
 
 -- ---- items by their places
 
@@ -76,18 +76,18 @@ somewhere (p ∷ ps) q c = elim (Contains-cases p ps q c) [
 
 -- ---- pairs that compare as equal
 
-pub tied : (p : CapabilityValue) → is_eq (pair_cmp p p) ≡ true
-tied p = (equal-is pair_cmp-IsTotalOrder pair_cmp-IsAntisymmetric p p).1 refl
+pub tied : (p : CapabilityValue) → is_eq (capability_cmp p p) ≡ true
+tied p = (equal-is capability_cmp-IsTotalOrder capability_cmp-IsAntisymmetric p p).1 refl
 
-pub apart : (p q : CapabilityValue) → ¬ (p ≡ q) → is_eq (pair_cmp p q) ≡ false
-apart p q n = elim (cases_Bool (is_eq (pair_cmp p q))) [
-  | inl e ↦ absurd (n ((equal-is pair_cmp-IsTotalOrder pair_cmp-IsAntisymmetric p q).0 e))
+pub apart : (p q : CapabilityValue) → ¬ (p ≡ q) → is_eq (capability_cmp p q) ≡ false
+apart p q n = elim (cases_Bool (is_eq (capability_cmp p q))) [
+  | inl e ↦ absurd (n ((equal-is capability_cmp-IsTotalOrder capability_cmp-IsAntisymmetric p q).0 e))
   | inr e ↦ e
 ]
 
 -- what is noted, after the place of a pair was
 pub noted_so : (m n : BTreeMap Capability ℕ) (k : Capability) (w : Option ℕ) → Updates borrowed_cmp m n k w → (p : CapabilityValue)
-    → place_of n p ≡ cond (is_eq (pair_cmp (capability_of k) p)) w (place_of m p)
+    → place_of n p ≡ cond (is_eq (capability_cmp (capability_of k) p)) w (place_of m p)
 noted_so m n k w u p =
     u.0 (record { whole = record { ref_ptr = (0, 0); now = p.0 }; name = record { ref_ptr = (0, 0); now = p.1 } })
 
@@ -111,7 +111,7 @@ module _ (ps : List CapabilityValue) (at : CapabilityValue → Option ℕ) where
   ]
 
   module _ (after : CapabilityValue → Option ℕ) (p : CapabilityValue) (n : ¬ Contains ps p)
-      (so : (q : CapabilityValue) → after q ≡ cond (is_eq (pair_cmp p q)) (Some (length ps)) (at q)) where
+      (so : (q : CapabilityValue) → after q ≡ cond (is_eq (capability_cmp p q)) (Some (length ps)) (at q)) where
     as_before : (i : ℕ) (q : CapabilityValue) → slice_get ps i ≡ Some q → after q ≡ at q
     as_before i q e =
         so q ∙ ap (λ b. cond b (Some (length ps)) (at q)) (apart p q (λ s. n (subst (λ r. Contains ps r) (sym s) (stands ps i q e))))

@@ -1,6 +1,6 @@
--- Defines the representation of an expression as a list of node codes: first the node code of the expression's kind and
--- its content other than operands, then the node codes of its operands, from the left. The list determines the
--- expression, and expressions are ordered as their lists.
+-- Defines the representation of an expression as a list of node codes. The first is the node code of the expression's
+-- kind and its content other than operands; the node codes of its operands follow, from the left. The list determines
+-- the expression, and expressions are ordered as their lists.
 -- Rules of this product: this representation.
 use Rattle.std.specs.Prelude.{
   ◌≡◌,
@@ -221,7 +221,7 @@ unary_of r ts =
 
 -- Below, `st` are the expressions read so far; a node takes as many of them as it has operands.
 
--- `first st` is the first of the expressions `st`, and `behind st` are the others.
+-- `first st` is the first of the expressions `st`, or `false` if there is none, and `behind st` are the others.
 abbrev first : List Expr → Expr
 first [] = form.Literal (literal.Boolean false)
 first (x ∷ st) = x
@@ -288,7 +288,8 @@ named_back : (fs : List (Named Expr)) → named (names fs) (map (λ f. f.value) 
 named_back [] = refl
 named_back (f ∷ fs) = ap (λ gs. f ∷ gs) (named_back fs)
 
--- `IsReadBack x` holds if reading the node codes of `x`, with any others after them, gives `x` first.
+-- `IsReadBack x` holds if reading the node codes of `x`, with any others after them, gives `x` and then what reading
+-- the others gives.
 abbrev IsReadBack : Expr → Type 0
 IsReadBack x = (ts : List NodeCode) → read (node_codes x ++ ts) ≡ x ∷ read ts
 

@@ -40,8 +40,8 @@ unary_rank unary.Negate = 1
 unary_rank (unary.Like p) = 2
 unary_rank (unary.Is n) = 3
 
--- `pattern_cmp p q` compares the patterns `p` and `q`, each the list of its literal texts: by the number of these, then
--- text by text.
+-- `pattern_cmp p q` compares the patterns `p` and `q`, each the list of its literal pieces: by the number of these,
+-- then piece by piece.
 abbrev pub pattern_cmp : List (List ℕ) → List (List ℕ) → Ordering
 pattern_cmp p q = ordering_then (nat_cmp (length p) (length q)) (slice_cmp text_cmp p q)
 
@@ -79,14 +79,15 @@ names fs = map (λ f. f.name) fs
 abbrev pub names_cmp : {X Y : Type 0} → List (Named X) → List (Named Y) → Ordering
 names_cmp fs gs = slice_cmp text_cmp (names fs) (names gs)
 
--- `each_cmp fs ys` compares a list of expressions with `ys`, index by index, up to the end of the shorter list; `fs`
--- says how each expression of the first list compares with others.
+-- `each_cmp fs ys` compares a list of expressions with the list `ys`, index by index, up to the end of the shorter
+-- list. The list `fs` has, in place of each expression of the first list, its comparison with other expressions.
 abbrev pub each_cmp : List (Expr → Ordering) → List Expr → Ordering
 each_cmp [] ys = Equal
 each_cmp (f ∷ fs) [] = Equal
 each_cmp (f ∷ fs) (y ∷ ys) = ordering_then (f y) (each_cmp fs ys)
 
--- `layers_cmp l m` compares the node `l`, given how its operands compare with other expressions, with the node `m`.
+-- `layers_cmp l m` compares the nodes `l` and `m`. Each operand of `l` is replaced by its comparison with other
+-- expressions.
 abbrev pub layers_cmp : Expr-F (Expr → Ordering) → Expr-F Expr → Ordering
 layers_cmp (Expr-F.Literal l) (Expr-F.Literal m) = literal_cmp l m
 layers_cmp (Expr-F.Variable x) (Expr-F.Variable y) = nat_cmp (variable_rank x) (variable_rank y)

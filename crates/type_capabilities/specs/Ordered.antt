@@ -294,46 +294,52 @@ from_layer x f l e d h y s t =
     ∙ sym (ap (λ us. codes_cmp (us ++ s) (node_codes y ++ t)) d
     ∙ ap (λ us. codes_cmp (layer_codes l ++ s) (us ++ t)) (codes_out y)))
 
--- `Step l y` compares the node `l`, given how its operands compare with other expressions, with the expression `y`. `A`
--- and `B` are the results of folding an expression by `Step` and by `codes_step`.
-abbrev Step : Expr-F (Expr → Ordering) → Expr → Ordering
-Step l y = layers_cmp l (out-Expr y)
+-- `compare_step l y` compares the node `l`, given how its operands compare with other expressions, with the expression
+-- `y`. `Comparison` and `NodeCodeList` are the results of folding an expression by `compare_step` and by `codes_step`.
+abbrev compare_step : Expr-F (Expr → Ordering) → Expr → Ordering
+compare_step l y = layers_cmp l (out-Expr y)
 
-abbrev A : Type 0
-A = Expr → Ordering
+abbrev Comparison : Type 0
+Comparison = Expr → Ordering
 
-abbrev B : Type 0
-B = List NodeCode
+abbrev NodeCodeList : Type 0
+NodeCodeList = List NodeCode
 
 -- `all_by_codes`: an expression of each kind compares with any other as their node codes do, if its operands do.
 all_by_codes : Cases IsByCodes
 all_by_codes = record {
-  literal = λ l. from_layer (form.Literal l) (Expr-F.Literal l) (Expr-F.Literal l) (fold_literal A Step l)
-      (fold_literal B codes_step l) (at_literal l);
-  variable = λ x. from_layer (form.Variable x) (Expr-F.Variable x) (Expr-F.Variable x) (fold_variable A Step x)
-      (fold_variable B codes_step x) (at_variable x);
+  literal = λ l. from_layer (form.Literal l) (Expr-F.Literal l) (Expr-F.Literal l)
+      (fold_literal Comparison compare_step l)
+      (fold_literal NodeCodeList codes_step l) (at_literal l);
+  variable = λ x. from_layer (form.Variable x) (Expr-F.Variable x) (Expr-F.Variable x)
+      (fold_variable Comparison compare_step x)
+      (fold_variable NodeCodeList codes_step x) (at_variable x);
   if_form = λ a b c f g h. from_layer (form.If a b c) (Expr-F.If (expr_cmp a) (expr_cmp b) (expr_cmp c))
-      (Expr-F.If a b c) (fold_if A Step a b c) (fold_if B codes_step a b c) (at_if a b c f g h);
+      (Expr-F.If a b c) (fold_if Comparison compare_step a b c) (fold_if NodeCodeList codes_step a b c)
+      (at_if a b c f g h);
   and_form = λ a b f g. from_layer (form.And a b) (Expr-F.And (expr_cmp a) (expr_cmp b)) (Expr-F.And a b)
-      (fold_and A Step a b) (fold_and B codes_step a b) (at_and a b f g);
+      (fold_and Comparison compare_step a b) (fold_and NodeCodeList codes_step a b) (at_and a b f g);
   or_form = λ a b f g. from_layer (form.Or a b) (Expr-F.Or (expr_cmp a) (expr_cmp b)) (Expr-F.Or a b)
-      (fold_or A Step a b) (fold_or B codes_step a b) (at_or a b f g);
+      (fold_or Comparison compare_step a b) (fold_or NodeCodeList codes_step a b) (at_or a b f g);
   unary = λ o a f. from_layer (form.Unary o a) (Expr-F.Unary o (expr_cmp a)) (Expr-F.Unary o a)
-      (fold_unary A Step o a) (fold_unary B codes_step o a) (at_unary o a f);
+      (fold_unary Comparison compare_step o a) (fold_unary NodeCodeList codes_step o a) (at_unary o a f);
   binary = λ o a b f g. from_layer (form.Binary o a b) (Expr-F.Binary o (expr_cmp a) (expr_cmp b))
-      (Expr-F.Binary o a b) (fold_binary A Step o a b) (fold_binary B codes_step o a b) (at_binary o a b f g);
+      (Expr-F.Binary o a b) (fold_binary Comparison compare_step o a b) (fold_binary NodeCodeList codes_step o a b)
+      (at_binary o a b f g);
   field = λ a k f. from_layer (form.Field a k) (Expr-F.Field (expr_cmp a) k) (Expr-F.Field a k)
-      (fold_field A Step a k) (fold_field B codes_step a k) (at_field a k f);
+      (fold_field Comparison compare_step a k) (fold_field NodeCodeList codes_step a k) (at_field a k f);
   has = λ a k f. from_layer (form.Has a k) (Expr-F.Has (expr_cmp a) k) (Expr-F.Has a k)
-      (fold_has A Step a k) (fold_has B codes_step a k) (at_has a k f);
-  set = λ xs h. from_layer (form.Set xs) (Expr-F.Set (map expr_cmp xs)) (Expr-F.Set xs) (fold_set A Step xs)
+      (fold_has Comparison compare_step a k) (fold_has NodeCodeList codes_step a k) (at_has a k f);
+  set = λ xs h. from_layer (form.Set xs) (Expr-F.Set (map expr_cmp xs)) (Expr-F.Set xs)
+      (fold_set Comparison compare_step xs)
       (codes_set xs) (at_set xs h);
   record_form = λ fs h. from_layer (form.Record fs) (Expr-F.Record (compared_fields fs)) (Expr-F.Record fs)
-      (fold_record A Step fs) (codes_record fs) (at_record fs h);
+      (fold_record Comparison compare_step fs) (codes_record fs) (at_record fs h);
   unary_call = λ c a f. from_layer (form.UnaryCall c a) (Expr-F.UnaryCall c (expr_cmp a)) (Expr-F.UnaryCall c a)
-      (fold_unary_call A Step c a) (fold_unary_call B codes_step c a) (at_unary_call c a f);
+      (fold_unary_call Comparison compare_step c a) (fold_unary_call NodeCodeList codes_step c a) (at_unary_call c a f);
   binary_call = λ c a b f g. from_layer (form.BinaryCall c a b) (Expr-F.BinaryCall c (expr_cmp a) (expr_cmp b))
-      (Expr-F.BinaryCall c a b) (fold_binary_call A Step c a b) (fold_binary_call B codes_step c a b)
+      (Expr-F.BinaryCall c a b) (fold_binary_call Comparison compare_step c a b)
+      (fold_binary_call NodeCodeList codes_step c a b)
       (at_binary_call c a b f g);
 }
 

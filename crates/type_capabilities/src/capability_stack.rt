@@ -1,28 +1,29 @@
-//! The stack of known capabilities.
+//! A stack of capabilities, in which a look-up finds a capability.
 ghost use Rattle.std.specs.Prelude.{◌≡◌, ◌<◌, ◌↔◌, ℕ, [], ◌∷◌, ◌++◌, IsTrue, OnOk, OnErr, Contains, take, length, Some};
 ghost use Rattle.std.specs.Prelude.{cond};
 ghost use Rattle.std.specs.List.{slice_get};
 ghost use Rattle.std.specs.Ordering.{is_eq};
-ghost use Rattle.type_capabilities.specs.CapabilityList.{CapabilityValue, capability_of, capabilities, pair_cmp};
+ghost use Rattle.type_capabilities.specs.CapabilityList.{CapabilityValue, capability_of, capabilities, capability_cmp};
 ghost use Rattle.type_capabilities.specs.Stacks.{AreFound, place_of};
 
-use crate::pair::{Capability, is_same};
+use crate::capability::{Capability, is_same};
 use plain::NoMemory;
 use std::alloc::Global;
 use std::collections::BTreeMap;
 use std::marker::Model;
 
-/// Known capabilities, as a stack of pairs. Contracts see the list of the pairs, from the bottom.
+/// A stack of capabilities, each an expression and the name of a field. Contracts see the list of the capabilities,
+/// from the bottom.
 ///
-/// A pair is found by one look-up in an ordered map. Popped pairs stay in memory beyond the top, so that popping takes
-/// constant time, and pushing the same pairs again needs neither memory nor a look-up.
+/// A capability is found by one look-up in an ordered map. Popped capabilities stay in memory beyond the top, so that
+/// popping takes constant time, and pushing the same capabilities again takes no allocation and no look-up.
 #[derive(Drop)]
 pub struct Capabilities<'a> {
-    /// The pairs, followed by some that were popped.
+    /// The capabilities, followed by some that were popped.
     stack: Vec<Capability<'a>>,
-    /// The number of pairs that are not popped.
+    /// The number of capabilities that are not popped.
     height: usize,
-    /// For each pair in `stack`, its lowest index. Entries of other pairs may remain.
+    /// For each capability in `stack`, popped or not, its lowest index. Entries of other capabilities may remain.
     places: BTreeMap<Capability<'a>, usize>,
 }
 
@@ -43,79 +44,80 @@ impl<'a> Model for Capabilities<'a> {
         × AreFound (capabilities k.stack.items) (λ p. place_of k.places p) };
 }
 
-/// Returns whether a pair is at an index of the stack.
-fn is_pair_at(stack: &[Capability<'_>], at: usize, pair: &Capability<'_>) -> bool
-    ensures { IsTrue result ↔ (slice_get (capabilities stack.now) at ≡ Some (capability_of pair.now)) }
+/// Returns whether a capability is at an index of the stack.
+fn is_capability_at(stack: &[Capability<'_>], at: usize, capability: &Capability<'_>) -> bool
+    ensures { IsTrue result ↔ (slice_get (capabilities stack.now) at ≡ Some (capability_of capability.now)) }
 {
     match stack.get(at) {
-        Some(found) => is_same(found, pair),
+        Some(found) => is_same(found, capability),
         None => false,
     }
 }
 
-/// Returns whether a pair is in the stack below a height.
-fn is_pair_below<'a>(
+/// Returns whether a capability is among the first `height` of the stack, given in `places` the lowest index of each
+/// capability of the stack.
+fn is_capability_below<'a>(
     stack: &[Capability<'a>],
     places: &BTreeMap<Capability<'a>, usize>,
-    pair: &Capability<'a>,
+    capability: &Capability<'a>,
     height: usize,
 ) -> bool
     ensures { AreFound (capabilities stack.now) (λ p. place_of places.now p)
-        → (IsTrue result ↔ Contains (take height (capabilities stack.now)) (capability_of pair.now)) }
+        → (IsTrue result ↔ Contains (take height (capabilities stack.now)) (capability_of capability.now)) }
 {
-    match places.get(pair) {
-        Some(at) => *at < height && is_pair_at(stack, *at, pair),
+    match places.get(capability) {
+        Some(at) => *at < height && is_capability_at(stack, *at, capability),
         None => false,
     }
 }
 
-/// Records the index of a pair.
+/// Records `at` as the index of a capability. After `NoMemory` nothing is recorded.
 fn note<'a>(
     places: &mut BTreeMap<Capability<'a>, usize>,
-    pair: Capability<'a>,
+    capability: Capability<'a>,
     at: usize,
 ) -> Result<(), NoMemory>
     ensures ok { OnOk result ((p : CapabilityValue) → place_of places.new p
-        ≡ cond (is_eq (pair_cmp (capability_of pair.entry) p)) (Some at) (place_of places.old p)) }
+        ≡ cond (is_eq (capability_cmp (capability_of capability.entry) p)) (Some at) (place_of places.old p)) }
     ensures err { OnErr result ((p : CapabilityValue) → place_of places.new p ≡ place_of places.old p) }
 {
-    places.insert(pair, at)?;
+    places.insert(capability, at)?;
     Ok(())
 }
 
-/// Appends a pair that is not in the stack, and records its index.
+/// Appends a capability that is not in the stack, and records its index. After `NoMemory` the stack is unchanged.
 fn put_new<'a>(
     stack: &mut Vec<Capability<'a>>,
     places: &mut BTreeMap<Capability<'a>, usize>,
-    pair: Capability<'a>,
+    capability: Capability<'a>,
 ) -> Result<(), NoMemory>
     ensures found { AreFound (capabilities stack.old.items) (λ p. place_of places.old p)
-        → ¬ Contains (capabilities stack.old.items) (capability_of pair.entry)
+        → ¬ Contains (capabilities stack.old.items) (capability_of capability.entry)
         → AreFound (capabilities stack.new.items) (λ p. place_of places.new p) }
-    ensures ok { OnOk result (stack.new.items ≡ stack.old.items ++ pair.entry ∷ []) }
+    ensures ok { OnOk result (stack.new.items ≡ stack.old.items ++ capability.entry ∷ []) }
     ensures err { OnErr result (stack.new.items ≡ stack.old.items) }
 {
-    note(places, pair, stack.len())?;
-    stack.push(pair)?;
+    note(places, capability, stack.len())?;
+    stack.push(capability)?;
     Ok(())
 }
 
-/// Appends a pair, and records its index if it is not in the stack yet.
+/// Appends a capability, and records its index if it is not in the stack yet. After `NoMemory` the stack is unchanged.
 fn put<'a>(
     stack: &mut Vec<Capability<'a>>,
     places: &mut BTreeMap<Capability<'a>, usize>,
-    pair: Capability<'a>,
+    capability: Capability<'a>,
 ) -> Result<(), NoMemory>
     ensures found { AreFound (capabilities stack.old.items) (λ p. place_of places.old p)
         → AreFound (capabilities stack.new.items) (λ p. place_of places.new p) }
-    ensures ok { OnOk result (stack.new.items ≡ stack.old.items ++ pair.entry ∷ []) }
+    ensures ok { OnOk result (stack.new.items ≡ stack.old.items ++ capability.entry ∷ []) }
     ensures err { OnErr result (stack.new.items ≡ stack.old.items) }
 {
-    if is_pair_below(stack.as_slice(), places, &pair, stack.len()) {
-        stack.push(pair)?;
+    if is_capability_below(stack.as_slice(), places, &capability, stack.len()) {
+        stack.push(capability)?;
         return Ok(());
     }
-    put_new(stack, places, pair)
+    put_new(stack, places, capability)
 }
 
 impl<'a> Capabilities<'a> {
@@ -130,53 +132,53 @@ impl<'a> Capabilities<'a> {
         }
     }
 
-    /// Returns the number of pairs.
+    /// Returns the number of capabilities.
     pub fn len(&self) -> usize
         ensures { result ≡ length self.now }
     {
         self.height
     }
 
-    /// Returns whether a pair is in the stack. Takes O(log n) comparisons, where n counts all pairs that were ever
-    /// pushed. Does not allocate.
-    pub fn knows(&self, pair: &Capability<'a>) -> bool
-        ensures { IsTrue result ↔ Contains self.now (capability_of pair.now) }
+    /// Returns whether a capability is in the stack. Takes O(log n) comparisons, where n is the number of capabilities
+    /// that were ever pushed. Does not allocate.
+    pub fn knows(&self, capability: &Capability<'a>) -> bool
+        ensures { IsTrue result ↔ Contains self.now (capability_of capability.now) }
     {
-        is_pair_below(self.stack.as_slice(), &self.places, pair, self.height)
+        is_capability_below(self.stack.as_slice(), &self.places, capability, self.height)
     }
 
-    /// Pushes a pair. If the pair that was last popped from this height is the same, takes one comparison and does not
-    /// allocate.
+    /// Pushes a capability. Pushing popped capabilities again, in the same order and before any other, takes one
+    /// comparison each and does not allocate.
     ///
     /// After `NoMemory` the stack is unchanged.
-    pub fn push(&mut self, pair: Capability<'a>) -> Result<(), NoMemory>
-        ensures ok { OnOk result (self.new ≡ self.old ++ capability_of pair.entry ∷ []) }
+    pub fn push(&mut self, capability: Capability<'a>) -> Result<(), NoMemory>
+        ensures ok { OnOk result (self.new ≡ self.old ++ capability_of capability.entry ∷ []) }
         ensures err { OnErr result (self.new ≡ self.old) }
     {
-        if is_pair_at(self.stack.as_slice(), self.height, &pair) {
+        if is_capability_at(self.stack.as_slice(), self.height, &capability) {
             self.height += 1;
             return Ok(());
         }
         self.stack.truncate(self.height);
-        put(&mut self.stack, &mut self.places, pair)?;
+        put(&mut self.stack, &mut self.places, capability)?;
         self.height += 1;
         Ok(())
     }
 
-    /// Pushes these pairs, in order. After `NoMemory` the first n of them are pushed, where n is less than their
+    /// Pushes these capabilities, in order. After `NoMemory` the first n of them are pushed, where n is less than their
     /// number.
     pub fn push_all(&mut self, these: &[Capability<'a>]) -> Result<(), NoMemory>
         ensures ok { OnOk result (self.new ≡ self.old ++ capabilities these.now) }
         ensures err { OnErr result
             ((n : ℕ) × (n < length these.now) × (self.new ≡ self.old ++ capabilities (take n these.now))) }
     {
-        for pair in these {
-            self.push(*pair)?;
+        for capability in these {
+            self.push(*capability)?;
         }
         Ok(())
     }
 
-    /// Pops the pairs above a height, in constant time.
+    /// Pops all capabilities but the first `height`, in constant time. No-op if there are no more than `height`.
     pub fn truncate_to(&mut self, height: usize)
         ensures { self.new ≡ take height self.old }
     {

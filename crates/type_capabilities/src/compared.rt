@@ -32,7 +32,7 @@ fn kind(expr: &Expr) -> u8
 }
 
 /// Compares two expressions: by kind, then by their content other than operands, then by the operands from the left.
-/// Does not allocate. Takes time at most linear in the number of nodes before the first difference.
+/// Does not allocate. Visits no operand after the first difference.
 #[cycle(compare)]
 #[tactic(auto, using(crate::proofs::Records::record_is))]
 pub fn compare(one: &Expr, other: &Expr) -> Ordering
@@ -68,7 +68,7 @@ pub fn compare(one: &Expr, other: &Expr) -> Ordering
     }
 }
 
-/// Returns `first` unless it is `Equal`, else how two operands compare.
+/// Returns `first` if it is not `Equal`, else the order of two operands.
 #[cycle(compare)]
 fn then_by(one: &Shared<Expr>, other: &Shared<Expr>, first: Ordering) -> Ordering
     ensures { result ≡ ordering_then first (expr_cmp one.now other.now) }
@@ -80,7 +80,8 @@ fn then_by(one: &Shared<Expr>, other: &Shared<Expr>, first: Ordering) -> Orderin
     }
 }
 
-/// Returns `first` unless it is `Equal`, else how two lists of operands compare, index by index up to the shorter list.
+/// Returns `first` if it is not `Equal`, else the order of two lists of operands, compared index by index up to the end
+/// of the shorter list.
 #[cycle(compare)]
 #[tactic(auto, using(crate::proofs::Lists::exprs_at, crate::proofs::Lists::exprs_past, crate::proofs::Lists::exprs_over))]
 fn then_by_each(ones: &Items<Expr>, twos: &Items<Expr>, first: Ordering) -> Ordering
@@ -120,8 +121,8 @@ fn compare_names(ones: &Items<Named<Expr>>, twos: &Items<Named<Expr>>) -> Orderi
     Ordering::Equal
 }
 
-/// Returns `first` unless it is `Equal`, else how the values of two lists of fields compare, index by index up to the
-/// shorter list.
+/// Returns `first` if it is not `Equal`, else the order of the values of two lists of fields, compared index by index
+/// up to the end of the shorter list.
 #[cycle(compare)]
 #[tactic(auto, using(crate::proofs::Lists::values_at, crate::proofs::Lists::values_past, crate::proofs::Lists::values_over))]
 fn then_by_values(ones: &Items<Named<Expr>>, twos: &Items<Named<Expr>>, first: Ordering) -> Ordering

@@ -18,7 +18,7 @@ fn literal_rank(literal: &Literal) -> u8
     }
 }
 
-/// Compares literals: by kind, then false before true, integers by size, strings by bytes, entities by uid.
+/// Compares literals: by kind, then false before true, integers by value, strings by bytes, entities by uid.
 pub(crate) fn compare_literals(one: &Literal, other: &Literal) -> Ordering
     ensures { result ≡ literal_cmp one.now other.now }
 {
@@ -50,7 +50,7 @@ fn unary_rank(operator: &Unary) -> u8
     }
 }
 
-/// Compares patterns: by the number of their literal texts, then text by text.
+/// Compares patterns: by the number of their literal pieces, then piece by piece.
 #[tactic(auto, using(crate::proofs::Patterns::pattern_is))]
 fn compare_patterns(one: &Pattern, other: &Pattern) -> Ordering
     ensures { result ≡ pattern_cmp one.now other.now }

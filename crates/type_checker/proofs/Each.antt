@@ -14,7 +14,7 @@ use Rattle.typing.specs.Faults.{Faults, FaultsEach}
 use Rattle.type_checker.specs.Views.{static_view}
 use Rattle.type_checker.specs.declared.static_type.StaticType.{StaticType}
 use Rattle.type_checker.specs.declared.fault.ExpressionFault.{ExpressionFault}
-use Rattle.type_capabilities.specs.declared.pair.Capability.{Capability}
+use Rattle.type_capabilities.specs.declared.capability.Capability.{Capability}
 use Rattle.type_checker.specs.declared.typed.Typed.{Typed}
 use Rattle.type_capabilities.specs.CapabilityList.{capability_of, capabilities}
 use Rattle.type_checker.specs.inner.Judged.{Judged, JudgedUnder, AddsGained, IsNext}

@@ -3,7 +3,7 @@ use Rattle.std.proofs.Common.{◌≡◌, ◌+◌, ◌<◌, ℕ, List, [], ◌∷
 use Rattle.std.proofs.lemmas.List.{take_more, map-append}
 use Rattle.typing.specs.Gained as gained
 use Rattle.typing.specs.Gained.{CapabilityList, InBoth}
-use Rattle.type_capabilities.specs.declared.pair.Capability.{Capability}
+use Rattle.type_capabilities.specs.declared.capability.Capability.{Capability}
 use Rattle.type_capabilities.specs.CapabilityList.{capability_of, capabilities}
 
 -- the pairs that both lists have, where one more of the first is looked at

@@ -6,7 +6,7 @@ use Rattle.typing.specs.Gained.{CapabilityList, InBoth}
 use Rattle.type_checker.specs.Views.{boolean_view}
 use Rattle.type_checker.specs.declared.static_type.BooleanType.{BooleanType}
 use Rattle.type_checker.specs.declared.static_type.BooleanType.TheVariants as truth
-use Rattle.type_capabilities.specs.declared.pair.Capability.{Capability}
+use Rattle.type_capabilities.specs.declared.capability.Capability.{Capability}
 use Rattle.type_capabilities.specs.CapabilityList.{capabilities}
 
 pub or_none : {b : BooleanType} {L M : CapabilityList} {ps : List Capability} → b ≡ truth.True → ps ≡ []

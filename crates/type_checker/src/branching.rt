@@ -1,7 +1,7 @@
 //! The judgement (type with gained capabilities, or error) on `&&`, `||` and `if`, from the judgements on their
 //! operands, of which the last may be an error.
 //!
-//! Each clause says: for all operands, if the judgements on the operands hold, so does the judgement on the whole.
+//! Most clauses say: for all operands, if the judgements on the operands hold, so does the judgement on the whole.
 ghost use Rattle.std.specs.Prelude.{◌≡◌, ◌≢◌, IfOk, MatchResult, Ok, Err, Some, None};
 ghost use Rattle.grammar_core.specs.declared.expr.Expr.{Expr};
 ghost use Rattle.grammar_core.specs.declared.expr.Expr.TheVariants as form;
@@ -38,8 +38,9 @@ pub(crate) fn and_truth(left: BooleanType, right: BooleanType) -> BooleanType
     }
 }
 
-/// Returns the judgement on `&&` whose left side has the type `left` and may be true, given the judgement on its right
-/// side. The capabilities in this judgement are those that both sides gain.
+/// Returns the judgement on `&&` whose left side has the type `left` and may be true, given the judgement `right` on
+/// its right side. The capabilities in `right` are those of both sides: first those that the left side gains, then
+/// those of the right side.
 pub(crate) fn and_typed<'a>(
     left: BooleanType,
     right: Result<Typed<'a>, ExpressionFault>,
@@ -193,7 +194,8 @@ fn with_both<'a>(
 }
 
 /// Returns the judgement on an `if` whose test has the type Bool. The argument `then` is the type of the branch `then`
-/// with the capabilities that the test and this branch gain, and `other` is the judgement on `else`.
+/// with the capabilities that the test gains and then those that this branch gains, and `other` is the judgement on
+/// `else`.
 pub(crate) fn branches<'a>(
     alloc: Global,
     then: Typed<'a>,

@@ -39,7 +39,7 @@ fn is_decimal(expr: &Expr) -> bool
     }
 }
 
-/// Returns whether an expression is a string literal that denotes an IP address.
+/// Returns whether an expression is a string literal that denotes an IP address or range.
 fn is_network(expr: &Expr) -> bool
     ensures { IsTrue result ↔ ReadsLiteral unary_call.Ip expr.now types.ipaddr_type }
 {
@@ -52,7 +52,7 @@ fn is_network(expr: &Expr) -> bool
     }
 }
 
-/// Returns the extension type `leaf` if the operand is a literal of this extension, else `BadExtensionLiteral`.
+/// Returns the extension type `leaf` if `is_literal` is true, else `BadExtensionLiteral`.
 fn if_literal<'a>(is_literal: bool, leaf: Leaf<'a>) -> Result<StaticType<'a>, ExpressionFault>
     ensures { MatchResult result (λ t. (is_literal ≡ true) × (static_view t ≡ leaf_view leaf.entry))
         (λ f. (is_literal ≡ false) × (f ≡ ExpressionFault.BadExtensionLiteral)) }

@@ -141,7 +141,7 @@ fn common_of<'a>(
     }
 }
 
-/// Returns the type without parts `leaf` as a static type; `None` for `None`.
+/// Returns the type `leaf`, which has no parts, as a static type; `None` for `None`.
 fn leaf_type<'a>(leaf: Option<Leaf<'a>>) -> Option<StaticType<'a>>
     ensures { option_map (λ t. static_view t) result ≡ option_map leaf_view leaf.entry }
 {

@@ -135,7 +135,7 @@ impl<'a> TypingEnvironment<'a> {
     }
 
     /// Returns the declaration of the attribute `key` of an entity type, or `None` if it has no such attribute.
-    /// O(log n), where n is the number of attributes.
+    /// Looks up the type in the schema and the attribute in the type, each in logarithmic time.
     pub(crate) fn attribute<'r>(self, name: &TypeName, key: &str) -> Option<(Part<'r, 'a>, bool)>
         ensures declared { found_view result
             ≡ field_declared_at key.now ((typing_environment self.entry).attributes name.now) }
@@ -160,7 +160,10 @@ impl<'a> TypingEnvironment<'a> {
         self.schema.may_have_parent(below, above)
     }
 
-    /// Returns whether the schema declares `above` as an ancestor of `action`. O(log n). Does not allocate.
+    /// Returns whether, by the schema, the action `above` is an ancestor of `action`. Does not allocate.
+    ///
+    /// Takes O(log n) comparisons, where n is the number of actions, and time linear in the number of spans in which
+    /// the schema lists the ancestors of `action`.
     pub fn is_action_ancestor(self, action: &EntityUid, above: &EntityUid) -> bool
         ensures { IsTrue result ↔ Contains ((typing_environment self.entry).action_ancestors action.now) above.now }
     {

@@ -4,7 +4,8 @@ ghost use Rattle.std.specs.Prelude.{◌≡◌, IsTrue, IsSomeAnd};
 use grammar_core::Expr;
 use type_capabilities::compare;
 
-/// Returns whether two expressions are equal. They are compared node by node, which is much cheaper than typing one.
+/// Returns whether two expressions are equal. They are compared node by node, which is much cheaper than typing one of
+/// them.
 pub(crate) fn same_expr(one: &Expr, other: &Expr) -> bool
     ensures { IsTrue result → one.now ≡ other.now }
 {

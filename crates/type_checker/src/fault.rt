@@ -8,7 +8,7 @@ use thiserror::Error;
 /// The first error of typing an expression.
 #[derive(Clone, Copy, PartialEq, Eq, Debug, Error)]
 pub enum ExpressionFault {
-    /// Code 1: an allocation failed.
+    /// Code 1: an allocation failed, or the count of references to a type would overflow.
     #[error("type 1: out of memory")]
     NoMemory,
     /// Code 42: another type is required.

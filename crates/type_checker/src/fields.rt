@@ -57,8 +57,8 @@ fn found<'r, 'a>(fields: Fields<'r, 'a>, key: &str) -> Option<(Part<'r, 'a>, boo
     }
 }
 
-/// Returns the type of the field with the declaration `declared`, if it is required or has a known capability, else
-/// `AttributeMayBeMissing`.
+/// Returns the type of the field with the declaration `declared` if the field is required or `is_known` is true; else,
+/// and for `None`, `AttributeMayBeMissing`.
 fn access<'a>(
     is_known: bool,
     declared: Option<(Part<'_, 'a>, bool)>,
@@ -111,8 +111,8 @@ fn entity_has(is_known: bool, declared: Option<(Part<'_, '_>, bool)>) -> Boolean
 /// Returns the type of `e.f`, where `key` is `f`, `whole` is the type of `e`, and `is_known` whether there is a
 /// capability for `e.f`.
 ///
-/// O(log n) for an entity, where n is the number of its attributes; linear in the number of fields for a record. Does
-/// not allocate.
+/// For an entity, looks up its type and the attribute, each in logarithmic time. For a record, takes time linear in the
+/// number of fields. Does not allocate.
 ///
 /// # Errors
 ///
@@ -142,8 +142,8 @@ pub fn field_type<'a>(
 /// Returns the type of `e has f`, where `key` is `f`, `whole` is the type of `e`, and `is_known` whether there is a
 /// capability for `e.f`.
 ///
-/// O(log n) for an entity, where n is the number of its attributes; linear in the number of fields for a record. Does
-/// not allocate.
+/// For an entity, looks up its type and the attribute, each in logarithmic time. For a record, takes time linear in the
+/// number of fields. Does not allocate.
 ///
 /// # Errors
 ///

@@ -1,7 +1,7 @@
 //! The judgement (type with gained capabilities, or error) on an expression, from the judgements on its operands, of
 //! which the last may be an error.
 //!
-//! Each clause says: for all operands, if the judgements on the operands hold, so does the judgement on the whole.
+//! Most clauses say: for all operands, if the judgements on the operands hold, so does the judgement on the whole.
 ghost use Rattle.std.specs.Prelude.{◌≡◌, ◌≢◌, List, map, IfOk, MatchResult};
 ghost use Rattle.grammar_core.specs.declared.expr.Expr.{Expr};
 ghost use Rattle.grammar_core.specs.declared.expr.Expr.TheVariants as form;
@@ -46,7 +46,7 @@ pub(crate) fn unary_typed<'a>(
     typed_row(alloc, unary_type(operator, operand.kind))
 }
 
-/// Returns the judgement on a binary operator whose result literals do not decide, given the judgements on its
+/// Returns the judgement on a binary operator whose result is not decided by literals, given the judgements on its
 /// operands.
 pub(crate) fn binary_typed<'a>(
     alloc: Global,
@@ -242,7 +242,7 @@ pub(crate) fn record_typed<'a>(
     }
 }
 
-/// Appends the type in `typed` to `types`, or returns the error in `typed`.
+/// Appends the type in `typed` to `types`, or returns the error in `typed`, or `NoMemory`.
 pub(crate) fn put_type<'a>(
     types: &mut Vec<StaticType<'a>>,
     typed: Result<Typed<'a>, ExpressionFault>,

@@ -62,8 +62,8 @@ pub(crate) fn left_type<'a>(
     }
 }
 
-/// Returns the type of a conjunction with one more part, of the type `truth`. Without it, the conjunction has the type
-/// `so_far`, or no part if `so_far` is `None`.
+/// Returns the type of a conjunction whose last part has the type `truth`; never `None`. The conjunction of the parts
+/// before it has the type `so_far`, which is `None` if there are none.
 pub(crate) fn and_one_more(so_far: Option<BooleanType>, truth: BooleanType) -> Option<BooleanType>
     ensures { option_map boolean_view result
         ≡ Some (and_so_far (option_map boolean_view so_far) (boolean_view truth)) }
@@ -74,8 +74,9 @@ pub(crate) fn and_one_more(so_far: Option<BooleanType>, truth: BooleanType) -> O
     }
 }
 
-/// Returns the type of a conjunction with its last part, of the type `last`. Without it, the conjunction has the type
-/// `so_far`, or no part if `so_far` is `None`. Returns `Unexpected` if there are other parts and `last` is not boolean.
+/// Returns the type of a conjunction whose last part has the type `last`. The conjunction of the parts before it has
+/// the type `so_far`, which is `None` if there are none. Returns `Unexpected` if there are parts before it and `last`
+/// is not boolean.
 pub(crate) fn and_last<'a>(
     so_far: Option<BooleanType>,
     last: StaticType<'a>,

@@ -79,8 +79,8 @@ pub(crate) fn type_of<'a>(
     }
 }
 
-/// Returns the judgement on an expression under the capabilities `known` and then `gains`; the capabilities that it
-/// gains follow those of `gains`.
+/// Returns the judgement on an expression under the capabilities `known` and then `gains`. The capabilities of the
+/// result are `gains`, followed by those that the expression gains.
 #[cycle(judge)]
 #[inline(never)]
 fn type_under_gained<'a>(
@@ -104,8 +104,8 @@ fn type_under_gained<'a>(
     }
 }
 
-/// Returns the judgement on `&&`. Types the left side, then the right side. Does not type the first operand of the
-/// right side again if [`tested_operand_type`] finds its type in the left side.
+/// Returns the judgement on `&&`. Types the left side and then, if the left side may be true, the right side. Does not
+/// type the first operand of the right side again if [`tested_operand_type`] finds its type in the left side.
 #[cycle(judge)]
 #[inline(never)]
 fn type_and<'a>(
@@ -135,7 +135,7 @@ fn type_and<'a>(
     }
 }
 
-/// Returns the judgement on `||`. Types the left side, then the right side.
+/// Returns the judgement on `||`. Types the left side and then, if the left side may be false, the right side.
 #[cycle(judge)]
 #[inline(never)]
 fn type_or<'a>(
@@ -175,7 +175,8 @@ fn type_binary<'a>(
     }
 }
 
-/// Returns the judgement on `&&`, given the judgement on its left side; types the right side only if it is checked.
+/// Returns the judgement on `&&`, given the judgement on its left side; types the right side only if the left side may
+/// be true.
 #[cycle(judge)]
 #[inline(never)]
 fn second_conjunct<'a>(
@@ -208,7 +209,8 @@ fn second_conjunct<'a>(
     }
 }
 
-/// Returns the judgement on `||`, given the judgement on its left side; types the right side only if it is checked.
+/// Returns the judgement on `||`, given the judgement on its left side; types the right side only if the left side may
+/// be false.
 #[cycle(judge)]
 #[inline(never)]
 fn second_disjunct<'a>(
@@ -247,8 +249,8 @@ fn second_disjunct<'a>(
     }
 }
 
-/// Returns the judgement on test and `then` of an `if`, given the judgement on the test; types `then` only if it is
-/// checked.
+/// Returns the judgement on the test and the `then` of an `if`, given the judgement on the test; types `then` only if
+/// the test may be true.
 #[cycle(judge)]
 #[inline(never)]
 fn type_then<'a>(
@@ -285,7 +287,8 @@ fn type_then<'a>(
     }
 }
 
-/// Returns the judgement on an `if`, given the judgement on test and `then`; types `else` only if it is checked.
+/// Returns the judgement on an `if`, given the judgement on its test and its `then`; types `else` only if the test may
+/// be false.
 #[cycle(judge)]
 #[inline(never)]
 fn type_else<'a>(
@@ -310,7 +313,8 @@ fn type_else<'a>(
     }
 }
 
-/// Returns the judgement on a binary operator, given the judgement on its first operand; types the second operand.
+/// Returns the judgement on a binary operator, given the judgement on its first operand; types the second operand only
+/// if the first has a type.
 #[cycle(judge)]
 #[inline(never)]
 fn second_operand<'a>(
@@ -335,7 +339,8 @@ fn second_operand<'a>(
     }
 }
 
-/// Returns the judgement on a call of an extension's method, given the judgement on its receiver; types the argument.
+/// Returns the judgement on a call of an extension's method, given the judgement on its receiver; types the argument
+/// only if the receiver has a type.
 #[cycle(judge)]
 #[inline(never)]
 fn second_called<'a>(

@@ -145,7 +145,8 @@ fn typed_fields<'a>(
     Ok(map)
 }
 
-/// Returns the type of a record literal whose fields have these types, in the order in which they are written.
+/// Returns the type of a record literal whose fields have these types, in the order in which they are written. A
+/// repeated name has the type of its last field.
 ///
 /// # Errors
 ///

@@ -1,5 +1,5 @@
-//! The operators whose result literals decide before any type is checked: `==` of two literals, and `in` of an action
-//! and entity literals. The variable `action` counts as the literal of the environment's action.
+//! The operators whose result is decided by literals, before any operand is typed: `==` of two literals, and `in` of an
+//! action and entity literals. The variable `action` counts as the literal of the environment's action.
 ghost use Rattle.std.specs.Prelude.{◌≡◌, ◌↔◌, ◌⊎◌, List, IsTrue, MatchOption, Contains};
 ghost use Rattle.std.specs.Bool.{Decides};
 ghost use Rattle.grammar_core.specs.declared.leaf.Literal.{Literal};
@@ -132,7 +132,7 @@ fn in_some<'a>(env: TypingEnvironment<'a>, action: &EntityUid, members: &'a [Exp
 }
 
 /// Returns whether `action` is in one of the entities that `listed` lists, or `None` if `listed` is neither an entity
-/// literal nor a set of at least one.
+/// literal nor a non-empty set of entity literals.
 fn in_listed<'a>(env: TypingEnvironment<'a>, action: &EntityUid, listed: &'a Expr) -> Option<bool>
     ensures { let E = typing_environment env.entry in
         MatchOption result ((us : List EntityUid) → ¬ ListsEntities E listed.now us)
@@ -179,7 +179,7 @@ fn in_decided_by_literals<'a>(
     }
 }
 
-/// Returns the result of an operator if literals decide it, before any type is checked, else `None`.
+/// Returns the result of an operator if literals decide it, else `None`. Types no operand.
 pub(crate) fn decided_by_literals<'a>(
     env: TypingEnvironment<'a>,
     operator: Binary,

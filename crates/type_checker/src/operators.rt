@@ -75,7 +75,8 @@ pub fn unary_type<'a>(
 
 /// Returns the type of a binary operator on operands of these types.
 ///
-/// Takes time linear in the nodes of the smaller type. Does not allocate.
+/// Takes time linear in the nodes of the smaller type; for `in`, looks up the entity types in the schema. Does not
+/// allocate.
 ///
 /// # Errors
 ///
@@ -242,8 +243,8 @@ fn contains_of<'a>(
     }
 }
 
-/// Returns the type of `containsAll` or `containsAny` on operands of these kinds. Returns `Unexpected` if one is not a
-/// set, else `NoCommonType` if their members have no common type.
+/// Returns the type of `containsAll` or `containsAny` on operands of these kinds. Returns `Unexpected` if either is not
+/// a set, else `NoCommonType` if their members have no common type.
 fn sets_of<'a>(
     left: TypeKind<'_, 'a>,
     right: TypeKind<'_, 'a>,

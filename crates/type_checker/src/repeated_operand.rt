@@ -103,8 +103,8 @@ fn of_entities<'a>(name: &'a TypeName) -> StaticType<'a>
     StaticType::Leaf(Leaf::Entity(name))
 }
 
-/// Returns the judgement on an operator whose first operand is an entity of the type `name`, given the judgement
-/// `other` on its second operand.
+/// Returns the judgement on an operator whose result is not decided by literals and whose first operand is an entity of
+/// the type `name`, given the judgement `other` on its second operand.
 pub(crate) fn repeated_operand_typed<'a>(
     alloc: Global,
     env: TypingEnvironment<'a>,

@@ -81,13 +81,13 @@ pub enum Leaf<'a> {
 #[derive(Drop)]
 pub enum StaticType<'a> {
     Leaf(Leaf<'a>),
-    /// A declared set, by the type of its members.
+    /// A declared set type, by the type of its members.
     DeclaredSet(&'a CedarType),
-    /// A declared record: each key with its type, and whether it is required.
+    /// A declared record type: each key with its type, and whether it is required.
     DeclaredRecord(&'a [(Text, CedarType, bool)]),
-    /// A set, by the type of its members.
+    /// A set type that an expression builds, by the type of its members.
     Set(Shared<StaticType<'a>>),
-    /// A record: each key with its type, and whether it is required.
+    /// A record type that an expression builds: each key with its type, and whether it is required.
     Record(Shared<Items<(&'a str, StaticType<'a>, bool)>>),
 }
 
@@ -133,7 +133,7 @@ impl<'a> StaticType<'a> {
         }
     }
 
-    /// Returns the boolean type, or `None` if it is another type. Does not allocate.
+    /// Returns this type as a boolean type, or `None` for another type. Does not allocate.
     pub fn as_boolean(&self) -> Option<BooleanType>
         ensures { MatchOption result (¬ IsBoolean (static_view self.now))
             (λ b. static_view self.now ≡ boolean_view b) }

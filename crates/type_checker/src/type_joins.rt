@@ -113,8 +113,8 @@ pub(crate) fn paired<'r, 's, 'a>(
     }
 }
 
-/// Returns the join of two declared records, and `None` unless both are declared. Each declared boolean has the type
-/// Bool, so the common type of declared records, if there is one, is the left one.
+/// Returns the join of two record types if both are declared, else `None`. Each declared boolean has the type Bool, so
+/// the common type of declared records, if there is one, is the left one.
 fn join_of_declared(left: Fields<'_, '_>, right: Fields<'_, '_>) -> Option<Join>
     ensures { IfSome result (λ j. DescribesCommon j (fields_view left.entry)
         (common_fields (fields_view left.entry) (fields_view right.entry))) }

@@ -23,11 +23,11 @@ pub struct Typed<'a> {
 /// The judgement on an `if` up to its `then`.
 #[derive(Drop)]
 pub(crate) enum Then<'a> {
-    /// The test is False: only `else` is checked.
+    /// The test is False: only `else` is typed.
     Skipped,
-    /// The test is True: only `then` is checked. The capabilities are those of the test and of `then`.
+    /// The test is True: only `then` is typed. The capabilities are those of the test and of `then`.
     Only(Typed<'a>),
-    /// The test is Bool: both branches are checked. The capabilities are those of the test and of `then`.
+    /// The test is Bool: both branches are typed. The capabilities are those of the test and of `then`.
     Both(Typed<'a>),
 }
 
@@ -42,7 +42,7 @@ pub(crate) fn truth_type(truth: bool) -> BooleanType
     }
 }
 
-/// Returns whether the right side of `&&` is checked: whether the left side, of the type `left`, may be true.
+/// Returns whether the right side of `&&` is typed: whether the left side, of the type `left`, may be true.
 pub(crate) fn is_right_checked(left: BooleanType) -> bool
     ensures { IsTrue result ↔ MayBeTrue (boolean_view left) }
 {
@@ -60,7 +60,7 @@ pub(crate) fn plain<'a>(alloc: Global, kind: StaticType<'a>) -> Typed<'a>
     }
 }
 
-/// Returns the type or error in `row`, the type without gained capabilities.
+/// Returns the type in `row` without gained capabilities, or the error in `row`.
 pub(crate) fn typed_row<'a>(
     alloc: Global,
     row: Result<StaticType<'a>, ExpressionFault>,
@@ -86,7 +86,7 @@ pub(crate) fn gained_too<'a>(
     Ok(Typed { kind, gains })
 }
 
-/// Returns the judgement on `then` as that of the only branch that is checked.
+/// Returns the judgement on `then` as that of the only branch that is typed.
 pub(crate) fn only<'a>(
     typed: Result<Typed<'a>, ExpressionFault>,
 ) -> Result<Then<'a>, ExpressionFault>
@@ -98,7 +98,7 @@ pub(crate) fn only<'a>(
     }
 }
 
-/// Returns the judgement on `then` as that of the first of two branches that are checked.
+/// Returns the judgement on `then` as that of the first of two branches that are typed.
 pub(crate) fn both<'a>(
     typed: Result<Typed<'a>, ExpressionFault>,
 ) -> Result<Then<'a>, ExpressionFault>

@@ -21,7 +21,7 @@ use type_capabilities::Capability;
 /// # Errors
 ///
 /// - The first error of the expression.
-/// - `NoMemory`: an allocation failed; possible at any point.
+/// - `NoMemory`: an allocation failed, or the count of references to a type would overflow; possible at any point.
 pub fn judge_under<'a>(
     alloc: Global,
     env: TypingEnvironment<'a>,

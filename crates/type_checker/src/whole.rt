@@ -19,16 +19,18 @@ use type_capabilities::Capabilities;
 /// Returns the type of the conjunction of `parts` and `last`, grouped to the right as in `a && (b && last)`, without
 /// known capabilities. Without parts it is the type of `last`.
 ///
-/// Declared types are borrowed from the schema. Takes time linear in the nodes of the expressions, with two exceptions:
-/// each capability takes a look-up in an ordered map, and record types that need a common type are compared field by
-/// field. An `e` that occurs twice, as in `e is T && e in f`, or that is repeated as the next member of a set, is typed
-/// once; its occurrences are compared node by node. Recursive: the stack grows with the height of the highest part,
-/// not with the number of parts.
+/// Declared types are borrowed from the schema. Types each node at most once. Also looks up fields, attributes, entity
+/// types and capabilities, copies the capabilities that operands gain, and compares types that need a common type node
+/// by node. If an `e` is repeated as in `e is T && e in f`, or as the next member of a set, it is typed once, and its
+/// occurrences are compared node by node. Recursive: the stack grows with the height of the highest expression, not
+/// with the number of parts.
 ///
 /// # Errors
 ///
-/// - The error of the conjunction: that of the first operand, in order, that has one, else that of `&&` itself.
-/// - `NoMemory`: an allocation failed; possible at any point.
+/// - The first error of the conjunction. For each operand in turn this is its own error, or else `Unexpected` if it is
+///   not boolean and not the only operand. An operand of the type False ends the conjunction: those after it are not
+///   typed.
+/// - `NoMemory`: an allocation failed, or the count of references to a type would overflow; possible at any point.
 ///
 /// Source: Cedar reference guide, "Policy validation".
 pub fn judge_all<'a>(

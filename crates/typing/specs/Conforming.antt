@@ -56,8 +56,8 @@ IsPresent W q p = EvaluatesTo W q (form.Has p.0 p.1) (Ok (boolean true))
 pub record ArePresent (W : Entities) (q : Request) (K : CapabilityList) : Type 0 where
   pub each : (p : Capability) → Contains K p → IsPresent W q p
 
--- `IsSoundOutcome W q t L r` holds if `r` fits the type `t` and, if `r` is true, the fields of the capabilities `L` are
--- present for the request `q` over the entity data `W`.
+-- `IsSoundOutcome W q t L r` holds if `r` fits the type `t`. If `r` is true, the fields of the capabilities `L` must
+-- also be present for the request `q` over the entity data `W`.
 pub record IsSoundOutcome (W : Entities) (q : Request) (t : StaticType) (L : CapabilityList) (r : EvaluationResult)
     : Type 0 where
   pub fits : Fits t r

@@ -64,7 +64,8 @@ environment = record {
 abbrev pub parents : Parents
 parents = with_parents (with_parents no_parents alice (staff ∷ [])) view (readers ∷ [])
 
--- `stored u` are the attributes of the entity `u`: Alice has an age, the plan has none, and no other entity is stored.
+-- `stored u` are the attributes of the entity `u`: Alice has an age, the plan has no attribute, and no other entity is
+-- stored.
 abbrev pub stored : EntityUid → Option (List Field)
 stored u =
     if is_eq (uid_cmp alice u) then Some ((codes "age", long (pos 30)) ∷ [])

@@ -1,6 +1,6 @@
--- Defines the error of an expression without a type: that of the first operand, in order, that has no type, else that
--- of the expression itself. The left operands of `&&` and of `||`, and the test of an `if`, must be boolean before the
--- next operand is checked.
+-- Defines the error of an expression without a type: the error of its first operand without a type, in order, else its
+-- own error. The left operands of `&&` and of `||`, and the test of an `if`, must be boolean before the next operand is
+-- checked.
 -- Source: the rules of Typing.antt, and the order in which operands are evaluated.
 use Rattle.std.specs.Prelude.{◌≡◌, ℕ, List, [], ◌∷◌, ◌++◌, map, Contains, Bool, None, Err}
 use Rattle.std.specs.Bool.{Decides}

@@ -5,11 +5,11 @@ use Rattle.std.specs.Prelude.{ℕ, List, [], ◌∷◌, Contains}
 use Rattle.evaluator.specs.grammar_core.declared.expr.Expr.{Expr}
 use Rattle.typing.specs.Types.{StaticType, true_type, false_type, boolean_type}
 
--- A `Capability` is an expression and the name of a field that the expression's value has.
+-- A `Capability` is an expression and a field's name, and means that the expression's value has this field.
 abbrev pub Capability : Type 0
 Capability = Expr × List ℕ
 
--- `CapabilityList` are lists of capabilities.
+-- `CapabilityList` is the type of lists of capabilities.
 abbrev pub CapabilityList : Type 0
 CapabilityList = List Capability
 

@@ -31,7 +31,7 @@ pub record AreSameCapabilities (K M : CapabilityList) : Type 0 where
   pub there : (p : Capability) → Contains K p → Contains M p
   pub back : (p : Capability) → Contains M p → Contains K p
 
--- `CapabilitiesAreASet`: judgements depend on the known capabilities only as a set: whatever their order and repeats,
+-- `CapabilitiesAreASet`: judgements depend on the known capabilities only as a set. Whatever their order and repeats,
 -- an expression has the same type or the same error, and gains the same set of capabilities.
 abbrev pub CapabilitiesAreASet : Type 0
 CapabilitiesAreASet = (env : Environment) (K M : CapabilityList) (x : Expr) → AreSameCapabilities K M
@@ -89,7 +89,7 @@ abbrev pub IsTransitive : (List ℕ → List ℕ → Bool) → Type 0
 IsTransitive below = (l m n : List ℕ) → IsTrue (below l m) → IsTrue (below m n) → IsTrue (below l n)
 
 -- `ParentsAreAllowed env parents` holds if the environment `env` allows the parents `parents` of each entity that is
--- not an action: none of them is an action, and their types may be ancestor types of the entity's type.
+-- not an action. None of these parents is an action, and each one's type may be an ancestor type of the entity's type.
 abbrev pub ParentsAreAllowed : Environment → Parents → Type 0
 ParentsAreAllowed env parents = (u p : EntityUid) → IsFalse (env.is_action_type u.type_name) → Contains (parents u) p
     → IsTrue (env.may_have_ancestor u.type_name p.type_name) × IsFalse (env.is_action_type p.type_name)

@@ -33,8 +33,8 @@ pub data AreEntityLiterals (env : Environment) : List Expr → List EntityUid �
   literal_before : {x : Expr} {xs : List Expr} {u : EntityUid} {us : List EntityUid}
       → IsLiteral env x (literal.Entity u) → AreEntityLiterals env xs us → AreEntityLiterals env (x ∷ xs) (u ∷ us)
 
--- `ListsEntities env x us` holds if `x` is an entity literal (`IsLiteral env`), or a set literal of at least one, and
--- `us` are these entities.
+-- `ListsEntities env x us` holds if `x` is an entity literal (`IsLiteral env`), or a set literal of one or more entity
+-- literals, and `us` are their entities, in order.
 pub data ListsEntities (env : Environment) : Expr → List EntityUid → Type 0 where
   alone : {x : Expr} {u : EntityUid} → IsLiteral env x (literal.Entity u) → ListsEntities env x (u ∷ [])
   in_set : {x : Expr} {xs : List Expr} {us : List EntityUid} → AreEntityLiterals env (x ∷ xs) us
@@ -45,7 +45,7 @@ abbrev pub IsActionIn : Environment → EntityUid → EntityUid → Type 0
 IsActionIn env a b = (a ≡ b) ⊎ Contains (env.action_ancestors a) b
 
 -- `DecidedByLiterals env op a b r` holds if, in the environment `env`, literals decide that the result of `op` on `a`
--- and `b` is `r`: that of `==` between two literals, and that of `in` between an action's literal and entity literals.
+-- and `b` is `r`. They decide `==` between two literals, and `in` between an action's literal and entity literals.
 pub data DecidedByLiterals (env : Environment) : Binary → Expr → Expr → Bool → Type 0 where
   equal_literals : {a b : Expr} {l m : Literal} {r : Bool} → IsLiteral env a l → IsLiteral env b m
       → Decides r (l ≡ m) → DecidedByLiterals env Equal a b r

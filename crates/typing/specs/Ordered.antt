@@ -11,7 +11,7 @@ IsBefore k no_field_types = ⊤
 IsBefore k (field_type l t r ts) = text_cmp k l ≡ Less
 
 -- `IsOrdered t` holds if the keys of each record type in `t` ascend strictly. `AreOrdered ts` holds if the keys of the
--- fields `ts` do, and those of each record type in the types of these fields.
+-- fields `ts` ascend strictly, and the type of each of these fields is ordered (`IsOrdered`).
 abbrev mutual
   pub IsOrdered : StaticType → Type 0
   IsOrdered (set_type t) = IsOrdered t

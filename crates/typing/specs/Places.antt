@@ -38,6 +38,6 @@ abbrev pub follow : List ℕ → Expr → Option Expr
 follow [] x = Some x
 follow (i ∷ p) x = and_then (slice_get (operands_of x) i) (λ y. follow p y)
 
--- `IsAt xs i o` holds if `o` is the expression at index `i` of `xs`, or `None` if `xs` is shorter.
+-- `IsAt xs i o` holds if `o` is the expression at index `i` of `xs`, or `None` past the end.
 abbrev pub IsAt : List Expr → ℕ → Option (Bor Expr) → Type 0
 IsAt xs i o = MatchOption o (slice_get xs i ≡ None) (λ y. slice_get xs i ≡ Some y.now)

@@ -2,7 +2,7 @@
 -- Source: Cedar reference guide 4.0, "Policy validation" and "Operators and functions"; cedar-spec,
 -- cedar-lean/Cedar/Validation/Typechecker.lean (`typeOfUnaryApp`, `typeOfBinaryApp`, `typeOfGetAttr`,
 -- `typeOfHasAttr`, `typeOfSet`, `typeOfCall`).
--- Rules of this product: `in` between unrelated entity types has the type False.
+-- Rules of this product: `in` between unrelated entity types (`may_be_in`) has the type False.
 use Rattle.std.specs.Prelude.{ℕ, List, [], ◌∷◌, Bool, true, false, ◌||◌, Option, Some, None, Result, Ok, Err}
 use Rattle.std.specs.Prelude.{if◌then◌else◌}
 use Rattle.std.specs.Str.{bytes_eq}
@@ -27,7 +27,7 @@ use Rattle.typing.specs.Types.{required, field_declared_at, truth_type, common, 
 use Rattle.typing.specs.Environment.{Environment, ExpressionFault, unexpected, no_common_type, attribute_may_be_missing}
 use Rattle.typing.specs.Environment.{empty_set}
 
--- A `Row` is the type of an expression, or the error of its operands' types.
+-- A `Row` is the type of an expression, or its error, by the types of its operands.
 abbrev pub Row : Type 0
 Row = Result StaticType ExpressionFault
 
@@ -70,8 +70,8 @@ abbrev pub equal_type : StaticType → StaticType → Row
 equal_type (entity_type m) (entity_type n) = Ok (if bytes_eq m n then boolean_type else false_type)
 equal_type s t = if_common (common s t)
 
--- `may_be_in env m n` tests whether, in the environment `env`, an entity of the type `m` may be in one of the type `n`:
--- one of the types is an action type, or they are equal, or `n` is an ancestor type of `m`.
+-- `may_be_in env m n` tests whether, in the environment `env`, an entity of the type `m` may be in one of the type `n`.
+-- It may if one of the types is an action type, if they are equal, or if `n` is an ancestor type of `m`.
 abbrev pub may_be_in : Environment → List ℕ → List ℕ → Bool
 may_be_in env m n =
     env.is_action_type m || (env.is_action_type n || (bytes_eq m n || env.may_have_ancestor m n))
@@ -126,10 +126,10 @@ abbrev pub or_type : StaticType → StaticType
 or_type true_type = true_type
 or_type t = boolean_type
 
--- ---- fields; `is_known` says whether there is a capability for the field
+-- ---- fields; `is_known` is whether there is a capability for the field
 
 -- `access_type is_known declared` is the type of `e.f`, where `declared` is the declaration of `f`: the type of a
--- required field, or of an optional one if `is_known`.
+-- required field, or of an optional one if `is_known`; else the error `attribute_may_be_missing`.
 abbrev pub access_type : Bool → Declared → Row
 access_type is_known undeclared = Err attribute_may_be_missing
 access_type is_known (required t) = Ok t
@@ -167,7 +167,7 @@ has_type env is_known k t = Err unexpected
 
 -- ---- sets
 
--- `set_of_common o` is the type of sets whose members have the common type `o`, if there is one.
+-- `set_of_common o` is the type of sets whose members have the common type `o`; the error `no_common_type` for `None`.
 abbrev pub set_of_common : Option StaticType → Row
 set_of_common None = Err no_common_type
 set_of_common (Some t) = Ok (set_type t)

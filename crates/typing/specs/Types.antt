@@ -23,7 +23,8 @@ mutual
     decimal_type : StaticType
     ipaddr_type : StaticType
 
-  -- `FieldTypes` are the keys of a record, ascending, each with its type and whether it is required.
+  -- `FieldTypes` are the keys of a record, each with its type and whether it is required. In an ordered type
+  -- (`IsOrdered` of Ordered.antt) the keys ascend.
   pub data FieldTypes : Type 0 where
     no_field_types : FieldTypes
     field_type : List ℕ → StaticType → Bool → FieldTypes → FieldTypes
@@ -39,7 +40,7 @@ abbrev pub declared_as : Bool → StaticType → Declared
 declared_as true t = required t
 declared_as false t = optional t
 
--- `field_declared_at k ts` is the declaration of the key `k` in `ts`.
+-- `field_declared_at k ts` is the declaration of `k` by the first field of `ts` with this key, else `undeclared`.
 abbrev pub field_declared_at : List ℕ → FieldTypes → Declared
 field_declared_at k no_field_types = undeclared
 field_declared_at k (field_type l t r ts) = if bytes_eq k l then declared_as r t else field_declared_at k ts
@@ -68,7 +69,8 @@ pub data IsBoolean : StaticType → Type 0 where
   is_false : IsBoolean false_type
   is_either : IsBoolean boolean_type
 
--- `same_requirement r q` tests whether two fields, required if `r` and `q`, are both required or both optional.
+-- `same_requirement r q` tests whether two fields are both required or both optional, where `r` and `q` are whether
+-- each is required.
 abbrev pub same_requirement : Bool → Bool → Bool
 same_requirement true r = r
 same_requirement false true = false
@@ -81,9 +83,9 @@ field_before k r (Some t) (Some ts) = Some (field_type k t r ts)
 field_before k r (Some t) None = None
 field_before k r None ts = None
 
--- `common s t` is the common type of `s` and `t`: for equal types that type; for different boolean types Bool; for sets
--- the sets of the common member type; for records with equal keys and requirements the record of the common types,
--- field by field (`common_fields`). Other types have none.
+-- `common s t` is the common type of `s` and `t`: for equal types that type, and for different boolean types Bool. For
+-- set types it is the set of the members' common type. For record types with equal keys and requirements it is the
+-- record of the fields' common types (`common_fields`). For other types it is `None`.
 abbrev mutual
   pub common : StaticType → StaticType → Option StaticType
   common true_type true_type = Some true_type
@@ -110,7 +112,7 @@ abbrev mutual
       if bytes_eq k l && same_requirement r q then field_before k r (common s t) (common_fields ss ts) else None
   common_fields ss ts = None
 
--- `common_of t ss` is the common type of `t` and all of `ss`, formed one after another.
+-- `common_of t ss` is the common type of `t` and all of `ss`, formed one after another; `None` if a step has none.
 abbrev pub common_of : StaticType → List StaticType → Option StaticType
 common_of t [] = Some t
 common_of t (s ∷ ss) = option_and_then (λ u. common_of u ss) (common t s)

@@ -1,6 +1,7 @@
-//! The rules of the strict validator: types, the values of a type, the typing relation with its errors, and the
-//! theorem that it is sound; paths in expressions, by the indexes of operands, and the expression that a typing error
-//! blames. The only functions that compute are those that find an operand by its index or by a path.
+//! The rules of the strict validator: types, the values of a type, the typing relation with its errors, and the theorem
+//! that typing is sound. The crate also defines paths in expressions, by the indexes of operands, and the expression
+//! that a typing error blames. The only functions that compute are those that find an operand by its index, or an
+//! expression by a path.
 #![tactic(auto)]
 
 mod laws;

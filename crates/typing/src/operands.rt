@@ -61,7 +61,7 @@ fn field_at<'a>(fields: &'a [Named<Expr>], at: usize) -> Option<&'a Expr>
     }
 }
 
-/// Returns the operand at the index `at`, or `None` if `expr` has fewer operands. Does not allocate.
+/// Returns the operand of `expr` at the index `at`, or `None` past the last operand. Does not allocate.
 ///
 /// The clause `few` lets a caller that got an operand go on to the next index without overflow.
 pub fn operand<'a>(expr: &'a Expr, at: usize) -> Option<&'a Expr>

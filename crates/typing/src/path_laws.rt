@@ -10,7 +10,7 @@ pub fn faults_blame_one_place()
     expressions_have_one_judgement();
 }
 
-/// Proves that an error blames a part of the expression: the path leads from the whole expression to the form whose
+/// Proves that an error blames a part of the expression. Its path leads from the whole expression to the form whose
 /// demand is not met, or to an operand of that form. No-op.
 pub fn blames_are_placed()
     ensures { BlamesArePlaced }

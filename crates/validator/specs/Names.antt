@@ -38,7 +38,7 @@ abbrev pub joined : List (List Name) → List Name
 joined [] = []
 joined (names ∷ rest) = names ++ joined rest
 
--- `names_step form` is the list of names in an expression of the form `form`, which has the names of each operand in
+-- `names_step form` is the list of names in an expression of the form `form`. The form has the names of each operand in
 -- place of the operand.
 abbrev pub names_step : Expr-F (List Name) → List Name
 names_step (Expr-F.Literal l) = literal_names l

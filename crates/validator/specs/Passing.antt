@@ -2,8 +2,8 @@
 -- Source: Cedar reference guide 4.0, "Policy validation" (strict mode); cedar-spec,
 -- cedar-lean/Cedar/Validation/Validator.lean (`typecheckPolicyWithEnvironments`).
 -- Rules of this product: names are checked before types, and the error is that of the first environment that has one.
--- A policy that is False in each environment passes here, as impossible; cedar-spec rejects it. If a schema has no
--- environment, each policy whose names are all declared passes, as impossible.
+-- If its names are all declared, a policy of the type False in each environment passes here, as impossible; cedar-spec
+-- rejects it. If a schema has no environment, each policy whose names are all declared passes, as impossible.
 use Rattle.std.specs.Prelude.{◌↔◌, List, [], ◌∷◌, map, All, Bool, IsTrue}
 use Rattle.grammar_core.specs.declared.expr.Expr.{Expr}
 use Rattle.type_checker.specs.policy_grammar.declared.policy.Policy.{Policy}
@@ -20,8 +20,8 @@ use Rattle.validator.specs.Faults.{of_typing}
 use Rattle.validator.specs.Names.{names_of}
 use Rattle.validator.specs.Unknown.{IsKnown, FirstUnknown}
 
--- `environments_of s` is the list of typing environments of the schema `s`, ascending by action, principal type and
--- resource type.
+-- `environments_of s` is the list of typing environments of the schema `s`, in the order of `s.environments`. In a
+-- parsed schema they ascend by action, principal type and resource type.
 abbrev pub environments_of : StatedSchema → List Environment
 environments_of s = map (typing_environment_of s) s.environments
 
@@ -58,7 +58,8 @@ pub record IsVerdict (s : StatedSchema) (policy : Policy) (told : Bool) : Type 0
   pub impossible : IsTrue told ↔ IsImpossible s policy
 
 -- `IsCheckRefused s policy f` holds if `f` is the error of the first name in `policy`, in the order of the text, that
--- the schema `s` does not declare; or, if each name is declared, the error of the first environment that has one.
+-- the schema `s` does not declare. If each name is declared, `f` is an error of typing in the first environment that
+-- has one.
 pub data IsCheckRefused (s : StatedSchema) (policy : Policy) : TypeFault → Type 0 where
   for_name : {f : TypeFault} → FirstUnknown s (names_of policy) f → IsCheckRefused s policy f
   for_type : {n : ExpressionFault} → All (IsKnown s) (names_of policy)

@@ -20,13 +20,13 @@ use type_checker::{
 /// The result of validating a policy that passes.
 #[derive(Clone, Copy, PartialEq, Eq)]
 pub struct Verdict {
-    /// Whether the policy's type is False in each environment of the schema. No conforming request satisfies such a
-    /// policy.
+    /// Whether the policy's type is False in each environment of the schema. No request satisfies such a policy if the
+    /// request and the entities conform to the schema.
     pub impossible: bool,
 }
 
-/// Checks that each name of a policy is declared, first those of its scope, `parts`, then those of its conditions.
-/// Returns the error of the first that is not.
+/// Checks that each name of a policy is declared, first those of `parts` (the expressions of the policy's scope), then
+/// those of its conditions. Returns the error of the first undeclared name.
 fn check_names(schema: &Schema, parts: &[Expr], policy: &Policy) -> Result<(), TypeFault>
     ensures { result ≡ parts_check (schema_view schema.now) parts.now policy.now.condition }
 {
@@ -45,8 +45,8 @@ fn reported_false<'a>(found: Result<StaticType<'a>, ExpressionFault>) -> Result<
     }
 }
 
-/// Returns whether a policy's type is False in an environment, or the error of typing it there. `parts` are the
-/// expressions of the policy's scope.
+/// Returns whether a policy's type is False in an environment, or the error of typing it there, or `NoMemory`. `parts`
+/// are the expressions of the policy's scope.
 fn is_false_at(
     alloc: Global,
     schema: &Schema,
@@ -64,7 +64,7 @@ fn is_false_at(
 }
 
 /// Returns whether a policy's type is False in each of `environments`, or the error of the first environment that has
-/// one. `parts` are the expressions of the policy's scope.
+/// one, or `NoMemory`. `parts` are the expressions of the policy's scope.
 fn is_false_everywhere(
     alloc: Global,
     schema: &Schema,
@@ -86,8 +86,8 @@ fn is_false_everywhere(
 /// Validates a policy under a schema, in strict mode.
 ///
 /// Returns whether the policy is impossible: its type is False in each environment of the schema. An impossible
-/// policy passes validation. If the schema has no environments, each policy whose names are all declared is
-/// impossible.
+/// policy passes validation if its names are all declared. If the schema has no environments, each policy whose names
+/// are all declared is impossible.
 ///
 /// # Errors
 ///
@@ -97,7 +97,7 @@ fn is_false_everywhere(
 /// - `UnknownType` (40), `UnknownAction` (41): a name is not declared, also if its operand is never evaluated.
 /// - `Unexpected` (42), `NoCommonType` (43), `AttributeMayBeMissing` (44), `EmptySet` (45), `BadExtensionLiteral`
 ///   (46): the first error of typing, in the order of evaluation, in the first environment that has one.
-/// - `NoMemory` (1): an allocation failed; possible at any point.
+/// - `NoMemory` (1): an allocation failed, or a count of references would overflow; possible at any point.
 ///
 /// The stack grows with the height of the policy's expression.
 ///

@@ -11,13 +11,13 @@ use type_checker::ExpressionFault;
 /// The first error of validating a policy under a schema.
 #[derive(Clone, Copy, PartialEq, Eq, Debug, Error)]
 pub enum TypeFault {
-    /// Code 1: an allocation failed.
+    /// Code 1: an allocation failed, or a count of references would overflow.
     #[error("type 1: out of memory")]
     NoMemory,
     /// Code 40: the policy names an entity type that is not declared.
     #[error("type 40: undeclared entity type")]
     UnknownType,
-    /// Code 41: the policy names an entity of an action type that is not a declared action.
+    /// Code 41: the policy names an entity of an action type, and no such action is declared.
     #[error("type 41: undeclared action")]
     UnknownAction,
     /// Code 42: an operand does not have the kind of type that its operator demands.

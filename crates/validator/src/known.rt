@@ -88,7 +88,8 @@ pub(crate) fn check_entity(schema: &Schema, uid: &EntityUid) -> Result<(), TypeF
     check_other(schema, uid)
 }
 
-/// Returns the error for an entity literal that the schema does not declare, or `None` if it does. Does not allocate.
+/// Returns the error of an entity literal: `UnknownAction` if its type is an action type and it is not a declared
+/// action; `UnknownType` if its type is neither an action type nor declared; else `None`. Does not allocate.
 pub fn unknown_entity(schema: &Schema, uid: &EntityUid) -> Option<TypeFault>
     ensures { MatchOption result (IsKnown (schema_view schema.now) (entity uid.now))
         (λ f. IsUnknown (schema_view schema.now) (entity uid.now) f) }
@@ -99,7 +100,8 @@ pub fn unknown_entity(schema: &Schema, uid: &EntityUid) -> Option<TypeFault>
     }
 }
 
-/// Returns the error for a type after `is` that the schema does not declare, or `None` if it does. Does not allocate.
+/// Returns `UnknownType` for a type after `is` that is neither a declared entity type nor the type of a declared
+/// action; else `None`. Does not allocate.
 pub fn unknown_tested_type(schema: &Schema, name: &TypeName) -> Option<TypeFault>
     ensures { MatchOption result (IsKnown (schema_view schema.now) (tested_type name.now))
         (λ f. IsUnknown (schema_view schema.now) (tested_type name.now) f) }

@@ -16,8 +16,8 @@ pub fn policies_have_one_outcome()
     expressions_have_one_judgement();
 }
 
-/// Proves that validation is sound: on a request and entities that conform to the schema, a policy that passes gives a
-/// boolean, `EntityDoesNotExist` or `ArithBoundsError`, and an impossible one never gives true. No-op.
+/// Proves that validation is sound. On a request and entities that conform to the schema, a policy that passes gives a
+/// boolean, `EntityDoesNotExist` or `ArithBoundsError`. An impossible policy never gives true. No-op.
 ///
 /// The theorem assumes that a test decides the ancestor relation of the entities.
 pub fn passing_policies_are_sound()

@@ -82,7 +82,7 @@ fn entity_literals(alloc: Global, uids: &[EntityUid]) -> Result<Items<Expr>, NoM
     Ok(Items::from_vec(literals))
 }
 
-/// Returns `action in` the set of these entities; `false` for none.
+/// Returns `action in` the set of these entities, or `false` if there are none.
 fn within_list(alloc: Global, uids: &Items<EntityUid>) -> Result<Expr, NoMemory>
     ensures { IfOk result (λ x. x ≡ action_part (ActionScope.InList uids.now)) }
 {

@@ -10,7 +10,7 @@ use grammar_core::{Expr, Literal, Named, Unary};
 use plain::Shared;
 use type_checker::Schema;
 
-/// Checks the entity of a literal; other literals have no name.
+/// Checks the entity of an entity literal; other literals contain no name.
 fn check_literal(schema: &Schema, literal: &Literal) -> Result<(), TypeFault>
     ensures { result ≡ literal_check (schema_view schema.now) literal.now }
 {
@@ -20,7 +20,7 @@ fn check_literal(schema: &Schema, literal: &Literal) -> Result<(), TypeFault>
     }
 }
 
-/// Checks the type after an `is`; other operators have no name.
+/// Checks the type after an `is`; other operators contain no name.
 fn check_operator(schema: &Schema, operator: &Unary) -> Result<(), TypeFault>
     ensures { result ≡ operator_check (schema_view schema.now) operator.now }
 {
@@ -31,7 +31,7 @@ fn check_operator(schema: &Schema, operator: &Unary) -> Result<(), TypeFault>
 }
 
 /// Checks that each name of an expression is declared, also in operands that are never evaluated. Returns the error of
-/// the first that is not.
+/// the first undeclared name.
 ///
 /// Does not allocate. The stack grows with the height of the expression.
 #[cycle(walk)]

@@ -13,13 +13,13 @@ Field = List ℕ × PlainValue
 abbrev pub AreKeysAscending : List Field → Type 0
 AreKeysAscending fs = IsStrictlySortedBy text_cmp (map (λ f. f.0) fs)
 
--- `put k v fs` are the fields `fs` with the value `v` at the key `k`, added in the order of the keys or in place of the
--- value there.
+-- `put k v fs` are the fields `fs`, whose keys ascend, with the key `k` set to the value `v`: the value at `k` is
+-- replaced, or a field is inserted in the order of the keys.
 abbrev pub put : List ℕ → PlainValue → List Field → List Field
 put k v [] = (k, v) ∷ []
 put k v (f ∷ fs) = match_ordering (text_cmp k f.0) ((k, v) ∷ f ∷ fs) ((f.0, v) ∷ fs) (f ∷ put k v fs)
 
--- `find_field k fs` is the value of `fs` at the key `k`, if there is one.
+-- `find_field k fs` is the first value in the fields `fs` with the key `k`, or `None` if no field has it.
 abbrev pub find_field : List ℕ → List Field → Option PlainValue
 find_field k [] = None
 find_field k (f ∷ fs) = match_ordering (text_cmp k f.0) (find_field k fs) (Some f.1) (find_field k fs)

@@ -19,7 +19,7 @@ SetsHoldTheirMembers = (vs : List PlainValue) → IsSetOf vs (set_list vs)
 abbrev pub SetsAreOneList : Type 0
 SetsAreOneList = (vs s : List PlainValue) → IsSetOf vs s → s ≡ set_list vs
 
--- `MemberTestIsExact`: the test for a member accepts exactly the members.
+-- `MemberTestIsExact`: `has_member` accepts exactly the members of a list.
 abbrev pub MemberTestIsExact : Type 0
 MemberTestIsExact = (vs : List PlainValue) (v : PlainValue) → IsTrue (has_member vs v) ↔ Contains vs v
 
@@ -47,7 +47,7 @@ OrderOfFieldsDoesNotMatter = (key other : List ℕ) (value next : PlainValue) (f
     → AreKeysAscending fields → key ≢ other →
     put key value (put other next fields) ≡ put other next (put key value fields)
 
--- `LaterValueWins`: of two values that are set at one key, the record has the later.
+-- `LaterValueWins`: a record in which a field is set twice is the record in which only the later value is set.
 abbrev pub LaterValueWins : Type 0
 LaterValueWins = (key : List ℕ) (value earlier : PlainValue) (fields : List Field) → AreKeysAscending fields →
     put key value (put key earlier fields) ≡ put key value fields

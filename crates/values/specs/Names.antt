@@ -1,6 +1,6 @@
 -- Defines the orders of names (ids of policies and uids of entities) and of requests.
--- Rules of this product: policies before entities; policies by the bytes of the id; entities by the bytes of the
--- type's name, then of the id; requests by principal, then action, then resource, then context.
+-- Rules of this product: policies come before entities. Policies are ordered by the bytes of the id; entities by the
+-- bytes of the type's name, then of the id; requests by principal, then action, then resource, then context.
 use Rattle.std.specs.Prelude.{◌≡◌, refl}
 use Rattle.std.specs.Ordering.{ordering_then}
 use Rattle.std.specs.Cmp.{IsTotalOrder}
@@ -18,7 +18,7 @@ use Rattle.values.specs.declared.name.Name.TheVariants.{Policy, Entity}
 use Rattle.values.specs.declared.request.Request.{Request}
 use Rattle.values.specs.ValueOrder.{record_cmp, record_cmp-IsTotalOrder, record_cmp-IsAntisymmetric}
 
--- `name_cmp a b` compares two names: policies, by id, come before entities, by uid.
+-- `name_cmp a b` compares two names: policies come before entities, policies compare by id, and entities by uid.
 abbrev pub name_cmp : Name → Name → Ordering
 name_cmp (Policy a) (Policy b) = text_cmp a b
 name_cmp (Policy a) (Entity b) = Less

@@ -7,7 +7,7 @@ use Rattle.std.specs.List.{list_any, list_all}
 use Rattle.std.specs.Str.{bytes_eq}
 use Rattle.extensions.specs.plain.Words.{is_letter, is_word_byte, reserved_words, joined_path, IsIdent, IsPath}
 
--- `path_of words` are the words with `::` between each two.
+-- `path_of words` is the string of the words `words` joined by `::`; it is empty if there are none.
 abbrev pub path_of : List (List ℕ) → List ℕ
 path_of [] = []
 path_of (first ∷ more) = joined_path first more
@@ -21,19 +21,19 @@ is_word (c ∷ cs) = is_letter c && list_all is_word_byte cs
 abbrev pub is_ident : List ℕ → Bool
 is_ident word = is_word word && not (list_any (bytes_eq word) reserved_words)
 
--- `pieces word text` are the strings into which the separators `::` cut `text`, the first of them with `word` before
--- it; `pieces [] text` are those of `text` alone.
+-- `pieces word text` are the pieces into which the separators `::` cut `text`, with `word` prepended to the first.
 unfoldable pub pieces : List ℕ → List ℕ → List (List ℕ)
 pieces word [] = word ∷ []
 pieces word (c ∷ []) = (word ++ c ∷ []) ∷ []
 pieces word (c ∷ d ∷ rest) =
     if c == code ":" && d == code ":" then word ∷ pieces [] rest else pieces (word ++ c ∷ []) (d ∷ rest)
 
--- `is_path text` tests whether each piece of `text` is an identifier.
+-- `is_path text` tests whether each of `pieces [] text`, the pieces of `text`, is an identifier.
 unfoldable pub is_path : List ℕ → Bool
 is_path text = list_all is_ident (pieces [] text)
 
--- `IdentTestIsExact` and `PathTestIsExact`: the tests accept exactly identifiers and Paths.
+-- `IdentTestIsExact`: `is_ident` accepts exactly the identifiers. `PathTestIsExact`: `is_path` accepts exactly the
+-- Paths.
 abbrev pub IdentTestIsExact : Type 0
 IdentTestIsExact = (word : List ℕ) → IsTrue (is_ident word) ↔ IsIdent word
 

@@ -31,8 +31,8 @@ pub uid_cmp-IsTotalOrder : IsTotalOrder uid_cmp
 uid_cmp-IsTotalOrder = then_total (on_total (λ u. u.type_name) nat_list_cmp_total)
     (on_total (λ u. u.id) nat_list_cmp_total)
 
--- `both_equal`: if `ordering_then r s`, which is `s` where `r` is `Equal` and else `r`, is `Equal`, then so are `r` and
--- `s`.
+-- `both_equal`: if `ordering_then r s` is `Equal`, then so are `r` and `s`. (`ordering_then r s` is `s` if `r` is
+-- `Equal`, else `r`.)
 pub both_equal : (r s : Ordering) → ordering_then r s ≡ Equal → (r ≡ Equal) × (s ≡ Equal)
 both_equal Less s h = absurd (cc)
 both_equal Equal s h = (refl, h)

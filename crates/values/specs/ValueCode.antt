@@ -5,13 +5,13 @@ use Rattle.std.specs.Coded.{Coded, code_by, coded×, coded_ℕ, coded_ℤ, coded
 use Rattle.std.proofs.Common.{ap, sym, ◌∙◌, append_assoc}
 use Rattle.std.proofs.lemmas.List.{append-nil}
 use Rattle.extensions.specs.Network.{Network}
-use Rattle.extensions.specs.Order.{version_number, network_of, network_of-network_numbers}
+use Rattle.extensions.specs.Order.{version_number, network_from_numbers, network_from_numbers-network_numbers}
 use Rattle.values.specs.Values.{PlainValue, boolean, long, text, entity, set, record_of, decimal, ipaddr, PlainValues}
 use Rattle.values.specs.Values.{no_values, value, PlainFields, no_fields, field}
 
--- A `Token` is a tag, a number, and two strings. A tag from 1 to 8 is the rank of a kind of values (`kind_rank` of
--- ValueOrder): 5 begins a set, 6 begins a record, and the others are whole values. The tag 0 ends a set or record; 9 is
--- a key of a record.
+-- A `Token` is a tag, a number, and two lists of numbers, which are the bytes of strings except in the token of an IP
+-- address. A tag from 1 to 8 is the rank of a kind of values (`kind_rank` of ValueOrder): 5 begins a set, 6 begins a
+-- record, and the others are whole values. The tag 0 ends a set or record; 9 is a key of a record.
 abbrev pub Token : Type 0
 Token = ℕ × (ℤ × (List ℕ × List ℕ))
 
@@ -31,14 +31,14 @@ network_list n = version_number n.version ∷ n.address ∷ n.prefix ∷ []
 
 -- `list_network ns` is the network that the list `ns` represents, where a missing number is 0.
 abbrev pub list_network : List ℕ → Network
-list_network [] = network_of (0, (0, 0))
-list_network (v ∷ []) = network_of (v, (0, 0))
-list_network (v ∷ a ∷ []) = network_of (v, (a, 0))
-list_network (v ∷ a ∷ p ∷ more) = network_of (v, (a, p))
+list_network [] = network_from_numbers (0, (0, 0))
+list_network (v ∷ []) = network_from_numbers (v, (0, 0))
+list_network (v ∷ a ∷ []) = network_from_numbers (v, (a, 0))
+list_network (v ∷ a ∷ p ∷ more) = network_from_numbers (v, (a, p))
 
 abbrev mutual
-  -- `tokens v` are the tokens of the value `v`; `set_tokens vs` are those of the members `vs`, and `record_tokens fs`
-  -- those of the fields `fs`, each with an end token after them.
+  -- `tokens v` are the tokens of the value `v`. `set_tokens vs` are those of the members `vs`, and `record_tokens fs`
+  -- those of the fields `fs`; an end token is the last of each of these two lists.
   pub tokens : PlainValue → List Token
   tokens (boolean b) = (1, (as_number b, ([], []))) ∷ []
   tokens (long z) = (2, (z, ([], []))) ∷ []
@@ -86,7 +86,7 @@ behind (end ∷ st) = st
 behind (key k ∷ st) = behind st
 behind (whole v ∷ st) = behind st
 
--- `read_one n z s t st` are the items of a token with the tag `n`, the number `z` and the strings `s` and `t`, followed
+-- `read_one n z s t st` are the items of a token with the tag `n`, the number `z` and the lists `s` and `t`, followed
 -- by tokens with the items `st`. A token that begins a set or record takes its members or fields from `st`.
 abbrev pub read_one : ℕ → ℤ → List ℕ → List ℕ → List Item → List Item
 read_one n z s t st =
@@ -140,7 +140,7 @@ mutual
   read-tokens (text s) ts = refl
   read-tokens (entity u) ts = refl
   read-tokens (decimal z) ts = refl
-  read-tokens (ipaddr n) ts = ap (λ m. whole (ipaddr m) ∷ read ts) (network_of-network_numbers n)
+  read-tokens (ipaddr n) ts = ap (λ m. whole (ipaddr m) ∷ read ts) (network_from_numbers-network_numbers n)
   read-tokens (set vs) ts =
       rw (read-set_tokens vs ts, members-items_of vs (read ts), behind-items_of vs (read ts))
   read-tokens (record_of fs) ts =

@@ -1,7 +1,7 @@
 -- Defines the order of values.
 -- Rules of this product: values are ordered by kind, in the order of `kind_rank`. Within a kind, false comes before
--- true; integers and decimals are ordered by value, strings by bytes, entities by uid, IP addresses by version, address
--- and prefix; sets are ordered member by member and records field by field, where a prefix comes first.
+-- true. Integers and decimals are ordered by value, strings by bytes, entities by uid, and IP addresses by version,
+-- address and prefix. Sets are ordered member by member, and records field by field, where a prefix comes first.
 use Rattle.std.specs.Prelude.{◌≡◌, ℕ, pos, List, [], ◌∷◌, ◌++◌, Bool, true, false, refl}
 use Rattle.std.proofs.Common.{ap, sym, ◌∙◌, append_assoc}
 use Rattle.std.proofs.lemmas.List.{append-nil}

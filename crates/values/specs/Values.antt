@@ -65,7 +65,7 @@ pub pairs_of-fields_of : (fs : List (List ℕ × PlainValue)) → pairs_of (fiel
 pairs_of-fields_of [] = refl
 pairs_of-fields_of (f ∷ fs) = ap (λ w. f ∷ w) (pairs_of-fields_of fs)
 
--- `height v` measures how deeply sets and records nest in `v`: it is greater than the height of each member of a set
+-- `height v` measures how deeply sets and records nest in `v`. It is greater than the height of each member of a set
 -- and of each value in a record, and 0 for all other kinds. `heights vs` and `field_heights fs` are 1 more than the
 -- greatest height of the members `vs` or of the values of the fields `fs`, or 0 for an empty list.
 abbrev mutual

@@ -21,9 +21,9 @@ pub fn sets_hold_their_members()
     ensures found { MembersAreFound }
 {}
 
-/// Proves that a record is a finite map. A field that was set has its value, the later one if it was set twice, and the
-/// other fields keep theirs. Keys ascend strictly. Records with equal fields are equal. The order in which two fields
-/// with different keys are set does not matter. No-op.
+/// Proves that a record is a finite map. A field has the value that it was set to, the later one if it was set twice.
+/// Setting a field leaves the other fields unchanged, and keeps the keys strictly ascending. Records with equal fields
+/// are equal. The order in which two fields with different keys are set does not matter. No-op.
 pub fn records_are_maps()
     ensures here { (key : List ℕ) (value : Value) (fields : Record)
         → find_field key (put key value fields) ≡ Some value }
@@ -47,7 +47,8 @@ pub fn values_stay_well_formed()
     ensures fields { FieldsAreWellFormed }
 {}
 
-/// Proves that the test `is_ident` accepts exactly the identifiers, and `is_path` exactly the Paths. No-op.
+/// Proves that the test `is_ident` of specs/Paths.antt accepts exactly the identifiers, and `is_path` there exactly the
+/// Paths. No-op.
 pub fn path_tests_are_exact()
     ensures idents { IdentTestIsExact }
     ensures paths { PathTestIsExact }

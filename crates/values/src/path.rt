@@ -16,7 +16,7 @@ fn is_reserved(word: &[u8]) -> bool
     RESERVED.contains(&word)
 }
 
-/// Returns whether a string, all of whose bytes a word may contain, is an identifier.
+/// Returns whether `word`, a string of ASCII letters, digits and `_`, is an identifier.
 fn is_ident(word: &[u8]) -> bool
     requires { AllAre is_word_byte word.now }
     ensures { IsTrue result ↔ IsIdent word.now }
@@ -27,7 +27,7 @@ fn is_ident(word: &[u8]) -> bool
     }
 }
 
-/// Returns whether a string is identifiers with `::` between each two.
+/// Returns whether a string is a Path: one or more identifiers, joined by `::`.
 pub(crate) fn is_path(text: &[u8]) -> bool
     ensures { IsTrue result ↔ IsPath text.now }
 {

@@ -60,7 +60,8 @@ impl Record {
         }
     }
 
-    /// Sets the value of a field, and drops the value that the field had. After `NoMemory` the record is unchanged.
+    /// Sets the field `key` to `value`, and drops the value that the field had, if any. After `NoMemory` the record is
+    /// unchanged.
     pub fn insert(&mut self, key: Text, value: Value) -> Result<(), NoMemory>
         ensures ok { OnOk result (self.new ≡ put key value self.old) }
         ensures err { OnErr result (self.new ≡ self.old) }

@@ -90,7 +90,8 @@ impl Set {
         Ok(Set { members: copies })
     }
 
-    /// Returns whether a value is a member. O(log n). Does not allocate.
+    /// Returns whether a value is a member. Compares O(log n) values, where n is the number of members. Does not
+    /// allocate.
     pub fn contains(&self, value: &Value) -> bool
         ensures is { result ≡ has_member self.now value.now }
         ensures member { IsTrue result ↔ Contains self.now value.now }

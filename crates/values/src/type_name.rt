@@ -15,8 +15,8 @@ use std::alloc::Global;
 use std::cmp::Ordering;
 use std::marker::Model;
 
-/// The name of an entity type: identifiers with `::` between them, such as `User` or `Photos::Album`. Contracts see its
-/// bytes.
+/// The name of an entity type: one or more identifiers, joined by `::`, such as `User` or `Photos::Album`. Contracts
+/// see its bytes.
 ///
 /// Each identifier is `_` or an ASCII letter, followed by `_`, ASCII letters and digits, and is not a reserved word
 /// (Cedar reference guide, grammar: `Path`). Names are equal if their bytes are, and ordered by bytes.
@@ -50,10 +50,9 @@ impl TypeName {
         Ok(Some(TypeName { text }))
     }
 
-    /// Returns the type name of the identifiers `words`, at least one, with `::` between each two. The only error is
-    /// `NoMemory`.
+    /// Returns the type name of the identifiers `words`, at least one, joined by `::`. The only error is `NoMemory`.
     ///
-    /// The parser of policies calls this for a Path, which may have whitespace and comments between its words there.
+    /// The parser of policies calls this, since a Path of a policy may have whitespace and comments between its words.
     pub fn from_words(alloc: Global, words: &[&str]) -> Result<TypeName, NoMemory>
         requires some { 0 < length words.now }
         requires idents { AreIdents (map (λ w. w.now) words.now) }

@@ -22,7 +22,7 @@ use std::marker::Model;
 /// A value of the policy language. Contracts see a value as a `PlainValue`, an algebraic data type: two values are
 /// equal if and only if their `PlainValue`s are.
 ///
-/// A value is well formed at every depth; `stays_well_formed` proves this of a value.
+/// A value is well formed at every depth, as [`Value::stays_well_formed`] describes and proves.
 #[cycle(value)]
 #[derive(Drop)]
 pub struct Value {
@@ -45,7 +45,7 @@ pub enum Kind {
     Set(Set),
     /// A record: values by keys.
     Record(Record),
-    /// A decimal, with four places.
+    /// A decimal: a number of ten-thousandths.
     Decimal(Decimal),
     /// An IP address with a prefix.
     IpAddr(IpNet),

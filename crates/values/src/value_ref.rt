@@ -14,7 +14,7 @@ use std::alloc::Global;
 use std::cmp::Ordering;
 use std::marker::Model;
 
-/// A kind of value, with its content borrowed where that content owns memory.
+/// A kind of value with its content, which is borrowed if it owns memory.
 ///
 /// So a string, or the uid of an entity, may be used as a value without a copy. `of_borrowed` gives the value that a
 /// `BorrowedKind` represents.
@@ -32,14 +32,14 @@ pub enum BorrowedKind<'a> {
     Set(&'a Set),
     /// A record: values by keys.
     Record(&'a Record),
-    /// A decimal, with four places.
+    /// A decimal: a number of ten-thousandths.
     Decimal(Decimal),
     /// An IP address with a prefix.
     IpAddr(IpNet),
 }
 
-/// A borrowed value: a whole value, or a part that is a value by itself, such as the string of a literal or the uid in
-/// a request. Nothing is copied. Contracts see the value.
+/// A borrowed value: a whole `Value`, or data that is a value by itself, such as the string of a literal or the uid in
+/// a request. Nothing that owns memory is copied. Contracts see the value.
 #[derive(Drop)]
 pub struct ValueRef<'a> {
     kind: BorrowedKind<'a>,
@@ -104,7 +104,7 @@ impl<'a> ValueRef<'a> {
         }
     }
 
-    /// Returns the value of a kind with its content, borrowed.
+    /// Returns the value of the kind and content `kind`, borrowed.
     pub(crate) fn of_kind(kind: &'a Kind) -> ValueRef<'a>
         ensures { result ≡ of_kind kind.now }
     {

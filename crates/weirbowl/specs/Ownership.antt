@@ -16,11 +16,11 @@ use Rattle.weirbowl.specs.contracts.embedded.EmbeddedSite.{the_row}
 abbrev pub may_free : Ty → Ptr → Fml
 may_free = ghosts.dealloc_token (record { memory = record { seal = tt } })
 
--- `owned_at R p x` states that `p` owns the value `x` of the type `R` at its address, and the block.
+-- `owned_at R p x` is the assertion that `p` owns the value `x` of the type `R` at its address, and the block.
 abbrev pub owned_at : (R : RattleType) → Ptr → R.Denot → Fml
 owned_at R p x = box_owns may_free R p x
 
--- `site_at p s` states that `p` owns the site in `s`, or nothing if `s` is `None`.
+-- `site_at p s` is the assertion that `p` owns the site in `s`, or nothing if `s` is `None`.
 abbrev pub site_at : Ptr → Option the_row.Denot → Fml
 site_at p None = ftrue
 site_at p (Some site) = owned_at the_row p site

@@ -17,8 +17,9 @@ abbrev pub not_open : CallResult
 not_open = record { status = 0; length = 0 }
 
 -- `Calls old call r before after new` holds if the site `old` in the slot answers `call`, which leaves the site `new`
--- there: `r` is the status and the length of the body. The caller's memory for the body held `before`, and `after` is
--- that with the body copied into it. If no site is open, nothing happens.
+-- there: `r` is the status and the length of the body. `before` is the caller's memory for the body, and `after` is the
+-- same memory with the body copied into it, if it fits (`copied`). If no site is open, nothing happens, and `r` is
+-- `not_open`.
 abbrev pub Calls : Option EmbeddedSite → Call → CallResult → List ℕ → List ℕ → Option EmbeddedSite → Type 0
 Calls (Some old) call r before after new =
     (e : EmbeddedSite) × (status : StatusCode) × (new ≡ Some e) × IsCalled old call status e
@@ -26,8 +27,8 @@ Calls (Some old) call r before after new =
 Calls None call r before after new = (r ≡ not_open) × (after ≡ before) × (new ≡ None)
 
 -- `RepeatsBody old r before after new` holds if the body of the last reply is copied again: `r` is the status 200 and
--- the length of the body, `after` is `before` with the body copied into it, and the site is unchanged. If no site is
--- open, nothing happens.
+-- the length of the body, `after` is `before` with the body copied into it, if it fits (`copied`), and the site `new`
+-- is `old`. If no site is open, nothing happens, and `r` is `not_open`.
 abbrev pub RepeatsBody : Option EmbeddedSite → CallResult → List ℕ → List ℕ → Option EmbeddedSite → Type 0
 RepeatsBody (Some old) r before after new =
     (r ≡ record { status = 200; length = length old.body.items }) × (after ≡ copied old.body.items before)
@@ -35,8 +36,8 @@ RepeatsBody (Some old) r before after new =
 RepeatsBody None r before after new = (r ≡ not_open) × (after ≡ before) × (new ≡ None)
 
 -- `Opens old schema name code new` holds if a call to open a site under `schema` and `name` changes the content of the
--- slot from `old` to `new`: an empty site is opened (`code` 0), or a site is open already (`code` 3), or no site is
--- opened and `code` is the number of the error.
+-- slot from `old` to `new`. Either an empty site is opened (`code` 0), or a site is open already (`code` 3), or no site
+-- is opened and `code` is the number of the error.
 abbrev pub Opens : Option EmbeddedSite → List ℕ → List ℕ → ℕ → Option EmbeddedSite → Type 0
 Opens (Some old) schema name code new = (code ≡ 3) × (new ≡ Some old)
 Opens None schema name code new =

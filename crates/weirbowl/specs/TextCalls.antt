@@ -1,7 +1,7 @@
 -- Defines what a call over texts, without a site, returns and writes.
 -- Source: docs/formats.md, "The answer line" and "The lines of `check`".
--- Rules of this product: the status is 200 for an answer, and for policies that all pass; 422 for rejected texts, and
--- if one of the policies does not pass; 503 without a body if out of memory.
+-- Rules of this product: the status is 200 for an answer, and for policies that all pass. It is 422 for rejected texts,
+-- and if one of the policies does not pass. It is 503, without a body, if out of memory.
 use Rattle.std.specs.Prelude.{◌≡◌, ◌⊎◌, ℕ, Bool, List, length, if◌then◌else◌}
 use Rattle.schema_decisions.specs.answer_lines.declared.refusal.Refusal.{Refusal}
 use Rattle.schema_decisions.specs.answer_lines.Refusals.{error_line}
@@ -17,7 +17,7 @@ abbrev pub no_memory : CallResult
 no_memory = record { status = 503; length = 0 }
 
 -- `Returns status text r before after` holds if `r` is `status` and the length of `text`, and `after` is `before` with
--- `text` copied into it.
+-- `text` copied into it, if it fits (`copied`).
 abbrev pub Returns : ℕ → List ℕ → CallResult → List ℕ → List ℕ → Type 0
 Returns status text r before after =
     (r ≡ record { status = status; length = length text }) × (after ≡ copied text before)
@@ -35,13 +35,14 @@ Decides policies entities request r before after =
     ((line : List ℕ) × bare.IsDecided bare_reading policies entities request line × Returns 200 line r before after)
     ⊎ Rejects (bare.IsDecisionRefused bare_reading policies entities request) r before after
 
--- `DecidesUnder schema policies entities request r before after` is the same relation under a schema.
+-- `DecidesUnder schema policies entities request r before after` is the same relation for a decision under the schema
+-- `schema`, given as bytes.
 abbrev pub DecidesUnder : List ℕ → List ℕ → List ℕ → List ℕ → CallResult → List ℕ → List ℕ → Type 0
 DecidesUnder schema policies entities request r before after =
     ((line : List ℕ) × typed.IsDecided schema policies entities request line × Returns 200 line r before after)
     ⊎ Rejects (typed.IsSchemaDecisionRefused schema policies entities request) r before after
 
--- `checked_status some_rejected` is the status of checked policies, by whether one of them does not pass.
+-- `checked_status some_rejected` is the status of checked policies: 422 if one of them does not pass, else 200.
 abbrev pub checked_status : Bool → ℕ
 checked_status some_rejected = if some_rejected then 422 else 200
 

@@ -25,8 +25,8 @@ impl EmbeddedSite {
     ghost use Rattle.site_calls.specs.Calls.{call_of};
     ghost use Rattle.weirbowl.specs.Embedding.{IsCalled};
 
-    /// Answers a call: makes at most one step of the site, keeps the body of the reply in place of the last one, and
-    /// returns the status. Out of memory is a reply too (503).
+    /// Answers a call: makes at most one step of the site, keeps the body of the reply in place of the body of the last
+    /// reply, and returns the status. Out of memory is a reply too (503).
     pub fn call(&mut self, call: &Call<'_>) -> StatusCode
         ensures { IsCalled self.old (call_of call.now) result self.new }
     {

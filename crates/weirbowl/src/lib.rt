@@ -1,8 +1,8 @@
 //! A site of Weirbowl for programs in C, and in languages that call C.
 //!
-//! C keeps a slot for a site, zeroed before its first use, and passes it to each call. C also provides the memory for
-//! the body of a reply. The contract of each export says what the slot holds before and after, what is returned, and
-//! what is written.
+//! C keeps a slot for a site, zeroed before its first use, and passes the slot to each call that uses the site. C also
+//! provides the memory for the body of a reply. The contract of each export says what is in the slot, if there is one,
+//! before and after, what is returned, and what is written.
 #![tactic(auto)]
 
 mod call_result;

@@ -34,7 +34,7 @@ impl OpenError {
     }
 }
 
-/// Returns a site with room for the body of a reply, and no reply yet.
+/// Returns a site with memory for the body of a reply to a change, and no reply yet.
 fn embedded(alloc: Global, site: Site) -> Result<EmbeddedSite, NoMemory>
     ensures site { IfOk result (λ e. e.site ≡ site) }
     ensures fresh { IfOk result (λ e. e.body.items ≡ []) }
@@ -66,7 +66,7 @@ fn open_under(alloc: Global, schema: Schema, name: &str) -> Result<EmbeddedSite,
     embedded(alloc, Site::new(alloc, schema, name))
 }
 
-/// Returns a site under the schema that bytes describe, with a valid site name.
+/// Returns an empty site with this site name, under the schema that bytes describe, or the error of the schema.
 fn open_named(alloc: Global, schema: &[u8], name: &str) -> Result<EmbeddedSite, Refusal>
     requires { IsSiteName name.now }
     ensures opened { IfOk result (IsOpened schema.now name.now) }
@@ -76,7 +76,7 @@ fn open_named(alloc: Global, schema: &[u8], name: &str) -> Result<EmbeddedSite, 
     Ok(open_under(alloc, schema, name)?)
 }
 
-/// Returns a site under the schema that bytes describe, with a valid site name, or the error.
+/// Returns a site like [`open_named`], with the error as an [`OpenError`].
 fn open_as(alloc: Global, schema: &[u8], name: &str) -> Result<EmbeddedSite, OpenError>
     requires { IsSiteName name.now }
     ensures opened { IfOk result (IsOpened schema.now name.now) }

@@ -21,7 +21,7 @@ impl Model for SitePointer {
 }
 
 impl SitePointer {
-    /// Takes the site, and leaves a pointer that owns nothing. Does not allocate.
+    /// Takes the site, which the pointer must own, and leaves a pointer that owns nothing. Does not allocate.
     pub(crate) fn take(&mut self, alloc: Global) -> Box<EmbeddedSite>
         requires { is_some self.old.site ≡ true }
         ensures { (self.old.site ≡ Some result.value) × (self.new.site ≡ None) }

@@ -1,7 +1,7 @@
 //! The exports for C that use the site of a slot, the memory that a C program keeps for a site.
 //!
-//! Opening and closing return a number or a boolean. Each other call copies the body of its reply to the beginning of
-//! `out`, if `out` is long enough, and returns the reply's status and the body's length; if no site is open, it does
+//! Opening returns a number, and closing a boolean. Each other call copies the body of its reply to the beginning of
+//! `out`, if `out` is long enough, and returns the reply's status and the body's length. If no site is open, it does
 //! nothing and returns the status 0.
 ghost use Rattle.site_calls.specs.Calls as call;
 ghost use Rattle.weirbowl.specs.SlotCalls.{Calls, Opens, Closes, RepeatsBody};
@@ -12,7 +12,7 @@ use crate::slot_calls::{call_in, close_in, open_in, repeat_body};
 use site_calls::Call;
 use std::alloc::Global;
 
-/// Opens an empty site in the slot. Returns 0 if it did, 3 if a site was open there already, and else the code of the
+/// Opens an empty site in the slot. Returns 0 on success, 3 if a site was open there already, and else the code of the
 /// error: 2 for the name, 20 to 25 for the schema, 1 if out of memory.
 #[unsafe(no_mangle)]
 pub extern "C" fn weirbowl_open(
@@ -142,7 +142,7 @@ pub extern "C" fn weirbowl_summary(alloc: Global, slot: &mut SiteSlot, out: &mut
     call_in(alloc, slot, &Call::Summary, out)
 }
 
-/// Writes the entries that the site with this summary is missing.
+/// Writes a delta: the entries whose names `summary` lacks or has with a smaller stamp.
 #[unsafe(no_mangle)]
 pub extern "C" fn weirbowl_delta(
     alloc: Global,

@@ -9,7 +9,7 @@ use crate::pointer::SitePointer;
 pub struct SiteSlot {
     /// Whether a site is open.
     pub is_open: bool,
-    /// The site.
+    /// The pointer, which owns the site if one is open.
     pub pointer: SitePointer,
     pub ghost is_consistent: { is_open ≡ is_some pointer.site },
 }

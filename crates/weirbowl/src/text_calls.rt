@@ -13,7 +13,7 @@ use schema_decisions::{Refusal, check_texts, decide_texts, decide_under};
 use site_calls::error_line;
 use std::alloc::Global;
 
-/// Returns the result if out of memory, which has no body.
+/// Returns the result of a call that is out of memory: status 503 and length 0.
 fn no_memory() -> CallResult
     ensures { result ≡ no_memory }
 {
@@ -23,7 +23,7 @@ fn no_memory() -> CallResult
     }
 }
 
-/// Copies a text into `out`, and returns this status and the text's length.
+/// Copies a text into `out`, if it fits. Returns this status and the text's length.
 fn report_text(status: u32, text: &[u8], out: &mut [u8]) -> CallResult
     ensures { Returns status text.now result out.old out.new }
 {
@@ -34,8 +34,8 @@ fn report_text(status: u32, text: &[u8], out: &mut [u8]) -> CallResult
     }
 }
 
-/// Copies the line of an error into `out`, and returns the status 422; for out of memory copies nothing, and returns
-/// 503.
+/// Copies the line of an error into `out`, if it fits, and returns the status 422. If the error is out of memory, or
+/// the line cannot be allocated, copies nothing and returns 503.
 fn report_error(alloc: Global, refusal: Refusal, out: &mut [u8]) -> CallResult
     ensures { Rejects (λ f. (f ≡ refusal) × (refusal ≡ memory_refused → ⊥)) result out.old out.new }
 {
@@ -55,8 +55,8 @@ fn checked_status(some_rejected: bool) -> u32
     if some_rejected { 422 } else { 200 }
 }
 
-/// Decides over texts of policies and of entities, without a schema: copies the answer line (200) or the error line
-/// (422) into `out`.
+/// Decides a request over policies and entities, without a schema: copies the answer line (200) or the error line (422)
+/// into `out`.
 #[unsafe(no_mangle)]
 pub extern "C" fn weirbowl_decide(
     alloc: Global,
@@ -73,7 +73,7 @@ pub extern "C" fn weirbowl_decide(
     }
 }
 
-/// Decides over texts of policies and of entities, under a schema: copies the answer line (200) or the error line (422)
+/// Decides a request over policies and entities, under a schema: copies the answer line (200) or the error line (422)
 /// into `out`.
 #[unsafe(no_mangle)]
 pub extern "C" fn weirbowl_decide_under(

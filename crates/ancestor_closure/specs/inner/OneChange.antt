@@ -9,7 +9,7 @@ use Rattle.ancestor_closure.specs.Lists.{IsListOf, AgreeBut}
 use Rattle.ancestor_closure.specs.declared.changing.Change.{Change}
 
 -- `TakesChild xs ps child before after` holds if `after` is `before`, without `child` among the children of the
--- entities of `xs` that are not in `ps`.
+-- entities of `xs` that are not in `ps`. `before` and `after` map each entity to its children.
 pub record TakesChild (xs ps : List EntityUid) (child : EntityUid)
     (before after : EntityUid → List EntityUid) : Type 0 where
   pub from : (x y : EntityUid) → Contains (after x) y → Contains (before x) y
@@ -34,8 +34,8 @@ IsInOwn lists x = (list : Vec EntityUid Global) × Contains lists (x, list) × C
 abbrev pub ListsAscend : List (EntityUid × Vec EntityUid Global) → Type 0
 ListsAscend lists = (x : EntityUid) (list : Vec EntityUid Global) → Contains lists (x, list) → IsAscending list.items
 
--- `Enters lists before after` holds if `after` has the entities of `before`, and no others except some that are in
--- their own lists (`IsInOwn`).
+-- `Enters lists before after` holds if `after` has the entities of `before`, and no others except some whose own list
+-- in `lists` contains them (`IsInOwn`).
 pub record Enters (lists : List (EntityUid × Vec EntityUid Global)) (before after : List EntityUid) : Type 0 where
   pub kept : (x : EntityUid) → Contains before x → Contains after x
   pub from : (x : EntityUid) → Contains after x → Contains before x ⊎ IsInOwn lists x
@@ -50,8 +50,8 @@ pub record Leaves (entities : List EntityUid) (ancestors : EntityUid → List En
   pub taken : (x : EntityUid) → Contains entities x → (Contains (ancestors x) x → ⊥) → Contains after x → ⊥
 
 -- `IsPlanned parents uid ancestors children change` holds if `change` has the former and the new parents of `uid`, and
--- `uid` and its descendants, each with its new list of ancestors. `ancestors` and `children` are those before the
--- change, `parents` is the hierarchy after it.
+-- `uid` and its descendants, each with its new list of ancestors. `ancestors` and `children` map each entity to its
+-- ancestors and its children before the change; `parents` is the hierarchy after it.
 pub record IsPlanned (parents : Parents) (uid : EntityUid) (ancestors children : EntityUid → List EntityUid)
     (change : Change) : Type 0 where
   pub uid_is : change.uid ≡ uid
@@ -65,8 +65,8 @@ pub record IsPlanned (parents : Parents) (uid : EntityUid) (ancestors children :
   pub right : (q : EntityUid) (list : Vec EntityUid Global) → Contains change.lists.items (q, list) →
       IsListOf parents q list.items
 
--- `AreListsBut uid after ancestors children` holds if `ancestors` and `children` are those of each entity in a
--- hierarchy that differs from `after` at most in the parents of `uid`.
+-- `AreListsBut uid after ancestors children` holds if `ancestors` and `children` map each entity to its ancestors and
+-- its children in some hierarchy that differs from `after` at most in the parents of `uid`.
 pub record AreListsBut (uid : EntityUid) (after : Parents)
     (ancestors children : EntityUid → List EntityUid) : Type 0 where
   pub before : Parents

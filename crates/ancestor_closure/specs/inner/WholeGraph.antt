@@ -1,4 +1,4 @@
--- Defines the lists of ancestors that are built from scratch for the entities of a graph.
+-- Defines the lists of ancestors that the code builds from scratch for the entities of a graph.
 use Rattle.std.specs.Prelude.{◌≡◌, ◌⊎◌, List, [], Contains}
 use Rattle.values.specs.declared.entity_uid.EntityUid.{EntityUid}
 use Rattle.ancestor_search.specs.Hierarchy.{Parents}

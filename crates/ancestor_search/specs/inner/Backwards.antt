@@ -43,8 +43,8 @@ AddsToChildren ps y children children' = (x z : EntityUid) →
     Contains (children' x) z ↔ (Contains (children x) z ⊎ (Contains ps x × (y ≡ z)))
 
 -- ---- distances
--- `dist_of known x` is the distance of `x` in the map `known`, if the map has it: the number of edges from `x` to the
--- entity `end`, at which the search began.
+-- `dist_of known x` is the distance of `x` in the map `known`, or `None` if the map has none. A distance is the number
+-- of edges from an entity to the one at which the search began.
 abbrev pub dist_of : BTreeMap (Bor EntityUid) ℕ → EntityUid → Option ℕ
 dist_of known x = get_by (λ k. uid_cmp x k.now) known
 
@@ -61,7 +61,7 @@ abbrev pub AreKnownUpTo : Parents → EntityUid → (EntityUid → Option ℕ) �
 AreKnownUpTo parents end dist k = (x : EntityUid) (ds : List EntityUid) →
     Path parents x ds end → length ds + 1 ≤ k → IsSome (dist x)
 
--- `ReachesBack parents end dist` holds if the search came back to `end`: `dist` has the distance of `end` itself, of
+-- `ReachesBack parents end dist` holds if the search reached `end` again: `dist` has the distance of `end` itself, of
 -- every entity that is not farther away, and only correct distances.
 pub record ReachesBack (parents : Parents) (end : EntityUid) (dist : EntityUid → Option ℕ) : Type 0 where
   pub known : AreDistances parents end dist

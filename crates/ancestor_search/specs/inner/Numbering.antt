@@ -9,7 +9,7 @@ use Rattle.ancestor_search.specs.inner.Walking.{edges_of}
 abbrev pub IsNumber : List EntityUid → ℕ → EntityUid → Type 0
 IsNumber us i x = (i < length us) × (slice_index_or us i x ≡ x)
 
--- `NumbersAmong us ps ns` holds if `ns` are the numbers of those of `ps` that are in the list `us`.
+-- `NumbersAmong us ps ns` holds if `ns` are the numbers of the entities of `ps` that are in the list `us`.
 abbrev pub NumbersAmong : List EntityUid → List EntityUid → List ℕ → Type 0
 NumbersAmong us ps ns = (j : ℕ) → Contains ns j ↔ ((x : EntityUid) × Contains ps x × IsNumber us j x)
 

@@ -9,8 +9,8 @@ use Rattle.ancestor_search.specs.inner.Walking.{Edges, IsWalking, IsWalkingWithR
 abbrev pub IsUnderWay : Edges → Walk → Type 0
 IsUnderWay e w = IsWalking e w.place.items w.found.items w.members.items w.pending.items w.bounds.items
 
--- `IsWaiting e w last y` holds if `w` is such a search of `e`, except that two items were removed from `w`: the bound
--- `last` of the last group, and an edge of that group, which leads to `y` and is to be visited next.
+-- `IsWaiting e w last y` holds if `w` is such a search of `e`, except that two items were removed from `w`. One is the
+-- bound `last` of the last group. The other is an edge of that group, which leads to `y` and is to be visited next.
 abbrev pub IsWaiting : Edges → Walk → Bound → ℕ → Type 0
 IsWaiting e w last y =
     IsWalkingWithRemovedEdge e w.place.items w.found.items w.members.items w.pending.items w.bounds.items last y

@@ -68,7 +68,7 @@ bound_at members pending = record { members = length members; pending = length p
 abbrev pub bound_after : List Group → Bound
 bound_after gs = bound_at (members_of gs) (pending_of gs)
 
--- `bounds_of gs` are the bounds at which the groups `gs` begin, that of the last group last.
+-- `bounds_of gs` are the bounds at which the groups `gs` begin, with the bound of the last group last.
 abbrev pub bounds_of : List Group → List Bound
 bounds_of [] = []
 bounds_of (g ∷ gs) = bounds_of gs ++ bound_after gs ∷ []
@@ -78,9 +78,10 @@ abbrev pub IsMember : List Group → ℕ → Type 0
 IsMember [] x = ⊥
 IsMember (g ∷ gs) x = Contains g.members x ⊎ IsMember gs x
 
--- `IsGroup e Beyond g before` holds if each edge of a member of `g` leads to a number in `Beyond` (the done numbers and
--- the members of later groups), leads to `g`, or is pending; each pending edge is an edge of a member; the members
--- reach one another; the groups `before` reach them; and no member is in `Beyond`.
+-- `IsGroup e Beyond g before` holds if `g` may be a group of the path, after the groups `before`. Each edge of a member
+-- of `g` leads to a number in `Beyond` (the done numbers and the members of later groups), leads to `g`, or is pending.
+-- Each pending edge is an edge of a member. The members reach one another, the groups `before` reach them, and no
+-- member is in `Beyond`.
 pub record IsGroup (e : Edges) (Beyond : ℕ → Type 0) (g : Group) (before : List Group) : Type 0 where
   pub settled : (x y : ℕ) → Contains g.members x → Contains (e x) y →
       (Beyond y ⊎ Contains g.members y) ⊎ Contains g.pending y
@@ -90,7 +91,7 @@ pub record IsGroup (e : Edges) (Beyond : ℕ → Type 0) (g : Group) (before : L
   pub apart : (x : ℕ) → Contains g.members x → Beyond x → ⊥
 
 -- `IsPath e Beyond gs` holds if each of `gs`, the last group first, is such a group (`IsGroup`) after the groups before
--- it, where the numbers beyond it are those in `Beyond` and the members of later groups.
+-- it. The numbers beyond a group are those in `Beyond` and the members of later groups.
 abbrev pub IsPath : Edges → (ℕ → Type 0) → List Group → Type 0
 IsPath e Beyond [] = Unit {0}
 IsPath e Beyond (g ∷ gs) = IsGroup e Beyond g gs × IsPath e (λ x. Beyond x ⊎ Contains g.members x) gs
@@ -131,8 +132,9 @@ abbrev pub unseen : List ℕ → ℕ
 unseen [] = 0
 unseen (m ∷ ms) = one_unseen m + unseen ms
 
--- `effort place pending bounds` is the measure of the search: it decreases at each step. A number that is seen for the
--- first time adds its edges and one group; the factor 2^65 exceeds the number of both together.
+-- `effort place pending bounds` is the measure of the search with the marks `place`, the edges `pending` and the bounds
+-- `bounds`: it decreases at each step. A number that is seen for the first time adds its edges and one group; the
+-- factor 2^65 exceeds the number of both together.
 abbrev pub effort : List ℕ → List ℕ → List Bound → ℕ
 effort place pending bounds = unseen place * 2 ^ 65 + length pending + length bounds
 

@@ -23,7 +23,7 @@ use Rattle.authoriser.specs.declared.tally.Tally.{Tally}
 use Rattle.scope_index.specs.Scopes.{IsEntityScopeTrue, IsActionScopeTrue}
 use Rattle.authoriser.specs.Answers.{PolicyOutcome, fault_of, satisfied, erring}
 
--- `IsWithin p of` holds if the uid of the looked-up entity `p` is `of`, or `of` is among its ancestors.
+-- `IsWithin p of` holds if the uid of the looked-up entity `p` is `of`, or `of` is among the ancestors of `p`.
 abbrev pub IsWithin : KnownEntity → EntityUid → Type 0
 IsWithin p of = (p.uid.now ≡ of) ⊎ Contains (names p.ancestors.items) of
 
@@ -90,8 +90,8 @@ pub record HasAllAncestors (parents : Parents) (o : MemoEntry) : Type 0 where
 abbrev pub HaveAllAncestors : Parents → AncestorMemo → Type 0
 HaveAllAncestors parents others = All (HasAllAncestors parents) others.kept.items
 
--- `HaveDataOf W q s others` holds if the three entities `s` of the request `q` and the memo `others` have the data of
--- `W`.
+-- `HaveDataOf W q s others` holds if `s` has the three entities of the request `q` with their ancestors and attributes
+-- in `W`, and each entity of the memo `others` has all its ancestors in `W`.
 pub record HaveDataOf (W : Entities) (q : Request) (s : RequestEntities) (others : AncestorMemo) : Type 0 where
   pub three : AreLookedUp W q s
   pub rest : HaveAllAncestors W.parents others

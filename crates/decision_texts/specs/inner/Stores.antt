@@ -1,4 +1,4 @@
--- Defines how the store that the code fills agrees with the entities of an array.
+-- Defines how the store that the code fills agrees with the entities of an array, and the lines of answers over it.
 use Rattle.std.specs.Prelude.{◌≡◌, ℕ, Bool, not, List, [], ◌∷◌, ◌++◌, Some, Result, Ok, Err}
 use Rattle.std.specs.List.{list_any}
 use Rattle.serde_json.specs.Data.{Data}
@@ -29,13 +29,13 @@ Holds store es = (q : EntityUid) → kept_in store q ≡ stated es q
 abbrev pub entity_data_stored : Reading → Entries → Entities
 entity_data_stored r store = entity_data_in (with_actions r.actions (kept_in store))
 
--- `is_among uid es` tests whether one of the entities `es` has the uid `uid`.
+-- `is_among uid es` tests whether any of the entities `es` has the uid `uid`.
 abbrev pub is_among : EntityUid → List Entity → Bool
 is_among uid es = list_any (λ e. is_same e.uid uid) es
 
--- `entity_after r es place d` is the entity that `d`, the item at the index `place` of an array, describes in the
--- setting `r` after the entities `es`; or its error: that of the entity itself, else 30 (bad shape) if one of `es` has
--- its uid.
+-- `entity_after r es place d` is the entity that `d` describes in the setting `r` after the entities `es`, or an error;
+-- `d` is the item of an array at the index `place`. The error is that of `d` itself, else 30 (bad shape) if one of `es`
+-- has the same uid.
 unfoldable pub entity_after : Reading → List Entity → ℕ → Data → Result Entity Refusal
 entity_after r es place d = do
   entity ← placed place (r.entity d)

@@ -114,11 +114,12 @@ in_value E a (entity b) = truth (is_in E a b)
 in_value E a (set vs) = and_then (in_members E a (list_of vs)) truth
 in_value E a v = Err TypeError
 
--- `numbers f v w` is the outcome of `f` on two integers; `TypeError` if `v` or `w` is not one.
+-- `numbers f v w` is the outcome of `f` on the integers in `v` and `w`; `TypeError` if `v` or `w` is not an integer.
 abbrev pub numbers : (ℤ → ℤ → EvaluationResult) → PlainValue → PlainValue → EvaluationResult
 numbers f v w = and_then (two_demanded (long_in v) (long_in w)) (λ p. f p.0 p.1)
 
--- `sets f v w` is the outcome of the test `f` on the members of two sets; `TypeError` if `v` or `w` is not a set.
+-- `sets f v w` is the outcome of the test `f` on the members of `v` and those of `w`; `TypeError` if `v` or `w` is not
+-- a set.
 abbrev pub sets : (List PlainValue → List PlainValue → Bool) → PlainValue → PlainValue → EvaluationResult
 sets f v w = and_then (demanded (members_in v)) (λ x. and_then (demanded (members_in w)) (λ y. truth (f x y)))
 
@@ -179,7 +180,7 @@ abbrev pub is_v4 : Version → Bool
 is_v4 V4 = true
 is_v4 V6 = false
 
--- `tested f v` is the outcome of the test `f` on an IP address; `TypeError` if `v` is not one.
+-- `tested f v` is the outcome of the test `f` on the IP address in `v`; `TypeError` if `v` is not an IP address.
 abbrev pub tested : (Network → Bool) → PlainValue → EvaluationResult
 tested f v = and_then (demanded (network_in v)) (λ n. truth (f n))
 
@@ -192,11 +193,13 @@ apply_unary_call IsIpv6 v = tested (λ n. not (is_v4 n.version)) v
 apply_unary_call IsLoopback v = tested (λ n. is_proved (in_either_decided n loopback_v4 loopback_v6)) v
 apply_unary_call IsMulticast v = tested (λ n. is_proved (in_either_decided n multicast_v4 multicast_v6)) v
 
--- `decimals f v w` is the outcome of the test `f` on two decimals; `TypeError` if `v` or `w` is not one.
+-- `decimals f v w` is the outcome of the test `f` on the decimals in `v` and `w`; `TypeError` if `v` or `w` is not a
+-- decimal.
 abbrev pub decimals : (ℤ → ℤ → Bool) → PlainValue → PlainValue → EvaluationResult
 decimals f v w = and_then (two_demanded (decimal_in v) (decimal_in w)) (λ p. truth (f p.0 p.1))
 
--- `networks f v w` is the outcome of the test `f` on two IP addresses; `TypeError` if `v` or `w` is not one.
+-- `networks f v w` is the outcome of the test `f` on the IP addresses in `v` and `w`; `TypeError` if `v` or `w` is not
+-- an IP address.
 abbrev pub networks : (Network → Network → Bool) → PlainValue → PlainValue → EvaluationResult
 networks f v w = and_then (demanded (network_in v)) (λ x. and_then (demanded (network_in w)) (λ y. truth (f x y)))
 

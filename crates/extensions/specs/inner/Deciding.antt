@@ -13,8 +13,8 @@ pub decided_as : {P Q : Type 0} → (P → Q) → (Q → P) → Decided P → De
 decided_as there back (inl p) = inl (there p)
 decided_as there back (inr n) = inr (λ q. n (back q))
 
--- The next five procedures decide whether two statements hold, whether one of two does, whether a number is less than
--- another, and whether two numbers or two strings are equal.
+-- The next five procedures decide whether two statements both hold, whether at least one of them does, whether a number
+-- is less than another, and whether two numbers or two strings are equal.
 pub both_decided : {P Q : Type 0} → Decided P → Decided Q → Decided (P × Q)
 both_decided (inl p) (inl q) = inl (p, q)
 both_decided (inl p) (inr n) = inr (λ h. n h.1)

@@ -35,9 +35,9 @@ short_decided text = decided_as (λ l. omega (arith, l)) (λ l. omega (arith, l)
 fits_decided : (z : ℤ) → Decided (FitsSigned w64 z)
 fits_decided z = decided_as (λ l. record { sfits = l }) (λ f. f.sfits) (lt_decided (mag z) (2 ^ hbits w64))
 
--- `value_of whole fraction` is the number of ten-thousandths that the digits `whole` before a point and `fraction`, at
--- most four digits, after it denote. `scaled` and `one_value` prove that `IsUnsignedText` relates a text of these
--- digits to exactly this number.
+-- `value_of whole fraction` is the number of ten-thousandths of a decimal with the digits `whole` before the point and
+-- the digits `fraction`, at most four, after it. `scaled` and `one_value` prove that `IsUnsignedText` relates a text of
+-- these digits to exactly this number.
 value_of : List ℕ → List ℕ → ℕ
 value_of whole fraction = digits_value 10 (whole ++ fraction) * 10 ^ (4 - length fraction)
 

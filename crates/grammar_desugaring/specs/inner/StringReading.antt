@@ -1,6 +1,6 @@
 -- Defines how the pieces of a string are read from its bytes, one after another, and proves that they are those of the
--- grammar of strings and their escapes. No body here is trusted: the type of `string_meaning` states what must hold of
--- it.
+-- grammar of strings and their escapes. The functions here need no trust: the type of `string_meaning` states what must
+-- hold of them.
 use Prim.Native.Char.{code}
 use Rattle.std.specs.Prelude.{◌==◌, if◌then◌else◌, drop, Option}
 use Rattle.std.proofs.Common.{◌≡◌, ◌≢◌, ℕ, ◌+◌, ◌*◌, true, false, List, [], ◌∷◌, ◌++◌, refl, sym, ◌∙◌, ap}

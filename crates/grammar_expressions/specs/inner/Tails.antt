@@ -1,5 +1,5 @@
--- Defines how the tail of a Relation, which follows its first Sum, is parsed and then joined to that Sum; both are
--- productions of Expressions.antt.
+-- Defines how the tail of a Relation, which follows its first Sum, is parsed and then joined to that Sum. Relation and
+-- Sum are productions of Expressions.antt.
 use Rattle.std.specs.Prelude.{Bool, Option, Some, None}
 use Rattle.grammar_trees.specs.grammar_tokens.declared.token.TokenKind.TheVariants as k
 use Rattle.grammar_trees.specs.declared.tree.ExprTree.{ExprTree}
@@ -38,7 +38,7 @@ like = do
   text ← take patterns
   pure (Some (Like text))
 
--- In this module `may` says whether one more level of nesting may be opened, and `inner` parses an expression of that
+-- In this module `may` is whether one more level of nesting may be opened, and `inner` parses an expression of that
 -- level.
 module _ (may : Bool) (inner : Parser ExprTree) where
   -- `compared` parses a comparison operator, of which "in" is one, and a Sum.
@@ -48,7 +48,7 @@ module _ (may : Bool) (inner : Parser ExprTree) where
     y ← sum may inner
     pure (Some (Compared operator y))
 
-  -- `type_test` parses "is", a Path and maybe "in" and a Sum.
+  -- `type_test` parses "is" Path [ "in" Sum ].
   unfoldable pub type_test : Parser (Option Tail)
   type_test = do
     token k.Is

@@ -26,7 +26,7 @@ use Rattle.grammar_policies.specs.Grammar.{identifiers, words, effects, is_in, c
 unfoldable pub maybe_text : Parser (Option Token)
 maybe_text = optional (only k.Text) (token k.Text)
 
--- `annotation_value` parses parentheses with maybe a String in them.
+-- `annotation_value` parses "(" [ String ] ")".
 unfoldable pub annotation_value : Parser (Option Token)
 annotation_value = do
   token k.LParen
@@ -60,7 +60,7 @@ equal_uid = token k.Equal >> uid
 unfoldable pub in_uid : Parser UidTree
 in_uid = token k.In >> uid
 
--- `type_test` parses "is", a Path and maybe "in" and a Uid.
+-- `type_test` parses "is" Path [ "in" Uid ].
 unfoldable pub type_test : Parser PartTree
 type_test = do
   token k.Is

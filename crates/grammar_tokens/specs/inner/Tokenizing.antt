@@ -41,7 +41,7 @@ abbrev pub first_found : Option ScannedToken → Option ScannedToken → Option 
 first_found None other = other
 first_found (Some f) other = Some f
 
--- `mark_of text` is the punctuation mark that `text` begins with: one of two bytes, else one of one byte.
+-- `mark_of text` is the punctuation mark that `text` begins with: one of two bytes, else one of one byte, else `None`.
 abbrev pub mark_of : List ℕ → Option ScannedToken
 mark_of [] = None
 mark_of (c ∷ []) = sized 1 (listed singles (c ∷ []))
@@ -100,7 +100,7 @@ kind_with k Star = StarText
 unfoldable pub is_plain : Bool → ℕ → Bool
 is_plain in_pattern c = not ((c == backslash) || (in_pattern && (c == code "*")))
 
--- `character_of p` is the character that the escape `p` denotes.
+-- `character_of p` is the character that the escape `p` denotes; `*` for a `Byte`, which is not an escape.
 abbrev pub character_of : Piece → ℕ
 character_of (Byte b) = code "*"
 character_of (Char c) = c

@@ -10,6 +10,6 @@ IsFieldValue Absent vs = vs ≡ []
 IsFieldValue (Once v) vs = vs ≡ v.now ∷ []
 IsFieldValue Many vs = 1 < length vs
 
--- `skip_ows_back text` is `text` up to the last byte that is not whitespace.
+-- `skip_ows_back text` is `text` without the whitespace at its end.
 abbrev pub skip_ows_back : List ℕ → List ℕ
 skip_ows_back text = reverse (skip_ows (reverse text))

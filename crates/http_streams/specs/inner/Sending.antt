@@ -14,10 +14,11 @@ abbrev pub fault_of : Broken → StreamFault
 fault_of Log = fault.Log
 fault_of Write = fault.Write
 
--- `IsSentInPart broken logged holds line reply old new before after` says what was written if the device `broken`
--- failed. If it is the log, the log got a proper prefix of `line`, and the writer nothing. If it is the writer, the log
--- got the whole `line`, and the writer a proper prefix of `reply`. The log went from `old` to `new`, the writer from
--- `before` to `after`; `logged` and `holds` give the bytes that the log and the writer accepted, if they are known.
+-- `IsSentInPart broken logged holds line reply old new before after` holds if the writes stopped when the device
+-- `broken` failed. If it is the log, a proper prefix of `line` was written to the log, and nothing to the writer. If it
+-- is the writer, the whole `line` was written to the log, and a proper prefix of `reply` to the writer. The log went
+-- from `old` to `new`, the writer from `before` to `after`; `logged` and `holds` give the bytes that the log and the
+-- writer accepted, if they are known.
 abbrev pub IsSentInPart : {L W : Type 0} → Broken → (L → Option (List ℕ)) → (W → Option (List ℕ)) → List ℕ → List ℕ
     → L → L → W → W → Type 0
 IsSentInPart Log logged holds line reply old new before after =

@@ -14,9 +14,9 @@ use Rattle.serde_json.specs.declared.value.Value.{Value}
 abbrev pub value_at : ℕ → List Token → Option (Data × List Token)
 value_at deep ts = converted of_json (json.value deep ts)
 
--- `object_at deep ts` is an object with the tokens after it, where `ts` begins with the tokens of the object after its
--- opening brace; `None` if `ts` begins otherwise, or if `serde_json` rejects a member or a member nests more than
--- `deep` levels.
+-- `object_at deep ts` is an object with the tokens after it, where `ts` are the tokens after the object's opening
+-- brace. It is `None` if `ts` do not complete an object, or if `serde_json` rejects a member or a member nests more
+-- than `deep` levels.
 abbrev pub object_at : ℕ → List Token → Option (Data × List Token)
 object_at deep ts = converted of_json (json.parse_map json.object (json.members (json.value deep) (length ts) ts))
 
@@ -27,7 +27,7 @@ IsGiven given None left = given ≡ None
 IsGiven given (Some v) left = given ≡ Some (view v, left)
 
 -- `scalar t` is the value that the token `t` alone denotes: a string, a number, a boolean or `null`; `None` if `t` is
--- another token, or a number beyond a double.
+-- another token, or a number too large for a double.
 abbrev pub scalar : Token → Option Data
 scalar token.begin_object = None
 scalar token.end_object = None

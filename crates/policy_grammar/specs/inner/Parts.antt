@@ -36,9 +36,9 @@ some_index_name text (name ∷ names) (tree ∷ trees) =
 abbrev pub kept : Bool → NameAt → List NameAt → List NameAt
 kept keep mark marks = if keep then mark ∷ marks else marks
 
--- `names_to_compare text wide names trees` are those of `names`, the names of the policies `trees`, that may repeat
--- another: those of the policies that have an `@id`, or of all policies if `wide` is true. Each has the offset of its
--- policy's first token.
+-- `names_to_compare text wide names trees` are the names that may equal another policy's name, among the names `names`
+-- of the policies `trees`. They are those of the policies that have an `@id`, or of all policies if `wide` is true.
+-- Each has the offset of its policy's first token.
 abbrev pub names_to_compare : List ℕ → Bool → List (List ℕ) → List PolicyTree → List NameAt
 names_to_compare text wide [] trees = []
 names_to_compare text wide (name ∷ names) [] = []
@@ -56,8 +56,8 @@ pub record ReportsPolicy (text : List ℕ) (tree : PolicyTree) (tree_check : Tre
   pub fault : tree_check.fault ≡ least (tree_faults text tree)
   pub small : IsTrue tree_check.small ↔ IsSmallTree text tree
 
--- `ReportsFile text trees tree_check` holds if `tree_check` has the reported error of `trees`, the trees of a file,
--- without errors of repeated policy names, and says whether all policies are within the limits.
+-- `ReportsFile text trees tree_check` holds if `tree_check` has the reported error of `trees`, the trees of a file, not
+-- counting repeated policy names, and says whether all policies are within the limits.
 pub record ReportsFile (text : List ℕ) (trees : List PolicyTree) (tree_check : TreeCheck) : Type 0 where
   pub fault : tree_check.fault ≡ least (flat_map (tree_faults text) trees)
   pub small : IsTrue tree_check.small ↔ AllByRecursion (IsSmallTree text) trees

@@ -29,13 +29,14 @@ module _ {R W : Type 0} (reader : Source R) (writer : Sink W) where
   IsRepliedOver at body link reply events = (left : Link R W) × IsCalled reader writer at body link reply left
       × (events ≡ closed left ∷ [])
 
-  -- `IsReplied at body reply events` is the same relation for a connection that was opened for the call.
+  -- `IsReplied at body reply events` holds if, with `events`, the call `at` with `body` got `reply` over a connection
+  -- that was opened for the call and then closed.
   abbrev pub IsReplied : RoundCall → List ℕ → List ℕ → List (Event (Link R W)) → Type 0
   IsReplied at body reply events = (link left : Link R W) × IsCalled reader writer at body link reply left
       × (events ≡ connected at.address.now (Some link) ∷ closed left ∷ [])
 
-  -- `WasExchanged first to from events` holds if `events` are the three calls of one direction, from the number
-  -- `first`, and the line with the count.
+  -- `WasExchanged first to from events` holds if `events` are the three calls that bring the site at `to` up to date
+  -- from the one at `from`, numbered from `first`, and the line with the count.
   pub record WasExchanged (first : ℕ) (to from : Bor (List ℕ)) (events : List (Event (Link R W))) : Type 0 where
     pub summary : List ℕ
     pub delta : List ℕ

@@ -1,4 +1,4 @@
--- Defines the error that an error of clap is reported as, and why a command is incomplete.
+-- Defines how an error of clap is reported, and why a command is incomplete.
 use Rattle.std.specs.Prelude.{List, Option, if◌then◌else◌}
 use Rattle.clap.specs.Words.{Row, Text, kind_of}
 use Rattle.clap.specs.declared.error.Error.{Error}
@@ -12,8 +12,8 @@ abbrev pub line_fault_of : Error → LineFault
 line_fault_of error = if is_help (kind_of error) then Help error
     else if is_memory (kind_of error) then NoMemory else Words error
 
--- `IsWhyIncomplete named f` holds if `f` is why the command `named` that clap found is incomplete: `Site` if it has an
--- invalid site name, else `Incomplete`.
+-- `IsWhyIncomplete named f` holds if `f` is why `named`, what clap found, is not a complete command: `Site` if it is a
+-- command with an invalid site name, else `Incomplete`, also if it is `None`.
 abbrev pub IsWhyIncomplete : Option (Text × List Row) → LineFault → Type 0
 IsWhyIncomplete named (Help error) = ⊥
 IsWhyIncomplete named (Words error) = ⊥

@@ -1,5 +1,5 @@
--- Defines the schema that bytes state, and the error if they state none, by the functions that parse a file and resolve
--- its names. These functions agree with the relations of Schemas.
+-- Defines the schema that bytes describe, and the error if they describe none, by the functions that parse a file and
+-- resolve its names. These functions agree with the relations of Schemas.antt.
 use Rattle.std.specs.Prelude.{◌≡◌, ◌↔◌, ℕ, List}
 use Rattle.sha2.specs.Sha256.{sha256}
 use Rattle.hex.specs.Hex.{encode_lower}
@@ -12,8 +12,8 @@ use Rattle.schema.specs.Schemas.{StatedSchema, IsSound, Answers, SomeActionIsOnC
 use Rattle.schema.specs.Schemas.{IsSchemaOf, RefusedFor}
 use Rattle.schema.specs.WellFormed.{IsWellFormed}
 
--- `IsUnsound s f` holds if `f` is the first of these errors of `s`: a common type has no expansion, an action is its
--- own ancestor, a type is too large.
+-- `IsUnsound s f` holds if `f` is the first of these errors of the file `s`: a common type has no expansion, an action
+-- is its own ancestor, a type is too large.
 pub data IsUnsound (s : ResolvedSchema) : SchemaFault → Type 0 where
   type_cycle : SomeHasNoExpansion s.commons → IsUnsound s TypeCycle
   action_cycle : (SomeHasNoExpansion s.commons → ⊥) → SomeActionIsOnCycle s → IsUnsound s ActionCycle
@@ -38,8 +38,8 @@ pub data ParsedOrNot (bytes : List ℕ) : Type 0 where
   parsed : (v : StatedSchema) → IsParsedAs bytes v → ParsedOrNot bytes
   not_parsed : (f : SchemaFault) → IsNotParsed bytes f → ParsedOrNot bytes
 
--- The theorems of Outcomes and of WellFormed follow, with `IsParsedAs` for `IsSchemaOf` and `IsNotParsed` for
--- `RefusedFor`. `SomeParsed`: all bytes are parsed as a schema, or are rejected.
+-- The next theorems are those of Outcomes.antt and WellFormed.antt, with `IsParsedAs` for `IsSchemaOf` and
+-- `IsNotParsed` for `RefusedFor`. `SomeParsed`: all bytes are parsed as a schema, or are rejected.
 abbrev pub SomeParsed : Type 0
 SomeParsed = (bytes : List ℕ) → ParsedOrNot bytes
 
@@ -59,11 +59,11 @@ OneNotParsed = (bytes : List ℕ) (f g : SchemaFault) → IsNotParsed bytes f �
 abbrev pub ParsedSchemasAreWellFormed : Type 0
 ParsedSchemasAreWellFormed = (bytes : List ℕ) (v : StatedSchema) → IsParsedAs bytes v → IsWellFormed v
 
--- `SchemaIsRead bytes` holds if parsing `bytes` gives exactly the schema that `bytes` state, or their error.
+-- `SchemaIsRead bytes` holds if parsing `bytes` gives exactly the schema that `bytes` describe, or their error.
 pub record SchemaIsRead (bytes : List ℕ) : Type 0 where
   pub states : (v : StatedSchema) → IsParsedAs bytes v ↔ IsSchemaOf bytes v
   pub refuses : (f : SchemaFault) → IsNotParsed bytes f ↔ RefusedFor bytes f
 
--- `SchemasAreRead`: parsing gives the schema that bytes state, or their error, whatever the bytes.
+-- `SchemasAreRead`: parsing gives the schema that bytes describe, or their error, whatever the bytes.
 abbrev pub SchemasAreRead : Type 0
 SchemasAreRead = (bytes : List ℕ) → SchemaIsRead bytes

@@ -1,5 +1,5 @@
--- Defines how the code builds the parts of a schema, one after another. Each relation `AddsEntries..` holds if the map
--- `new` is the map `old` with the entries that the comment of the relation names; `..May` holds of the entries that may
+-- Defines how the code builds the parts of a schema, one after another. Each relation `Adds..` holds if the map `new`
+-- is the map `old` with the entries that the relation's comment says to be added; `..May` holds of the entries that may
 -- be added, `..Must` of the keys that must be there afterwards (Filling). `commons` are the declared common types.
 use Rattle.std.specs.Prelude.{◌≡◌, ⊤, ℕ, List, Contains, Option, Some, None, option_map}
 use Rattle.std.specs.BTreeMap.{BTreeMap, get}
@@ -32,12 +32,12 @@ IsClosedAt commons o = (r : Qualified) → o ≡ Some r → IsClosed commons r
 abbrev pub IsWrittenAt : Declarations → Option Qualified → Type 0
 IsWrittenAt commons o = (r : Qualified) → o ≡ Some r → IsWritten commons r
 
--- `IsRefusedAt commons o f` holds if `f` is the error of expanding the type in `o`.
+-- `IsRefusedAt commons o f` holds if `f` is the error of expanding the type in `o` by `commons`.
 abbrev pub IsRefusedAt : Declarations → Option Qualified → SchemaFault → Type 0
 IsRefusedAt commons o f = (r : Qualified) × (o ≡ Some r) × TypeRefused commons r f
 
--- `IsMade commons o t` holds if `t` is the expansion of the type in `o`, within the limits, or the record without
--- attributes if `o` is `None`.
+-- `IsMade commons o t` holds if `t` is the expansion of the type in `o` by `commons`, within the limits, or the record
+-- without attributes if `o` is `None`.
 pub record IsMade (commons : Declarations) (o : Option Qualified) (t : Cedar) : Type 0 where
   pub is_record : IsRecordOf commons o t
   pub is_written : IsWrittenAt commons o
@@ -50,21 +50,24 @@ shape_in shapes n = option_map (λ d. cedar_view d.shape) (get text_cmp shapes n
 
 -- ---- shapes
 
--- `ShapeMay commons e n d` holds if `n` is the name of `e`, and `d` has the shape of `e`, expanded.
+-- `ShapeMay commons e n d` holds if `n` is the name of the entity type `e`, and `d` has the shape of `e`, expanded by
+-- `commons`.
 abbrev pub ShapeMay : Declarations → ResolvedEntityType → List ℕ → EntityDecl → Type 0
 ShapeMay commons e n d = (e.name ≡ n) × IsRecordOf commons e.shape (cedar_view d.shape)
 
--- `ShapeMust e n` holds if `n` is the name of `e`.
+-- `ShapeMust e n` holds if `n` is the name of the entity type `e`.
 abbrev pub ShapeMust : ResolvedEntityType → List ℕ → Type 0
 ShapeMust e n = e.name ≡ n
 
--- `AddsShape commons e old new` holds if the shape of `e` was added, within the limits.
+-- `AddsShape commons e old new` holds if `new` is `old` with the shape of the entity type `e` added, expanded by
+-- `commons` within the limits.
 abbrev pub AddsShape : Declarations → ResolvedEntityType → BTreeMap (List ℕ) EntityDecl → BTreeMap (List ℕ) EntityDecl
     → Type 0
 AddsShape commons e old new =
     AddsEntries (ShapeMay commons e) (ShapeMust e) (IsWrittenAt commons e.shape) (get text_cmp old) (get text_cmp new)
 
--- `AddsShapes commons es old new` holds if the shapes of `es` were added, within the limits.
+-- `AddsShapes commons es old new` holds if `new` is `old` with the shapes of the entity types `es` added, expanded by
+-- `commons` within the limits.
 abbrev pub AddsShapes : Declarations → List ResolvedEntityType → BTreeMap (List ℕ) EntityDecl
     → BTreeMap (List ℕ) EntityDecl → Type 0
 AddsShapes commons es old new =
@@ -75,11 +78,13 @@ AddsShapes commons es old new =
 abbrev pub AreShapesClosed : Declarations → List ResolvedEntityType → Type 0
 AreShapesClosed commons es = (e : ResolvedEntityType) → Contains es e → IsClosedAt commons e.shape
 
--- `SomeShapeIsRefused commons es f` holds if `f` is the error of expanding the shape of one of the entity types `es`.
+-- `SomeShapeIsRefused commons es f` holds if `f` is the error of expanding the shape of one of the entity types `es` by
+-- `commons`.
 abbrev pub SomeShapeIsRefused : Declarations → List ResolvedEntityType → SchemaFault → Type 0
 SomeShapeIsRefused commons es f = (e : ResolvedEntityType) × Contains es e × IsRefusedAt commons e.shape f
 
--- `AreShapes commons es shapes` holds if `shapes` has exactly the shapes of the entity types `es`, within the limits.
+-- `AreShapes commons es shapes` holds if `shapes` has exactly the shapes of the entity types `es`, expanded by
+-- `commons` within the limits.
 abbrev pub AreShapes : Declarations → List ResolvedEntityType → BTreeMap (List ℕ) EntityDecl → Type 0
 AreShapes commons es shapes =
     AddsEach (ShapeMay commons) ShapeMust (λ e. IsWrittenAt commons e.shape) es (λ n. None) (get text_cmp shapes)
@@ -99,22 +104,22 @@ PlaceMay action context principal resource p c = (place_of action principal reso
 abbrev pub PlaceMust : EntityUid → List ℕ → List ℕ → EnvironmentKey → Type 0
 PlaceMust action principal resource p = place_of action principal resource ≡ p
 
--- `AddsPlace action context principal resource old new` holds if the place of `action`, `principal` and `resource` was
--- added, with the context type `context`.
+-- `AddsPlace action context principal resource old new` holds if `new` is `old` with the place of `action`, `principal`
+-- and `resource` added, and with the context type `context` at it.
 abbrev pub AddsPlace : EntityUid → CedarType → List ℕ → List ℕ → Places → Places → Type 0
 AddsPlace action context principal resource old new =
     AddsEntries (PlaceMay action context principal resource) (PlaceMust action principal resource) ⊤
     (get place_cmp old) (get place_cmp new)
 
--- `AddsResources action context resources principal old new` holds if the places of `action`, `principal` and each of
--- the types `resources` were added, with the context type `context`.
+-- `AddsResources action context resources principal old new` holds if `new` is `old` with the places of `action`,
+-- `principal` and each of the types `resources` added, and with the context type `context` at each.
 abbrev pub AddsResources : EntityUid → CedarType → List (List ℕ) → List ℕ → Places → Places → Type 0
 AddsResources action context resources principal old new =
     AddsEach (PlaceMay action context principal) (PlaceMust action principal) (λ r. ⊤) resources
     (get place_cmp old) (get place_cmp new)
 
--- `AddsPrincipals action context resources principals old new` holds if the places of `action` with each of the types
--- `principals` and each of the types `resources` were added, with the context type `context`.
+-- `AddsPrincipals action context resources principals old new` holds if `new` is `old` with the places of `action`,
+-- each of the types `principals` and each of the types `resources` added, and with the context type `context` at each.
 abbrev pub AddsPrincipals : EntityUid → CedarType → List (List ℕ) → List (List ℕ) → Places → Places → Type 0
 AddsPrincipals action context resources principals old new =
     AddsEach (λ p. SomeMay (PlaceMay action context p) resources) (λ p. SomeMust (PlaceMust action p) resources)
@@ -124,12 +129,13 @@ AddsPrincipals action context resources principals old new =
 abbrev pub UseMust : EntityUid → ResolvedAppliesTo → EnvironmentKey → Type 0
 UseMust action u p = (action ≡ p.action) × Contains u.principals p.principal × Contains u.resources p.resource
 
--- `UseMay commons action u p c` holds if `UseMust action u p` holds, and `c` is the context of `u`, expanded.
+-- `UseMay commons action u p c` holds if `UseMust action u p` holds, and `c` is the context of `u`, expanded by
+-- `commons`.
 abbrev pub UseMay : Declarations → EntityUid → ResolvedAppliesTo → EnvironmentKey → CedarType → Type 0
 UseMay commons action u p c = UseMust action u p × IsRecordOf commons u.context (cedar_view c)
 
--- `AddsUse commons action u old new` holds if the places of `action` with the types that `u` lists were added, with the
--- context of `u`, expanded, within the limits.
+-- `AddsUse commons action u old new` holds if `new` is `old` with the places of `action` and the types that `u` lists
+-- added, and at each the context of `u`, expanded by `commons` within the limits.
 abbrev pub AddsUse : Declarations → EntityUid → ResolvedAppliesTo → Places → Places → Type 0
 AddsUse commons action u old new =
     AddsEntries (UseMay commons action u) (UseMust action u) (IsWrittenAt commons u.context)
@@ -139,11 +145,13 @@ AddsUse commons action u old new =
 abbrev pub ActionMust : ResolvedAction → EnvironmentKey → Type 0
 ActionMust a p = (u : ResolvedAppliesTo) × (a.applies_to ≡ Some u) × UseMust a.uid u p
 
--- `ActionMay commons a p c` holds if `p` is a place of the action `a`, and `c` is the action's context, expanded.
+-- `ActionMay commons a p c` holds if `p` is a place of the action `a`, and `c` is the action's context, expanded by
+-- `commons`.
 abbrev pub ActionMay : Declarations → ResolvedAction → EnvironmentKey → CedarType → Type 0
 ActionMay commons a p c = (u : ResolvedAppliesTo) × (a.applies_to ≡ Some u) × UseMay commons a.uid u p c
 
--- `IsContextWritten commons a` holds if the context of `a`, if it has one, has an expansion within the limits.
+-- `IsContextWritten commons a` holds if the context of the action `a`, if it has one, has an expansion by `commons`
+-- within the limits.
 abbrev pub IsContextWritten : Declarations → ResolvedAction → Type 0
 IsContextWritten commons a = (u : ResolvedAppliesTo) → a.applies_to ≡ Some u → IsWrittenAt commons u.context
 
@@ -151,19 +159,19 @@ IsContextWritten commons a = (u : ResolvedAppliesTo) → a.applies_to ≡ Some u
 abbrev pub IsContextClosed : Declarations → ResolvedAction → Type 0
 IsContextClosed commons a = (u : ResolvedAppliesTo) → a.applies_to ≡ Some u → IsClosedAt commons u.context
 
--- `IsContextRefused commons a f` holds if `f` is the error of expanding the context of `a`.
+-- `IsContextRefused commons a f` holds if `f` is the error of expanding the context of the action `a` by `commons`.
 abbrev pub IsContextRefused : Declarations → ResolvedAction → SchemaFault → Type 0
 IsContextRefused commons a f = (u : ResolvedAppliesTo) × (a.applies_to ≡ Some u) × IsRefusedAt commons u.context f
 
--- `AddsAction commons a old new` holds if the places of `a` were added, with the context of `a`, expanded, within the
--- limits.
+-- `AddsAction commons a old new` holds if `new` is `old` with the places of the action `a` added, and at each the
+-- context of `a`, expanded by `commons` within the limits.
 abbrev pub AddsAction : Declarations → ResolvedAction → Places → Places → Type 0
 AddsAction commons a old new =
     AddsEntries (ActionMay commons a) (ActionMust a) (IsContextWritten commons a) (get place_cmp old)
     (get place_cmp new)
 
--- `AddsActions commons us old new` holds if the places of the actions `us` were added, with their contexts, expanded,
--- within the limits.
+-- `AddsActions commons us old new` holds if `new` is `old` with the places of the actions `us` added, and at each the
+-- action's context, expanded by `commons` within the limits.
 abbrev pub AddsActions : Declarations → List ResolvedAction → Places → Places → Type 0
 AddsActions commons us old new =
     AddsEach (ActionMay commons) ActionMust (IsContextWritten commons) us (get place_cmp old) (get place_cmp new)
@@ -173,11 +181,13 @@ AddsActions commons us old new =
 abbrev pub AreContextsClosed : Declarations → List ResolvedAction → Type 0
 AreContextsClosed commons us = (a : ResolvedAction) → Contains us a → IsContextClosed commons a
 
--- `SomeContextIsRefused commons us f` holds if `f` is the error of expanding the context of one of the actions `us`.
+-- `SomeContextIsRefused commons us f` holds if `f` is the error of expanding the context of one of the actions `us` by
+-- `commons`.
 abbrev pub SomeContextIsRefused : Declarations → List ResolvedAction → SchemaFault → Type 0
 SomeContextIsRefused commons us f = (a : ResolvedAction) × Contains us a × IsContextRefused commons a f
 
--- `ArePlaces commons us places` holds if `places` has exactly the places of the actions `us`, with their contexts.
+-- `ArePlaces commons us places` holds if `places` has exactly the places of the actions `us`, with their contexts,
+-- expanded by `commons` within the limits.
 abbrev pub ArePlaces : Declarations → List ResolvedAction → Places → Type 0
 ArePlaces commons us places =
     AddsEach (ActionMay commons) ActionMust (IsContextWritten commons) us (λ p. None) (get place_cmp places)
@@ -192,13 +202,13 @@ MemberMay parents a u us = (a.uid ≡ u) × (us ≡ parents u)
 abbrev pub MemberMust : ResolvedAction → EntityUid → Type 0
 MemberMust a u = a.uid ≡ u
 
--- `AddsMember parents a old new` holds if the parents of `a` under `parents` were added.
+-- `AddsMember parents a old new` holds if `new` is `old` with the parents of the action `a` under `parents` added.
 abbrev pub AddsMember : Parents → ResolvedAction → BTreeMap EntityUid (List EntityUid)
     → BTreeMap EntityUid (List EntityUid) → Type 0
 AddsMember parents a old new =
     AddsEntries (MemberMay parents a) (MemberMust a) ⊤ (get uid_cmp old) (get uid_cmp new)
 
--- `AddsMembers parents us old new` holds if the parents of the actions `us` under `parents` were added.
+-- `AddsMembers parents us old new` holds if `new` is `old` with the parents of the actions `us` under `parents` added.
 abbrev pub AddsMembers : Parents → List ResolvedAction → BTreeMap EntityUid (List EntityUid)
     → BTreeMap EntityUid (List EntityUid) → Type 0
 AddsMembers parents us old new =

@@ -28,7 +28,8 @@ pub record AreEdges (s : ResolvedSchema) (parents : Parents) : Type 0 where
 abbrev pub EdgesRefused : ResolvedSchema → SchemaFault → Type 0
 EdgesRefused s f = (f ≡ ActionCycle) × SomeActionIsOnCycle s
 
--- `AreTypesOf commons s t` holds if `t` has exactly the shapes and the environments of `s`, expanded by `commons`.
+-- `AreTypesOf commons s t` holds if `t` has exactly the shapes and the environments of the file `s`, expanded by the
+-- common types `commons`.
 pub record AreTypesOf (commons : Declarations) (s : ResolvedSchema) (t : Types) : Type 0 where
   pub shapes : AreShapes commons s.entity_types t.shapes
   pub places : Places

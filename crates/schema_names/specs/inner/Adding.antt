@@ -40,7 +40,7 @@ any_name ns q = list_any (λ e. bytes_eq e q) ns
 abbrev pub any_uid : List EntityUid → EntityUid → Bool
 any_uid us u = list_any (λ a. is_eq (uid_cmp a u)) us
 
--- `AddsNamespace n old new` holds if `new` has the names of `old` and the declarations of the namespace `n`.
+-- `AddsNamespace n old new` holds if `new` has exactly the names of `old` and those that the namespace `n` declares.
 pub record AddsNamespace (n : NamespaceOf) (old new : Names) : Type 0 where
   pub commons : IsUnionWith has_name (any_common (map (λ c. common_in n.name c) n.commons)) old.commons new.commons
   pub entities : IsUnionWith has_name
@@ -48,13 +48,13 @@ pub record AddsNamespace (n : NamespaceOf) (old new : Names) : Type 0 where
   pub actions : IsUnionWith has_uid (any_uid (map (λ a. action_uid (action_type n.name) a.id) n.actions)) old.actions
       new.actions
 
--- `AddsAll ns old new` holds if `new` has the names of `old` and the declarations of the namespaces `ns`.
+-- `AddsAll ns old new` holds if `new` has exactly the names of `old` and those that the namespaces `ns` declare.
 pub record AddsAll (ns : List NamespaceOf) (old new : Names) : Type 0 where
   pub commons : IsUnionWith has_name (any_common (commons_declared ns)) old.commons new.commons
   pub entities : IsUnionWith has_name (any_name (entity_types_declared ns)) old.entities new.entities
   pub actions : IsUnionWith has_uid (any_uid (actions_declared ns)) old.actions new.actions
 
--- `Declares ns names` holds if `names` has exactly the declarations of the namespaces `ns`.
+-- `Declares ns names` holds if `names` has exactly the names that the namespaces `ns` declare.
 pub record Declares (ns : List NamespaceOf) (names : Names) : Type 0 where
   pub scope : scope_of names ≡ scope_in ns
   pub actions : is_action_of names ≡ is_action_in ns

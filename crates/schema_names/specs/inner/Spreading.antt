@@ -1,4 +1,5 @@
--- Defines the search for the common types that are not records, in rounds, as the code performs it.
+-- Defines the search for the common types that are not records, in rounds, as the code performs it. A round tests each
+-- common type once.
 use Rattle.std.specs.Prelude.{◌≡◌, ◌⊎◌, ◌<◌, ◌&&◌, ◌++◌, ℕ, List, [], ◌∷◌, Contains, Bool, true, not, String}
 use Rattle.std.specs.Prelude.{Option, Some, None}
 use Rattle.std.specs.List.{list_all, slice_get}
@@ -43,27 +44,27 @@ abbrev pub AreAmong : List CommonOf → List CommonOf → Type 0
 AreAmong cs all = (c : CommonOf) → Contains cs c → Contains all c
 
 -- `IsSettled s known cs` holds if `known` has each of the common types `cs` that, by `known` and `s`, is not a record
--- (`is_known_non_record`): none can be added.
+-- (`is_known_non_record`): no name can be added.
 abbrev pub IsSettled : Scope → BTreeSet (String Global) → List CommonOf → Type 0
 IsSettled s known cs =
     (c : CommonOf) → Contains cs c → is_known_non_record (λ q. has_name known q) s c.own c.type ≡ true
     → has_name known c.name ≡ true
 
--- `KeepsNames s cs old new` holds if, for each file with the declared names `s` and the common types `cs`, the set
--- `new` is right (`IsSound`) if `old` is.
+-- `KeepsNames s cs old new` holds if, for each file whose declared names are `s` and whose common types include `cs`,
+-- the set `new` is sound (`IsSound`) if `old` is.
 abbrev pub KeepsNames : Scope → List CommonOf → BTreeSet (String Global) → BTreeSet (String Global) → Type 0
 KeepsNames s cs old new =
     (ns : List NamespaceOf) → s ≡ scope_in ns → AreAmong cs (commons_declared ns) → IsSound ns old → IsSound ns new
 
 -- `AddsNonRecords s cs old new` holds if a round over the common types `cs`, from the set `old` to the set `new`, keeps
--- the set right (`IsSound`), and adds a name unless none can be added. `s` has the declared names of the file.
+-- the set sound (`IsSound`), and adds a name unless no name can be added. `s` has the declared names of the file.
 pub record AddsNonRecords (s : Scope) (cs : List CommonOf) (old new : BTreeSet (String Global)) : Type 0 where
   pub sound : (ns : List NamespaceOf) → s ≡ scope_in ns → AreAmong cs (commons_declared ns) → IsSound ns old
       → IsSound ns new
   pub grows : ((new ≡ old) × IsSettled s old cs) ⊎ (btree_set_len old < btree_set_len new)
 
--- `tried_one o` is the common type in `o`, as a list, and `tried_in_order cs is` are those of `cs` at the indices `is`,
--- in order.
+-- `tried_one o` is the common type in `o`, as a list; `[]` if `o` is `None`. `tried_in_order cs is` are the common
+-- types of `cs` at the indices `is`, in the order of `is`; an index at which `cs` has none is skipped.
 abbrev pub tried_one : Option CommonOf → List CommonOf
 tried_one None = []
 tried_one (Some c) = c ∷ []
@@ -88,25 +89,27 @@ abbrev pub is_record_at : (List ℕ → Bool) → Scope → Option (List ℕ) �
 is_record_at known s own None = true
 is_record_at known s own (Some r) = not (is_known_non_record known s own r)
 
--- `is_record_in known s own o` tests the same (`is_record_at`) of the context of an action that applies to what is in
--- `o`; it is true if the action applies to nothing (`None`).
+-- `is_record_in known s own o` is `is_record_at known s own` of the context in `o`, which is what an action of the
+-- namespace `own` applies to; it is true if the action applies to nothing (`None`).
 abbrev pub is_record_in : (List ℕ → Bool) → Scope → Option (List ℕ) → Option AppliesToOf → Bool
 is_record_in known s own None = true
 is_record_in known s own (Some u) = is_record_at known s own u.context
 
--- `are_shapes known s own es` tests the same of each shape of the entity types `es`.
+-- `are_shapes known s own es` tests whether `is_record_at known s own` is true of each shape of the entity types `es`.
 abbrev pub are_shapes : (List ℕ → Bool) → Scope → Option (List ℕ) → List EntityTypeOf → Bool
 are_shapes known s own es = list_all (λ e. is_record_at known s own e.shape) es
 
--- `are_contexts known s own us` tests the same of each context of the actions `us`.
+-- `are_contexts known s own us` tests whether `is_record_in known s own` is true of each context of the actions `us`.
 abbrev pub are_contexts : (List ℕ → Bool) → Scope → Option (List ℕ) → List ActionOf → Bool
 are_contexts known s own us = list_all (λ a. is_record_in known s own a.applies_to) us
 
--- `are_records_of known s n` tests the same of all shapes and contexts of the namespace `n`.
+-- `are_records_of known s n` tests whether all shapes and contexts of the namespace `n` are records by `known` and `s`
+-- (`is_record_at`).
 abbrev pub are_records_of : (List ℕ → Bool) → Scope → NamespaceOf → Bool
 are_records_of known s n = are_shapes known s n.name n.entity_types && are_contexts known s n.name n.actions
 
--- `are_records known s ns` tests the same of all shapes and contexts of the namespaces `ns`.
+-- `are_records known s ns` tests whether all shapes and contexts of the namespaces `ns` are records by `known` and `s`
+-- (`is_record_at`).
 abbrev pub are_records : (List ℕ → Bool) → Scope → List NamespaceOf → Bool
 are_records known s ns = list_all (λ n. are_records_of known s n) ns
 

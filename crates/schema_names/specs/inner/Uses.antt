@@ -1,5 +1,5 @@
--- Defines the graph of the common types of a file, in which an edge leads from each common type whose definition is
--- only the name of another to that other.
+-- Defines the graph of the common types of a file: if the definition of a common type is only the name of another, an
+-- edge leads from the first to the other.
 -- Source: Cedar reference guide, "Schema JSON format": a common type may be a reference to another.
 use Rattle.std.specs.Prelude.{ℕ, ◌+◌, List, [], ◌∷◌, map, Option, Some, None, if◌then◌else◌}
 use Rattle.std.specs.Str.{bytes_eq}
@@ -34,12 +34,12 @@ abbrev pub in_list : Option ℕ → List ℕ
 in_list None = []
 in_list (Some a) = a ∷ []
 
--- `place_used place s c` is the list of one index, that which `place` gives for the common type whose name is the
--- definition of `c`; `[]` if the definition is not such a name. `s` has the declared names.
+-- `place_used place s c` is the index that `place` gives for the common type whose name is the definition of `c`, as a
+-- list; `[]` if the definition is not such a name, or if `place` gives no index. `s` has the declared names.
 abbrev pub place_used : (List ℕ → Option ℕ) → Scope → CommonOf → List ℕ
 place_used place s c = in_list (place_meant place (common_meant s c.own c.type))
 
--- `uses s commons` is the graph of the common types `commons`: an edge leads from the index of each whose definition is
--- only the name of another to the index of that other. `s` has the declared names.
+-- `uses s commons` is the graph of the common types `commons`: if the definition of one is only the name of another, an
+-- edge leads from the index of the first to the index of the other. `s` has the declared names.
 abbrev pub uses : Scope → List CommonOf → Graph
 uses s commons = map (λ c. place_used (place_of commons) s c) commons

@@ -25,6 +25,7 @@ unfoldable mutual
   places_named place (qualified.entity n) = []
   places_named place (qualified.common q) = listed (place q)
 
+  -- `fields_name place rs` are the indices of the common types that the types of the fields `rs` mention.
   pub fields_name : (List ℕ → Option ℕ) → QualifiedFields → List ℕ
   fields_name place qualified.no_fields = []
   fields_name place (qualified.field k r required rs) = places_named place r ++ fields_name place rs

@@ -28,7 +28,7 @@ abbrev pub entered : List Bool → ℕ → List Step → List Step
 entered seen a path = if is_new seen a then record { place = a; followed = 0 } ∷ path else path
 
 -- `IsFollowed g order next a b` holds if, in the graph `g`, the edge from `a` to `b` leads to a node of `order`, to a
--- node that leads back to `a`, or to the node in `next`, which is the one after `a` on the path.
+-- node that leads back to `a`, or to the node in `next`. The node in `next` is the one after `a` on the path.
 abbrev pub IsFollowed : Graph → List ℕ → Option ℕ → ℕ → ℕ → Type 0
 IsFollowed g order next a b = (Contains order b ⊎ Leads g b a) ⊎ (next ≡ Some b)
 
@@ -43,8 +43,9 @@ abbrev pub IsEdgeTo : Graph → ℕ → Option ℕ → Type 0
 IsEdgeTo g a None = ⊤
 IsEdgeTo g a (Some b) = Contains (ends_of g a) b
 
--- `IsPath g order next path` holds if an edge of the graph `g` leads from the node of each step of `path` to that of
--- the step after it, and from the last to the node in `next`; and if `AreFollowed` holds for each step.
+-- `IsPath g order next path` holds if `path` is a path of the graph `g` on which `AreFollowed` holds for each step. An
+-- edge leads from the node of each step to that of the step after it, and from the last to the node in `next`, if there
+-- is one.
 abbrev pub IsPath : Graph → List ℕ → Option ℕ → List Step → Type 0
 IsPath g order next [] = ⊤
 IsPath g order next (s ∷ path) =
@@ -83,9 +84,9 @@ path_effort g (s ∷ path) = suc (length (ends_of g s.place) - s.followed) + pat
 abbrev pub effort : Graph → List Step → List Bool → ℕ
 effort g path seen = path_effort g path + unseen_effort g seen
 
--- `WalksOn g path path' seen seen' order order'` holds if one turn of the search, from the lists `path`, `seen` and
--- `order` to the primed ones, preserves the invariant `IsWalk` and the marks of nodes, and decreases the measure, all
--- in the graph `g`.
+-- `WalksOn g path path' seen seen' order order'` describes one turn of the search in the graph `g`, from the lists
+-- `path`, `seen` and `order` to the primed ones. It holds if the turn preserves the invariant `IsWalk` and the marks of
+-- nodes, and decreases the measure.
 pub record WalksOn (g : Graph) (path path' : List Step) (seen seen' : List Bool) (order order' : List ℕ)
     : Type 0 where
   pub walks : IsWalk g path seen order → IsWalk g path' seen' order'

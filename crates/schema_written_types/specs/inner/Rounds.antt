@@ -11,7 +11,7 @@ use Rattle.schema_written_types.specs.TableViews.{type_table}
 use Rattle.schema_written_types.specs.inner.Table.{size_in, built_of, AreSettled}
 
 -- `Stays d old new` holds if the table `new` is the table `old`, and `old` has an entry for the name of the declaration
--- `d`, or lacks one for a name that `d` mentions.
+-- `d`, or lacks one for a common type that `d` mentions.
 pub record Stays (d : List ℕ × Qualified) (old new : BTreeMap (String Global) CommonEntry) : Type 0 where
   pub same : new ≡ old
   pub settled : type_table old d.0 ≡ None → size_in (type_table old) d.1 ≡ None

@@ -24,8 +24,8 @@ node_size s = record { parts = min (s.parts + 1) 10001; deep = min (s.deep + 1) 
 abbrev pub side_by_side : Extent → Extent → Extent
 side_by_side s t = record { parts = min (s.parts + t.parts) 10001; deep = max s.deep t.deep }
 
--- `size_in known r` is the size of the expansion of `r`, if the table `known` has an entry for each name that `r`
--- mentions.
+-- `size_in known r` is the size of the expansion of `r`, if the table `known` has an entry for each common type that
+-- `r` mentions.
 unfoldable mutual
   pub size_in : TypeTable → Qualified → Option Extent
   size_in known qualified.text = Some leaf_size
@@ -38,13 +38,15 @@ unfoldable mutual
   size_in known (qualified.entity n) = Some leaf_size
   size_in known (qualified.common q) = option_map (λ k. k.size) (known q)
 
-  -- `sizes_in known total rs` is the size of the fields `rs`, added to `total`, under the same condition.
+  -- `sizes_in known total rs` is the size of the fields `rs`, added to `total`, if the table `known` has an entry for
+  -- each common type that `rs` mention.
   pub sizes_in : TypeTable → Extent → QualifiedFields → Option Extent
   sizes_in known total qualified.no_fields = Some total
   sizes_in known total (qualified.field k r required rs) =
       option_and_then (λ s. sizes_in known (side_by_side total s) rs) (size_in known r)
 
--- `written_in known r` is the expansion of `r`, if the table `known` has an expansion for each name that `r` mentions.
+-- `written_in known r` is the expansion of `r`, if the table `known` has an expansion for each common type that `r`
+-- mentions.
 unfoldable mutual
   pub written_in : TypeTable → Qualified → Option Cedar
   written_in known qualified.text = Some cedar.text
@@ -57,7 +59,8 @@ unfoldable mutual
   written_in known (qualified.entity n) = Some (cedar.entity n)
   written_in known (qualified.common q) = option_and_then (λ k. k.whole) (known q)
 
-  -- `fields_in known rs` are the fields `rs`, with each type replaced by its expansion, under the same condition.
+  -- `fields_in known rs` are the fields `rs`, with each type replaced by its expansion, if the table `known` has an
+  -- expansion for each common type that `rs` mention.
   pub fields_in : TypeTable → QualifiedFields → Option CedarFields
   fields_in known qualified.no_fields = Some cedar.no_fields
   fields_in known (qualified.field k r required rs) =
@@ -86,8 +89,8 @@ built_of known s r = if fits s then written_in known r else None
 
 -- ---- tables
 
--- `AreSettled known ds` holds if each of `ds` has an entry in the table `known`, or mentions a name that has none: no
--- further entry can be added.
+-- `AreSettled known ds` holds if each of `ds` has an entry in the table `known`, or mentions a common type that has
+-- none: no further entry can be added.
 abbrev pub AreSettled : TypeTable → Declarations → Type 0
 AreSettled known [] = ⊤
 AreSettled known (d ∷ ds) = (known d.0 ≡ None → size_in known d.1 ≡ None) × AreSettled known ds

@@ -19,8 +19,8 @@ use Rattle.site.specs.SystemViews.{IsViewOf}
 abbrev pub input_among : List (List ℕ) → List (List ℕ) → Operation → Option Input
 input_among messages summaries d = input_by (slice_get messages) (slice_get summaries) d
 
--- `AnswersOperation schema n s i r t` holds if, at the site named `n`, the input `i` leads from the store `s` to the
--- store `t` with the reply `r`; without an input there is no reply, and `t` is `s`.
+-- `AnswersOperation schema n s i r t` holds if, at the site of `schema` named `n`, the input `i` leads from the store
+-- `s` to the store `t` with the reply `r`. Without an input there is no reply, and `t` is `s`.
 abbrev pub AnswersOperation : StatedSchema → SiteName → Store → Option Input → Option Reply → Store → Type 0
 AnswersOperation schema n s None None t = t ≡ s
 AnswersOperation schema n s (Some i) (Some r) t = Step schema n s i r t

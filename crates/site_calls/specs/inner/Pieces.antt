@@ -1,7 +1,7 @@
 -- Defines pieces of the lines that are bodies of replies.
 use Rattle.std.specs.Prelude.{ℕ, List, ◌++◌, Bool, Option, Some, None, codes, decimal, if◌then◌else◌}
 
--- `boolean_word value` is `true` or `false`, as JSON writes it.
+-- `boolean_word value` is the boolean `value` as JSON writes it, `true` or `false`.
 abbrev pub boolean_word : Bool → List ℕ
 boolean_word value = if value then codes "true" else codes "false"
 
@@ -10,6 +10,6 @@ abbrev pub number_or_null : Option ℕ → List ℕ
 number_or_null None = codes "null"
 number_or_null (Some n) = decimal n
 
--- `site_end site` is the end of a line with a stamp: ,"site":"00001"}
+-- `site_end site` is the end of a line with a stamp of the site `site`: ,"site":"00001"}
 abbrev pub site_end : List ℕ → List ℕ
 site_end site = codes ",\"site\":\"" ++ site ++ codes "\"}"

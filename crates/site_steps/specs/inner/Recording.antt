@@ -20,8 +20,9 @@ use Rattle.site_steps.specs.declared.outcome.Put.{Put}
 use Rattle.site_steps.specs.Admitted.{IsEntityUnder, IsAdmitted, entity_stated, IsNoRequest}
 use Rattle.site_steps.specs.Steps.{Records, IsClockFull, most_count}
 
--- `RecordsOr n s name body r t` holds if `r` is a stamp with which `body` is stored under `name` (`Records`); or `r` is
--- `ClockFull` or `NoMemory`, and `t` is `s`.
+-- `RecordsOr n s name body r t` holds if, at the site named `n`, storing `body` under `name` with the stamp `r` leads
+-- from the store `s` to the store `t` (`Records`). It also holds if `t` is `s`, and `r` is `NoMemory`, or is
+-- `ClockFull` and no stamp is left.
 abbrev pub RecordsOr : List ℕ → Store → Name → Option (List ℕ) → Result Stamp SiteFault → Store → Type 0
 RecordsOr n s name body (Ok stamp) t = Records n s name body stamp t
 RecordsOr n s name body (Err fault.NoMemory) t = t ≡ s
@@ -33,8 +34,9 @@ abbrev pub IsNext : List ℕ → Store → Option Stamp → Type 0
 IsNext n s (Some stamp) = (greatest_count s < most_count) × (stamp ≡ issue s n)
 IsNext n s None = greatest_count s ≡ most_count
 
--- `PutsUnless n s cycle uid text r t` holds if `cycle` is false, and `text` is stored under `uid` as by `RecordsOr`; or
--- `cycle` is true, `r` is `WouldCycle`, and `t` is `s`; or `cycle` is an error, `r` is `NoMemory`, and `t` is `s`.
+-- `PutsUnless n s cycle uid text r t` holds if `cycle` is false and, at the site named `n`, storing `text` under `uid`
+-- may lead from the store `s` to the store `t` with the result `r` (`RecordsOr`). It also holds if `t` is `s`, and
+-- either `cycle` is true and `r` is `WouldCycle`, or `cycle` is an error and `r` is `NoMemory`.
 abbrev pub PutsUnless : {E : Type 0} → List ℕ → Store → Result Bool E → EntityUid → List ℕ → Result Stamp SiteFault
     → Store → Type 0
 PutsUnless n s (Ok false) uid text r t = RecordsOr n s (entity_name uid) (Some text) r t
@@ -72,7 +74,7 @@ IsNoRequestFault schema json (fault.Request f) = IsNoRequest schema json f
 IsNoRequestFault schema json _ = ⊥
 
 -- `IsCheckedPolicy schema id text b impossible` holds if `b` has the text `text`, the policy in `b` may be put under
--- `id`, and `impossible` is whether this policy is impossible.
+-- `id` at a site of `schema`, and `impossible` is whether this policy is impossible.
 pub record IsCheckedPolicy (schema : StatedSchema) (id text : List ℕ) (b : ReadText Policy) (impossible : Bool)
     : Type 0 where
   pub same : b.text ≡ text

@@ -10,8 +10,8 @@ use Rattle.site_store.specs.Indexed.{PolicyEntries, policy_at}
 abbrev pub AreIndexedBut : List ℕ → PolicyEntries → Kept → Type 0
 AreIndexedBut id es kept = (q : List ℕ) → bytes_eq id q ≡ false → kept_at kept q ≡ policy_at es q
 
--- `noted found before` is the policy that the index has for an id after an entry was added under this id: `found`, the
--- policy of the entry, or, if the entry is a tombstone, `before`, the policy that the index had.
+-- `noted found before` is the policy that the index has for an id after an entry was added under this id. It is
+-- `found`, the policy of the entry; if the entry is a tombstone, it is `before`, the policy that the index had.
 abbrev pub noted : Option Policy → Option Policy → Option Policy
 noted None before = before
 noted (Some p) before = Some p

@@ -15,8 +15,8 @@ pub record IsJoinWith (store : Store) (other : Result Joined Refusal) (both : St
   pub other_is : other ≡ Ok joined
   pub join : IsStoreJoin store (abstract_store joined.store) both
 
--- `IsMergedUnder s f g text` holds if `text` is the state of the store of the updates of the messages `f` and `g` of
--- the schema `s`, and is parsed again as exactly these updates.
+-- `IsMergedUnder s f g text` holds if `f` and `g` are messages of the schema `s`, and `text` is the state of the store
+-- of their updates. `text` is parsed again as exactly the updates of that store.
 pub record IsMergedUnder (s : StatedSchema) (f g text : List ℕ) : Type 0 where
   pub store : Store
   pub both : IsStoreOfBoth s f g store

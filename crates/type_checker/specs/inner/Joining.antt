@@ -8,8 +8,8 @@ use Rattle.typing.specs.Rows.{and_type}
 use Rattle.typing.specs.Typing.{Types}
 use Rattle.typing.specs.Faults.{Faults}
 
--- `and_so_far s t` is the type of a conjunction with one more part, of the type `t`. Without it, the conjunction has
--- the type `s`, or no part if `s` is `None`.
+-- `and_so_far s t` is the type of a conjunction whose last part has the type `t`. The conjunction of the parts before
+-- it has the type `s`, which is `None` if there are none.
 abbrev pub and_so_far : Option StaticType → StaticType → StaticType
 and_so_far None t = t
 and_so_far (Some s) t = and_type s t

@@ -18,7 +18,7 @@ use Rattle.type_checker.specs.Views.{static_view, fault_view}
 use Rattle.type_checker.specs.declared.static_type.StaticType as built
 use Rattle.type_checker.specs.declared.fault.ExpressionFault.{ExpressionFault}
 use Rattle.type_checker.specs.declared.fault.ExpressionFault.TheVariants.{NoMemory}
-use Rattle.type_capabilities.specs.declared.pair.Capability.{Capability}
+use Rattle.type_capabilities.specs.declared.capability.Capability.{Capability}
 use Rattle.type_checker.specs.declared.typed.Typed.{Typed}
 use Rattle.type_checker.specs.declared.typed.Then.{Then}
 use Rattle.type_checker.specs.declared.typed.Then.TheVariants as then
@@ -103,8 +103,8 @@ AddsGained L typed r =
 abbrev pub IsBranch : (Typed → Then) → Result Typed ExpressionFault → Result Then ExpressionFault → Type 0
 IsBranch branch typed r = MatchResult r (λ b. (u : Typed) × (typed ≡ Ok u) × (b ≡ branch u)) (λ f. typed ≡ Err f)
 
--- `CallTyped called x s r` holds if `r` is the type or the error of the call `called` on `x`, which has the type `s`:
--- of `ip` or `decimal`, which demand a literal, or of a test of an IP address.
+-- `CallTyped called x s r` holds if `r` is the type or the error of the call `called` on `x`, which has the type `s`.
+-- The calls of `ip` and `decimal` demand a string literal; a test of an IP address demands the type ipaddr.
 abbrev pub CallTyped : UnaryCall → Expr → StaticType → Result built.StaticType ExpressionFault → Type 0
 CallTyped called x s r =
     MatchResult r

@@ -72,7 +72,8 @@ abbrev pub found_shared : Option (Part × Bool) → Bool
 found_shared None = false
 found_shared (Some f) = part_shared f.0
 
--- `found_view o` is the declaration that the look-up `o` of a key found: its type, and whether it is required.
+-- `found_view o` is the declaration that the look-up `o` of a key found: its type, and whether it is required;
+-- `undeclared` if `o` is `None`.
 abbrev pub found_view : Option (Part × Bool) → Declared
 found_view None = undeclared
 found_view (Some f) = declared_as f.1 (part_view f.0)

@@ -1,4 +1,4 @@
--- Defines tests and types of operands as the code computes them, one operand at a time.
+-- Defines tests on types, and the types of operators, as the code computes them.
 use Rattle.std.specs.Prelude.{ℕ, List, Bool, true, false, not, ◌&&◌, Option, Some, None, Err, if◌then◌else◌}
 use Rattle.std.specs.Str.{bytes_eq}
 use Rattle.typing.specs.Types.{StaticType, entity_type, set_type, decimal_type, ipaddr_type, common, same_requirement}
@@ -12,7 +12,8 @@ abbrev pub entity_type_in : StaticType → Option (List ℕ)
 entity_type_in (entity_type n) = Some n
 entity_type_in t = None
 
--- `entities_in t` is the name of the entity type `t`, or of the entity type of the members of the set type `t`.
+-- `entities_in t` is the name of the entity type `t`, or of the entity type of the members of the set type `t`; other
+-- types have none.
 abbrev pub entities_in : StaticType → Option (List ℕ)
 entities_in (set_type t) = entity_type_in t
 entities_in t = entity_type_in t
@@ -32,7 +33,8 @@ abbrev pub sets_type : StaticType → StaticType → Row
 sets_type s (set_type t) = contains_type s t
 sets_type s t = Err unexpected
 
--- `paired a b` is the pair of the fields `a` and `b`, if both are present with one key and the same requirement.
+-- `paired a b` is the pair of the fields `a` and `b` if both are present with one key and the same requirement, else
+-- `None`.
 abbrev pub paired : Option FieldPart → Option FieldPart → Option FieldPair
 paired (Some a) (Some b) =
     if bytes_eq a.key.now b.key.now && same_requirement a.required b.required

@@ -38,14 +38,15 @@ ReportsFalse (Ok t) (Err f) = ⊥
 ReportsFalse (Err f) (Ok b) = ⊥
 ReportsFalse (Err f) (Err g) = g ≡ of_types f
 
--- `IsJudged env x r` holds if `x` has a boolean type in `env` and `r` is whether this type is False; or `r` is
--- `NoMemory`, or the error of typing `x` in `env`.
+-- `IsJudged env x r` holds if `x` has a boolean type in `env`, and `r` is whether this type is False. It also holds if
+-- `r` is `NoMemory`, or the error of typing `x` in `env`.
 abbrev pub IsJudged : Environment → Expr → Result Bool TypeFault → Type 0
 IsJudged env x (Ok b) = HasBooleanType x env × Decides b (HasType x false_type env)
 IsJudged env x (Err f) = f ≢ NoMemory → (n : ExpressionFault) × (f ≡ of_typing n) × Faults env [] x n
 
 -- `AreJudged x before envs r` holds if `x` has a boolean type in each of `envs`, and `r` is whether `before` is true
--- and each of these types is False; or `r` is `NoMemory`, or the error of the first of `envs` that has one.
+-- and each of these types is False. It also holds if `r` is `NoMemory`, or the error of the first of `envs` that has
+-- one.
 abbrev pub AreJudged : Expr → Bool → List Environment → Result Bool TypeFault → Type 0
 AreJudged x before envs (Ok b) =
     All (HasBooleanType x) envs × Decides b ((before ≡ true) × All (HasType x false_type) envs)

@@ -24,7 +24,7 @@ use Rattle.validator.specs.Names.{Name, tested_type, entity}
 abbrev pub WalkResult : Type 0
 WalkResult = Result ⊤ TypeFault
 
--- `and_then r q` is `q` if `r` is a success, else the error of `r`.
+-- `and_then first r` is `r` if the result `first` is a success, else the error of `first`.
 abbrev pub and_then : WalkResult → WalkResult → WalkResult
 and_then (Ok u) r = r
 and_then (Err f) r = Err f

@@ -1,4 +1,4 @@
-//! Capabilities as pairs, and their order.
+//! Capabilities and their order.
 ghost use Rattle.std.specs.Prelude.{◌≡◌, ◌↔◌, IsTrue, Some, refl};
 ghost use Rattle.std.specs.Ordering.{is_eq};
 ghost use Rattle.std.specs.Cmp.{partial_equiv_from_equiv, partial_order_from_agreeing_total};
@@ -11,7 +11,7 @@ use std::cmp::Ordering;
 
 /// A capability: an expression and the name of a field, both borrowed.
 ///
-/// Pairs are equal if names and expressions are, and ordered by names and then by expressions.
+/// Capabilities are equal if their names and expressions are, and are ordered by names and then by expressions.
 #[derive(Clone, Copy)]
 pub struct Capability<'a> {
     /// The expression.
@@ -20,7 +20,7 @@ pub struct Capability<'a> {
     pub name: &'a str,
 }
 
-/// Returns whether two pairs are equal.
+/// Returns whether two capabilities are equal.
 pub(crate) fn is_same(one: &Capability<'_>, other: &Capability<'_>) -> bool
     ensures { IsTrue result ↔ (capability_of one.now ≡ capability_of other.now) }
 {
