@@ -1,12 +1,29 @@
--- The column behind one character more, and how many characters a text has.
+-- The line and the column behind one character more, and how many characters a text has.
 use Rattle.std.proofs.Common.{◌≡◌, ℕ, ◌+◌, ◌≤◌, not, List, [], ◌∷◌, ◌++◌, length, take, refl, arith, subst}
-use Rattle.std.proofs.Common.{Bool, false}
+use Rattle.std.proofs.Common.{Bool, false, cond, sum_by}
 use Rattle.std.specs.Str.{IsUtf8, chars}
 use Rattle.std.proofs.lemmas.List.{reverse-append, take_all}
 use Rattle.std.proofs.lemmas.Str.{length-le-encodes, encodes-chars}
-use Rattle.std.proofs.lemmas.List.Sums.{suffix_len-le-length}
+use Rattle.std.proofs.lemmas.List.Sums.{suffix_len-le-length, sum_by-append, count_by-le-length}
 use Rattle.std.proofs.lemmas.Bool.Decides.{nat_tests}
-use Rattle.explanation_texts.specs.LineAndColumn.{is_line_feed, column_after}
+use Rattle.explanation_texts.specs.LineAndColumn.{is_line_feed, line_after, column_after}
+
+abbrev feed_count : ℕ → ℕ
+feed_count c = cond (is_line_feed c) 1 0
+
+-- behind a line feed the next line comes
+pub line-line_feed : (before : List ℕ) (c : ℕ) → c ≡ 10 → line_after (before ++ c ∷ []) ≡ line_after before + 1
+line-line_feed before c is = rw is (omega (arith, sum_by-append feed_count before (10 ∷ [])))
+
+-- behind any other character the same
+pub line-character : (before : List ℕ) (c : ℕ) → (c ≡ 10 → ⊥) → line_after (before ++ c ∷ []) ≡ line_after before
+line-character before c other =
+    let no_feed : is_line_feed c ≡ false = grind (arith, nat_tests) in
+    let none : sum_by feed_count (c ∷ []) ≡ 0 = rw no_feed (omega arith) in
+    omega (arith, none, sum_by-append feed_count before (c ∷ []))
+
+pub line_le : (before : List ℕ) → line_after before ≤ 1 + length before
+line_le before = omega (arith, count_by-le-length is_line_feed before)
 
 abbrev ends_no_line : ℕ → Bool
 ends_no_line c = not (is_line_feed c)

@@ -1,18 +1,44 @@
 -- Pieces that are appended one after the other.
-use Rattle.std.proofs.Common.{◌≡◌, ℕ, List, ◌++◌, append_assoc, refl}
-use Rattle.std.specs.Prelude.{Result, Ok, Err, OnOk, is_ok, if◌then◌else◌}
-
--- what follows from the last piece holds if its call succeeds
-pub at_end : {T E Q : Type 0} (r : Result T E) (x y z : List ℕ) → z ≡ (if is_ok r then x else y) → (z ≡ x → Q) → OnOk r Q
-at_end (Ok v) x y z is so = so is
-at_end (Err e) x y z is so = tt
+use Rattle.std.proofs.Common.{◌≡◌, ◌∙◌, ◌==◌, ℕ, Bool, true, false, List, [], ◌∷◌, ◌++◌, length, map, append_assoc, append-nil, encode_utf8, encode_utf8_all}
+use Rattle.std.proofs.Common.{refl, sym, ap, Result, Ok, Err, OnOk, is_ok, if◌then◌else◌}
+use Rattle.std.proofs.lemmas.Str.{encodes-append}
+use Rattle.std.proofs.lemmas.List.{map-append}
+use Rattle.explanation_texts.specs.ExplanationText.{cut_text, part}
 
 pub on_ok : {T E P Q : Type 0} (r : Result T E) → OnOk r P → (P → Q) → OnOk r Q
 on_ok (Ok v) h so = so h
 on_ok (Err e) h so = tt
 
--- six pieces
-pub six : (a b c d e f g o p q r s t : List ℕ) → o ≡ a ++ b → p ≡ o ++ c → q ≡ p ++ d → r ≡ q ++ e → s ≡ r ++ f → t ≡ s ++ g
-    → t ≡ a ++ (((((b ++ c) ++ d) ++ e) ++ f) ++ g)
-six a b c d e f g o p q r s t first second third fourth fifth sixth =
-    rw sixth rw fifth rw fourth rw third rw second rw first (simp append_assoc refl)
+-- what follows if a text is appended
+pub on_pushed : {T E Q : Type 0} (r : Result T E) (old more new : List ℕ) → new ≡ (if is_ok r then old ++ more else old) → (new ≡ old ++ more → Q) → OnOk r Q
+on_pushed (Ok v) old more new h so = so h
+on_pushed (Err e) old more new h so = tt
+
+-- one character more
+pub mapped_more : (f : ℕ → ℕ) (cs : List ℕ) (c d : ℕ) (start old new : List ℕ) → old ≡ start ++ encode_utf8_all (map f cs) → d ≡ f c → new ≡ old ++ encode_utf8 d
+    → new ≡ start ++ encode_utf8_all (map f (cs ++ c ∷ []))
+mapped_more f cs c d start old new before is more =
+    more ∙ ap (λ (l : List ℕ). l ++ encode_utf8 d) before ∙ append_assoc start (encode_utf8_all (map f cs)) (encode_utf8 d)
+    ∙ ap (λ (l : List ℕ). start ++ l) (
+    ap (λ (l : List ℕ). encode_utf8_all (map f cs) ++ l) (ap encode_utf8 is ∙ sym (append-nil (encode_utf8 (f c))))
+    ∙ sym (encodes-append (map f cs) (f c ∷ []))
+    ∙ ap encode_utf8_all (sym (map-append f cs (c ∷ []))))
+
+-- three pieces, of which the second is two
+three : (out a b c d o p q r : List ℕ) → o ≡ out ++ a → p ≡ o ++ b → q ≡ p ++ c → r ≡ q ++ d → r ≡ out ++ ((a ++ (b ++ c)) ++ d)
+three out a b c d o p q r first second third fourth = rw fourth rw third rw second rw first (simp append_assoc refl)
+
+-- a part that is not empty
+pub part_of : (before text after : List ℕ) (most : ℕ) (shown mark out o p q r : List ℕ) → false ≡ (length text == 0) → shown ++ mark ≡ cut_text text most
+    → o ≡ out ++ before → p ≡ o ++ shown → q ≡ p ++ mark → r ≡ q ++ after → r ≡ out ++ part before text most after
+part_of before [] after most shown mark out o p q r some is first second third fourth = absurd (apart some)
+  where
+    apart : false ≡ true → ⊥
+    apart e = cc
+part_of before (x ∷ xs) after most shown mark out o p q r some is first second third fourth =
+    three out before shown mark after o p q r first second third fourth ∙ ap (λ (l : List ℕ). out ++ ((before ++ l) ++ after)) is
+
+-- the four lines on a code
+pub nine : (start a b c d e f g h i new : List ℕ) → start ≡ [] → new ≡ start ++ (a ++ (b ++ (c ++ (d ++ (e ++ (f ++ (g ++ (h ++ (i ++ [])))))))))
+    → new ≡ (((((((a ++ b) ++ c) ++ d) ++ e) ++ f) ++ g) ++ h) ++ i
+nine start a b c d e f g h i new empty is = is ∙ rw empty (simp (append_assoc, append-nil))

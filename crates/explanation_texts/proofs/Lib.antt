@@ -1,13 +1,13 @@
 -- Characters of a text, codes in a table, and texts that a terminal shows and does not obey.
---   CaretRow     the row of carets, from its pieces
 --   Columns      the column behind one character more, and how many characters a text has
 --   FoundCodes   a code is found if and only if the rows have it
 --   Groups       the rows of the group that would contain a code
 --   Joined       pieces that are appended one after the other
 --   Readable     pieces of explanations
-mod CaretRow
+--   Rows         the rows of an excerpt, from their pieces
 mod Columns
 mod FoundCodes
 mod Groups
 mod Joined
 pub mod Readable
+mod Rows

@@ -3,13 +3,13 @@
 -- file with the index of the item in the file's array; what else is known; and a hint. Control characters except tabs,
 -- and those that change the direction of writing, are shown as U+FFFD. A long cause, detail or line of the text is cut,
 -- with `..` at the cut; the name of the file is not.
-use Rattle.std.specs.Prelude.{◌≡◌, ℕ, ◌-◌, ◌+◌, ◌==◌, if◌then◌else◌, true, List, [], ◌∷◌, ◌++◌}
+use Rattle.std.specs.Prelude.{◌≡◌, ℕ, ◌-◌, ◌==◌, if◌then◌else◌, true, List, [], ◌∷◌, ◌++◌}
 use Rattle.std.specs.Prelude.{Option, None, Some}
-use Rattle.std.specs.Prelude.{codes, decimal, count_by, take, chars, slice_index_or, length, nat_lt}
+use Rattle.std.specs.Prelude.{codes, decimal, take, chars, slice_index_or, length, nat_lt}
 use Rattle.std.specs.Str.Lines.{lines}
 use Rattle.explanation_texts.specs.Printable.{are_printable}
 use Rattle.explanation_texts.specs.CodeText.{Texts, words_on}
-use Rattle.explanation_texts.specs.LineAndColumn.{is_line_feed, column_after, IsStartAt}
+use Rattle.explanation_texts.specs.LineAndColumn.{line_after, column_after, IsStartAt}
 use Rattle.explanation_texts.specs.Excerpt.{excerpt, shown, mark_if}
 use Rattle.explanation_texts.specs.declared.places.TextPosition.{TextPosition}
 use Rattle.explanation_texts.specs.declared.finding.SourceFinding.{SourceFinding}
@@ -23,10 +23,15 @@ readable text most = shown text 0 most
 abbrev pub cut_text : List ℕ → ℕ → List ℕ
 cut_text text most = readable text most ++ mark_if (nat_lt most (length (chars text))) (codes "..")
 
+-- `part before text most after` is `before`, `text` cut after `most` characters, and `after`; nothing if `text` is
+-- empty.
+abbrev pub part : List ℕ → List ℕ → ℕ → List ℕ → List ℕ
+part before [] most after = []
+part before (c ∷ cs) most after = before ++ cut_text (c ∷ cs) most ++ after
+
 -- `cause_part cause` is a space and `cause` in backticks, cut after 60 characters; nothing if `cause` is empty.
 abbrev pub cause_part : List ℕ → List ℕ
-cause_part [] = []
-cause_part (c ∷ cs) = codes " `" ++ cut_text (c ∷ cs) 60 ++ codes "`"
+cause_part cause = part (codes " `") cause 60 (codes "`")
 
 -- `says_line code says cause` is the line `error CODE: SAYS`, with `cause`, in backticks, at its end if it is not
 -- empty.
@@ -39,8 +44,7 @@ hint_line advice = codes "  hint: " ++ advice ++ 10 ∷ []
 
 -- `detail_line detail` is the line of `detail`, cut after 400 characters; nothing if `detail` is empty.
 abbrev pub detail_line : List ℕ → List ℕ
-detail_line [] = []
-detail_line (c ∷ cs) = codes "  " ++ cut_text (c ∷ cs) 400 ++ 10 ∷ []
+detail_line detail = part (codes "  ") detail 400 (10 ∷ [])
 
 -- `AreWordsOf words says advice` holds if `says` and `advice` are those of `words`, the texts on a code; or the two
 -- fixed texts where `words` is `None`, as for a code that no error has.
@@ -58,7 +62,7 @@ AreClean says advice = (are_printable says ≡ true) × (are_printable advice �
 -- which the character that contains this byte begins.
 pub record IsPlaceOf (text : List ℕ) (at : ℕ) (place : TextPosition) : Type 0 where
   pub start : IsStartAt text at place.start
-  pub line : place.line ≡ 1 + count_by is_line_feed (take place.start text)
+  pub line : place.line ≡ line_after (chars (take place.start text))
   pub column : place.column ≡ column_after (chars (take place.start text))
 
 -- `span_between place end` is the number of characters from `place` up to `end`; 2^64 - 1, the greatest number, if

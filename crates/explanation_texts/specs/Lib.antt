@@ -5,3 +5,4 @@ pub mod CodeText
 pub mod Printable
 pub mod ExplanationText
 pub mod Readable
+pub mod inner

@@ -2,12 +2,16 @@
 -- Rules of this product: a line ends after a line feed, so the line of a place is 1 + the number of line feeds before
 -- it; its column is 1 + the number of characters (not bytes) since the last of these line feeds, or since the text's
 -- beginning.
-use Rattle.std.specs.Prelude.{ℕ, ◌+◌, ◌<◌, ◌≤◌, ◌==◌, Bool, not, List, IsCharBoundary}
+use Rattle.std.specs.Prelude.{ℕ, ◌+◌, ◌<◌, ◌≤◌, ◌==◌, Bool, not, List, count_by, IsCharBoundary}
 use Rattle.std.specs.List.{suffix_len}
 
--- `is_line_feed c` tests for a line feed (10), the byte or character that ends a line.
+-- `is_line_feed c` tests for a line feed (10), the character that ends a line.
 abbrev pub is_line_feed : ℕ → Bool
 is_line_feed c = c == 10
+
+-- `line_after before` is the line after the characters `before`: 1 + the number of line feeds among them.
+abbrev pub line_after : List ℕ → ℕ
+line_after before = 1 + count_by is_line_feed before
 
 -- `column_after before` is the column after the characters `before`: 1 + the number of characters after their last
 -- line feed.

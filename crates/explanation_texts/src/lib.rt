@@ -8,14 +8,14 @@
 mod excerpts;
 mod finding;
 mod laws;
+mod pieces;
 mod places;
 mod print;
-mod shown;
 mod source;
 mod table;
 mod whole;
 
-pub use excerpts::push_excerpt;
+pub use excerpts::excerpt_at;
 pub use finding::{SourceFinding, WholeFinding};
 pub use laws::explanations_are_readable;
 pub use places::{TextPosition, line_at, place_of};

@@ -1,7 +1,7 @@
 //! Lines and columns.
-ghost use Rattle.std.specs.Prelude.{◌≡◌, ◌+◌, ◌-◌, ◌==◌, if◌then◌else◌, take, chars, count_by, slice_index_or, []};
+ghost use Rattle.std.specs.Prelude.{◌≡◌, ◌-◌, ◌==◌, if◌then◌else◌, take, chars, slice_index_or, []};
 ghost use Rattle.std.specs.Str.Lines.{lines};
-ghost use Rattle.explanation_texts.specs.LineAndColumn.{is_line_feed, column_after, IsStartAt};
+ghost use Rattle.explanation_texts.specs.LineAndColumn.{line_after, column_after, IsStartAt};
 
 /// A place in a text, by line and column.
 #[derive(Clone, Copy)]
@@ -31,25 +31,22 @@ impl TextPosition {
     }
 }
 
-fn is_line_feed(byte: &u8) -> bool
-    ensures { result ≡ is_line_feed byte.now }
+// Returns the line and the column of the place that follows `before`, the text from its beginning.
+fn line_and_column(before: &str) -> (usize, usize)
+    ensures line { result.0 ≡ line_after (chars before.now) }
+    ensures column { result.1 ≡ column_after (chars before.now) }
 {
-    *byte == b'\n'
-}
-
-// Returns the column of the place that follows `before`, the text from its beginning.
-fn column_of(before: &str) -> usize
-    ensures { result ≡ column_after (chars before.now) }
-{
+    let mut line = 1;
     let mut column = 1;
     for c in before.chars() {
         if c == '\n' {
+            line += 1;
             column = 1;
         } else {
             column += 1;
         }
     }
-    column
+    (line, column)
 }
 
 /// Returns the place of the byte `at` of a text: that of the character that contains the byte, or of the text's end if
@@ -60,14 +57,15 @@ fn column_of(before: &str) -> usize
 /// O(`at`). Does not allocate.
 pub fn place_of(text: &str, at: usize) -> TextPosition
     ensures start { IsStartAt text.now at result.start }
-    ensures line { result.line ≡ 1 + count_by is_line_feed (take result.start text.now) }
+    ensures line { result.line ≡ line_after (chars (take result.start text.now)) }
     ensures column { result.column ≡ column_after (chars (take result.start text.now)) }
 {
     let start = text.floor_char_boundary(at);
     let (before, _) = text.split_at(start);
+    let (line, column) = line_and_column(before);
     TextPosition {
-        line: 1 + before.bytes().filter(is_line_feed).count(),
-        column: column_of(before),
+        line,
+        column,
         start,
     }
 }

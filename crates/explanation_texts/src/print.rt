@@ -2,7 +2,7 @@
 ghost use Rattle.std.specs.Prelude.{◌≡◌, IfOk, string_bytes};
 ghost use Rattle.explanation_texts.specs.CodeText.{code_text, texts_of};
 
-use crate::shown::{push_between, push_number};
+use crate::pieces::{Piece, push_all};
 use crate::table::CodeWords;
 use plain::NoMemory;
 use std::alloc::Global;
@@ -19,9 +19,19 @@ pub fn code_text(alloc: Global, words: &CodeWords<&str>) -> Result<String, NoMem
     ensures { IfOk result (λ text. string_bytes text ≡ code_text (texts_of words.now)) }
 {
     let mut text = String::new(alloc);
-    push_number(&mut text, usize::from(words.code))?;
-    push_between(&mut text, ", ", words.name, "\nmeans: ")?;
-    push_between(&mut text, words.meaning, "\nexample: ", words.example)?;
-    push_between(&mut text, "\nwhat to do: ", words.advice, "")?;
+    push_all(
+        &mut text,
+        &[
+            Piece::Number(usize::from(words.code)),
+            Piece::Text(", "),
+            Piece::Text(words.name),
+            Piece::Text("\nmeans: "),
+            Piece::Text(words.meaning),
+            Piece::Text("\nexample: "),
+            Piece::Text(words.example),
+            Piece::Text("\nwhat to do: "),
+            Piece::Text(words.advice),
+        ],
+    )?;
     Ok(text)
 }

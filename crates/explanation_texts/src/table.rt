@@ -46,7 +46,7 @@ static POLICIES: [CodeWords<&str>; 10] = [
     CodeWords {
         code: 10,
         name: "bad token",
-        meaning: "no token begins here; a string that is not closed or has a bad escape (its quote); bytes that are not UTF-8 (place 0)",
+        meaning: "no token begins here; a string is not closed or has a bad escape (place: its quote); bytes are not UTF-8 (place 0)",
         example: "`permit(principal, action, #);`",
         says: "no token begins here, or a string is not closed or has a bad escape",
         advice: "close a string with a quote, also one that began before; write `==` for `=`; escapes are \\n, \\r, \\t, \\\\, \\0, \\', \\\", \\x41 and \\u{1F600}",
@@ -54,7 +54,7 @@ static POLICIES: [CodeWords<&str>; 10] = [
     CodeWords {
         code: 11,
         name: "unexpected",
-        meaning: "the first token that continues no policy; the text's length if it ends too early",
+        meaning: "the first token that continues no policy, or the end of a text that ends too early (place: its length)",
         example: "`permit(principal, action);`",
         says: "unexpected",
         advice: "look before it: a comma, a bracket, an operator or `;` may be missing; a policy is `permit(principal, action, resource) when { .. };`",
@@ -70,7 +70,7 @@ static POLICIES: [CodeWords<&str>; 10] = [
     CodeWords {
         code: 13,
         name: "unknown call",
-        meaning: "no function or method has this name",
+        meaning: "no function, or in `x.f()` no method, has this name",
         example: "`.. when { now() == 1 };`",
         says: "no function or method is called",
         advice: "functions are ip, decimal; methods as contains, containsAll, lessThan, isInRange: docs/language.md",
@@ -290,7 +290,7 @@ static TYPES: [CodeWords<&str>; 7] = [
     CodeWords {
         code: 43,
         name: "no common type",
-        meaning: "two types without a common type (not of two literals or two entity types under `==`: these are unequal)",
+        meaning: "two types have no common type; two literals, or two entity types, under `==` are unequal instead",
         example: "`principal == 1`",
         says: "two types have no common type",
         advice: "compare values of one type, and write members of a set and the branches of an if of one type",
@@ -512,7 +512,12 @@ fn found_in(
 ) -> Option<&'static CodeWords<&'static str>>
     ensures { option_map (λ words. words.now) result ≡ find (λ words. words.code == code) rows.now }
 {
-    rows.iter().find(|words| words.code == code)
+    for words in rows {
+        if words.code == code {
+            return Some(words);
+        }
+    }
+    None
 }
 
 /// Returns the texts on a code, or `None` if no error has this code. Does not allocate.

@@ -120,9 +120,9 @@ module _ (o : Option StatedSchema) (file held text : List ℕ) (tokens : List To
     a.2,
   )
 
-  pub file_does_not : (r q : Refusal) → q ≡ r → ArePoliciesRefused held r → AppendsSome (IsUnreadExplained o file text pieces q) old new
+  pub file_does_not : (r : Refusal) → ArePoliciesRefused held r → AppendsSome (IsUnreadExplained o file text pieces r) old new
       → AppendsSome (IsFileExplained o file held) old new
-  file_does_not r q e h a = (
+  file_does_not r h a = (
     a.0,
     record {
       text = text;
@@ -131,7 +131,7 @@ module _ (o : Option StatedSchema) (file held text : List ℕ) (tokens : List To
       are_tokens = are_tokens;
       pieces = pieces;
       are_pieces = are_pieces;
-      outcome = whole.unread q a.0 (subst (ArePoliciesRefused held) (sym e) h) a.1;
+      outcome = whole.unread r a.0 h a.1;
     },
     a.2,
   )
@@ -151,6 +151,10 @@ with_words name code index words IsDetail bytes t h = record {
 pub whole_told : (name old new : List ℕ) (code : ℕ) (index : Option ℕ) (words : List ℕ) (IsDetail : List ℕ → Type 0) → IsDetail words
     → AppendsSome (IsWholeAt name code index (λ w. w ≡ words)) old new → AppendsSome (IsWholeAt name code index IsDetail) old new
 whole_told name old new code index words IsDetail t a = (a.0, with_words name code index words IsDetail a.0 t a.1, a.2)
+
+pub of_that : (name old new : List ℕ) (r q : Refusal) → q ≡ r → AppendsSome (IsWholeAt name q.code q.place IsNothing) old new
+    → AppendsSome (IsWholeAt name r.code r.place IsNothing) old new
+of_that name old new r q e a = subst (λ (t : Refusal). AppendsSome (IsWholeAt name t.code t.place IsNothing) old new) e a
 
 pub judged_so : (name old new : List ℕ) (IsDetail : Option ℕ → List ℕ → Type 0) (r q : Refusal) → q ≡ r → (r ≡ no_memory → ⊥)
     → AppendsSome (IsWholeAt name q.code q.place (IsDetail q.place)) old new → AppendsSome (IsCheckedText name IsDetail (Err r)) old new
@@ -185,9 +189,9 @@ module _ (given : Files) (old : List ℕ) where
       → AppendsSome (IsExplainedUnder schema given) old new
   under_schema schema s new h a = (a.0, inl (s, h, a.1), a.2)
 
-  pub schema_rejected : (schema : File) (r q : Refusal) (new : List ℕ) → q ≡ r → IsSchemaRefused schema.text r
-      → AppendsSome (IsWholeAt schema.name q.code q.place IsNothing) old new → AppendsSome (IsExplainedUnder schema given) old new
-  schema_rejected schema r q new e h a = (a.0, inr (q, subst (IsSchemaRefused schema.text) (sym e) h, a.1), a.2)
+  pub schema_rejected : (schema : File) (r : Refusal) (new : List ℕ) → IsSchemaRefused schema.text r
+      → AppendsSome (IsWholeAt schema.name r.code r.place IsNothing) old new → AppendsSome (IsExplainedUnder schema given) old new
+  schema_rejected schema r new h a = (a.0, inr (r, h, a.1), a.2)
 
 pub from_nothing : (given : Files) (old new : List ℕ) → old ≡ [] → AppendsSome (IsExplained given) old new → IsExplained given new
 from_nothing given old new e a =

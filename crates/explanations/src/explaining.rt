@@ -1,8 +1,9 @@
 //! Explains what is rejected in the texts of a schema, policies, entities and a request.
 ghost use Rattle.std.specs.Prelude.{◌≡◌, OnOk, IfOk, option_map, string_bytes};
 ghost use Rattle.schema_decisions.specs.schema.Views.{schema_view};
+ghost use Rattle.schema_decisions.specs.answer_lines.Refusals.{no_memory};
 ghost use Rattle.explanations.specs.Files.{file_of, files_of};
-ghost use Rattle.explanations.specs.Parts.{AppendsSome};
+ghost use Rattle.explanations.specs.Parts.{AppendsSome, IsNothing, IsWholeAt};
 ghost use Rattle.explanations.specs.FileExplanations.{IsTextOf, AreTokensOf, IsFileExplained, AreOthersExplained};
 ghost use Rattle.explanations.specs.FileExplanations.{IsExplained};
 ghost use Rattle.explanations.specs.FileExplanations.{IsUnreadExplained, IsExplainedUnder};
@@ -15,7 +16,7 @@ use crate::policies::explain_policies;
 use crate::unread::{Lexed, explain_pieces, push_read_fault};
 use grammar_desugaring::{LexFault, Token, tokens};
 use plain::NoMemory;
-use schema_decisions::{Schema, policies_of_file, schema_in};
+use schema_decisions::{Refusal, Schema, policies_of_file, schema_in};
 use std::alloc::Global;
 
 /// Returns bytes as text; an empty one if they are not UTF-8.
@@ -42,7 +43,7 @@ fn tokens_of(alloc: Global, text: &str) -> Result<Vec<Token>, NoMemory>
 }
 
 /// Appends why a file of policies does not parse: the error of each of its pieces, and then that of the file, unless a
-/// piece has it.
+/// piece has it. Returns `NoMemory` if the error of the file is out of memory.
 fn explain_unread(
     alloc: Global,
     out: &mut String,
@@ -50,17 +51,17 @@ fn explain_unread(
     lexed: Lexed<'_>,
     pieces: &[Piece],
 ) -> Result<(), NoMemory>
-    ensures { OnOk result (AppendsSome (IsUnreadExplained (option_map (λ s. schema_view s.now) schema.entry)
-        lexed.entry.file.now lexed.entry.text.now pieces.now lexed.entry.refusal) (string_bytes out.old)
-        (string_bytes out.new)) }
+    ensures { OnOk result ((lexed.entry.refusal ≡ no_memory → ⊥)
+        × AppendsSome (IsUnreadExplained (option_map (λ s. schema_view s.now) schema.entry) lexed.entry.file.now
+        lexed.entry.text.now pieces.now lexed.entry.refusal) (string_bytes out.old) (string_bytes out.new)) }
 {
+    unless_no_memory(lexed.refusal)?;
     let some = explain_pieces(alloc, out, schema, lexed, pieces)?;
     if some {
         return Ok(());
     }
     let at = lexed.refusal.place.unwrap_or(0);
-    push_read_fault(alloc, out, lexed, lexed.refusal.code, at)?;
-    Ok(())
+    push_read_fault(alloc, out, lexed, lexed.refusal.code, at)
 }
 
 /// Appends the explanation of what is rejected in a file of policies.
@@ -81,19 +82,16 @@ fn explain_file(
     match policies_of_file(alloc, source.text) {
         Ok(policies) => {
             let named = policies.as_slice();
-            explain_policies(alloc, out, schema, source.name, text, found_pieces, named)?;
-            Ok(())
+            explain_policies(alloc, out, schema, source.name, text, found_pieces, named)
         }
         Err(refusal) => {
-            let refusal = unless_no_memory(refusal)?;
             let lexed = Lexed {
                 file: source.name,
                 text,
                 tokens: all,
                 refusal,
             };
-            explain_unread(alloc, out, schema, lexed, found_pieces)?;
-            Ok(())
+            explain_unread(alloc, out, schema, lexed, found_pieces)
         }
     }
 }
@@ -126,8 +124,18 @@ fn explain_others(
         schema,
         text_of_source(given.schema),
         given.request,
-    )?;
-    Ok(())
+    )
+}
+
+/// Appends why the schema of the file `name` is rejected with `refusal`. Returns `NoMemory` if `refusal` is out of
+/// memory.
+fn push_schema_refusal(out: &mut String, name: &str, refusal: Refusal) -> Result<(), NoMemory>
+    ensures { OnOk result ((refusal ≡ no_memory → ⊥)
+        × AppendsSome (IsWholeAt name.now refusal.code refusal.place IsNothing) (string_bytes out.old)
+        (string_bytes out.new)) }
+{
+    let checked = unless_no_memory(refusal)?;
+    push_refusal(out, name, checked, "")
 }
 
 /// Appends the explanation of what is rejected in the given files under `schema`, or of why `schema` itself is.
@@ -141,15 +149,8 @@ fn explain_under(
         (string_bytes out.old) (string_bytes out.new)) }
 {
     match schema_in(alloc, schema.text) {
-        Ok(stated) => {
-            explain_others(alloc, out, Some(&stated), given)?;
-            Ok(())
-        }
-        Err(refusal) => {
-            let refusal = unless_no_memory(refusal)?;
-            push_refusal(out, schema.name, refusal, "")?;
-            Ok(())
-        }
+        Ok(stated) => explain_others(alloc, out, Some(&stated), given),
+        Err(refusal) => push_schema_refusal(out, schema.name, refusal),
     }
 }
 
@@ -159,14 +160,8 @@ fn explain_given(alloc: Global, out: &mut String, given: &Given<'_, '_>) -> Resu
         (string_bytes out.old) (string_bytes out.new)) }
 {
     match given.schema {
-        Some(schema) => {
-            explain_under(alloc, out, schema, given)?;
-            Ok(())
-        }
-        None => {
-            explain_others(alloc, out, None, given)?;
-            Ok(())
-        }
+        Some(schema) => explain_under(alloc, out, schema, given),
+        None => explain_others(alloc, out, None, given),
     }
 }
 

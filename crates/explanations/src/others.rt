@@ -113,8 +113,7 @@ fn push_entity(
         (string_bytes out.old) (string_bytes out.new)) }
 {
     let words = entity_words(alloc, schema, source.text, refusal.place)?;
-    push_refusal(out, source.name, refusal, words.as_str())?;
-    Ok(())
+    push_refusal(out, source.name, refusal, words.as_str())
 }
 
 /// Appends the text of an error of a request, with the part at fault.
@@ -130,8 +129,7 @@ fn push_request(
         (string_bytes out.old) (string_bytes out.new)) }
 {
     let words = request_words(alloc, schema, source.text)?;
-    push_refusal(out, source.name, refusal, words.as_str())?;
-    Ok(())
+    push_refusal(out, source.name, refusal, words.as_str())
 }
 
 /// Appends why entities are rejected, if `judged`, the result of checking them, is an error.
@@ -150,8 +148,7 @@ fn explain_array(
         Ok(()) => Ok(()),
         Err(refusal) => {
             let refusal = unless_no_memory(refusal)?;
-            push_entity(alloc, out, schema, source, refusal)?;
-            Ok(())
+            push_entity(alloc, out, schema, source, refusal)
         }
     }
 }
@@ -172,8 +169,7 @@ fn explain_asked(
         Ok(()) => Ok(()),
         Err(refusal) => {
             let refusal = unless_no_memory(refusal)?;
-            push_request(alloc, out, schema, source, refusal)?;
-            Ok(())
+            push_request(alloc, out, schema, source, refusal)
         }
     }
 }
@@ -192,8 +188,7 @@ pub(crate) fn explain_entities(
     match entities {
         Some(source) => {
             let judged = check_array(alloc, schema, source.text);
-            explain_array(alloc, out, schema, source, judged)?;
-            Ok(())
+            explain_array(alloc, out, schema, source, judged)
         }
         None => Ok(()),
     }
@@ -215,8 +210,7 @@ pub(crate) fn explain_request(
     match request {
         Some(source) => {
             let judged = check_request(alloc, stated, source.text);
-            explain_asked(alloc, out, schema, source, judged)?;
-            Ok(())
+            explain_asked(alloc, out, schema, source, judged)
         }
         None => Ok(()),
     }

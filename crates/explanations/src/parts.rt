@@ -56,8 +56,7 @@ pub(crate) fn push_at(
         detail: "",
         note: plain.note,
     };
-    push_source(alloc, out, file, text, &finding)?;
-    Ok(())
+    push_source(alloc, out, file, text, &finding)
 }
 
 /// Appends the text of an error in the file `file`: at the index of an item in its array, if the error has one, with
@@ -76,8 +75,7 @@ pub(crate) fn push_refusal(
         index: refusal.place,
         detail,
     };
-    push_whole(out, file, &finding)?;
-    Ok(())
+    push_whole(out, file, &finding)
 }
 
 /// Returns the error, unless it is out of memory.

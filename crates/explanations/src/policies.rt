@@ -62,11 +62,9 @@ fn found_span(
     let part = part_of(text, piece.start, piece.end);
     let path = fault.path.as_slice();
     if is_name(fault.fault) {
-        let named = name_span(alloc, part, path)?;
-        return Ok(named);
+        return name_span(alloc, part, path);
     }
-    let found = span_of(alloc, part, path)?;
-    Ok(found)
+    span_of(alloc, part, path)
 }
 
 /// The shown part of a text.
@@ -120,8 +118,7 @@ fn push_fault(
         detail: fault.detail.as_str(),
         note: spot.note,
     };
-    push_source(alloc, out, file, text, &finding)?;
-    Ok(())
+    push_source(alloc, out, file, text, &finding)
 }
 
 /// Appends why a policy does not pass, if it does not, with its cause.
@@ -139,10 +136,7 @@ fn explain_searched(
         (string_bytes out.old) (string_bytes out.new)) }
 {
     match explain_fault(alloc, schema, policy)? {
-        Some(fault) => {
-            push_fault(alloc, out, file, text, piece, &fault)?;
-            Ok(())
-        }
+        Some(fault) => push_fault(alloc, out, file, text, piece, &fault),
         None => Ok(()),
     }
 }
@@ -189,8 +183,7 @@ fn explain_large(
                 cause: "",
                 note: "the policy is too large to show the expression at fault",
             };
-            push_at(alloc, out, file, text, finding)?;
-            Ok(())
+            push_at(alloc, out, file, text, finding)
         }
     }
 }
@@ -230,10 +223,7 @@ fn explain_policy(
         file.now text.now piece policy.now) (string_bytes out.old) (string_bytes out.new)) }
 {
     match schema {
-        Some(schema) => {
-            explain_check(alloc, out, schema, file, text, piece, policy)?;
-            Ok(())
-        }
+        Some(schema) => explain_check(alloc, out, schema, file, text, piece, policy),
         None => Ok(()),
     }
 }

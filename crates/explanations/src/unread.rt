@@ -31,10 +31,12 @@ pub(crate) struct Lexed<'t> {
 
 /// Returns the end of the token that starts at a byte; the byte itself if no token starts there.
 fn end_of_token(tokens: &[Token], at: usize) -> usize {
-    match tokens.iter().find(|token| token.start == at) {
-        Some(token) => token.end,
-        None => at,
+    for token in tokens {
+        if token.start == at {
+            return token.end;
+        }
     }
+    at
 }
 
 /// Returns whether an error of this code names the token at its place: 11 (unexpected) to 16 (slot), of the grammar.
@@ -83,8 +85,7 @@ pub(crate) fn push_read_fault(
         (string_bytes out.old) (string_bytes out.new)) }
 {
     let finding = finding_at(lexed, code, at);
-    push_at(alloc, out, lexed.file, lexed.text, finding)?;
-    Ok(())
+    push_at(alloc, out, lexed.file, lexed.text, finding)
 }
 
 /// Appends why the policy of a piece does not pass validation, if it does not.
@@ -103,8 +104,7 @@ fn explain_read(
     let pieces = [piece];
     explain_policies(
         alloc, out, schema, lexed.file, lexed.text, &pieces, policies,
-    )?;
-    Ok(())
+    )
 }
 
 /// Returns `fault`.

@@ -10,7 +10,9 @@ use Rattle.grammar_core.specs.declared.expr.Named.{Named}
 use Rattle.grammar_core.specs.declared.expr.Expr.{Expr}
 use Rattle.grammar_core.specs.declared.expr.Expr.TheVariants as form
 use Rattle.grammar_core.specs.declared.expr.Expr.TheOpen.{Expr-F}
-use Rattle.grammar_core.specs.declared.expr.Expr.TheViews.{out-Expr}
+use Rattle.grammar_core.specs.declared.expr.Expr.TheViews.{out-Expr, roll-Expr, roll-out-Expr}
+use Rattle.grammar_core.specs.declared.leaf.Literal.{Literal}
+use Rattle.grammar_core.specs.declared.operator.Unary.{Unary}
 use Rattle.grammar_core.proofs.Forms.{Cases, by_forms, field_all, fold_literal, fold_variable, fold_if, fold_and, fold_or}
 use Rattle.grammar_core.proofs.Forms.{fold_unary, fold_binary, fold_field, fold_has, fold_set, fold_record}
 use Rattle.grammar_core.proofs.Forms.{fold_unary_call, fold_binary_call}
@@ -161,14 +163,33 @@ module _ (s : StatedSchema) where
   none_named : All (IsKnown s) []
   none_named = All-nil (IsKnown s)
 
-  pub known_alone : (n : Name) → IsKnown s n → All (IsKnown s) (n ∷ [])
-  known_alone n k = All-cons (IsKnown s) n [] k none_named
-
   pub own_at : (x y : Expr) (z : Expr-F Expr) (o : Option NameFault) → x ≡ y → out-Expr y ≡ z → AreNames s (names_at z) o → IsOwnName s x o
   own_at x y z o e f h = subst (λ w. AreNames s (names_at w) o) (sym (ap out-Expr e ∙ f)) h
 
-  pub no_name : (x y : Expr) (z : Expr-F Expr) → x ≡ y → out-Expr y ≡ z → names_at z ≡ [] → IsOwnName s x None
-  no_name x y z e f n = own_at x y z None e f (subst (All (IsKnown s)) (sym n) none_named)
+  pub no_name : (x : Expr) → ((l : Literal) → x ≡ form.Literal l → ⊥) → ((op : Unary) (a : Expr) → x ≡ form.Unary op a → ⊥)
+      → IsOwnName s x None
+  no_name x no_literal no_unary = at (out-Expr x) refl
+    where
+      is : (y : Expr-F Expr) (z : Expr) → out-Expr x ≡ y → roll-Expr y ≡ z → x ≡ z
+      is y z e f = sym (roll-out-Expr x) ∙ (ap roll-Expr e ∙ f)
+
+      none : (y : Expr-F Expr) → out-Expr x ≡ y → names_at y ≡ [] → IsOwnName s x None
+      none y e n = subst (λ z. All (IsKnown s) (names_at z)) (sym e) (subst (All (IsKnown s)) (sym n) none_named)
+
+      at : (y : Expr-F Expr) → out-Expr x ≡ y → IsOwnName s x None
+      at (Expr-F.Literal l) e = absurd (no_literal l (is (Expr-F.Literal l) (form.Literal l) e (form.rolls-Literal l)))
+      at (Expr-F.Unary op a) e = absurd (no_unary op a (is (Expr-F.Unary op a) (form.Unary op a) e (form.rolls-Unary op a)))
+      at (Expr-F.Variable v) e = none (Expr-F.Variable v) e refl
+      at (Expr-F.If a b c) e = none (Expr-F.If a b c) e refl
+      at (Expr-F.And a b) e = none (Expr-F.And a b) e refl
+      at (Expr-F.Or a b) e = none (Expr-F.Or a b) e refl
+      at (Expr-F.Binary op a b) e = none (Expr-F.Binary op a b) e refl
+      at (Expr-F.Field a name) e = none (Expr-F.Field a name) e refl
+      at (Expr-F.Has a name) e = none (Expr-F.Has a name) e refl
+      at (Expr-F.Set xs) e = none (Expr-F.Set xs) e refl
+      at (Expr-F.Record fs) e = none (Expr-F.Record fs) e refl
+      at (Expr-F.UnaryCall called a) e = none (Expr-F.UnaryCall called a) e refl
+      at (Expr-F.BinaryCall called a b) e = none (Expr-F.BinaryCall called a b) e refl
 
   -- no operand has the first unknown name: the form itself, or none
   pub found_itself : (x : Expr) (old : List ℕ) (o : Option NameFault) (new : List ℕ) → new ≡ old → All AreKnown (operands_of x)

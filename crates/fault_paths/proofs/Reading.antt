@@ -1,11 +1,12 @@
 -- The attribute that a form reads, and whether it is declared.
-use Rattle.std.specs.Prelude.{◌≡◌, ◌↔◌, ℕ, List, ◌∷◌, map, Bool, true, false, IsTrue, Ok, Err, is_ok, refl}
-use Rattle.std.specs.Prelude.{Option, Some, None, option_map, slice_get, length, codes}
+use Rattle.std.specs.Prelude.{◌≡◌, ◌↔◌, ℕ, List, [], ◌∷◌, map, Bool, true, false, IsTrue, Ok, Err, is_ok, refl}
+use Rattle.std.specs.Prelude.{Option, Some, None, option_map, slice_get, length, codes, if◌then◌else◌}
 use Rattle.std.proofs.Common.{◌<◌, ◌≤◌, ◌++◌, get_or, sym, ◌∙◌, ap}
 use Rattle.std.proofs.lemmas.Option.{slice_get-map, slice_get_read, slice_get_past}
 use Rattle.grammar_core.specs.declared.expr.Expr.{Expr}
 use Rattle.grammar_core.specs.declared.expr.Expr.TheOpen.{Expr-F}
-use Rattle.grammar_core.specs.declared.expr.Expr.TheViews.{out-Expr}
+use Rattle.grammar_core.specs.declared.expr.Expr.TheVariants as form
+use Rattle.grammar_core.specs.declared.expr.Expr.TheViews.{out-Expr, roll-Expr, roll-out-Expr}
 use Rattle.type_checker.specs.declared.static_type.StaticType.{StaticType}
 use Rattle.type_checker.specs.schema.declared.parts.Environment.{Environment}
 use Rattle.type_checker.specs.schema.Schemas.{EnvironmentOf, StatedSchema}
@@ -17,11 +18,29 @@ use Rattle.validator.specs.typing.Environment as typing
 use Rattle.validator.specs.typing.Types as types
 use Rattle.validator.specs.typing.Rows.{Row, field_type_of}
 use Rattle.fault_paths.specs.Words.{type_word, attribute_in, attribute_of, declaration_words, declared_words}
-use Rattle.fault_paths.specs.Words.{environment_words, what_words, detail_in, typing_detail}
+use Rattle.fault_paths.specs.Words.{types_words, is_missing, environment_words, what_words, detail_in, typing_detail}
 use Rattle.fault_paths.proofs.Appending.{in_turn, nothing_more}
 
 pub form_reads : (x w : Expr) (y : Expr-F Expr) → x ≡ w → out-Expr w ≡ y → attribute_in y ≡ attribute_of x
 form_reads x w y e f = sym (ap attribute_in (ap out-Expr e ∙ f))
+
+pub reads_none : (x : Expr) → ((a : Expr) (k : List ℕ) → x ≡ form.Field a k → ⊥) → [] ≡ attribute_of x
+reads_none x no_field = at (out-Expr x) refl
+  where
+    at : (y : Expr-F Expr) → out-Expr x ≡ y → [] ≡ attribute_in y
+    at (Expr-F.Field a k) e = absurd (no_field a k (sym (roll-out-Expr x) ∙ (ap roll-Expr e ∙ form.rolls-Field a k)))
+    at (Expr-F.Literal l) e = refl
+    at (Expr-F.Variable v) e = refl
+    at (Expr-F.If a b c) e = refl
+    at (Expr-F.And a b) e = refl
+    at (Expr-F.Or a b) e = refl
+    at (Expr-F.Unary op a) e = refl
+    at (Expr-F.Binary op a b) e = refl
+    at (Expr-F.Has a k) e = refl
+    at (Expr-F.Set xs) e = refl
+    at (Expr-F.Record fs) e = refl
+    at (Expr-F.UnaryCall called a) e = refl
+    at (Expr-F.BinaryCall called a b) e = refl
 
 abbrev IsType : Row → Type 0
 IsType r = (t : types.StaticType) × (r ≡ Ok t)
@@ -65,9 +84,37 @@ module _ (s : StatedSchema) (b : TypeBlame) (old : List ℕ) where
   pub detail_past : slice_get s.environments b.environment ≡ None → old ≡ old ++ typing_detail s b
   detail_past h = nothing_more old ∙ ap (λ (o : Option EnvironmentOf). old ++ in_one o) (sym h)
 
+  -- the error is that of an attribute, or another
+
+  pub detail_missing : (e : EnvironmentOf) (mid new : List ℕ) (m : Bool) → slice_get s.environments b.environment ≡ Some e
+      → mid ≡ old ++ environment_words e → m ≡ is_missing b.fault → m ≡ true
+      → new ≡ mid ++ declared_words (typing_environment_of s e) (attribute_of b.place.form.now) (map static_view b.place.types.items)
+      → new ≡ old ++ typing_detail s b
+  detail_missing e mid new m h first is so second =
+      let E = typing_environment_of s e in
+      let x = b.place.form.now in
+      let ts = map static_view b.place.types.items in
+      let words : declared_words E (attribute_of x) ts ≡ what_words E b.fault x ts =
+      ap (λ (c : Bool). if c then declared_words E (attribute_of x) ts else types_words ts) (sym so ∙ is) in
+      detail_there e mid new h first (second ∙ ap (λ l. mid ++ l) words)
+
+  pub detail_other : (e : EnvironmentOf) (mid new : List ℕ) (m : Bool) → slice_get s.environments b.environment ≡ Some e
+      → mid ≡ old ++ environment_words e → m ≡ is_missing b.fault → m ≡ false
+      → new ≡ mid ++ types_words (map static_view b.place.types.items) → new ≡ old ++ typing_detail s b
+  detail_other e mid new m h first is so second =
+      let E = typing_environment_of s e in
+      let x = b.place.form.now in
+      let ts = map static_view b.place.types.items in
+      let words : types_words ts ≡ what_words E b.fault x ts =
+      ap (λ (c : Bool). if c then declared_words E (attribute_of x) ts else types_words ts) (sym so ∙ is) in
+      detail_there e mid new h first (second ∙ ap (λ l. mid ++ l) words)
+
 -- ---- a declaration
 
-pub not_declared : (b : Bool) (t : types.StaticType) (old mid new : List ℕ) → b ≡ false → mid ≡ old ++ codes ": not declared in "
-    → new ≡ mid ++ type_word t → new ≡ old ++ declaration_words b t
-not_declared b t old mid new h first second =
-    in_turn old mid new (codes ": not declared in ") (type_word t) first second ∙ ap (λ (c : Bool). old ++ declaration_words c t) (sym h)
+pub declaration_is : (b : Bool) (t : types.StaticType) (old mid new before : List ℕ)
+    → before ≡ (if b then codes ": optional in " else codes ": not declared in ") → mid ≡ old ++ before → new ≡ mid ++ type_word t
+    → new ≡ old ++ declaration_words b t
+declaration_is true t old mid new before e first second =
+    in_turn old mid new (codes ": optional in ") (type_word t) (first ∙ ap (λ l. old ++ l) e) second
+declaration_is false t old mid new before e first second =
+    in_turn old mid new (codes ": not declared in ") (type_word t) (first ∙ ap (λ l. old ++ l) e) second

@@ -1,278 +1,358 @@
 -- What each step down does, form by form.
 use Rattle.std.specs.Prelude.{◌≡◌, ℕ, ◌+◌, ◌<◌, List, [], ◌∷◌, ◌++◌, map, length, take, drop, Option, Some, None}
-use Rattle.std.specs.Prelude.{◌-◌, Bool, true, false, slice_get, refl}
-use Rattle.std.proofs.lemmas.Bool.{false≢true}
+use Rattle.std.specs.Prelude.{◌-◌, slice_get, refl}
 use Rattle.std.specs.Borrow.{Bor}
-use Rattle.std.proofs.Common.{sym, ap, ◌∙◌, subst, arith}
-use Rattle.std.proofs.lemmas.List.{map-append, length-append}
+use Rattle.std.proofs.Common.{sym, ap, ◌∙◌, subst, append_assoc, arith}
+use Rattle.std.proofs.lemmas.List.{map-append, length-append, take_at}
 use Rattle.grammar_core.specs.declared.expr.Expr.{Expr}
 use Rattle.grammar_core.specs.declared.expr.Expr.TheVariants as form
 use Rattle.grammar_core.specs.declared.expr.Expr.TheOpen.{Expr-F}
-use Rattle.grammar_core.specs.declared.expr.Expr.TheViews.{out-Expr}
+use Rattle.grammar_core.specs.declared.expr.Expr.TheViews.{out-Expr, roll-Expr, roll-out-Expr}
+use Rattle.grammar_core.specs.declared.operator.Unary.{Unary}
+use Rattle.grammar_core.specs.Size.{height}
 use Rattle.validator.specs.typing.Types as types
-use Rattle.validator.specs.typing.Types.{IsBoolean, false_type}
+use Rattle.validator.specs.typing.Types.{false_type}
 use Rattle.validator.specs.typing.Environment.{Environment, ExpressionFault}
 use Rattle.validator.specs.typing.Gained.{CapabilityList}
 use Rattle.validator.specs.typing.Typing
 use Rattle.validator.specs.typing.Typing.{Types, TypesEach}
 use Rattle.validator.specs.typing.Faults.{Faults}
 use Rattle.validator.specs.typing.Laws.{HaveOneJudgement}
-use Rattle.type_checker.specs.Views.{static_view}
+use Rattle.type_checker.specs.Views.{static_view, boolean_view}
+use Rattle.type_checker.specs.type_capabilities.CapabilityList.{capabilities}
+use Rattle.type_checker.specs.type_capabilities.declared.capability.Capability.{Capability}
+use Rattle.type_checker.specs.declared.static_type.BooleanType.{BooleanType}
 use Rattle.type_checker.specs.declared.static_type.StaticType.{StaticType}
-use Rattle.type_checker.specs.declared.typed.Typed.{Typed}
 use Rattle.fault_paths.specs.declared.steps.Step.{Step}
 use Rattle.fault_paths.specs.declared.steps.Step.TheVariants as step
-use Rattle.typing.specs.BlamedExpressions.{Blame, at_itself, at_operand, under, blamed}
+use Rattle.typing.specs.BlamedExpressions.{Blame, under, blamed}
 use Rattle.typing.specs.Places.{operands_in, operands_of}
-use Rattle.fault_paths.specs.inner.Steps.{IsStep, IsStepAmong, IsFound, KeepsType, StopsAt, StopsAtItself, last_of, stopped}
+use Rattle.fault_paths.specs.inner.Steps.{IsUntyped, IsTyped, GoesDown, StopsAt, IsStep, IsStepAmong, operand_blamed, last_of, stopped}
+use Rattle.fault_paths.proofs.Finding.{boolean_so, pairs_append}
 use Rattle.typing.proofs.Layers.{EachFaults, LayerFaults, layer}
 use Rattle.typing.proofs.Items.{within, parted, grown, as_many, all_taken}
 use Rattle.typing.proofs.Going
-use Rattle.typing.proofs.Going.{Goes}
 use Rattle.typing.proofs.Lower.{lower, lower_at}
 
--- that this much is blamed is as the step says
-abbrev pub Says : Environment → CapabilityList → Expr → Blame → Type 0
-Says env K x d = (n : ExpressionFault) (h : Faults env K x n) → blamed h ≡ d
+-- what was gained is forgotten again
+pub forgotten : {env : Environment} {ps qs rs : List Capability} {ts us : List StaticType} {a : Expr} {o : Option BooleanType} (n : ℕ)
+    → n ≡ length ps → IsTyped env ps ts a qs us o → rs ≡ take n qs → rs ≡ ps
+forgotten {ps = ps} n e t f = f ∙ (ap (take n) t.extended ∙ take_at ps t.gained n (sym e))
 
-module _ (env : Environment) (K J : CapabilityList) (x : Expr) where
-  pub stop_is : (i : ℕ) (k : StaticType) (st : Step) → StopsAt i k st → Says env K x (at_operand i x (static_view k ∷ []))
-      → IsStep env K x J st
-  stop_is i k (step.Down j y) s h = absurd s
-  stop_is i k (step.Stop o ts) s h =
-      λ n g. h n g ∙ sym (ap (λ q. stopped x q ts.items) s.0 ∙ ap (λ us. stopped x (Some i) us) s.1)
+pub forgotten_both : {env : Environment} {ps qs gs rs : List Capability} {ts us vs ws : List StaticType} {a b : Expr} {o p : Option BooleanType}
+    (n : ℕ) → n ≡ length ps → IsTyped env ps ts a qs us o → IsTyped env qs vs b gs ws p → rs ≡ take n gs → rs ≡ ps
+forgotten_both {ps = ps} n e t g f =
+    f ∙ (ap (take n) (g.extended ∙ (ap (λ l. l ++ g.gained) t.extended ∙ append_assoc ps t.gained g.gained))
+    ∙ take_at ps (t.gained ++ g.gained) n (sym e))
 
-  pub stop_is_itself : (p q : StaticType) (st : Step) → StopsAtItself p q st
-      → Says env K x (at_itself x (static_view p ∷ static_view q ∷ [])) → IsStep env K x J st
-  stop_is_itself p q (step.Down j y) s h = absurd s
-  stop_is_itself p q (step.Stop o ts) s h =
-      λ n g. h n g ∙ sym (ap (λ r. stopped x r ts.items) s.0 ∙ ap (λ us. stopped x None us) s.1)
+-- one type
+only : (ts us : List StaticType) (k : StaticType) → ts ≡ [] → us ≡ ts ++ k ∷ [] → us ≡ k ∷ []
+only ts us k e f = f ∙ ap (λ vs. vs ++ k ∷ []) e
 
-module _ (one : HaveOneJudgement) (env : Environment) (K : CapabilityList) where
+-- two types
+two : (ts us ws : List StaticType) (k m : StaticType) → ts ≡ [] → us ≡ ts ++ k ∷ [] → ws ≡ us ++ m ∷ [] → ws ≡ k ∷ m ∷ []
+two ts us ws k m e f g = g ∙ ap (λ vs. vs ++ m ∷ []) (only ts us k e f)
+
+module _ (one : HaveOneJudgement) (env : Environment) (ps : List Capability) where
+  -- the way down under pairs that are these
+  abbrev Below : Expr → ℕ → Expr → CapabilityList → Type 0
+  Below x i y M = (height y < height x)
+      × ((n : ExpressionFault) (h : Faults env (capabilities ps) x n) → (g : Faults env M y n) × (blamed h ≡ under i (blamed g)))
+
+  -- under what the first operand gains, too
+  faulty_behind : {ts us : List StaticType} {qs rs : List Capability} {a b : Expr} {o : Option BooleanType}
+      (h : IsTyped env ps ts a qs us o) (u : IsUntyped env qs b rs) → Faults env (capabilities ps ++ capabilities h.gained) b u.error
+  faulty_behind {qs = qs} {b = b} h u = subst (λ M. Faults env M b u.error) (pairs_append ps h.gained qs h.extended) u.has_error
+
+  typed_behind : {ts us vs ws : List StaticType} {qs rs : List Capability} {a b : Expr} {o t : Option BooleanType}
+      (h : IsTyped env ps ts a qs us o) (g : IsTyped env qs vs b rs ws t)
+      → Types env (capabilities ps ++ capabilities h.gained) b (static_view g.kind) (capabilities g.gained)
+  typed_behind {qs = qs} {b = b} h g =
+      subst (λ M. Types env M b (static_view g.kind) (capabilities g.gained)) (pairs_append ps h.gained qs h.extended) g.typed
+
+  known_behind : {ts us : List StaticType} {qs rs : List Capability} {a b : Expr} {o : Option BooleanType}
+      (h : IsTyped env ps ts a qs us o) (u : IsUntyped env qs b rs) → capabilities rs ≡ capabilities ps ++ capabilities h.gained
+  known_behind {qs = qs} h u = ap capabilities u.unchanged ∙ pairs_append ps h.gained qs h.extended
+
   -- ---- `&&`
 
-  pub and_down_left : (x : Expr) (y : Bor Expr) (b : Expr) {m : ExpressionFault} → x ≡ form.And y.now b → Faults env K y.now m
-      → IsStep env K x K (step.Down 0 y)
-  and_down_left x y b e f =
-      let o = ap out-Expr e ∙ form.outs-And y.now b in (
-        lower_at x (Expr-F.And y.now b) o [] (b ∷ []) y.now refl,
-        λ n h. Going.and_goes_left one env x y.now b f (layer env (Expr-F.And y.now b) o h),
+  pub and_down_left : (a b : Expr) {qs : List Capability} → IsUntyped env ps a qs → GoesDown env ps (form.And a b) qs 0 a
+  and_down_left a b u =
+      let o = form.outs-And a b in
+      let x = form.And a b in
+      subst (λ M. Below x 0 a M) (sym (ap capabilities u.unchanged)) (
+        lower_at x (Expr-F.And a b) o [] (b ∷ []) a refl,
+        λ n h. Going.and_goes_left one env x a b u.has_error (layer env (Expr-F.And a b) o h),
       )
 
-  pub and_stop_left : (a b : Expr) {s : types.StaticType} {L : CapabilityList} → Types env K a s L → ¬ IsBoolean s
-      → Says env K (form.And a b) (at_operand 0 (form.And a b) (s ∷ []))
-  and_stop_left a b t i n h =
-      Going.and_stops_left one env (form.And a b) a b t i (layer env (Expr-F.And a b) (form.outs-And a b) h)
+  pub and_stop_left : (a b : Expr) {ts us : List StaticType} {qs : List Capability} → ts ≡ [] → IsTyped env ps ts a qs us None
+      → StopsAt env ps (form.And a b) (Some 0) us
+  and_stop_left a b {ts} {us} e t n h =
+      let x = form.And a b in
+      Going.and_stops_left one env x a b t.typed t.boolean (layer env (Expr-F.And a b) (form.outs-And a b) h)
+      ∙ ap (λ vs. stopped x (Some 0) vs) (sym (only ts us t.kind e t.appended))
 
-  pub and_down_right : (a : Expr) (y : Bor Expr) (J : CapabilityList) {s : types.StaticType} {L : CapabilityList} {m : ExpressionFault}
-      → Types env K a s L → IsBoolean s → J ≡ K ++ L → Faults env (K ++ L) y.now m
-      → IsStep env K (form.And a y.now) J (step.Down 1 y)
-  and_down_right a y J {s} {L} t i e f =
-      let o = form.outs-And a y.now in
-      let x = form.And a y.now in
-      subst (λ M. IsStep env K x M (step.Down 1 y)) (sym e) (
-        lower_at x (Expr-F.And a y.now) o (a ∷ []) [] y.now refl,
-        λ n h. Going.and_is_sound one env x a y.now t i f (layer env (Expr-F.And a y.now) o h),
+  pub and_down_right : (a b : Expr) {ts us : List StaticType} {qs rs : List Capability} {k : BooleanType}
+      → IsTyped env ps ts a qs us (Some k) → IsUntyped env qs b rs → GoesDown env ps (form.And a b) rs 1 b
+  and_down_right a b {k = k} t u =
+      let o = form.outs-And a b in
+      let x = form.And a b in
+      subst (λ M. Below x 1 b M) (sym (known_behind t u)) (
+        lower_at x (Expr-F.And a b) o (a ∷ []) [] b refl,
+        λ n h. Going.and_is_sound one env x a b t.typed (boolean_so k t.boolean) (faulty_behind t u) (layer env (Expr-F.And a b) o h),
       )
 
-  pub and_stop_right : (a b : Expr) {s u : types.StaticType} {L M : CapabilityList} → Types env K a s L → IsBoolean s
-      → Types env (K ++ L) b u M → Says env K (form.And a b) (at_operand 1 (form.And a b) (u ∷ []))
-  and_stop_right a b t i g n h =
-      Going.and_stops_right one env (form.And a b) a b t i g (layer env (Expr-F.And a b) (form.outs-And a b) h)
+  pub and_stop_right : (a b : Expr) {ts us vs ws : List StaticType} {qs rs : List Capability} {k : BooleanType} {o : Option BooleanType}
+      → IsTyped env ps ts a qs us (Some k) → vs ≡ [] → IsTyped env qs vs b rs ws o → StopsAt env ps (form.And a b) (Some 1) ws
+  and_stop_right a b {vs = vs} {ws = ws} {k = k} t e g n h =
+      let x = form.And a b in
+      Going.and_stops_right one env x a b t.typed (boolean_so k t.boolean) (typed_behind t g)
+      (layer env (Expr-F.And a b) (form.outs-And a b) h)
+      ∙ ap (λ us. stopped x (Some 1) us) (sym (only vs ws g.kind e g.appended))
 
   -- ---- `||`
 
-  pub or_down_left : (x : Expr) (y : Bor Expr) (b : Expr) {m : ExpressionFault} → x ≡ form.Or y.now b → Faults env K y.now m
-      → IsStep env K x K (step.Down 0 y)
-  or_down_left x y b e f =
-      let o = ap out-Expr e ∙ form.outs-Or y.now b in (
-        lower_at x (Expr-F.Or y.now b) o [] (b ∷ []) y.now refl,
-        λ n h. Going.or_goes_left one env x y.now b f (layer env (Expr-F.Or y.now b) o h),
+  pub or_down_left : (a b : Expr) {qs : List Capability} → IsUntyped env ps a qs → GoesDown env ps (form.Or a b) qs 0 a
+  or_down_left a b u =
+      let o = form.outs-Or a b in
+      let x = form.Or a b in
+      subst (λ M. Below x 0 a M) (sym (ap capabilities u.unchanged)) (
+        lower_at x (Expr-F.Or a b) o [] (b ∷ []) a refl,
+        λ n h. Going.or_goes_left one env x a b u.has_error (layer env (Expr-F.Or a b) o h),
       )
 
-  pub or_stop_left : (a b : Expr) {s : types.StaticType} {L : CapabilityList} → Types env K a s L → ¬ IsBoolean s
-      → Says env K (form.Or a b) (at_operand 0 (form.Or a b) (s ∷ []))
-  or_stop_left a b t i n h =
-      Going.or_stops_left one env (form.Or a b) a b t i (layer env (Expr-F.Or a b) (form.outs-Or a b) h)
+  pub or_stop_left : (a b : Expr) {ts us : List StaticType} {qs : List Capability} → ts ≡ [] → IsTyped env ps ts a qs us None
+      → StopsAt env ps (form.Or a b) (Some 0) us
+  or_stop_left a b {ts} {us} e t n h =
+      let x = form.Or a b in
+      Going.or_stops_left one env x a b t.typed t.boolean (layer env (Expr-F.Or a b) (form.outs-Or a b) h)
+      ∙ ap (λ vs. stopped x (Some 0) vs) (sym (only ts us t.kind e t.appended))
 
-  pub or_down_right : (a : Expr) (y : Bor Expr) {s : types.StaticType} {L : CapabilityList} {m : ExpressionFault}
-      → Types env K a s L → IsBoolean s → Faults env K y.now m → IsStep env K (form.Or a y.now) K (step.Down 1 y)
-  or_down_right a y t i f =
-      let o = form.outs-Or a y.now in
-      let x = form.Or a y.now in (
-        lower_at x (Expr-F.Or a y.now) o (a ∷ []) [] y.now refl,
-        λ n h. Going.or_is_sound one env x a y.now t i f (layer env (Expr-F.Or a y.now) o h),
+  pub or_down_right : (a b : Expr) {ts us : List StaticType} {qs fs rs : List Capability} {k : BooleanType}
+      → IsTyped env ps ts a qs us (Some k) → fs ≡ ps → IsUntyped env fs b rs → GoesDown env ps (form.Or a b) rs 1 b
+  or_down_right a b {k = k} t e u =
+      let o = form.outs-Or a b in
+      let x = form.Or a b in
+      let f = subst (λ gs. Faults env (capabilities gs) b u.error) e u.has_error in
+      subst (λ M. Below x 1 b M) (sym (ap capabilities (u.unchanged ∙ e))) (
+        lower_at x (Expr-F.Or a b) o (a ∷ []) [] b refl,
+        λ n h. Going.or_is_sound one env x a b t.typed (boolean_so k t.boolean) f (layer env (Expr-F.Or a b) o h),
       )
 
-  pub or_stop_right : (a b : Expr) {s u : types.StaticType} {L M : CapabilityList} → Types env K a s L → IsBoolean s
-      → Types env K b u M → Says env K (form.Or a b) (at_operand 1 (form.Or a b) (u ∷ []))
-  or_stop_right a b t i g n h =
-      Going.or_stops_right one env (form.Or a b) a b t i g (layer env (Expr-F.Or a b) (form.outs-Or a b) h)
+  pub or_stop_right : (a b : Expr) {ts us vs ws : List StaticType} {qs fs rs : List Capability} {k : BooleanType} {o : Option BooleanType}
+      → IsTyped env ps ts a qs us (Some k) → fs ≡ ps → vs ≡ [] → IsTyped env fs vs b rs ws o → StopsAt env ps (form.Or a b) (Some 1) ws
+  or_stop_right a b {vs = vs} {ws = ws} {k = k} t e f g n h =
+      let x = form.Or a b in
+      let s = subst (λ gs. Types env (capabilities gs) b (static_view g.kind) (capabilities g.gained)) e g.typed in
+      Going.or_stops_right one env x a b t.typed (boolean_so k t.boolean) s (layer env (Expr-F.Or a b) (form.outs-Or a b) h)
+      ∙ ap (λ us. stopped x (Some 1) us) (sym (only vs ws g.kind f g.appended))
 
   -- ---- `if`
 
-  pub if_down_test : (x : Expr) (y : Bor Expr) (b c : Expr) {m : ExpressionFault} → x ≡ form.If y.now b c
-      → Faults env K y.now m → IsStep env K x K (step.Down 0 y)
-  if_down_test x y b c e f =
-      let o = ap out-Expr e ∙ form.outs-If y.now b c in (
-        lower_at x (Expr-F.If y.now b c) o [] (b ∷ c ∷ []) y.now refl,
-        λ n h. Going.if_goes_test one env x y.now b c f (layer env (Expr-F.If y.now b c) o h),
+  pub if_down_test : (a b c : Expr) {qs : List Capability} → IsUntyped env ps a qs → GoesDown env ps (form.If a b c) qs 0 a
+  if_down_test a b c u =
+      let o = form.outs-If a b c in
+      let x = form.If a b c in
+      subst (λ M. Below x 0 a M) (sym (ap capabilities u.unchanged)) (
+        lower_at x (Expr-F.If a b c) o [] (b ∷ c ∷ []) a refl,
+        λ n h. Going.if_goes_test one env x a b c u.has_error (layer env (Expr-F.If a b c) o h),
       )
 
-  pub if_stop_test : (a b c : Expr) {s : types.StaticType} {L : CapabilityList} → Types env K a s L → ¬ IsBoolean s
-      → Says env K (form.If a b c) (at_operand 0 (form.If a b c) (s ∷ []))
-  if_stop_test a b c t i n h =
-      Going.if_stops_test one env (form.If a b c) a b c t i (layer env (Expr-F.If a b c) (form.outs-If a b c) h)
+  pub if_stop_test : (a b c : Expr) {ts us : List StaticType} {qs : List Capability} → ts ≡ [] → IsTyped env ps ts a qs us None
+      → StopsAt env ps (form.If a b c) (Some 0) us
+  if_stop_test a b c {ts} {us} e t n h =
+      let x = form.If a b c in
+      Going.if_stops_test one env x a b c t.typed t.boolean (layer env (Expr-F.If a b c) (form.outs-If a b c) h)
+      ∙ ap (λ vs. stopped x (Some 0) vs) (sym (only ts us t.kind e t.appended))
 
-  pub if_down_only_else : (a b : Expr) (y : Bor Expr) {s : types.StaticType} {L : CapabilityList} → Types env K a s L → s ≡ false_type
-      → IsStep env K (form.If a b y.now) K (step.Down 2 y)
-  if_down_only_else a b y {s} {L} t e =
-      let o = form.outs-If a b y.now in
-      let x = form.If a b y.now in (
-        lower_at x (Expr-F.If a b y.now) o (a ∷ b ∷ []) [] y.now refl,
-        λ n h. Going.if_goes_only_else one env x a b y.now (subst (λ u. Types env K a u L) e t)
-            (layer env (Expr-F.If a b y.now) o h),
+  pub if_down_only_else : (a b c : Expr) {ts us : List StaticType} {qs rs : List Capability} {k : BooleanType}
+      → IsTyped env ps ts a qs us (Some k) → boolean_view k ≡ false_type → rs ≡ ps → GoesDown env ps (form.If a b c) rs 2 c
+  if_down_only_else a b c {k = k} t r e =
+      let o = form.outs-If a b c in
+      let x = form.If a b c in
+      let f = subst (λ s. Types env (capabilities ps) a s (capabilities t.gained)) (t.boolean ∙ r) t.typed in
+      subst (λ M. Below x 2 c M) (sym (ap capabilities e)) (
+        lower_at x (Expr-F.If a b c) o (a ∷ b ∷ []) [] c refl,
+        λ n h. Going.if_goes_only_else one env x a b c f (layer env (Expr-F.If a b c) o h),
       )
 
-  pub if_down_then : (a : Expr) (y : Bor Expr) (c : Expr) (J : CapabilityList) {s : types.StaticType} {L : CapabilityList} {m : ExpressionFault}
-      → Types env K a s L → IsBoolean s → ¬ (s ≡ false_type) → J ≡ K ++ L → Faults env (K ++ L) y.now m
-      → IsStep env K (form.If a y.now c) J (step.Down 1 y)
-  if_down_then a y c J {s} {L} t i r e f =
-      let o = form.outs-If a y.now c in
-      let x = form.If a y.now c in
-      subst (λ M. IsStep env K x M (step.Down 1 y)) (sym e) (
-        lower_at x (Expr-F.If a y.now c) o (a ∷ []) (c ∷ []) y.now refl,
-        λ n h. Going.if_goes_then one env x a y.now c t i r f (layer env (Expr-F.If a y.now c) o h),
+  pub if_down_then : (a b c : Expr) {ts us : List StaticType} {qs rs : List Capability} {k : BooleanType}
+      → IsTyped env ps ts a qs us (Some k) → ¬ (boolean_view k ≡ false_type) → IsUntyped env qs b rs
+      → GoesDown env ps (form.If a b c) rs 1 b
+  if_down_then a b c {k = k} t r u =
+      let o = form.outs-If a b c in
+      let x = form.If a b c in
+      subst (λ M. Below x 1 b M) (sym (known_behind t u)) (
+        lower_at x (Expr-F.If a b c) o (a ∷ []) (c ∷ []) b refl,
+        λ n h. Going.if_goes_then one env x a b c t.typed (boolean_so k t.boolean) (λ e. r (sym t.boolean ∙ e)) (faulty_behind t u)
+            (layer env (Expr-F.If a b c) o h),
       )
 
-  pub if_down_else : (a b : Expr) (y : Bor Expr) {s u : types.StaticType} {L M : CapabilityList} {m : ExpressionFault} → Types env K a s L
-      → IsBoolean s → ¬ (s ≡ false_type) → Types env (K ++ L) b u M → Faults env K y.now m
-      → IsStep env K (form.If a b y.now) K (step.Down 2 y)
-  if_down_else a b y t i r g f =
-      let o = form.outs-If a b y.now in
-      let x = form.If a b y.now in (
-        lower_at x (Expr-F.If a b y.now) o (a ∷ b ∷ []) [] y.now refl,
-        λ n h. Going.if_goes_else one env x a b y.now t i r g f (layer env (Expr-F.If a b y.now) o h),
+  pub if_down_else : (a b c : Expr) {ts us vs ws : List StaticType} {qs gs fs rs : List Capability} {k : BooleanType} {o : Option BooleanType}
+      → IsTyped env ps ts a qs us (Some k) → ¬ (boolean_view k ≡ false_type) → IsTyped env qs vs b gs ws o
+      → fs ≡ ps → IsUntyped env fs c rs → GoesDown env ps (form.If a b c) rs 2 c
+  if_down_else a b c {k = k} t r g e u =
+      let o = form.outs-If a b c in
+      let x = form.If a b c in
+      let f = subst (λ hs. Faults env (capabilities hs) c u.error) e u.has_error in
+      subst (λ M. Below x 2 c M) (sym (ap capabilities (u.unchanged ∙ e))) (
+        lower_at x (Expr-F.If a b c) o (a ∷ b ∷ []) [] c refl,
+        λ n h. Going.if_goes_else one env x a b c t.typed (boolean_so k t.boolean) (λ e. r (sym t.boolean ∙ e)) (typed_behind t g) f
+            (layer env (Expr-F.If a b c) o h),
       )
 
-  pub if_stop : (a b c : Expr) {s u w : types.StaticType} {L M N : CapabilityList} → Types env K a s L → IsBoolean s
-      → ¬ (s ≡ false_type) → Types env (K ++ L) b u M → Types env K c w N
-      → Says env K (form.If a b c) (at_itself (form.If a b c) (u ∷ w ∷ []))
-  if_stop a b c t i r g k n h =
-      Going.if_stops one env (form.If a b c) a b c t i r g k (layer env (Expr-F.If a b c) (form.outs-If a b c) h)
+  pub if_stop : (a b c : Expr) {ts us vs ws zs : List StaticType} {qs gs fs rs : List Capability} {k : BooleanType} {o p : Option BooleanType}
+      → IsTyped env ps ts a qs us (Some k) → ¬ (boolean_view k ≡ false_type) → vs ≡ [] → IsTyped env qs vs b gs ws o
+      → fs ≡ ps → IsTyped env fs ws c rs zs p → StopsAt env ps (form.If a b c) None zs
+  if_stop a b c {vs = vs} {ws = ws} {zs = zs} {k = k} t r none g e i n h =
+      let x = form.If a b c in
+      let s = subst (λ hs. Types env (capabilities hs) c (static_view i.kind) (capabilities i.gained)) e i.typed in
+      Going.if_stops one env x a b c t.typed (boolean_so k t.boolean) (λ e. r (sym t.boolean ∙ e)) (typed_behind t g) s
+      (layer env (Expr-F.If a b c) (form.outs-If a b c) h)
+      ∙ ap (λ us. stopped x None us) (sym (two vs ws zs g.kind i.kind none g.appended i.appended))
 
   -- ---- the other forms
 
   -- x is of a form that wants the types of all operands, and blames this one, or itself
-  abbrev pub WantsAll : Expr → Expr-F Expr → Option ℕ → Type 0
-  WantsAll x y o = (n : ExpressionFault) (d : Blame) → LayerFaults env K x y n d
-      → EachFaults env K (operands_in y) (λ ts. record { path = last_of o; form = x; types = ts }) n d
+  abbrev WantsAll : Expr → Expr-F Expr → Option ℕ → Type 0
+  WantsAll x y o = (n : ExpressionFault) (d : Blame) → LayerFaults env (capabilities ps) x y n d
+      → EachFaults env (capabilities ps) (operands_in y) (λ ts. record { path = last_of o; form = x; types = ts }) n d
 
-  pub among_is : (x : Expr) (y : Expr-F Expr) (o : Option ℕ) (st : Step) → out-Expr x ≡ y → WantsAll x y o
-      → IsStepAmong env K x o st → IsStep env K x K st
-  among_is x y o (step.Down i z) e w s =
+  among_is : (x : Expr) (y : Expr-F Expr) (qs : List Capability) (ts : List StaticType) (st : Step) → out-Expr x ≡ y
+      → WantsAll x y (operand_blamed y) → IsStepAmong env ps x qs ts st → IsStep env ps x qs ts st
+  among_is x y qs ts (step.Down i z) e w s =
       let before = s.0 in
       let rest = s.1 in
-      let operands = ap operands_in (sym e) ∙ s.4 in (
+      let operands = ap operands_in (sym e) ∙ s.4 in
+      let B : List types.StaticType → Blame = λ ts. record { path = last_of (operand_blamed y); form = x; types = ts } in
+      subst (λ M. Below x i z.now M) (sym (ap capabilities s.8)) (
         lower x before rest z.now s.4,
         λ n h.
-            let B : List types.StaticType → Blame = λ ts. record { path = last_of o; form = x; types = ts } in
-            let each = subst (λ ys. EachFaults env K ys B n (blamed h)) operands (w n (blamed h) (layer env y e h)) in
+            let each = subst (λ ys. EachFaults env (capabilities ps) ys B n (blamed h)) operands (w n (blamed h) (layer env y e h)) in
             let g = Going.each_goes one env before rest z.now B s.6 s.7 each in
             (g.0, g.1 ∙ ap (λ j. under j (blamed g.0)) s.5),
       )
-  among_is x y o (step.Stop p ts) e w s = λ n h.
-      let B : List types.StaticType → Blame = λ us. record { path = last_of o; form = x; types = us } in
-      let t = subst (λ ys. TypesEach env K (operands_in ys) (map static_view ts.items)) e s.1 in
+  among_is x y qs ts (step.Stop o) e w s = λ n h.
+      let B : List types.StaticType → Blame = λ us. record { path = last_of (operand_blamed y); form = x; types = us } in
+      let t = subst (λ ys. TypesEach env (capabilities ps) (operands_in ys) (map static_view ts)) e s.1 in
       Going.each_stops one env (operands_in y) B t (w n (blamed h) (layer env y e h))
-      ∙ ap (λ q. stopped x q ts.items) (sym s.0)
+      ∙ ap (λ q. stopped x q ts) (sym (s.0 ∙ ap operand_blamed e))
 
-module _ (env : Environment) (K : CapabilityList) where
-  each_more : {xs : List Expr} {ts : List types.StaticType} {x : Expr} {t : types.StaticType} {L : CapabilityList} → TypesEach env K xs ts
-      → Types env K x t L → TypesEach env K (xs ++ x ∷ []) (ts ++ t ∷ [])
-  each_more Typing.types_none h = Typing.types_more h Typing.types_none
-  each_more (Typing.types_more g gs) h = Typing.types_more g (each_more gs h)
+  pub other_step : (x : Expr) (qs : List Capability) (ts : List StaticType) (st : Step)
+      → ((a b c : Expr) → x ≡ form.If a b c → ⊥) → ((a b : Expr) → x ≡ form.And a b → ⊥) → ((a b : Expr) → x ≡ form.Or a b → ⊥)
+      → IsStepAmong env ps x qs ts st → IsStep env ps x qs ts st
+  other_step x qs ts st no_if no_and no_or h = at (out-Expr x) refl
+    where
+      is : (y : Expr-F Expr) (z : Expr) → out-Expr x ≡ y → roll-Expr y ≡ z → x ≡ z
+      is y z e f = sym (roll-out-Expr x) ∙ (ap roll-Expr e ∙ f)
 
-  pub among_down : (x : Expr) (o : Option ℕ) (i : ℕ) (y : Bor Expr) (ts : List types.StaticType)
-      → slice_get (operands_of x) i ≡ Some y.now → TypesEach env K (take i (operands_of x)) ts
-      → ((n : ExpressionFault) × Faults env K y.now n) → IsStepAmong env K x o (step.Down i y)
-  among_down x o i y ts e h f =
+      at : (y : Expr-F Expr) → out-Expr x ≡ y → IsStep env ps x qs ts st
+      at (Expr-F.If a b c) e = absurd (no_if a b c (is (Expr-F.If a b c) (form.If a b c) e (form.rolls-If a b c)))
+      at (Expr-F.And a b) e = absurd (no_and a b (is (Expr-F.And a b) (form.And a b) e (form.rolls-And a b)))
+      at (Expr-F.Or a b) e = absurd (no_or a b (is (Expr-F.Or a b) (form.Or a b) e (form.rolls-Or a b)))
+      at (Expr-F.Literal l) e = among_is x (Expr-F.Literal l) qs ts st e (λ n d k. absurd k) h
+      at (Expr-F.Variable v) e = among_is x (Expr-F.Variable v) qs ts st e (λ n d k. absurd k) h
+      at (Expr-F.Unary op a) e = among_is x (Expr-F.Unary op a) qs ts st e (λ n d k. k) h
+      at (Expr-F.Has a name) e = among_is x (Expr-F.Has a name) qs ts st e (λ n d k. k) h
+      at (Expr-F.Binary op a b) e = among_is x (Expr-F.Binary op a b) qs ts st e (λ n d k. k) h
+      at (Expr-F.Field a name) e = among_is x (Expr-F.Field a name) qs ts st e (λ n d k. k) h
+      at (Expr-F.Set xs) e = among_is x (Expr-F.Set xs) qs ts st e (λ n d k. k) h
+      at (Expr-F.Record fs) e = among_is x (Expr-F.Record fs) qs ts st e (λ n d k. k) h
+      at (Expr-F.UnaryCall called a) e = among_is x (Expr-F.UnaryCall called a) qs ts st e (λ n d k. k) h
+      at (Expr-F.BinaryCall called a b) e = among_is x (Expr-F.BinaryCall called a b) qs ts st e (λ n d k. k) h
+
+-- the operand that is blamed, of a form that is known
+
+pub blamed_at : (x w : Expr) (y : Expr-F Expr) → x ≡ w → out-Expr w ≡ y → operand_blamed y ≡ operand_blamed (out-Expr x)
+blamed_at x w y e f = sym (ap operand_blamed (ap out-Expr e ∙ f))
+
+pub blamed_itself : (x : Expr) → ((op : Unary) (a : Expr) → x ≡ form.Unary op a → ⊥) → ((a : Expr) (name : List ℕ) → x ≡ form.Has a name → ⊥)
+    → None ≡ operand_blamed (out-Expr x)
+blamed_itself x no_unary no_has = at (out-Expr x) refl
+  where
+    is : (y : Expr-F Expr) (z : Expr) → out-Expr x ≡ y → roll-Expr y ≡ z → x ≡ z
+    is y z e f = sym (roll-out-Expr x) ∙ (ap roll-Expr e ∙ f)
+
+    at : (y : Expr-F Expr) → out-Expr x ≡ y → None ≡ operand_blamed y
+    at (Expr-F.Unary op a) e = absurd (no_unary op a (is (Expr-F.Unary op a) (form.Unary op a) e (form.rolls-Unary op a)))
+    at (Expr-F.Has a name) e = absurd (no_has a name (is (Expr-F.Has a name) (form.Has a name) e (form.rolls-Has a name)))
+    at (Expr-F.If a b c) e = refl
+    at (Expr-F.And a b) e = refl
+    at (Expr-F.Or a b) e = refl
+    at (Expr-F.Literal l) e = refl
+    at (Expr-F.Variable v) e = refl
+    at (Expr-F.Binary op a b) e = refl
+    at (Expr-F.Field a name) e = refl
+    at (Expr-F.Set xs) e = refl
+    at (Expr-F.Record fs) e = refl
+    at (Expr-F.UnaryCall called a) e = refl
+    at (Expr-F.BinaryCall called a b) e = refl
+
+each_more : {env : Environment} {K : CapabilityList} {xs : List Expr} {ts : List types.StaticType} {x : Expr} {t : types.StaticType} {L : CapabilityList}
+    → TypesEach env K xs ts → Types env K x t L → TypesEach env K (xs ++ x ∷ []) (ts ++ t ∷ [])
+each_more Typing.types_none h = Typing.types_more h Typing.types_none
+each_more (Typing.types_more g gs) h = Typing.types_more g (each_more gs h)
+
+module _ (env : Environment) (ps : List Capability) (x : Expr) where
+  -- the first operands, as many as there are types, have these
+  abbrev pub TypedSoFar : List StaticType → Type 0
+  TypedSoFar ts = TypesEach env (capabilities ps) (take (length ts) (operands_of x)) (map static_view ts)
+
+  pub among_start : (ts : List StaticType) → ts ≡ [] → TypedSoFar ts
+  among_start ts e = subst TypedSoFar (sym e) Typing.types_none
+
+  pub among_down : (i : ℕ) (y : Bor Expr) (ts vs : List StaticType) (ks qs : List Capability)
+      → i ≡ length ts → slice_get (operands_of x) i ≡ Some y.now → ks ≡ ps → TypedSoFar ts → IsUntyped env ks y.now qs
+      → IsStepAmong env ps x qs vs (step.Down i y)
+  among_down i y ts vs ks qs e f k h u =
       let xs = operands_of x in
-      (take i xs, drop (i + 1) xs, ts, f.0, parted xs i y.now e, as_many xs i y.now e, h, f.1)
+      let t = subst (λ j. TypesEach env (capabilities ps) (take j xs) (map static_view ts)) (sym e) h in
+      let g = subst (λ gs. Faults env (capabilities gs) y.now u.error) k u.has_error in
+      (take i xs, drop (i + 1) xs, map static_view ts, u.error, parted xs i y.now f, as_many xs i y.now f, t, g, u.unchanged ∙ k)
 
-  pub among_end : (x : Expr) (i : ℕ) (ts : List types.StaticType) → slice_get (operands_of x) i ≡ None
-      → TypesEach env K (take i (operands_of x)) ts → TypesEach env K (operands_of x) ts
-  among_end x i ts e h = subst (λ ys. TypesEach env K ys ts) (all_taken (operands_of x) i e) h
-
-  pub among_more : (x : Expr) (ts us : List StaticType) (k : StaticType) (y : Expr) {L : CapabilityList}
-      → slice_get (operands_of x) (length ts) ≡ Some y → TypesEach env K (take (length ts) (operands_of x)) (map static_view ts)
-      → Types env K y (static_view k) L → us ≡ ts ++ k ∷ []
-      → TypesEach env K (take (length us) (operands_of x)) (map static_view us)
-  among_more x ts us k y e h t is =
+  pub among_end : (i : ℕ) (ts : List StaticType) → i ≡ length ts → slice_get (operands_of x) i ≡ None → TypedSoFar ts
+      → TypesEach env (capabilities ps) (operands_of x) (map static_view ts)
+  among_end i ts e f h =
       let xs = operands_of x in
-      let count : length us ≡ length ts + 1 = ap length is ∙ length-append ts (k ∷ []) in
-      let more = each_more h t in
-      let types_are : map static_view ts ++ static_view k ∷ [] ≡ map static_view us =
-      sym (ap (map static_view) is ∙ map-append static_view ts (k ∷ [])) in
+      subst (λ ys. TypesEach env (capabilities ps) ys (map static_view ts)) (all_taken xs i f)
+      (subst (λ j. TypesEach env (capabilities ps) (take j xs) (map static_view ts)) (sym e) h)
+
+  pub among_more : (i : ℕ) (y : Expr) (ts us : List StaticType) (ks qs : List Capability) {o : Option BooleanType} → i ≡ length ts
+      → slice_get (operands_of x) i ≡ Some y → ks ≡ ps → TypedSoFar ts → IsTyped env ks ts y qs us o → TypedSoFar us
+  among_more i y ts us ks qs e f k h t =
+      let xs = operands_of x in
+      let count : length us ≡ length ts + 1 = ap length t.appended ∙ length-append ts (t.kind ∷ []) in
+      let typed = subst (λ gs. Types env (capabilities gs) y (static_view t.kind) (capabilities t.gained)) k t.typed in
+      let types_are : map static_view ts ++ static_view t.kind ∷ [] ≡ map static_view us =
+      sym (ap (map static_view) t.appended ∙ map-append static_view ts (t.kind ∷ [])) in
+      let there = subst (λ j. slice_get xs j ≡ Some y) e f in
       let operands_are : take (length ts) xs ++ y ∷ [] ≡ take (length us) xs =
-      sym (ap (λ j. take j xs) count ∙ grown xs (length ts) y e) in
-      subst (λ ys. TypesEach env K ys (map static_view us)) operands_are
-      (subst (λ vs. TypesEach env K (take (length ts) xs ++ y ∷ []) vs) types_are more)
+      sym (ap (λ j. take j xs) count ∙ grown xs (length ts) y there) in
+      subst (λ ys. TypesEach env (capabilities ps) ys (map static_view us)) operands_are
+      (subst (λ vs. TypesEach env (capabilities ps) (take (length ts) xs ++ y ∷ []) vs) types_are (each_more h typed))
 
-  pub among_start : (x : Expr) (ts : List StaticType) → ts ≡ [] → TypesEach env K (take (length ts) (operands_of x)) (map static_view ts)
-  among_start x ts e = subst (λ us. TypesEach env K (take (length us) (operands_of x)) (map static_view us)) (sym e) Typing.types_none
+  pub among_fewer : (i : ℕ) (y : Expr) (ts us : List StaticType) (ks qs : List Capability) {o : Option BooleanType} → i ≡ length ts
+      → slice_get (operands_of x) i ≡ Some y → IsTyped env ks ts y qs us o
+      → length (operands_of x) - length us < length (operands_of x) - length ts
+  among_fewer i y ts us ks qs e f t =
+      let lt = within (operands_of x) i y f in
+      let count : length us ≡ length ts + 1 = ap length t.appended ∙ length-append ts (t.kind ∷ []) in
+      omega (arith, lt, count, e)
 
-  -- so many types are there
+-- of an expression that is this form
 
-  pub among_down_at : (x : Expr) (o : Option ℕ) (i : ℕ) (y : Bor Expr) (ts : List StaticType) → i ≡ length ts
-      → slice_get (operands_of x) i ≡ Some y.now → TypesEach env K (take (length ts) (operands_of x)) (map static_view ts)
-      → ((n : ExpressionFault) × Faults env K y.now n) → IsStepAmong env K x o (step.Down i y)
-  among_down_at x o i y ts e f h g =
-      among_down x o i y (map static_view ts) f (subst (λ j. TypesEach env K (take j (operands_of x)) (map static_view ts)) (sym e) h) g
+pub and_at : (env : Environment) (ps qs : List Capability) (ts : List StaticType) (st : Step) {x a b c d : Expr} → x ≡ form.And c d
+    → a ≡ c → b ≡ d → IsStep env ps (form.And a b) qs ts st → IsStep env ps x qs ts st
+and_at env ps qs ts st {x} {a} {b} {c} {d} i e f h =
+    subst (λ z. IsStep env ps z qs ts st) (ap (λ z. form.And z b) e ∙ (ap (λ z. form.And c z) f ∙ sym i)) h
 
-  pub among_end_at : (x : Expr) (i : ℕ) (ts : List StaticType) → i ≡ length ts → slice_get (operands_of x) i ≡ None
-      → TypesEach env K (take (length ts) (operands_of x)) (map static_view ts) → TypesEach env K (operands_of x) (map static_view ts)
-  among_end_at x i ts e f h = among_end x (length ts) (map static_view ts) (subst (λ j. slice_get (operands_of x) j ≡ None) e f) h
+pub or_at : (env : Environment) (ps qs : List Capability) (ts : List StaticType) (st : Step) {x a b c d : Expr} → x ≡ form.Or c d
+    → a ≡ c → b ≡ d → IsStep env ps (form.Or a b) qs ts st → IsStep env ps x qs ts st
+or_at env ps qs ts st {x} {a} {b} {c} {d} i e f h =
+    subst (λ z. IsStep env ps z qs ts st) (ap (λ z. form.Or z b) e ∙ (ap (λ z. form.Or c z) f ∙ sym i)) h
 
-  pub not_kept : (y : Expr) (o : Option Typed) (ts us : List StaticType) (b : Bool) → KeepsType o ts us b → b ≡ false
-      → IsFound env K y o → (n : ExpressionFault) × Faults env K y n
-  not_kept y None ts us b h e f = f
-  not_kept y (Some t) ts us b h e f = absurd (false≢true (sym e ∙ h.0))
-
-  pub kept_more : (x y : Expr) (i : ℕ) (o : Option Typed) (ts us : List StaticType) (b : Bool) → KeepsType o ts us b → b ≡ true
-      → IsFound env K y o → i ≡ length ts → slice_get (operands_of x) i ≡ Some y
-      → TypesEach env K (take (length ts) (operands_of x)) (map static_view ts)
-      → TypesEach env K (take (length us) (operands_of x)) (map static_view us)
-  kept_more x y i None ts us b h e f at g t = absurd (false≢true (sym h.0 ∙ e))
-  kept_more x y i (Some k) ts us b h e f at g t =
-      among_more x ts us k.kind y (subst (λ j. slice_get (operands_of x) j ≡ Some y) at g) t f h.1
-
-pub kept_fewer : (x y : Expr) (i : ℕ) (o : Option Typed) (ts us : List StaticType) (b : Bool) → KeepsType o ts us b → b ≡ true
-    → i ≡ length ts → slice_get (operands_of x) i ≡ Some y
-    → length (operands_of x) - length us < length (operands_of x) - length ts
-kept_fewer x y i None ts us b h e at g = absurd (false≢true (sym h.0 ∙ e))
-kept_fewer x y i (Some k) ts us b h e at g =
-    let lt = within (operands_of x) i y g in
-    let count : length us ≡ length ts + 1 = ap length h.1 ∙ length-append ts (k.kind ∷ []) in
-    omega (arith, lt, count, at)
-
--- of expressions that are the same
-
-pub step_at : (env : Environment) (K J : CapabilityList) (st : Step) {x y : Expr} → x ≡ y → IsStep env K y J st → IsStep env K x J st
-step_at env K J st e h = subst (λ z. IsStep env K z J st) (sym e) h
-
-pub and_at : (env : Environment) (K J : CapabilityList) (st : Step) {a b c d : Expr} → a ≡ c → b ≡ d → IsStep env K (form.And a b) J st
-    → IsStep env K (form.And c d) J st
-and_at env K J st {a} {b} {c} {d} e f h =
-    subst (λ z. IsStep env K (form.And z d) J st) e (subst (λ z. IsStep env K (form.And a z) J st) f h)
-
-pub or_at : (env : Environment) (K J : CapabilityList) (st : Step) {a b c d : Expr} → a ≡ c → b ≡ d → IsStep env K (form.Or a b) J st
-    → IsStep env K (form.Or c d) J st
-or_at env K J st {a} {b} {c} {d} e f h =
-    subst (λ z. IsStep env K (form.Or z d) J st) e (subst (λ z. IsStep env K (form.Or a z) J st) f h)
-
-pub if_at : (env : Environment) (K J : CapabilityList) (st : Step) {a b c d f g : Expr} → a ≡ d → b ≡ f → c ≡ g
-    → IsStep env K (form.If a b c) J st → IsStep env K (form.If d f g) J st
-if_at env K J st {a} {b} {c} {d} {f} {g} e i j h =
-    subst (λ z. IsStep env K (form.If z f g) J st) e
-    (subst (λ z. IsStep env K (form.If a z g) J st) i (subst (λ z. IsStep env K (form.If a b z) J st) j h))
+pub if_at : (env : Environment) (ps qs : List Capability) (ts : List StaticType) (st : Step) {x a b c d f g : Expr} → x ≡ form.If d f g
+    → a ≡ d → b ≡ f → c ≡ g → IsStep env ps (form.If a b c) qs ts st → IsStep env ps x qs ts st
+if_at env ps qs ts st {x} {a} {b} {c} {d} {f} {g} i e j k h =
+    subst (λ z. IsStep env ps z qs ts st)
+    (ap (λ z. form.If z b c) e ∙ (ap (λ z. form.If d z c) j ∙ (ap (λ z. form.If d f z) k ∙ sym i))) h

@@ -1,20 +1,18 @@
 //! The first environment in which a policy has an error, and what the error blames there.
 ghost use Rattle.std.specs.Prelude.{◌≡◌, IfOk, MatchOption, All};
 ghost use Rattle.type_checker.specs.policy_grammar.PolicyExpression.{expression_of};
-ghost use Rattle.type_checker.specs.schema.Views.{schema_view, environment_view};
+ghost use Rattle.type_checker.specs.schema.Views.{schema_view};
 ghost use Rattle.type_checker.specs.Views.{typing_environment};
-ghost use Rattle.type_checker.specs.FromSchemas.{typing_environment_of};
 ghost use Rattle.validator.specs.Passing.{environments_of, HasBooleanType};
 ghost use Rattle.fault_paths.specs.FirstTypingError.{IsTypeBlame};
-ghost use Rattle.fault_paths.specs.inner.Judging.{IsBlamedIn, IsFaultyIn, IsTypingFault};
+ghost use Rattle.fault_paths.specs.inner.Judging.{IsFaultyIn};
 
-use crate::descending::{BlamedForm, descend};
+use crate::descending::{BlamedForm, blame_in};
 use grammar_core::Expr;
 use plain::NoMemory;
 use std::alloc::Global;
 use type_checker::{
-    Capability, Environment, ExpressionFault, Policy, Schema, Typed, TypingEnvironment,
-    expressions_have_one_judgement, judge_under,
+    ExpressionFault, Policy, Schema, TypingEnvironment, expressions_have_one_judgement, judge_under,
 };
 use validator::TypeFault;
 
@@ -29,22 +27,6 @@ pub struct TypeBlame<'a> {
     pub place: BlamedForm<'a>,
 }
 
-/// Returns the validator's error for the error in `judged`, or `None` if `judged` has a type.
-fn typing_fault(judged: Result<Typed<'_>, ExpressionFault>) -> Result<Option<TypeFault>, NoMemory>
-    ensures { IsTypingFault judged.entry result }
-{
-    match judged {
-        Ok(typed) => {
-            drop(typed);
-            Ok(None)
-        }
-        Err(fault) => match fault {
-            ExpressionFault::NoMemory => Err(NoMemory),
-            _ => Ok(Some(TypeFault::from(fault))),
-        },
-    }
-}
-
 /// Returns the error of typing an expression without known capabilities, or `None` if it has a type.
 fn fault_in<'a>(
     alloc: Global,
@@ -53,33 +35,15 @@ fn fault_in<'a>(
 ) -> Result<Option<TypeFault>, NoMemory>
     ensures { IfOk result (IsFaultyIn (typing_environment env.entry) whole.entry.now) }
 {
-    let nothing: Vec<Capability<'a>> = Vec::new(alloc);
-    typing_fault(judge_under(alloc, env, nothing.as_slice(), whole))
-}
-
-/// Returns the error of `whole` in the environment of the index `at`, with what it blames, or `None` if `whole` has a
-/// type there.
-fn blame_in<'a>(
-    alloc: Global,
-    schema: &'a Schema,
-    environment: &'a Environment,
-    at: usize,
-    whole: &'a Expr,
-) -> Result<Option<TypeBlame<'a>>, NoMemory>
-    ensures { IfOk result (IsBlamedIn (typing_environment_of (schema_view schema.entry.now)
-        (environment_view environment.entry.now)) at whole.entry.now) }
-{
-    let env = TypingEnvironment::new(schema, environment);
-    match fault_in(alloc, env, whole)? {
-        Some(fault) => {
-            let place = descend(alloc, env, whole)?;
-            Ok(Some(TypeBlame {
-                fault,
-                environment: at,
-                place,
-            }))
+    match judge_under(alloc, env, &[], whole) {
+        Ok(typed) => {
+            drop(typed);
+            Ok(None)
         }
-        None => Ok(None),
+        Err(fault) => match fault {
+            ExpressionFault::NoMemory => Err(NoMemory),
+            _ => Ok(Some(TypeFault::from(fault))),
+        },
     }
 }
 
@@ -109,8 +73,16 @@ pub fn blame_type<'a>(
     expressions_have_one_judgement();
     let environments = schema.environments();
     for (at, environment) in environments.iter().enumerate() {
-        match blame_in(alloc, schema, environment, at, whole)? {
-            Some(blame) => return Ok(Some(blame)),
+        let env = TypingEnvironment::new(schema, environment);
+        match fault_in(alloc, env, whole)? {
+            Some(fault) => {
+                let place = blame_in(alloc, env, whole)?;
+                return Ok(Some(TypeBlame {
+                    fault,
+                    environment: at,
+                    place,
+                }));
+            }
             None => {}
         }
     }

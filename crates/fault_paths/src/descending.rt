@@ -1,17 +1,16 @@
 //! The path to the expression that a type error blames.
-ghost use Rattle.std.specs.Prelude.{◌≡◌, [], ◌++◌, IfOk};
+ghost use Rattle.std.specs.Prelude.{◌≡◌, [], map, IfOk};
 ghost use Rattle.validator.specs.typing.Environment as typing;
 ghost use Rattle.validator.specs.typing.Faults.{Faults};
-ghost use Rattle.type_checker.specs.Views.{typing_environment};
+ghost use Rattle.type_checker.specs.Views.{typing_environment, static_view};
 ghost use Rattle.typing.specs.BlamedExpressions.{blamed};
 ghost use Rattle.fault_paths.specs.Views.{place_view};
-ghost use Rattle.fault_paths.specs.inner.Steps.{last_of};
 
 use crate::steps::{Step, step_from};
 use grammar_core::Expr;
 use plain::NoMemory;
 use std::alloc::Global;
-use type_checker::{StaticType, TypingEnvironment};
+use type_checker::{Capability, StaticType, TypingEnvironment};
 
 /// What an error blames in one environment.
 #[derive(Drop)]
@@ -24,23 +23,43 @@ pub struct BlamedForm<'a> {
     pub types: Vec<StaticType<'a>>,
 }
 
-/// Appends the index `operand` of the blamed operand to the path to its form. If `operand` is `None`, the form itself
-/// is blamed, and nothing is appended.
-fn close(path: &mut Vec<usize>, operand: Option<usize>) -> Result<(), NoMemory>
-    ensures { IfOk result (λ _. path.new.items ≡ path.old.items ++ last_of operand) }
+/// Returns the form whose demand is not met in the expression `whole`, which has an error. Writes the path to the
+/// blamed expression to `path`, and the types that the demand is about to `types`.
+///
+/// `known` and `path` are empty at first.
+fn descend<'a>(
+    alloc: Global,
+    env: TypingEnvironment<'a>,
+    known: &mut Vec<Capability<'a>>,
+    path: &mut Vec<usize>,
+    types: &mut Vec<StaticType<'a>>,
+    whole: &'a Expr,
+) -> Result<&'a Expr, NoMemory>
+    requires known { known.old.items ≡ [] }
+    requires path { path.old.items ≡ [] }
+    ensures { IfOk result (λ form. (n : typing.ExpressionFault)
+        (h : Faults (typing_environment env.entry) [] whole.entry.now n)
+        → blamed h ≡ record { path = path.new.items; form = form.now; types = map static_view types.new.items }) }
 {
-    match operand {
-        Some(at) => {
-            path.push(at)?;
-            Ok(())
+    let mut form = whole;
+    'down: loop {
+        match step_from(alloc, env, known, types, form)? {
+            Step::Down(at, operand) => {
+                path.push(at)?;
+                form = operand;
+            }
+            Step::Stop(Some(last)) => {
+                path.push(last)?;
+                return Ok(form);
+            }
+            Step::Stop(None) => return Ok(form),
         }
-        None => Ok(()),
     }
 }
 
 /// Returns what the error of the expression `whole` in the environment `env` blames. For an expression without an error
 /// the result is unspecified.
-pub(crate) fn descend<'a>(
+pub(crate) fn blame_in<'a>(
     alloc: Global,
     env: TypingEnvironment<'a>,
     whole: &'a Expr,
@@ -50,21 +69,7 @@ pub(crate) fn descend<'a>(
 {
     let mut known = Vec::new(alloc);
     let mut path = Vec::new(alloc);
-    let mut expr = whole;
-    'down: loop {
-        match step_from(alloc, env, &mut known, expr)? {
-            Step::Down(at, operand) => {
-                path.push(at)?;
-                expr = operand;
-            }
-            Step::Stop(operand, types) => {
-                close(&mut path, operand)?;
-                return Ok(BlamedForm {
-                    path,
-                    form: expr,
-                    types,
-                });
-            }
-        }
-    }
+    let mut types = Vec::new(alloc);
+    let form = descend(alloc, env, &mut known, &mut path, &mut types, whole)?;
+    Ok(BlamedForm { path, form, types })
 }

@@ -1,16 +1,12 @@
 //! The report on a policy that does not pass validation, in words.
-ghost use Rattle.std.specs.Prelude.{◌≡◌, IfOk, MatchOption, string_bytes};
+ghost use Rattle.std.specs.Prelude.{◌≡◌, ◌++◌, IfOk, OnOk, MatchOption, string_bytes};
 ghost use Rattle.type_checker.specs.policy_grammar.PolicyExpression.{expression_of};
 ghost use Rattle.type_checker.specs.schema.Views.{schema_view};
-ghost use Rattle.fault_paths.specs.NamesAt.{name_view};
 ghost use Rattle.validator.specs.Passing.{Passes};
-ghost use Rattle.fault_paths.specs.Words.{name_words, typing_cause, typing_detail};
-ghost use Rattle.fault_paths.specs.ReportWording.{IsPolicyFault, IsWordedAs};
+ghost use Rattle.fault_paths.specs.ReportWording.{IsPolicyFault, IsWordedAs, cause_of, detail_of};
 
-use crate::blaming::TypeBlame;
-use crate::causes::push_cause;
+use crate::causes::typing_cause;
 use crate::details::push_detail;
-use crate::names::{NameBlame, UnknownName};
 use crate::refusing::{PolicyBlame, blame};
 use crate::wording::push_name;
 use grammar_core::Expr;
@@ -35,85 +31,50 @@ pub struct PolicyFault {
     pub detail: String,
 }
 
-/// Returns the text of an undeclared name.
-fn name_cause(alloc: Global, name: &UnknownName<'_>) -> Result<String, NoMemory>
-    ensures { IfOk result (λ t. string_bytes t ≡ name_words (name_view name.now)) }
-{
-    let mut text = String::new(alloc);
-    push_name(&mut text, name)?;
-    Ok(text)
-}
-
-/// Returns the cause of a typing error.
-fn cause_of(alloc: Global, blame: &TypeBlame<'_>) -> Result<String, NoMemory>
-    ensures { IfOk result (λ t. string_bytes t ≡ typing_cause blame.now.fault blame.now.place.form.now) }
-{
-    let mut text = String::new(alloc);
-    push_cause(&mut text, blame.fault, blame.place.form)?;
-    Ok(text)
-}
-
-/// Returns the details of a typing error.
-fn detail_of<'a>(
-    alloc: Global,
+/// Appends the cause and the details of an error to `cause` and `detail`.
+fn push_words<'a>(
+    cause: &mut String,
+    detail: &mut String,
     schema: &'a Schema,
-    blame: &TypeBlame<'a>,
-) -> Result<String, NoMemory>
-    ensures { IfOk result (λ t. string_bytes t ≡ typing_detail (schema_view schema.entry.now) blame.now) }
+    blame: &PolicyBlame<'a>,
+) -> Result<(), NoMemory>
+    ensures { OnOk result ((string_bytes cause.new ≡ string_bytes cause.old ++ cause_of blame.now)
+        × (string_bytes detail.new
+        ≡ string_bytes detail.old ++ detail_of (schema_view schema.entry.now) blame.now)) }
 {
-    let mut text = String::new(alloc);
-    push_detail(&mut text, schema, blame)?;
-    Ok(text)
+    match blame {
+        PolicyBlame::Name(blame) => push_name(cause, &blame.name),
+        PolicyBlame::Typing(blame) => {
+            cause.push_str(typing_cause(blame.fault, blame.place.form))?;
+            push_detail(detail, schema, blame)
+        }
+    }
 }
 
-/// Returns the report on an undeclared name: its cause, and no detail.
-fn report_name(
-    alloc: Global,
-    schema: &Schema,
-    blame: NameBlame<'_>,
-) -> Result<PolicyFault, NoMemory>
-    ensures { IfOk result (IsWordedAs (schema_view schema.now) (PolicyBlame.Name blame.entry)) }
-{
-    // only the contract names the schema
-    let _ = schema;
-    let cause = name_cause(alloc, &blame.name)?;
-    Ok(PolicyFault {
-        fault: blame.fault,
-        path: blame.path,
-        cause,
-        detail: String::new(alloc),
-    })
-}
-
-/// Returns the report on a typing error: its cause, and its environment with the types there.
-fn report_typing<'a>(
-    alloc: Global,
-    schema: &'a Schema,
-    blame: TypeBlame<'a>,
-) -> Result<PolicyFault, NoMemory>
-    ensures { IfOk result (IsWordedAs (schema_view schema.entry.now) (PolicyBlame.Typing blame.entry)) }
-{
-    let cause = cause_of(alloc, &blame)?;
-    let detail = detail_of(alloc, schema, &blame)?;
-    Ok(PolicyFault {
-        fault: blame.fault,
-        path: blame.place.path,
-        cause,
-        detail,
-    })
-}
-
-/// Returns the report on the error of a policy.
-fn tell<'a>(
+/// Returns the report on the error that `blame` reports.
+fn report<'a>(
     alloc: Global,
     schema: &'a Schema,
     blame: PolicyBlame<'a>,
 ) -> Result<PolicyFault, NoMemory>
     ensures { IfOk result (IsWordedAs (schema_view schema.entry.now) blame.entry) }
 {
+    let mut cause = String::new(alloc);
+    let mut detail = String::new(alloc);
+    push_words(&mut cause, &mut detail, schema, &blame)?;
     match blame {
-        PolicyBlame::Name(blame) => report_name(alloc, schema, blame),
-        PolicyBlame::Typing(blame) => report_typing(alloc, schema, blame),
+        PolicyBlame::Name(blame) => Ok(PolicyFault {
+            fault: blame.fault,
+            path: blame.path,
+            cause,
+            detail,
+        }),
+        PolicyBlame::Typing(blame) => Ok(PolicyFault {
+            fault: blame.fault,
+            path: blame.place.path,
+            cause,
+            detail,
+        }),
     }
 }
 
@@ -130,7 +91,7 @@ fn explain_whole<'a>(
 {
     match blame(alloc, schema, policy, whole)? {
         Some(blame) => {
-            let fault = tell(alloc, schema, blame)?;
+            let fault = report(alloc, schema, blame)?;
             Ok(Some(fault))
         }
         None => Ok(None),
@@ -155,5 +116,7 @@ pub fn explain_fault(
         (Passes s policy.now) (IsPolicyFault s policy.now)) }
 {
     let whole = expression_of(alloc, policy)?;
-    explain_whole(alloc, schema, policy, &whole)
+    let explained = explain_whole(alloc, schema, policy, &whole);
+    drop(whole);
+    explained
 }

@@ -1,7 +1,7 @@
 //! The search for the first name of a policy that the schema does not declare.
-ghost use Rattle.std.specs.Prelude.{[], ◌∷◌, IfOk, MatchOption, All};
+ghost use Rattle.std.specs.Prelude.{IfOk, MatchOption, All};
 ghost use Rattle.type_checker.specs.schema.Views.{schema_view};
-ghost use Rattle.validator.specs.Names.{names_in, entity, tested_type, literal_names, operator_names};
+ghost use Rattle.validator.specs.Names.{names_in, literal_names, operator_names};
 ghost use Rattle.validator.specs.Unknown.{IsKnown};
 ghost use Rattle.fault_paths.specs.NamesAt.{IsNameBlame};
 ghost use Rattle.fault_paths.specs.inner.Naming.{AreNames, IsOwnName, IsNameFound};
@@ -41,38 +41,18 @@ pub struct NameBlame<'a> {
     pub path: Vec<usize>,
 }
 
-/// Returns the uid of an entity literal with its error if the schema does not declare it, else `None`.
-fn entity_fault<'a>(schema: &Schema, uid: &'a EntityUid) -> Option<NameFault<'a>>
-    ensures { AreNames (schema_view schema.now) (entity uid.entry.now ∷ []) result }
-{
-    match unknown_entity(schema, uid) {
-        Some(fault) => Some(NameFault {
-            name: UnknownName::Entity(uid),
-            fault,
-        }),
-        None => None,
-    }
-}
-
-/// Returns a type after `is` with its error if the schema does not declare it, else `None`.
-fn type_fault<'a>(schema: &Schema, name: &'a TypeName) -> Option<NameFault<'a>>
-    ensures { AreNames (schema_view schema.now) (tested_type name.entry.now ∷ []) result }
-{
-    match unknown_tested_type(schema, name) {
-        Some(fault) => Some(NameFault {
-            name: UnknownName::TestedType(name),
-            fault,
-        }),
-        None => None,
-    }
-}
-
 /// Returns the uid of a literal with its error if it is an entity that the schema does not declare, else `None`.
 fn literal_fault<'a>(schema: &Schema, literal: &'a Literal) -> Option<NameFault<'a>>
     ensures { AreNames (schema_view schema.now) (literal_names literal.entry.now) result }
 {
     match literal {
-        Literal::Entity(uid) => entity_fault(schema, uid),
+        Literal::Entity(uid) => match unknown_entity(schema, uid) {
+            Some(fault) => Some(NameFault {
+                name: UnknownName::Entity(uid),
+                fault,
+            }),
+            None => None,
+        },
         Literal::Boolean(_) => None,
         Literal::Long(_) => None,
         Literal::Text(_) => None,
@@ -85,7 +65,13 @@ fn operator_fault<'a>(schema: &Schema, operator: &'a Unary) -> Option<NameFault<
     ensures { AreNames (schema_view schema.now) (operator_names operator.entry.now) result }
 {
     match operator {
-        Unary::Is(name) => type_fault(schema, name),
+        Unary::Is(name) => match unknown_tested_type(schema, name) {
+            Some(fault) => Some(NameFault {
+                name: UnknownName::TestedType(name),
+                fault,
+            }),
+            None => None,
+        },
         Unary::Not => None,
         Unary::Negate => None,
         Unary::Like(_) => None,
@@ -99,17 +85,7 @@ fn own_name<'a>(schema: &Schema, expr: &'a Expr) -> Option<NameFault<'a>>
     match expr {
         Expr::Literal(literal) => literal_fault(schema, literal),
         Expr::Unary(operator, _) => operator_fault(schema, operator),
-        Expr::Variable(_) => None,
-        Expr::If(_, _, _) => None,
-        Expr::And(_, _) => None,
-        Expr::Or(_, _) => None,
-        Expr::Binary(_, _, _) => None,
-        Expr::Field(_, _) => None,
-        Expr::Has(_, _) => None,
-        Expr::Set(_) => None,
-        Expr::Record(_) => None,
-        Expr::UnaryCall(_, _) => None,
-        Expr::BinaryCall(_, _, _) => None,
+        _ => None,
     }
 }
 

@@ -1,9 +1,7 @@
 //! The report on a policy that does not pass validation.
-ghost use Rattle.std.specs.Prelude.{◌≡◌, All, IfOk, MatchOption};
+ghost use Rattle.std.specs.Prelude.{◌≡◌, IfOk, MatchOption};
 ghost use Rattle.type_checker.specs.policy_grammar.PolicyExpression.{expression_of};
 ghost use Rattle.type_checker.specs.schema.Views.{schema_view};
-ghost use Rattle.validator.specs.Names.{names_in};
-ghost use Rattle.validator.specs.Unknown.{IsKnown};
 ghost use Rattle.validator.specs.Passing.{Passes};
 ghost use Rattle.fault_paths.specs.PolicyReports.{IsBlame};
 
@@ -21,24 +19,6 @@ pub enum PolicyBlame<'a> {
     Name(NameBlame<'a>),
     /// A typing error (42 to 46).
     Typing(TypeBlame<'a>),
-}
-
-/// Returns the first typing error of a policy whose names are all declared, with its place, or `None` if the policy
-/// passes.
-fn by_types<'a>(
-    alloc: Global,
-    schema: &'a Schema,
-    policy: &Policy,
-    whole: &'a Expr,
-) -> Result<Option<PolicyBlame<'a>>, NoMemory>
-    requires { whole.now ≡ expression_of policy.now }
-    ensures { let s = schema_view schema.entry.now in All (IsKnown s) (names_in whole.entry.now)
-        → IfOk result (λ blame. MatchOption blame (Passes s policy.now) (IsBlame s policy.now)) }
-{
-    match blame_type(alloc, schema, policy, whole)? {
-        Some(blame) => Ok(Some(PolicyBlame::Typing(blame))),
-        None => Ok(None),
-    }
 }
 
 /// Returns the error for which a policy is rejected, with its place, or `None` if the policy passes.
@@ -61,6 +41,9 @@ pub fn blame<'a>(
 {
     match blame_name(alloc, schema, whole)? {
         Some(name) => Ok(Some(PolicyBlame::Name(name))),
-        None => by_types(alloc, schema, policy, whole),
+        None => match blame_type(alloc, schema, policy, whole)? {
+            Some(error) => Ok(Some(PolicyBlame::Typing(error))),
+            None => Ok(None),
+        },
     }
 }

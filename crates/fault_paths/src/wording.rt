@@ -3,7 +3,7 @@ ghost use Rattle.std.specs.Prelude.{◌≡◌, ◌++◌, OnOk, map, string_bytes
 ghost use Rattle.fault_paths.specs.NamesAt.{name_view};
 ghost use Rattle.type_checker.specs.schema.Views.{environment_view};
 ghost use Rattle.type_checker.specs.Views.{leaf_view, static_view};
-ghost use Rattle.fault_paths.specs.Words.{type_word, uid_words, name_words, environment_words, more_words, types_words};
+ghost use Rattle.fault_paths.specs.Words.{type_word, uid_words, name_words, environment_words, types_words};
 
 use crate::names::UnknownName;
 use plain::NoMemory;
@@ -27,7 +27,7 @@ fn leaf_word<'r>(leaf: &'r Leaf<'_>) -> &'r str
 }
 
 /// Returns the word that schemas use for a type.
-fn type_word<'r>(ty: &'r StaticType<'_>) -> &'r str
+pub(crate) fn type_word<'r>(ty: &'r StaticType<'_>) -> &'r str
     ensures { result.now ≡ type_word (static_view ty.now) }
 {
     match ty {
@@ -39,38 +39,18 @@ fn type_word<'r>(ty: &'r StaticType<'_>) -> &'r str
     }
 }
 
-/// Appends the word for a type.
-pub(crate) fn push_type(out: &mut String, ty: &StaticType<'_>) -> Result<(), NoMemory>
-    ensures { OnOk result (string_bytes out.new ≡ string_bytes out.old ++ type_word (static_view ty.now)) }
-{
-    out.push_str(type_word(ty))
-}
-
-/// Appends the words for types, each after a comma and a blank.
-fn push_more(out: &mut String, types: &[StaticType<'_>]) -> Result<(), NoMemory>
-    ensures { OnOk result (string_bytes out.new
-        ≡ string_bytes out.old ++ more_words (map static_view types.now)) }
-{
-    for ty in types {
-        out.push_str(", ")?;
-        push_type(out, ty)?;
-    }
-    Ok(())
-}
-
 /// Appends a colon and the words for types, separated by commas; nothing without types.
 pub(crate) fn push_types(out: &mut String, types: &[StaticType<'_>]) -> Result<(), NoMemory>
     ensures { OnOk result (string_bytes out.new
         ≡ string_bytes out.old ++ types_words (map static_view types.now)) }
 {
-    match types.split_first() {
-        Some((first, rest)) => {
-            out.push_str(": ")?;
-            push_type(out, first)?;
-            push_more(out, rest)
-        }
-        None => Ok(()),
+    let mut separator = ": ";
+    for ty in types {
+        out.push_str(separator)?;
+        out.push_str(type_word(ty))?;
+        separator = ", ";
     }
+    Ok(())
 }
 
 /// Appends an entity uid in the form `T::"id"` of policies, but without escapes in the id.

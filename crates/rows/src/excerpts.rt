@@ -2,7 +2,7 @@
 use crate::keeping::ended;
 use crate::pieces::Line;
 use crate::written::bad_row;
-use explanation_texts::{place_of, push_excerpt};
+use explanation_texts::{excerpt_at, place_of};
 use plain::NoMemory;
 use std::alloc::Global;
 
@@ -24,20 +24,12 @@ fn in_one_line(alloc: Global, lines: &str) -> Result<String, NoMemory> {
     told.ended()
 }
 
-/// Returns the excerpt of a text that shows the part after its first `from` and before its last `behind` bytes. The
-/// excerpt names a file whose name has a control character (U+009B).
+/// Returns the excerpt that shows the part of a text after its first `from` bytes and before its last `behind` bytes.
+/// The excerpt names a file whose name has a control character (U+009B).
 fn excerpt(alloc: Global, text: &str, from: usize, behind: usize) -> Result<String, NoMemory> {
     let start = place_of(text, from);
     let end = place_of(text, text.len().saturating_sub(behind));
-    let mut lines = String::new(alloc);
-    push_excerpt(
-        alloc,
-        &mut lines,
-        "f\u{9b}",
-        text,
-        start,
-        start.span_to(&end),
-    )?;
+    let lines = excerpt_at(alloc, "f\u{9b}", text, start, start.span_to(&end))?;
     in_one_line(alloc, lines.as_str())
 }
 

@@ -1,11 +1,19 @@
 -- Tokens skipped in several steps are skipped at once.
-use Rattle.std.proofs.Common.{◌≡◌, ℕ, suc, ◌+◌, ◌<◌, List, [], ◌∷◌, length, drop, get_or, map, refl, sym, ◌∙◌, ap, add-one, drop-cons}
+use Rattle.std.proofs.Common.{◌≡◌, ℕ, suc, ◌+◌, ◌<◌, List, [], ◌∷◌, length, drop, get_or, map, refl, sym, ◌∙◌, ap, add-one, drop-cons, arith}
 use Rattle.std.proofs.lemmas.List.{drop-drop}
 use Rattle.grammar_trees.specs.declared.tree.ExprTree.{ExprTree}
 use Rattle.token_spans.specs.TokenCounts.{tree_count}
 
 pub twice : {A : Type 0} (xs ys zs : List A) (m n : ℕ) → ys ≡ drop m xs → zs ≡ drop n ys → zs ≡ drop (m + n) xs
 twice xs ys zs m n first second = second ∙ ap (drop n) first ∙ drop-drop n m xs
+
+-- one token more
+pub one_more : {A : Type 0} (xs ys : List A) (n : ℕ) → ys ≡ drop 1 (drop n xs) → ys ≡ drop (n + 1) xs
+one_more xs ys n past = past ∙ drop-drop 1 n xs
+
+-- one token skipped first or last
+pub swapped : {A : Type 0} (n : ℕ) (xs : List A) → drop n (drop 1 xs) ≡ drop 1 (drop n xs)
+swapped n xs = drop-drop n 1 xs ∙ ap (λ k. drop k xs) (let e : 1 + n ≡ n + 1 = omega arith in e) ∙ sym (drop-drop 1 n xs)
 
 next : {A : Type 0} (xs : List A) (i : ℕ) (d : A) → i < length xs → drop i xs ≡ get_or xs i d ∷ drop (i + 1) xs
 next xs i d below = drop-cons xs i d below ∙ ap (λ j. get_or xs i d ∷ drop j xs) (sym (add-one i))

@@ -19,6 +19,7 @@
 --   Peeling            parentheses round a form
 --   Items              an item of a list by its place
 --   FormWalking        a step of a path
+--   Turning            a turn or a place that is none of those that a function looks for
 --   LanguageCounts     how many tokens derive a value, one rule a form of language
 --   ExpressionCounts   an expression's tree counts its tokens, one rule a production
 pub mod Counts
@@ -27,6 +28,7 @@ pub mod Opening
 pub mod Peeling
 pub mod Items
 pub mod FormWalking
+pub mod Turning
 pub mod LanguageCounts
 pub mod ExpressionCounts
 pub mod Unread

@@ -1,5 +1,5 @@
 -- A form seen by its tree.
-use Rattle.std.proofs.Common.{◌≡◌, ℕ, refl, ap, ◌∙◌, sym, List, drop}
+use Rattle.std.proofs.Common.{◌≡◌, ℕ, Bool, refl, ap, ◌∙◌, sym, List, drop}
 use Rattle.grammar_trees.specs.grammar_tokens.declared.token.Token.{Token}
 use Rattle.grammar_trees.specs.grammar_tokens.declared.tree.PathTree.{PathTree}
 use Rattle.grammar_trees.specs.declared.tree.Access.{Access}
@@ -8,7 +8,9 @@ use Rattle.grammar_trees.specs.declared.tree.ExprTree.{ExprTree, out-ExprTree, r
 use Rattle.grammar_trees.specs.declared.tree.ExprTree.TheVariants as t
 use Rattle.grammar_trees.specs.declared.tree.ExprTree.TheOpen.{ExprTree-F as tree}
 use Rattle.token_spans.specs.TokenCounts.{tree_count}
-use Rattle.token_spans.specs.Forms.{Form, operand_step, tokens_after_step, minus_operand, one_at}
+use Rattle.token_spans.specs.declared.forms.FormNode.{FormNode}
+use Rattle.token_spans.specs.declared.forms.FormNode.TheVariants as part
+use Rattle.token_spans.specs.Forms.{Form, operand_step, tokens_after_step, tokens_after_test, minus_operand, one_at, kept, both, is_outer}
 
 -- an operand of a form whose tree is this one
 pub seen : (x v : ExprTree) (y : tree ExprTree) (f : Form) (i : ℕ) → x ≡ v → out-ExprTree v ≡ y → operand_step y f i ≡ operand_step (out-ExprTree x) f i
@@ -63,3 +65,16 @@ behind-other f m p s n o i =
     (λ a more h. n a more (again f.tree (t.And a more) (tree.And a more) (t.rolls-And a more) h))
     (λ a more h. o a more (again f.tree (t.Or a more) (tree.Or a more) (t.rolls-Or a more) h))
     (λ a path b h. i a path b (again f.tree (t.IsIn a path b) (tree.IsIn a path b) (t.rolls-IsIn a path b) h))
+
+-- a node that is no front of a chain, not the inner one, or no test
+pub kept-other : (p : FormNode) (n : ℕ) → ((k : ℕ) → p ≡ part.First k → ⊥) → n ≡ kept p n
+kept-other (part.First k) n other = absurd (other k refl)
+kept-other p n other = refl
+
+pub outer-other : (p : FormNode) (b : Bool) → (p ≡ part.Inner → ⊥) → b ≡ both (is_outer p) b
+outer-other part.Inner b other = absurd (other refl)
+outer-other p b other = refl
+
+pub test-other : (p : FormNode) (f : Form) (a : ExprTree) (path : PathTree) (b : ExprTree) → (p ≡ part.Test → ⊥) → drop (tree_count f.tree) f.tokens ≡ tokens_after_test p f a path b
+test-other part.Test f a path b other = absurd (other refl)
+test-other p f a path b other = refl

@@ -5,7 +5,7 @@ ghost use Rattle.token_spans.specs.TokenCounts.{each_count, total, lone_count};
 
 use crate::leaves::{skip, tokens_after_opened, tokens_after_path};
 use grammar_trees::{Access, ExprTree, KeyTree, RecordEntry, Term, Token};
-use plain::Items;
+use plain::{Boxed, Items};
 
 /// Returns the tokens after the expression with the tree `tree`, which `tokens` begin with.
 ///
@@ -23,47 +23,66 @@ pub(crate) fn tokens_after_tree<'t>(tree: &ExprTree, tokens: &'t [Token]) -> &'t
         ExprTree::Call(path, arguments) => {
             tokens_after_row(arguments, skip(tokens_after_path(path, tokens), 1))
         }
-        ExprTree::Parentheses(inner) => skip(tokens_after_tree(inner, skip(tokens, 1)), 1),
+        ExprTree::Parentheses(inner) => tokens_after_piece(inner, skip(tokens, 1)),
         ExprTree::Set(members) => tokens_after_row(members, skip(tokens, 1)),
         ExprTree::Record(entries) => {
             let row = tokens_after_opened(entries.len(), skip(tokens, 1));
             tokens_after_entries(entries.as_slice(), row)
         }
         ExprTree::Member(inner, accesses) => {
-            tokens_after_accesses(accesses.as_slice(), tokens_after_tree(inner, tokens))
+            tokens_after_accesses(accesses.as_slice(), tokens_after_operand(inner, tokens))
         }
-        ExprTree::Not(inner) => tokens_after_tree(inner, skip(tokens, 1)),
-        ExprTree::Minus(inner) => tokens_after_tree(inner, skip(tokens, 1)),
+        ExprTree::Not(inner) => tokens_after_operand(inner, skip(tokens, 1)),
+        ExprTree::Minus(inner) => tokens_after_operand(inner, skip(tokens, 1)),
         ExprTree::Product(first, more) => {
-            tokens_after_each(more.as_slice(), tokens_after_tree(first, tokens))
+            tokens_after_each(more.as_slice(), tokens_after_operand(first, tokens))
         }
         ExprTree::Sum(first, terms) => {
-            tokens_after_terms(terms.as_slice(), tokens_after_tree(first, tokens))
+            tokens_after_terms(terms.as_slice(), tokens_after_operand(first, tokens))
         }
         ExprTree::Compare(left, _, right) => {
-            tokens_after_tree(right, skip(tokens_after_tree(left, tokens), 1))
+            tokens_after_operand(right, tokens_after_piece(left, tokens))
         }
-        ExprTree::Has(inner, _) => skip(tokens_after_tree(inner, tokens), 2),
-        ExprTree::Like(inner, _) => skip(tokens_after_tree(inner, tokens), 2),
-        ExprTree::Is(inner, path) => {
-            tokens_after_path(path, skip(tokens_after_tree(inner, tokens), 1))
-        }
+        ExprTree::Has(inner, _) => skip(tokens_after_operand(inner, tokens), 2),
+        ExprTree::Like(inner, _) => skip(tokens_after_operand(inner, tokens), 2),
+        ExprTree::Is(inner, path) => tokens_after_path(path, tokens_after_piece(inner, tokens)),
         ExprTree::IsIn(inner, path, outer) => {
-            let tested = tokens_after_path(path, skip(tokens_after_tree(inner, tokens), 1));
-            tokens_after_tree(outer, skip(tested, 1))
+            let tested = tokens_after_path(path, tokens_after_piece(inner, tokens));
+            tokens_after_operand(outer, skip(tested, 1))
         }
         ExprTree::And(first, more) => {
-            tokens_after_each(more.as_slice(), tokens_after_tree(first, tokens))
+            tokens_after_each(more.as_slice(), tokens_after_operand(first, tokens))
         }
         ExprTree::Or(first, more) => {
-            tokens_after_each(more.as_slice(), tokens_after_tree(first, tokens))
+            tokens_after_each(more.as_slice(), tokens_after_operand(first, tokens))
         }
         ExprTree::If(test, consequent, alternative) => {
-            let tested = tokens_after_tree(test, skip(tokens, 1));
-            let chosen = tokens_after_tree(consequent, skip(tested, 1));
-            tokens_after_tree(alternative, skip(chosen, 1))
+            let tested = tokens_after_piece(test, skip(tokens, 1));
+            let chosen = tokens_after_piece(consequent, tested);
+            tokens_after_operand(alternative, chosen)
         }
     }
+}
+
+/// Returns the tokens after an operand, which `tokens` begin with.
+///
+/// This is a function of its own so that the box is opened in one place.
+#[cycle(behind)]
+pub(crate) fn tokens_after_operand<'t>(
+    operand: &Boxed<ExprTree>,
+    tokens: &'t [Token],
+) -> &'t [Token]
+    ensures { result.now ≡ drop (tree_count operand.now) tokens.entry.now }
+{
+    tokens_after_tree(operand, tokens)
+}
+
+/// Returns the tokens after an operand, which `tokens` begin with, and one further token, such as an operator.
+#[cycle(behind)]
+pub(crate) fn tokens_after_piece<'t>(operand: &Boxed<ExprTree>, tokens: &'t [Token]) -> &'t [Token]
+    ensures { result.now ≡ drop 1 (drop (tree_count operand.now) tokens.entry.now) }
+{
+    skip(tokens_after_operand(operand, tokens), 1)
 }
 
 /// Returns the tokens after a list's closing bracket; `tokens` are those after its opening one.

@@ -27,8 +27,7 @@ fn at_unless<'t, 'p>(
     match first_turn(path) {
         Turn::Stop => NodePlace::Unless(condition, tokens),
         Turn::Left(rest) => NodePlace::Expression(&condition.expression, skip(tokens, 2), rest),
-        Turn::Right(_) => NodePlace::Nowhere,
-        Turn::Off => NodePlace::Nowhere,
+        _ => NodePlace::Nowhere,
     }
 }
 

@@ -8,12 +8,12 @@ ghost use Rattle.grammar_trees.specs.declared.tree.ExprTree.TheViews.{out-ExprTr
 ghost use Rattle.token_spans.specs.Forms as spec;
 
 use crate::behind::{
-    tokens_after_accesses, tokens_after_each, tokens_after_entries, tokens_after_terms,
-    tokens_after_tree,
+    tokens_after_accesses, tokens_after_each, tokens_after_entries, tokens_after_operand,
+    tokens_after_piece, tokens_after_terms, tokens_after_tree,
 };
 use crate::leaves::{skip, tokens_after_path};
 use grammar_trees::{Access, Comparison, ExprTree, PathTree, RecordEntry, Term, Token};
-use plain::Items;
+use plain::{Boxed, Items};
 
 /// Which core node of a written form is meant.
 #[derive(Clone, Copy)]
@@ -89,15 +89,13 @@ fn kept(part: FormNode, all: usize) -> usize
     ensures { result ≡ spec.kept part all }
 {
     match part {
-        FormNode::Whole => all,
         FormNode::First(count) => count,
-        FormNode::Test => all,
-        FormNode::Inner => all,
+        _ => all,
     }
 }
 
 /// Returns the left operand of a node of a chain; `before` further pieces are in this operand.
-fn left_operand<'a>(form: &Form<'a>, first: &'a ExprTree, before: usize) -> Form<'a>
+fn left_operand<'a>(form: &Form<'a>, first: &'a Boxed<ExprTree>, before: usize) -> Form<'a>
     ensures { spec.form_of result ≡ spec.left_at (spec.form_of form.now) first.entry.now before }
 {
     if before == 0 {
@@ -111,41 +109,32 @@ fn left_operand<'a>(form: &Form<'a>, first: &'a ExprTree, before: usize) -> Form
     }
 }
 
-/// Returns the operand of a chain's piece at an index.
-fn piece_at<'a>(
-    first: &'a ExprTree,
-    more: &'a [ExprTree],
-    tokens: &'a [Token],
-    index: usize,
-) -> Option<Form<'a>>
-    ensures { option_map spec.form_of result
-        ≡ spec.piece_at first.entry.now more.entry.now tokens.entry.now index }
-{
-    let operand = item_at(more, index)?;
-    let behind = tokens_after_each(front(more, index), tokens_after_tree(first, tokens));
-    Some(whole(operand, skip(behind, 1)))
-}
-
 /// Returns the operand of a sum's further term at an index.
 fn term_at<'a>(
-    first: &'a ExprTree,
-    terms: &'a [Term<ExprTree>],
+    first: &Boxed<ExprTree>,
+    terms: &'a Items<Term<ExprTree>>,
     tokens: &'a [Token],
     index: usize,
 ) -> Option<Form<'a>>
     ensures { option_map spec.form_of result
-        ≡ spec.term_at first.entry.now terms.entry.now tokens.entry.now index }
+        ≡ spec.term_at first.now terms.entry.now tokens.entry.now index }
 {
-    let term = item_at(terms, index)?;
-    let behind = tokens_after_terms(front(terms, index), tokens_after_tree(first, tokens));
-    Some(whole(&term.operand, skip(behind, 1)))
+    let terms = terms.as_slice();
+    match item_at(terms, index) {
+        Some(term) => {
+            let behind = tokens_after_operand(first, tokens);
+            let behind = tokens_after_terms(front(terms, index), behind);
+            Some(whole(&term.operand, skip(behind, 1)))
+        }
+        None => None,
+    }
 }
 
 /// Returns an operand of a chain.
 fn chain_operand<'a>(
     form: &Form<'a>,
-    first: &'a ExprTree,
-    more: &'a [ExprTree],
+    first: &'a Boxed<ExprTree>,
+    more: &'a Items<ExprTree>,
     index: usize,
 ) -> Option<Form<'a>>
     ensures { option_map spec.form_of result
@@ -158,7 +147,7 @@ fn chain_operand<'a>(
         return Some(left_operand(form, first, before));
     }
     if index == 1 {
-        return piece_at(first, more, form.tokens, before);
+        return row_operand(more, tokens_after_piece(first, form.tokens), before);
     }
     None
 }
@@ -166,8 +155,8 @@ fn chain_operand<'a>(
 /// Returns an operand of a sum.
 fn sum_operand<'a>(
     form: &Form<'a>,
-    first: &'a ExprTree,
-    terms: &'a [Term<ExprTree>],
+    first: &'a Boxed<ExprTree>,
+    terms: &'a Items<Term<ExprTree>>,
     index: usize,
 ) -> Option<Form<'a>>
     ensures { option_map spec.form_of result
@@ -186,24 +175,36 @@ fn sum_operand<'a>(
 }
 
 /// Returns an item of a list, whose opening bracket precedes `tokens`.
-fn row_operand<'a>(items: &'a [ExprTree], tokens: &'a [Token], index: usize) -> Option<Form<'a>>
+fn row_operand<'a>(
+    items: &'a Items<ExprTree>,
+    tokens: &'a [Token],
+    index: usize,
+) -> Option<Form<'a>>
     ensures { option_map spec.form_of result ≡ spec.row_at items.entry.now tokens.entry.now index }
 {
-    let item = item_at(items, index)?;
-    Some(whole(item, tokens_after_each(front(items, index), tokens)))
+    let items = items.as_slice();
+    match item_at(items, index) {
+        Some(item) => Some(whole(item, tokens_after_each(front(items, index), tokens))),
+        None => None,
+    }
 }
 
 /// Returns the value of an entry of a record, whose opening brace precedes `tokens`.
 fn entry_operand<'a>(
-    entries: &'a [RecordEntry<ExprTree>],
+    entries: &'a Items<RecordEntry<ExprTree>>,
     tokens: &'a [Token],
     index: usize,
 ) -> Option<Form<'a>>
     ensures { option_map spec.form_of result ≡ spec.entry_at entries.entry.now tokens.entry.now index }
 {
-    let entry = item_at(entries, index)?;
-    let before = tokens_after_entries(front(entries, index), tokens);
-    Some(whole(&entry.value, skip(before, 2)))
+    let entries = entries.as_slice();
+    match item_at(entries, index) {
+        Some(entry) => {
+            let before = tokens_after_entries(front(entries, index), tokens);
+            Some(whole(&entry.value, skip(before, 2)))
+        }
+        None => None,
+    }
 }
 
 /// Returns an argument of a method's call.
@@ -216,32 +217,41 @@ fn argument<'a>(
 {
     match access {
         Access::Field(_) => None,
-        Access::Method(_, arguments) => row_operand(arguments.as_slice(), skip(tokens, 3), index),
+        Access::Method(_, arguments) => row_operand(arguments, skip(tokens, 3), index),
     }
 }
 
 /// Returns an argument of the access at an index.
 fn access_operand<'a>(
-    first: &'a ExprTree,
-    accesses: &'a [Access<Items<ExprTree>>],
+    first: &Boxed<ExprTree>,
+    accesses: &'a Items<Access<Items<ExprTree>>>,
     tokens: &'a [Token],
     place: usize,
     index: usize,
 ) -> Option<Form<'a>>
     ensures { option_map spec.form_of result
-        ≡ spec.access_at first.entry.now accesses.entry.now tokens.entry.now place index }
+        ≡ spec.access_at first.now accesses.entry.now tokens.entry.now place index }
 {
-    let access = item_at(accesses, place)?;
-    let before = tokens_after_accesses(front(accesses, place), tokens_after_tree(first, tokens));
-    argument(access, before, index)
+    let accesses = accesses.as_slice();
+    match item_at(accesses, place) {
+        Some(access) => {
+            let before = tokens_after_operand(first, tokens);
+            argument(
+                access,
+                tokens_after_accesses(front(accesses, place), before),
+                index,
+            )
+        }
+        None => None,
+    }
 }
 
 /// Returns an operand of a node of a chain of accesses: the expression before the node's last access, or an argument of
 /// that access.
 fn member_operand<'a>(
     form: &Form<'a>,
-    first: &'a ExprTree,
-    accesses: &'a [Access<Items<ExprTree>>],
+    first: &'a Boxed<ExprTree>,
+    accesses: &'a Items<Access<Items<ExprTree>>>,
     index: usize,
 ) -> Option<Form<'a>>
     ensures { option_map spec.form_of result
@@ -256,7 +266,7 @@ fn member_operand<'a>(
 }
 
 /// Returns the only operand if the index is 0.
-fn one_operand<'a>(tree: &'a ExprTree, tokens: &'a [Token], index: usize) -> Option<Form<'a>>
+fn one_operand<'a>(tree: &'a Boxed<ExprTree>, tokens: &'a [Token], index: usize) -> Option<Form<'a>>
     ensures { option_map spec.form_of result ≡ spec.one_at tree.entry.now tokens.entry.now index }
 {
     if index == 0 {
@@ -266,11 +276,15 @@ fn one_operand<'a>(tree: &'a ExprTree, tokens: &'a [Token], index: usize) -> Opt
 }
 
 /// Returns the operand of a minus; `None` if the minus is part of a number.
-fn negated_operand<'a>(tree: &'a ExprTree, tokens: &'a [Token], index: usize) -> Option<Form<'a>>
+fn negated_operand<'a>(
+    tree: &'a Boxed<ExprTree>,
+    tokens: &'a [Token],
+    index: usize,
+) -> Option<Form<'a>>
     ensures { option_map spec.form_of result
         ≡ spec.minus_operand (out-ExprTree tree.entry.now) tree.entry.now tokens.entry.now index }
 {
-    match tree {
+    match &**tree {
         ExprTree::Number(_) => None,
         _ => one_operand(tree, tokens, index),
     }
@@ -311,26 +325,13 @@ fn is_negated(operator: Comparison) -> bool
     }
 }
 
-/// Returns whether a node is not the inner one.
-fn is_outer(part: FormNode) -> bool
-    ensures { result ≡ spec.is_outer part }
-{
-    match part {
-        FormNode::Whole => true,
-        FormNode::First(_) => true,
-        FormNode::Test => true,
-        FormNode::Inner => false,
-    }
-}
-
 /// Returns whether a node of a comparison's form is the negation of another comparison.
 fn is_negation(part: FormNode, operator: Comparison) -> bool
     ensures { result ≡ spec.both (spec.is_outer part) (spec.is_negated operator) }
 {
-    if is_outer(part) {
-        is_negated(operator)
-    } else {
-        false
+    match part {
+        FormNode::Inner => false,
+        _ => is_negated(operator),
     }
 }
 
@@ -338,15 +339,15 @@ fn is_negation(part: FormNode, operator: Comparison) -> bool
 fn compared_operand<'a>(
     form: &Form<'a>,
     negated: bool,
-    left: &'a ExprTree,
-    right: &'a ExprTree,
+    left: &'a Boxed<ExprTree>,
+    right: &'a Boxed<ExprTree>,
     index: usize,
 ) -> Option<Form<'a>>
     ensures { option_map spec.form_of result
         ≡ spec.compared_at negated (spec.form_of form.now) left.entry.now right.entry.now index }
 {
     if !negated {
-        let behind = skip(tokens_after_tree(left, form.tokens), 1);
+        let behind = tokens_after_piece(left, form.tokens);
         return two_operands(whole(left, form.tokens), whole(right, behind), index);
     }
     if index == 0 {
@@ -356,18 +357,22 @@ fn compared_operand<'a>(
 }
 
 /// Returns the tokens after `operand is path`.
-fn tokens_after_test<'a>(operand: &ExprTree, path: &PathTree, tokens: &'a [Token]) -> &'a [Token]
+fn tokens_after_test<'a>(
+    operand: &Boxed<ExprTree>,
+    path: &PathTree,
+    tokens: &'a [Token],
+) -> &'a [Token]
     ensures { result.now ≡ drop (path_count path.now) (drop 1 (drop (tree_count operand.now) tokens.entry.now)) }
 {
-    tokens_after_path(path, skip(tokens_after_tree(operand, tokens), 1))
+    tokens_after_path(path, tokens_after_piece(operand, tokens))
 }
 
 /// Returns an operand of a node of `operand is path in ancestor`.
 fn test_operand<'a>(
     form: &Form<'a>,
-    operand: &'a ExprTree,
+    operand: &'a Boxed<ExprTree>,
     path: &PathTree,
-    ancestor: &'a ExprTree,
+    ancestor: &'a Boxed<ExprTree>,
     index: usize,
 ) -> Option<Form<'a>>
     ensures { option_map spec.form_of result
@@ -390,9 +395,9 @@ fn test_operand<'a>(
 
 /// Returns an operand of `if`.
 fn if_operand<'a>(
-    test: &'a ExprTree,
-    consequent: &'a ExprTree,
-    alternative: &'a ExprTree,
+    test: &'a Boxed<ExprTree>,
+    consequent: &'a Boxed<ExprTree>,
+    alternative: &'a Boxed<ExprTree>,
     tokens: &'a [Token],
     index: usize,
 ) -> Option<Form<'a>>
@@ -406,13 +411,12 @@ fn if_operand<'a>(
     if index == 0 {
         return Some(whole(test, first));
     }
-    let second = skip(tokens_after_tree(test, first), 1);
+    let second = tokens_after_piece(test, first);
     if index == 1 {
         return Some(whole(consequent, second));
     }
-    let third = skip(tokens_after_tree(consequent, second), 1);
     if index == 2 {
-        return Some(whole(alternative, third));
+        return Some(whole(alternative, tokens_after_piece(consequent, second)));
     }
     None
 }
@@ -430,18 +434,16 @@ fn operand<'a>(form: &Form<'a>, index: usize) -> Option<Form<'a>>
         ExprTree::Uid(_) => None,
         ExprTree::Call(path, arguments) => {
             let row = skip(tokens_after_path(path, tokens), 1);
-            row_operand(arguments.as_slice(), row, index)
+            row_operand(arguments, row, index)
         }
         ExprTree::Parentheses(_) => None,
-        ExprTree::Set(members) => row_operand(members.as_slice(), skip(tokens, 1), index),
-        ExprTree::Record(entries) => entry_operand(entries.as_slice(), skip(tokens, 1), index),
-        ExprTree::Member(first, accesses) => {
-            member_operand(form, first, accesses.as_slice(), index)
-        }
+        ExprTree::Set(members) => row_operand(members, skip(tokens, 1), index),
+        ExprTree::Record(entries) => entry_operand(entries, skip(tokens, 1), index),
+        ExprTree::Member(first, accesses) => member_operand(form, first, accesses, index),
         ExprTree::Not(inner) => one_operand(inner, skip(tokens, 1), index),
         ExprTree::Minus(inner) => negated_operand(inner, skip(tokens, 1), index),
-        ExprTree::Product(first, more) => chain_operand(form, first, more.as_slice(), index),
-        ExprTree::Sum(first, terms) => sum_operand(form, first, terms.as_slice(), index),
+        ExprTree::Product(first, more) => chain_operand(form, first, more, index),
+        ExprTree::Sum(first, terms) => sum_operand(form, first, terms, index),
         ExprTree::Compare(left, operator, right) => {
             let negated = is_negation(form.part, *operator);
             compared_operand(form, negated, left, right, index)
@@ -450,8 +452,8 @@ fn operand<'a>(form: &Form<'a>, index: usize) -> Option<Form<'a>>
         ExprTree::Like(inner, _) => one_operand(inner, tokens, index),
         ExprTree::Is(inner, _) => one_operand(inner, tokens, index),
         ExprTree::IsIn(inner, path, outer) => { test_operand(form, inner, path, outer, index) }
-        ExprTree::And(first, more) => chain_operand(form, first, more.as_slice(), index),
-        ExprTree::Or(first, more) => chain_operand(form, first, more.as_slice(), index),
+        ExprTree::And(first, more) => chain_operand(form, first, more, index),
+        ExprTree::Or(first, more) => chain_operand(form, first, more, index),
         ExprTree::If(test, consequent, alternative) => {
             if_operand(test, consequent, alternative, tokens, index)
         }
@@ -464,31 +466,39 @@ pub(crate) fn node_at<'a>(form: &Form<'a>, path: &[usize]) -> Option<Form<'a>>
 {
     let mut here = *form;
     for index in path {
-        let below = operand(&here, *index)?;
-        here = unwrapped(&below);
+        match operand(&here, *index) {
+            Some(below) => here = unwrapped(&below),
+            None => return None,
+        }
     }
     Some(here)
 }
 
 /// Returns the tokens after the pieces of a chain that belong to the form's node.
-fn tokens_after_chain<'a>(form: &Form<'a>, first: &ExprTree, more: &[ExprTree]) -> &'a [Token]
+fn tokens_after_chain<'a>(
+    form: &Form<'a>,
+    first: &Boxed<ExprTree>,
+    more: &Items<ExprTree>,
+) -> &'a [Token]
     ensures { let pieces = take (spec.kept form.now.part (length more.now)) more.now in
         result.now ≡ drop (each_count (map tree_count pieces)) (drop (tree_count first.now) form.now.tokens.now) }
 {
-    let pieces = front(more, kept(form.part, more.len()));
-    tokens_after_each(pieces, tokens_after_tree(first, form.tokens))
+    let pieces = front(more.as_slice(), kept(form.part, more.len()));
+    tokens_after_each(pieces, tokens_after_operand(first, form.tokens))
 }
 
 /// Returns the tokens after a node of `operand is path in ancestor`.
-fn tokens_after_in_test<'a>(form: &Form<'a>, operand: &ExprTree, path: &PathTree) -> &'a [Token]
+fn tokens_after_in_test<'a>(
+    form: &Form<'a>,
+    operand: &Boxed<ExprTree>,
+    path: &PathTree,
+) -> &'a [Token]
     ensures { (b : ExprTree) → result.now
         ≡ spec.tokens_after_test form.now.part (spec.form_of form.now) operand.now path.now b }
 {
     match form.part {
-        FormNode::Whole => tokens_after_tree(form.tree, form.tokens),
-        FormNode::First(_) => tokens_after_tree(form.tree, form.tokens),
         FormNode::Test => tokens_after_test(operand, path, form.tokens),
-        FormNode::Inner => tokens_after_tree(form.tree, form.tokens),
+        _ => tokens_after_tree(form.tree, form.tokens),
     }
 }
 
@@ -499,15 +509,15 @@ fn tokens_after_form<'a>(form: &Form<'a>) -> &'a [Token]
     match form.tree {
         ExprTree::Member(first, accesses) => {
             let pieces = front(accesses.as_slice(), kept(form.part, accesses.len()));
-            tokens_after_accesses(pieces, tokens_after_tree(first, form.tokens))
+            tokens_after_accesses(pieces, tokens_after_operand(first, form.tokens))
         }
-        ExprTree::Product(first, more) => tokens_after_chain(form, first, more.as_slice()),
+        ExprTree::Product(first, more) => tokens_after_chain(form, first, more),
         ExprTree::Sum(first, terms) => {
             let pieces = front(terms.as_slice(), kept(form.part, terms.len()));
-            tokens_after_terms(pieces, tokens_after_tree(first, form.tokens))
+            tokens_after_terms(pieces, tokens_after_operand(first, form.tokens))
         }
-        ExprTree::And(first, more) => tokens_after_chain(form, first, more.as_slice()),
-        ExprTree::Or(first, more) => tokens_after_chain(form, first, more.as_slice()),
+        ExprTree::And(first, more) => tokens_after_chain(form, first, more),
+        ExprTree::Or(first, more) => tokens_after_chain(form, first, more),
         ExprTree::IsIn(inner, path, _) => tokens_after_in_test(form, inner, path),
         _ => tokens_after_tree(form.tree, form.tokens),
     }
@@ -529,6 +539,8 @@ pub(crate) fn tokens_at<'a>(
 ) -> Option<&'a [Token]>
     ensures { option_map (λ ts. ts.now) result ≡ spec.tokens_at tree.entry.now tokens.entry.now path.now }
 {
-    let form = node_at(&unwrapped(&whole(tree, tokens)), path)?;
-    Some(up_to(form.tokens, tokens_after_form(&form)))
+    match node_at(&unwrapped(&whole(tree, tokens)), path) {
+        Some(form) => Some(up_to(form.tokens, tokens_after_form(&form))),
+        None => None,
+    }
 }

@@ -3,11 +3,12 @@ ghost use Rattle.std.specs.Prelude.{◌≡◌, option_map};
 ghost use Rattle.token_spans.specs.Forms as forms;
 ghost use Rattle.token_spans.specs.Names as spec;
 
-use crate::behind::tokens_after_tree;
+use crate::behind::tokens_after_piece;
 use crate::forms::{Form, FormNode, node_at, unwrapped, up_to, whole};
-use crate::leaves::{skip, tokens_after_path};
+use crate::leaves::tokens_after_path;
 use crate::parts::tokens_after_uid;
 use grammar_trees::{ExprTree, PathTree, Token, UidTree};
+use plain::Boxed;
 
 /// Returns the tokens of `path`, which `tokens` begin with.
 pub(crate) fn path_tokens<'t>(path: &PathTree, tokens: &'t [Token]) -> &'t [Token]
@@ -24,10 +25,10 @@ pub(crate) fn uid_tokens<'t>(uid: &UidTree, tokens: &'t [Token]) -> &'t [Token]
 }
 
 /// Returns the tokens of the type `path` after `operand is`; `tokens` begin with the operand.
-fn tested<'t>(operand: &ExprTree, path: &PathTree, tokens: &'t [Token]) -> &'t [Token]
+fn tested<'t>(operand: &Boxed<ExprTree>, path: &PathTree, tokens: &'t [Token]) -> &'t [Token]
     ensures { result.now ≡ spec.tested operand.now path.now tokens.entry.now }
 {
-    path_tokens(path, skip(tokens_after_tree(operand, tokens), 1))
+    path_tokens(path, tokens_after_piece(operand, tokens))
 }
 
 /// Returns `tokens`, those of the type in `operand is path in ancestor`, if `part` is the test.
@@ -35,10 +36,8 @@ fn in_test<'t>(part: FormNode, tokens: &'t [Token]) -> Option<&'t [Token]>
     ensures { option_map (λ ts. ts.now) result ≡ spec.in_test part tokens.entry.now }
 {
     match part {
-        FormNode::Whole => None,
-        FormNode::First(_) => None,
         FormNode::Test => Some(tokens),
-        FormNode::Inner => None,
+        _ => None,
     }
 }
 
@@ -65,6 +64,8 @@ pub(crate) fn name_in<'a>(
 ) -> Option<&'a [Token]>
     ensures { option_map (λ ts. ts.now) result ≡ spec.name_in tree.entry.now tokens.entry.now path.now }
 {
-    let form = node_at(&unwrapped(&whole(tree, tokens)), path)?;
-    own_name(&form)
+    match node_at(&unwrapped(&whole(tree, tokens)), path) {
+        Some(form) => own_name(&form),
+        None => None,
+    }
 }

@@ -47,11 +47,9 @@ pub fn named_at<'t>(
     ensures { option_map (λ ts. ts.now) result ≡ names.named_at tokens.entry.now tree.entry.now path.now }
 {
     match place_at(tokens, tree, path) {
-        NodePlace::Policy(_) => None,
         NodePlace::Entity(part, from, rest) => entity_name(part, from, rest),
         NodePlace::Action(part, from, rest) => action_name(part, from, rest),
-        NodePlace::Unless(_, _) => None,
         NodePlace::Expression(expression, from, rest) => name_in(expression, from, rest),
-        NodePlace::Nowhere => None,
+        _ => None,
     }
 }

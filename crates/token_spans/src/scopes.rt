@@ -17,9 +17,7 @@ fn at_end<'t>(path: &[usize], name: Option<&'t [Token]>) -> Option<&'t [Token]>
 {
     match first_turn(path) {
         Turn::Stop => name,
-        Turn::Left(_) => None,
-        Turn::Right(_) => None,
-        Turn::Off => None,
+        _ => None,
     }
 }
 
@@ -29,10 +27,8 @@ fn at_second<'t>(path: &[usize], name: Option<&'t [Token]>) -> Option<&'t [Token
         ≡ spec.at_second (turn path.now) (option_map (λ ts. ts.now) name.entry) }
 {
     match first_turn(path) {
-        Turn::Stop => None,
-        Turn::Left(_) => None,
         Turn::Right(rest) => at_end(rest, name),
-        Turn::Off => None,
+        _ => None,
     }
 }
 
@@ -47,10 +43,9 @@ fn in_both<'t>(
         (option_map (λ ts. ts.now) uid.entry) }
 {
     match first_turn(path) {
-        Turn::Stop => None,
         Turn::Left(rest) => at_end(rest, name),
         Turn::Right(rest) => at_second(rest, uid),
-        Turn::Off => None,
+        _ => None,
     }
 }
 
@@ -86,8 +81,10 @@ pub(crate) fn entity_name<'t>(
 fn uid_at<'t>(uids: &[UidTree], tokens: &'t [Token], index: usize) -> Option<&'t [Token]>
     ensures { option_map (λ ts. ts.now) result ≡ spec.uid_at uids.now tokens.entry.now index }
 {
-    let uid = item_at(uids, index)?;
-    Some(uid_tokens(uid, tokens_after_uids(front(uids, index), tokens)))
+    match item_at(uids, index) {
+        Some(uid) => Some(uid_tokens(uid, tokens_after_uids(front(uids, index), tokens))),
+        None => None,
+    }
 }
 
 /// Returns the tokens of the uid of a list that a path leads to.
@@ -106,10 +103,8 @@ fn listed_name<'t>(uids: &[UidTree], tokens: &'t [Token], path: &[usize]) -> Opt
         ≡ spec.listed_name (turn path.now) uids.now tokens.entry.now }
 {
     match first_turn(path) {
-        Turn::Stop => None,
-        Turn::Left(_) => None,
         Turn::Right(rest) => item_name(uids, tokens, rest),
-        Turn::Off => None,
+        _ => None,
     }
 }
 

@@ -1,5 +1,5 @@
 -- The search in the rest of a list, behind what was searched before.
-use Rattle.std.proofs.Common.{◌≡◌, ◌∙◌, ℕ, ◌+◌, ◌<◌, ◌≤◌, drop, get_or, length, Option, Some, None, Result, Ok, Err, IfOk, String, Global, string_bytes, List, [], ◌∷◌, refl, sym, ap}
+use Rattle.std.proofs.Common.{◌≡◌, ◌∙◌, ℕ, ◌+◌, ◌<◌, ◌≤◌, drop, get_or, length, Option, Some, None, Result, Ok, Err, IfOk, String, Global, string_bytes, List, [], ◌∷◌, refl, sym, ap, subst}
 use Rattle.std.proofs.lemmas.List.{drop_more, drop_all}
 use Rattle.serde_json.specs.View.{view, items_view, members_view}
 use Rattle.serde_json.specs.declared.value.Value.{Value}
@@ -10,8 +10,8 @@ use Rattle.value_paths.specs.declared.steps.Step.{Step}
 use Rattle.value_paths.specs.declared.steps.Step.TheVariants.{Key, Index}
 use Rattle.value_paths.specs.inner.FoundPaths.{or_else, under, value_path, item_path, member_path}
 
-pub cut : (vs : List Value) (i : ℕ) (v : Value) → i < length vs → v ≡ get_or vs i v → drop i vs ≡ v ∷ drop (i + 1) vs
-cut vs i v lt at = drop_more vs i v lt ∙ ap (λ (w : Value). w ∷ drop (i + 1) vs) (sym at)
+pub cut : {A : Type 0} (vs : List A) (i : ℕ) (v : A) → i < length vs → v ≡ get_or vs i v → drop i vs ≡ v ∷ drop (i + 1) vs
+cut {A = A} vs i v lt at = drop_more vs i v lt ∙ ap (λ (w : A). w ∷ drop (i + 1) vs) (sym at)
 
 -- ---- items
 
@@ -73,8 +73,24 @@ pub search_stops : (F : ℕ → List Value → Option (List Step)) (vs : List Va
     → F i (v ∷ drop (i + 1) vs) ≡ o → total ≡ F i (drop i vs) → o ≡ total
 search_stops F vs i v o total lt at found so_far = sym (so_far ∙ ap (F i) (cut vs i v lt at) ∙ found)
 
+-- ---- any loop over a list, by what is left of it
+
+pub rest_goes : {A B : Type 0} (F : List A → B) (xs : List A) (i : ℕ) (x : A) (total : B) → i < length xs → x ≡ get_or xs i x → F (x ∷ drop (i + 1) xs) ≡ F (drop (i + 1) xs)
+    → total ≡ F (drop i xs) → total ≡ F (drop (i + 1) xs)
+rest_goes F xs i x total lt at next so_far = so_far ∙ ap F (cut xs i x lt at) ∙ next
+
+pub rest_stops : {A B : Type 0} (F : List A → B) (xs : List A) (i : ℕ) (x : A) (o total : B) → i < length xs → x ≡ get_or xs i x → F (x ∷ drop (i + 1) xs) ≡ o
+    → total ≡ F (drop i xs) → o ≡ total
+rest_stops F xs i x o total lt at found so_far = sym (so_far ∙ ap F (cut xs i x lt at) ∙ found)
+
+pub rest_done : {A B : Type 0} (F : List A → B) (xs : List A) (n : ℕ) (total : B) → length xs ≤ n → total ≡ F (drop n xs) → F [] ≡ total
+rest_done F xs n total le so_far = sym (so_far ∙ ap F (drop_all n xs le))
+
 -- ---- what follows of a value
 
 pub if_ok : {A E : Type 0} (r : Result A E) (P Q : A → Type 0) → ((x : A) → P x → Q x) → IfOk r P → IfOk r Q
 if_ok (Ok x) P Q f h = f x h
 if_ok (Err e) P Q f h = h
+
+pub made_so : {A E : Type 0} (r : Result A E) (x : A) (P : A → Type 0) → r ≡ Ok x → IfOk r P → P x
+made_so {A = A} {E = E} r x P e h = subst (λ (q : Result A E). IfOk q P) e h

@@ -18,16 +18,16 @@ use Rattle.value_paths.proofs.Going.{search_goes, search_stops}
 abbrev nameless : ℕ → List Value → Option (List Step)
 nameless i vs = first_unmet (parent_demands i (items_view vs))
 
-nameless_first : (i : ℕ) (v : Value) (vs : List Value) (o : Option EntityUid) → o ≡ uid_in (view v) → nameless i (v ∷ vs) ≡ (if is_some o then nameless (i + 1) vs else Some (to_parent i))
-nameless_first i v vs o e = ap (λ (p : Option EntityUid). if is_some p then nameless (i + 1) vs else Some (to_parent i)) (sym e)
+nameless_first : (i : ℕ) (v : Value) (vs : List Value) (b : Bool) → b ≡ is_some (uid_in (view v)) → nameless i (v ∷ vs) ≡ (if b then nameless (i + 1) vs else Some (to_parent i))
+nameless_first i v vs b e = ap (λ (c : Bool). if c then nameless (i + 1) vs else Some (to_parent i)) (sym e)
 
-pub nameless_goes : (vs : List Value) (i : ℕ) (v : Value) (u : EntityUid) (total : Option (List Step)) → i < length vs → v ≡ get_or vs i v → Some u ≡ uid_in (view v)
+pub nameless_goes : (vs : List Value) (i : ℕ) (v : Value) (total : Option (List Step)) → i < length vs → v ≡ get_or vs i v → true ≡ is_some (uid_in (view v))
     → total ≡ first_unmet (parent_demands i (items_view (drop i vs))) → total ≡ first_unmet (parent_demands (i + 1) (items_view (drop (i + 1) vs)))
-nameless_goes vs i v u total lt at e so_far = search_goes nameless vs i v total lt at (nameless_first i v (drop (i + 1) vs) (Some u) e) so_far
+nameless_goes vs i v total lt at e so_far = search_goes nameless vs i v total lt at (nameless_first i v (drop (i + 1) vs) true e) so_far
 
-pub nameless_stops : (vs : List Value) (i : ℕ) (v : Value) (total : Option (List Step)) → i < length vs → v ≡ get_or vs i v → None ≡ uid_in (view v)
+pub nameless_stops : (vs : List Value) (i : ℕ) (v : Value) (total : Option (List Step)) → i < length vs → v ≡ get_or vs i v → false ≡ is_some (uid_in (view v))
     → total ≡ first_unmet (parent_demands i (items_view (drop i vs))) → Some (to_parent i) ≡ total
-nameless_stops vs i v total lt at e so_far = search_stops nameless vs i v (Some (to_parent i)) total lt at (nameless_first i v (drop (i + 1) vs) None e) so_far
+nameless_stops vs i v total lt at e so_far = search_stops nameless vs i v (Some (to_parent i)) total lt at (nameless_first i v (drop (i + 1) vs) false e) so_far
 
 pub nameless_done : (vs : List Value) (n : ℕ) (total : Option (List Step)) → length vs ≤ n → total ≡ first_unmet (parent_demands n (items_view (drop n vs))) → None ≡ total
 nameless_done vs n total le so_far = sym (so_far ∙ ap (nameless n) (drop_all n vs le))

@@ -1,5 +1,5 @@
 -- The part of a request that its error is about is found.
-use Rattle.std.proofs.Common.{◌≡◌, ◌∙◌, List, [], ◌∷◌, Bool, true, false, Option, Some, None, Result, Ok, Err, refl, sym, ap, subst, codes}
+use Rattle.std.proofs.Common.{◌≡◌, ◌∙◌, List, [], ◌∷◌, Bool, true, false, Option, Some, None, Result, Ok, Err, IfOk, refl, sym, ap, subst, codes}
 use Rattle.std.specs.Prelude.{is_some}
 use Rattle.serde_json.specs.Data.{Data}
 use Rattle.serde_json.specs.Find.{get, as_object}
@@ -26,8 +26,9 @@ use Rattle.value_paths.specs.Paths.{RecordFaultAt}
 use Rattle.value_paths.specs.EntityPaths.{to_key, first_unmet}
 use Rattle.value_paths.specs.RequestPaths.{FormFaultAt, context_type, IsContextType, IsInContext, IsRequestPathOf}
 use Rattle.value_paths.specs.RequestPaths as says
-use Rattle.value_paths.specs.inner.FoundPaths.{under, record_path}
-use Rattle.value_paths.specs.inner.FoundNames.{Names, IsNamed, request_demands, IsFormSearched, context_path, path_under, named_type, IsContextSearched, IsPartSearched}
+use Rattle.value_paths.specs.inner.FoundPaths.{under, record_path, path_under}
+use Rattle.value_paths.specs.inner.FoundNames.{Names, IsNamed, request_demands, IsFormSearched, context_path, named_type, IsContextSearched, IsPartSearched}
+use Rattle.value_paths.proofs.Going.{made_so}
 use Rattle.value_paths.proofs.Agreeing.{Found, record_is_found}
 
 -- ---- the three that are asked for
@@ -53,15 +54,29 @@ same_type one s d p a r t hp ha hr e asked asks =
     ∙ ap (λ (x : EntityUid). context_type s (made asked.principal x r)) (names_one one (get (codes "action") d) a asked.action ha asks.action)
     ∙ ap (λ (x : EntityUid). context_type s (made asked.principal asked.action x)) (names_one one (get (codes "resource") d) r asked.resource hr asks.resource)
 
-pub type_searched : OneName → (s : StatedSchema) (d : Data) (p a r : Option EntityUid) (t : Option Cedar) → IsRead (Names (get (codes "principal") d)) p → IsRead (Names (get (codes "action") d)) a
+type_searched : OneName → (s : StatedSchema) (d : Data) (p a r : Option EntityUid) (t : Option Cedar) → IsRead (Names (get (codes "principal") d)) p → IsRead (Names (get (codes "action") d)) a
     → IsRead (Names (get (codes "resource") d)) r → t ≡ named_type s p a r → IsContextType s d t
 type_searched one s d None a r t hp ha hr e = λ asked asks. absurd (hp asked.principal asks.principal)
 type_searched one s d (Some p) None r t hp ha hr e = λ asked asks. absurd (ha asked.action asks.action)
 type_searched one s d (Some p) (Some a) None t hp ha hr e = λ asked asks. absurd (hr asked.resource asks.resource)
 type_searched one s d (Some p) (Some a) (Some r) t hp ha hr e = same_type one s d p a r t hp ha hr e
 
-pub context_searched : (s : StatedSchema) (d : Data) (t : Option Cedar) (o : Option (List Step)) → IsContextType s d t → o ≡ path_under t d → IsContextSearched s d o
-context_searched s d t o is e asked asks = e ∙ ap (λ (x : Option Cedar). path_under x d) (is asked asks)
+-- the same of the results of reading, of which two are joined in a pair
+pub type_read : {E : Type 0} → OneName → (s : StatedSchema) (d : Data) (p a r : Result (Option EntityUid) E) (ar : Result (Option EntityUid × Option EntityUid) E) (dp da dr : Option Data)
+    (principal : Option EntityUid) (others : Option EntityUid × Option EntityUid) (t : Option Cedar)
+    → dp ≡ get (codes "principal") d → da ≡ get (codes "action") d → dr ≡ get (codes "resource") d
+    → IfOk p (IsRead (Names dp)) → IfOk a (IsRead (Names da)) → IfOk r (IsRead (Names dr))
+    → IfOk ar (λ q. a ≡ Ok q.0) → IfOk ar (λ q. r ≡ Ok q.1) → p ≡ Ok principal → ar ≡ Ok others
+    → t ≡ named_type s principal others.0 others.1 → IsContextType s d t
+type_read one s d p a r ar dp da dr principal others t gp ga gr hp ha hr first second e f is =
+    type_searched one s d principal others.0 others.1 t
+    (subst (λ (x : Option Data). IsRead (Names x) principal) gp (made_so p principal (IsRead (Names dp)) e hp))
+    (subst (λ (x : Option Data). IsRead (Names x) others.0) ga (made_so a others.0 (IsRead (Names da)) (made_so ar others (λ q. a ≡ Ok q.0) f first) ha))
+    (subst (λ (x : Option Data). IsRead (Names x) others.1) gr (made_so r others.1 (IsRead (Names dr)) (made_so ar others (λ q. r ≡ Ok q.1) f second) hr))
+    is
+
+pub context_searched : (s : StatedSchema) (d : Data) (t : Option Cedar) (o : Option (List Step)) → IsContextType s d t → o ≡ path_under (codes "context") t d → IsContextSearched s d o
+context_searched s d t o is e asked asks = e ∙ ap (λ (x : Option Cedar). path_under (codes "context") x d) (is asked asks)
 
 pub named_by : (o : Option Data) (read : Option EntityUid) (given : Bool) → IsRead (Names o) read → given ≡ is_some read → IsNamed o given
 named_by o None given h e = subst (IsNamed o) (sym e) (λ n. h n.0 n.1)

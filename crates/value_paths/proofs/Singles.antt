@@ -1,8 +1,8 @@
 -- A record with one value is read as the value is.
-use Rattle.std.proofs.Common.{◌≡◌, ◌∙◌, Result, Ok, Err, List, [], ◌∷◌, true, false, refl, sym, ap}
-use Rattle.std.specs.Prelude.{is_ok}
+use Rattle.std.proofs.Common.{◌≡◌, ◌∙◌, Result, Ok, Err, Bool, List, [], ◌∷◌, IfOk, true, false, refl, sym, ap}
+use Rattle.std.specs.Prelude.{is_ok, MatchResult, ◌≢◌}
 use Rattle.serde_json.specs.Data.{Data, object, member, no_members}
-use Rattle.json_words.specs.ReadsAs.{◌>>=◌, demand, Fails}
+use Rattle.json_words.specs.ReadsAs.{◌>>=◌, demand, ReadsAs}
 use Rattle.values.specs.Values.{PlainValue}
 use Rattle.values.specs.Fields.{Field}
 use Rattle.schema_types.specs.Cedar.{Cedar, record_of, field, no_fields}
@@ -33,10 +33,18 @@ err_by : (r : Result PlainValue ValueFault) (f : ValueFault) → alone r ≡ Err
 err_by (Ok v) f e = absurd cc
 err_by (Err g) f e = refl
 
-pub read_alone : (t : Cedar) (d : Data) (T : Cedar) (D : Data) (fs : List Field) → T ≡ record_of (field [] t false no_fields) → D ≡ object (member [] d no_members)
+read_alone : (t : Cedar) (d : Data) (T : Cedar) (D : Data) (fs : List Field) → T ≡ record_of (field [] t false no_fields) → D ≡ object (member [] d no_members)
     → record_in T D ≡ Ok fs → true ≡ is_ok (typed_value t d)
 read_alone t d T D fs e g h = ok_by (typed_value t d) fs (sym (is_single t d T D e g) ∙ h)
 
-pub rejected_alone : (t : Cedar) (d : Data) (T : Cedar) (D : Data) (f : ValueFault) → T ≡ record_of (field [] t false no_fields) → D ≡ object (member [] d no_members)
+rejected_alone : (t : Cedar) (d : Data) (T : Cedar) (D : Data) (f : ValueFault) → T ≡ record_of (field [] t false no_fields) → D ≡ object (member [] d no_members)
     → record_in T D ≡ Err f → false ≡ is_ok (typed_value t d)
 rejected_alone t d T D f e g h = err_by (typed_value t d) f (sym (is_single t d T D e g) ∙ h)
+
+pub value_alone : {E : Type 0} (t : Cedar) (d : Data) (T : Cedar) (D : Data) (r : Result (List Field) ValueFault) (out : Result Bool E)
+    → T ≡ record_of (field [] t false no_fields) → D ≡ object (member [] d no_members) → ReadsAs NoMemory (λ fs. fs) r (record_in T D)
+    → IfOk out (λ b. MatchResult r (λ _. b ≡ true) (λ why. (b ≡ false) × (why ≢ NoMemory))) → IfOk out (λ b. b ≡ is_ok (typed_value t d))
+value_alone t d T D (Ok fs) (Ok b) e g h k = k ∙ read_alone t d T D fs e g h
+value_alone t d T D (Err f) (Ok b) e g h k = k.0 ∙ rejected_alone t d T D f e g (h k.1)
+value_alone t d T D (Ok fs) (Err x) e g h k = tt
+value_alone t d T D (Err f) (Err x) e g h k = tt

@@ -1,5 +1,5 @@
 -- The error with its path, as the whole function returns it.
-use Rattle.std.proofs.Common.{◌≡◌, ◌∙◌, List, Option, Some, None, Result, Ok, Err, IfOk, IfErr, refl, sym, subst}
+use Rattle.std.proofs.Common.{◌≡◌, ◌∙◌, List, Option, Some, None, Result, Ok, Err, MatchResult, IfOk, IfErr, refl, sym, subst}
 use Rattle.serde_json.specs.Data.{Data}
 use Rattle.json_words.specs.ReadsAs.{ReadsAs}
 use Rattle.values.specs.declared.request.Request.{Request}
@@ -17,6 +17,7 @@ use Rattle.value_paths.specs.Outcomes.{IsEntityFault, IsRequestFault}
 use Rattle.value_paths.specs.inner.FoundParts.{path_of}
 use Rattle.value_paths.specs.inner.FoundNames.{IsPartSearched}
 use Rattle.value_paths.specs.inner.Placing.{IsFaultOf, IsPlaced}
+use Rattle.value_paths.proofs.Going.{if_ok}
 use Rattle.value_paths.proofs.Agreeing.{some_is}
 use Rattle.value_paths.proofs.Parts.{Placed, entity_placed}
 
@@ -31,19 +32,27 @@ told P f p (Some q) None h e is = absurd h
 told P f p (Some q) (Some x) h e is =
     (x, refl, subst (λ (g : EntityFault). P g x.path) (sym h.0) (subst (P f) (sym (some_is q p e) ∙ sym h.1) is))
 
-pub entity_told : (s : StatedSchema) (d : Data) (f : EntityFault) (found : Option (List Step)) (o : Option PlacedFault) → entity_stated_in s d ≡ Err f → found ≡ path_of s d f → IsPlaced f found o
-    → IsEntityFault s d o
-entity_told s d f found o e at h =
-    let known : Placed {A = Entity} s d (Err f) = subst (Placed s d) e (entity_placed s d) in
-    let x = told (λ g p. (entity_stated_in s d ≡ Err g) × IsPathOf s d g p) f known.0 found o h (at ∙ known.1) (e, known.2) in
-    subst (IsEntityFault s d) (sym x.1) x.2
+told_in : {E : Type 0} (P : EntityFault → List Step → Type 0) (f : EntityFault) (found : Result (Option (List Step)) E) (o : Option PlacedFault) → MatchResult found (λ q. IsPlaced f q o) (λ _. ⊥)
+    → IfOk found (λ q. (p : List Step) × (q ≡ Some p) × P f p) → (x : PlacedFault) × (o ≡ Some x) × P x.fault x.path
+told_in P f (Ok q) o h k = told P f k.0 q o h k.1 k.2
+told_in P f (Err e) o h k = absurd h
 
-pub request_told : (s : StatedSchema) (d : Data) (f : EntityFault) (found : Option (List Step)) (o : Option PlacedFault) → RequestRefused s d f → IsPartSearched s d f found → IsPlaced f found o
-    → IsRequestFault s d o
-request_told s d f found o refused searched h =
-    let known = searched refused in
-    let x = told (λ g p. RequestRefused s d g × IsRequestPathOf s d g p) f known.0 found o h known.1 (refused, known.2) in
-    subst (IsRequestFault s d) (sym x.1) x.2
+pub entity_told : {E F : Type 0} (s : StatedSchema) (d : Data) (f : EntityFault) (found : Result (Option (List Step)) E) (out : Result (Option PlacedFault) F) → entity_stated_in s d ≡ Err f
+    → IfOk found (λ q. q ≡ path_of s d f) → IfOk out (λ o. MatchResult found (λ q. IsPlaced f q o) (λ _. ⊥)) → IfOk out (IsEntityFault s d)
+entity_told s d f found out e at h =
+    let known : Placed {A = Entity} s d (Err f) = subst (Placed s d) e (entity_placed s d) in
+    let P : EntityFault → List Step → Type 0 = λ g p. (entity_stated_in s d ≡ Err g) × IsPathOf s d g p in
+    let path = if_ok found (λ q. q ≡ path_of s d f) (λ q. (p : List Step) × (q ≡ Some p) × P f p) (λ q r. (known.0, r ∙ known.1, (e, known.2))) at in
+    if_ok out (λ o. MatchResult found (λ q. IsPlaced f q o) (λ _. ⊥)) (IsEntityFault s d)
+    (λ o k. let x = told_in P f found o k path in subst (IsEntityFault s d) (sym x.1) x.2) h
+
+pub request_told : {E F : Type 0} (s : StatedSchema) (d : Data) (f : EntityFault) (found : Result (Option (List Step)) E) (out : Result (Option PlacedFault) F) → RequestRefused s d f
+    → IfOk found (IsPartSearched s d f) → IfOk out (λ o. MatchResult found (λ q. IsPlaced f q o) (λ _. ⊥)) → IfOk out (IsRequestFault s d)
+request_told s d f found out refused searched h =
+    let P : EntityFault → List Step → Type 0 = λ g p. RequestRefused s d g × IsRequestPathOf s d g p in
+    let path = if_ok found (IsPartSearched s d f) (λ q. (p : List Step) × (q ≡ Some p) × P f p) (λ q k. let known = k refused in (known.0, known.1, (refused, known.2))) searched in
+    if_ok out (λ o. MatchResult found (λ q. IsPlaced f q o) (λ _. ⊥)) (IsRequestFault s d)
+    (λ o k. let x = told_in P f found o k path in subst (IsRequestFault s d) (sym x.1) x.2) h
 
 -- ---- what reading gave
 

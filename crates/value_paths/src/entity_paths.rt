@@ -1,12 +1,11 @@
 //! The search for the part of an entity's JSON that is at fault.
-ghost use Rattle.std.specs.Prelude.{◌≡◌, IfOk, Err, option_map};
+ghost use Rattle.std.specs.Prelude.{◌≡◌, IfOk, option_map};
 ghost use Rattle.serde_json.specs.View.{view};
 ghost use Rattle.schema_types.specs.CedarViews.{cedar_view};
 ghost use Rattle.entities.specs.schema.Views.{schema_view};
-ghost use Rattle.entities.specs.Entities.{entity_stated_in};
 ghost use Rattle.entities.specs.EntityForms.{or_empty};
 ghost use Rattle.value_paths.specs.Outcomes.{IsEntityFault};
-ghost use Rattle.value_paths.specs.inner.FoundPaths.{record_path, under};
+ghost use Rattle.value_paths.specs.inner.FoundPaths.{record_path, path_under};
 ghost use Rattle.value_paths.specs.EntityPaths.{shape_at};
 ghost use Rattle.value_paths.specs.inner.FoundParts.{attributes_path, path_of};
 
@@ -53,7 +52,7 @@ pub(crate) fn shape_at<'s>(
 
 /// Returns the path to the part of a record that is at fault, if there is one. An absent record counts as an empty
 /// object.
-pub(crate) fn find_in_fields(
+fn find_in_fields(
     alloc: Global,
     found: Option<&Value>,
     ty: &CedarType,
@@ -65,8 +64,30 @@ pub(crate) fn find_in_fields(
         Some(value) => find_in_record(alloc, value, ty),
         None => {
             let empty = Value::Object(Map::new(alloc));
-            find_in_record(alloc, &empty, ty)
+            let found = find_in_record(alloc, &empty, ty);
+            drop(empty);
+            found
         }
+    }
+}
+
+/// Returns the path to the part at fault in the member of `value` at `key`, whose type is `ty`, if there is one. An
+/// absent member counts as an empty object. If `ty` is `None`, returns `None`.
+pub(crate) fn find_under(
+    alloc: Global,
+    value: &Value,
+    key: &str,
+    ty: Option<&CedarType>,
+) -> Result<Option<Trail>, NoMemory>
+    ensures { IfOk result
+        (λ o. o ≡ path_under key.now (option_map (λ t. cedar_view t.now) ty.entry) (view value.now)) }
+{
+    let Some(ty) = ty else {
+        return Ok(None);
+    };
+    match find_in_fields(alloc, value.get(key), ty)? {
+        Some(trail) => under_key(alloc, key, trail),
+        None => Ok(None),
     }
 }
 
@@ -79,13 +100,8 @@ fn find_in_attributes(
 ) -> Result<Option<Trail>, NoMemory>
     ensures { IfOk result (λ o. o ≡ attributes_path (schema_view schema.now) (view value.now)) }
 {
-    let Some(shape) = shape_at(alloc, schema, value.get("uid"))? else {
-        return Ok(None);
-    };
-    match find_in_fields(alloc, value.get("attrs"), shape)? {
-        Some(trail) => under_key(alloc, "attrs", trail),
-        None => Ok(None),
-    }
+    let shape = shape_at(alloc, schema, value.get("uid"))?;
+    find_under(alloc, value, "attrs", shape)
 }
 
 /// Returns the path to the part that an error is about.
@@ -108,20 +124,6 @@ fn find_part(
     }
 }
 
-/// Returns an error of a value as an entity, with its path.
-fn placed_fault(
-    alloc: Global,
-    schema: &Schema,
-    value: &Value,
-    fault: EntityFault,
-) -> Result<Option<PlacedFault>, NoMemory>
-    ensures { IfOk result (λ o. entity_stated_in (schema_view schema.now) (view value.now) ≡ Err fault
-        → IsEntityFault (schema_view schema.now) (view value.now) o) }
-{
-    let found = find_part(alloc, schema, value, fault)?;
-    Ok(placed(fault, found))
-}
-
 /// Returns the error of a value as an entity under a schema, and the path to the part at fault; `None` if the value
 /// describes an entity. The only error is `NoMemory`.
 ///
@@ -141,7 +143,7 @@ pub fn entity_fault(
 {
     let read = read_entity(alloc, schema, value);
     match fault_of(read)? {
-        Some(fault) => placed_fault(alloc, schema, value, fault),
+        Some(fault) => placed(fault, find_part(alloc, schema, value, fault)),
         None => Ok(None),
     }
 }

@@ -3,9 +3,10 @@ ghost use Rattle.std.specs.Prelude.{◌≡◌, IfOk, option_map};
 ghost use Rattle.serde_json.specs.View.{view, items_view, members_view};
 ghost use Rattle.schema_types.specs.CedarViews.{cedar_view, cedar_fields_view};
 ghost use Rattle.entities.specs.Parts.{element_of, fields_in, declared_at};
-ghost use Rattle.value_paths.specs.inner.FoundPaths.{absent_path, value_path, item_path, member_path, record_path};
+ghost use Rattle.value_paths.specs.inner.FoundPaths.{or_else, absent_path, value_path, item_path, member_path};
+ghost use Rattle.value_paths.specs.inner.FoundPaths.{record_path};
 
-use crate::steps::{Trail, at_key, under_index, under_key};
+use crate::steps::{Step, Trail, at_key, under_key};
 use crate::wholes::find_whole;
 use plain::{Items, NoMemory, Text};
 use schema_types::CedarType;
@@ -42,7 +43,8 @@ pub(crate) fn fields(ty: &CedarType) -> Option<&Fields>
 pub(crate) fn declared<'t>(fields: &'t Fields, name: &str) -> Option<&'t CedarType>
     ensures { option_map (λ t. cedar_view t.now) result ≡ declared_at name.now (cedar_fields_view fields.now) }
 {
-    for field in fields.as_slice() {
+    let fields = fields.as_slice();
+    for field in fields {
         if field.0.as_str() == name {
             return Some(&field.1);
         }
@@ -78,10 +80,7 @@ fn find(alloc: Global, value: &Value, ty: &CedarType) -> Result<Option<Trail>, N
             None => Ok(Some(Trail::here(alloc))),
         },
         Value::Object(members) => match fields(ty) {
-            Some(fields) => match find_member(alloc, members, fields)? {
-                Some(trail) => Ok(Some(trail)),
-                None => find_absent(alloc, fields, value),
-            },
+            Some(fields) => find_in_members(alloc, members, fields, value),
             None => find_whole(alloc, value, ty),
         },
     }
@@ -94,22 +93,27 @@ fn find_item(alloc: Global, items: &Vec<Value>, ty: &CedarType) -> Result<Option
 {
     for (index, item) in items.iter().enumerate() {
         match find(alloc, item, ty)? {
-            Some(trail) => return under_index(index, trail),
+            Some(trail) => return trail.under(Step::Index(index)),
             None => {}
         }
     }
     Ok(None)
 }
 
-/// Returns the path to the part at fault of the first undeclared or rejected member of an object, if one is.
+/// Returns the path to the part at fault of the first undeclared or rejected member of the object `value`.
+///
+/// `members` are the members of `value`. If no member is at fault, returns the path to the first required key that is
+/// absent, if one is.
 #[cycle(find)]
-fn find_member(
+fn find_in_members(
     alloc: Global,
     members: &Map<String, Value>,
     fields: &Fields,
+    value: &Value,
 ) -> Result<Option<Trail>, NoMemory>
     ensures { IfOk result
-        (λ o. o ≡ member_path (cedar_fields_view fields.now) (members_view members.now.entries)) }
+        (λ o. o ≡ or_else (member_path (cedar_fields_view fields.now) (members_view members.now.entries))
+        (absent_path (cedar_fields_view fields.now) (view value.now))) }
 {
     for (key, member) in members.iter() {
         let name = key.as_str();
@@ -122,7 +126,7 @@ fn find_member(
             None => {}
         }
     }
-    Ok(None)
+    find_absent(alloc, fields, value)
 }
 
 /// Returns the path to the part of a record that is at fault, if one is. A value that is not an object, or a type
@@ -141,8 +145,5 @@ pub(crate) fn find_in_record(
     let Some(members) = value.as_object() else {
         return Ok(Some(Trail::here(alloc)));
     };
-    match find_member(alloc, members, fields)? {
-        Some(trail) => Ok(Some(trail)),
-        None => find_absent(alloc, fields, value),
-    }
+    find_in_members(alloc, members, fields, value)
 }

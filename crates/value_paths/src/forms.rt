@@ -7,7 +7,7 @@ ghost use Rattle.value_paths.specs.EntityPaths.{is_uid, to_parent, parent_demand
 ghost use Rattle.value_paths.specs.EntityPaths.{first_unmet};
 
 use crate::placed::was_some;
-use crate::steps::{Trail, at_key, under_index, under_key};
+use crate::steps::{Step, Trail, at_key, under_key};
 use entities::read_uid;
 use plain::NoMemory;
 use serde_json::Value;
@@ -17,9 +17,10 @@ use std::alloc::Global;
 pub(crate) fn at_parent(alloc: Global, index: usize) -> Result<Option<Trail>, NoMemory>
     ensures { IfOk result (λ o. o ≡ Some (to_parent index)) }
 {
-    match under_index(index, Trail::here(alloc))? {
-        Some(trail) => under_key(alloc, "parents", trail),
-        None => Ok(None),
+    match Trail::here(alloc).under(Step::Index(index)) {
+        Ok(Some(trail)) => under_key(alloc, "parents", trail),
+        Ok(None) => Ok(None),
+        Err(fault) => Err(fault),
     }
 }
 
@@ -28,10 +29,10 @@ fn is_uid(alloc: Global, found: Option<&Value>) -> Result<bool, NoMemory>
     ensures { IfOk result (λ yes. yes ≡ is_uid (option_map (λ v. view v.now) found.entry)) }
 {
     match found {
-        Some(value) => {
-            let uid = read_uid(alloc, value)?;
-            Ok(was_some(uid))
-        }
+        Some(value) => match read_uid(alloc, value) {
+            Ok(uid) => Ok(was_some(uid)),
+            Err(fault) => Err(fault),
+        },
         None => Ok(false),
     }
 }
@@ -58,9 +59,9 @@ fn find_nameless(alloc: Global, parents: &[Value]) -> Result<Option<Trail>, NoMe
     ensures { IfOk result (λ o. o ≡ first_unmet (parent_demands 0 (items_view parents.now))) }
 {
     for (index, parent) in parents.iter().enumerate() {
-        match read_uid(alloc, parent)? {
-            Some(_) => {}
-            None => return at_parent(alloc, index),
+        let named = is_uid(alloc, Some(parent))?;
+        if !named {
+            return at_parent(alloc, index);
         }
     }
     Ok(None)

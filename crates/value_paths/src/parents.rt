@@ -48,7 +48,9 @@ fn find_unfit(
             Some(parent) => parent,
             None => return Ok(None),
         };
-        if !fits(schema, uid, &parent) {
+        let fit = fits(schema, uid, &parent);
+        drop(parent);
+        if !fit {
             return at_parent(alloc, index);
         }
     }

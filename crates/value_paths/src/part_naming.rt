@@ -149,7 +149,9 @@ fn entity_part_words(
         Some(value) => {
             let shape = shape_at(alloc, schema, value.get("uid"))?;
             let found = entity_fault(alloc, schema, value)?;
-            part_words(alloc, &found, shape)
+            let words = part_words(alloc, &found, shape);
+            drop(found);
+            words
         }
         None => Ok(Text::from_string(String::new(alloc))),
     }
@@ -168,7 +170,9 @@ fn request_part_words(
         Some(value) => {
             let context = asked_type(alloc, schema, value)?;
             let found = request_fault(alloc, schema, value)?;
-            part_words(alloc, &found, context)
+            let words = part_words(alloc, &found, context);
+            drop(found);
+            words
         }
         None => Ok(Text::from_string(String::new(alloc))),
     }
@@ -208,7 +212,9 @@ pub fn entity_part(
     ensures { IfOk result (NamesPartOfItem (schema_view schema.now) text.now index) }
 {
     let value = read_json(alloc, text)?;
-    entity_part_words(alloc, schema, item_of(value.as_ref(), index))
+    let words = entity_part_words(alloc, schema, item_of(value.as_ref(), index));
+    drop(value);
+    words
 }
 
 /// Returns the words that name the part at fault of a request that a schema rejects.
@@ -223,5 +229,7 @@ pub fn request_part(alloc: Global, schema: &Schema, text: &[u8]) -> Result<Text,
     ensures { IfOk result (NamesPartOfRequestText (schema_view schema.now) text.now) }
 {
     let value = read_json(alloc, text)?;
-    request_part_words(alloc, schema, value.as_ref())
+    let words = request_part_words(alloc, schema, value.as_ref());
+    drop(value);
+    words
 }

@@ -1,5 +1,5 @@
 //! Errors of entities and requests, each with the path to the part at fault.
-ghost use Rattle.std.specs.Prelude.{◌≡◌, IfOk, is_some};
+ghost use Rattle.std.specs.Prelude.{◌≡◌, IfOk, MatchResult, is_some};
 ghost use Rattle.value_paths.specs.inner.Placing.{IsFaultOf, IsPlaced};
 
 use crate::steps::{Step, Trail};
@@ -33,16 +33,21 @@ pub(crate) fn fault_of<T: Drop>(
     }
 }
 
-/// Returns an error with its path, or `None` if no path was found.
-pub(crate) fn placed(fault: EntityFault, found: Option<Trail>) -> Option<PlacedFault>
-    ensures { IsPlaced fault found result }
+/// Returns an error with the path that a search gave, or `None` if the search found no path. The only error is that of
+/// the search.
+pub(crate) fn placed(
+    fault: EntityFault,
+    found: Result<Option<Trail>, NoMemory>,
+) -> Result<Option<PlacedFault>, NoMemory>
+    ensures { IfOk result (λ o. MatchResult found (λ path. IsPlaced fault path o) (λ _. ⊥)) }
 {
     match found {
-        Some(trail) => Some(PlacedFault {
+        Ok(Some(trail)) => Ok(Some(PlacedFault {
             fault,
             path: trail.into_path(),
-        }),
-        None => None,
+        })),
+        Ok(None) => Ok(None),
+        Err(memory) => Err(memory),
     }
 }
 

@@ -5,20 +5,18 @@ ghost use Rattle.schema_types.specs.CedarViews.{cedar_view};
 ghost use Rattle.entities.specs.entity_uids.Uids.{IsRead};
 ghost use Rattle.entities.specs.schema.Views.{schema_view};
 ghost use Rattle.entities.specs.Contexts.{context_where, is_place};
-ghost use Rattle.entities.specs.Requests.{RequestRefused};
 ghost use Rattle.value_paths.specs.EntityPaths.{first_unmet};
 ghost use Rattle.value_paths.specs.Outcomes.{IsRequestFault};
 ghost use Rattle.value_paths.specs.inner.FoundNames.{Names, IsNamed, IsFormSearched, IsContextSearched, IsPartSearched};
-ghost use Rattle.value_paths.specs.inner.FoundNames.{path_under, named_type, request_demands, IsTypeForResource};
-ghost use Rattle.value_paths.specs.inner.FoundNames.{IsTypeForAction};
+ghost use Rattle.value_paths.specs.inner.FoundNames.{named_type, request_demands};
 ghost use Rattle.value_paths.specs.RequestPaths.{IsContextType};
 
-use crate::entity_paths::find_in_fields;
+use crate::entity_paths::find_under;
 use crate::forms::{is_absent_or_object, is_object};
 use crate::placed::{PlacedFault, fault_of, placed, was_some};
-use crate::steps::{Trail, at_key, under_key};
+use crate::steps::{Trail, at_key};
 use entities::{EntityFault, Environment, Schema, names_read_back, read_name, read_request};
-use plain::NoMemory;
+use plain::{NoMemory, both};
 use schema_types::CedarType;
 use serde_json::Value;
 use std::alloc::Global;
@@ -139,37 +137,6 @@ fn named_type<'s>(
     context_type(schema, principal, action, resource)
 }
 
-/// Returns the type of the context of a request for this principal, this action and the resource that the request
-/// names.
-fn type_for_resource<'s>(
-    alloc: Global,
-    schema: &'s Schema,
-    value: &Value,
-    principal: &Option<EntityUid>,
-    action: &Option<EntityUid>,
-) -> Result<Option<&'s CedarType>, NoMemory>
-    ensures { IfOk result (λ o. IsTypeForResource (schema_view schema.now) (view value.now) principal.now action.now
-        (option_map (λ t. cedar_view t.now) o)) }
-{
-    let resource = name_at(alloc, value.get("resource"))?;
-    Ok(named_type(schema, principal, action, &resource))
-}
-
-/// Returns the type of the context of a request for this principal, and the action and the resource that the request
-/// names.
-fn type_for_action<'s>(
-    alloc: Global,
-    schema: &'s Schema,
-    value: &Value,
-    principal: &Option<EntityUid>,
-) -> Result<Option<&'s CedarType>, NoMemory>
-    ensures { IfOk result (λ o. IsTypeForAction (schema_view schema.now) (view value.now) principal.now
-        (option_map (λ t. cedar_view t.now) o)) }
-{
-    let action = name_at(alloc, value.get("action"))?;
-    type_for_resource(alloc, schema, value, principal, &action)
-}
-
 /// Returns the type of the context of a request, if its action applies to its principal and its resource.
 pub(crate) fn asked_type<'s>(
     alloc: Global,
@@ -180,25 +147,15 @@ pub(crate) fn asked_type<'s>(
         IsContextType (schema_view schema.now) (view value.now) (option_map (λ t. cedar_view t.now) o)) }
 {
     names_read_back();
-    let principal = name_at(alloc, value.get("principal"))?;
-    type_for_action(alloc, schema, value, &principal)
-}
-
-/// Returns the path to the part of a context of this type that is at fault, if there is one.
-fn find_in_context_of(
-    alloc: Global,
-    value: &Value,
-    ty: Option<&CedarType>,
-) -> Result<Option<Trail>, NoMemory>
-    ensures { IfOk result (λ o. o ≡ path_under (option_map (λ t. cedar_view t.now) ty.entry) (view value.now)) }
-{
-    let Some(ty) = ty else {
-        return Ok(None);
-    };
-    match find_in_fields(alloc, value.get("context"), ty)? {
-        Some(trail) => under_key(alloc, "context", trail),
-        None => Ok(None),
-    }
+    let principal = name_at(alloc, value.get("principal"));
+    let action = name_at(alloc, value.get("action"));
+    let resource = name_at(alloc, value.get("resource"));
+    let others = both(action, resource);
+    let (principal, others) = both(principal, others)?;
+    let ty = named_type(schema, &principal, &others.0, &others.1);
+    drop(principal);
+    drop(others);
+    Ok(ty)
 }
 
 /// Returns the path to the part of the context that is at fault, if there is one.
@@ -206,7 +163,7 @@ fn find_in_context(alloc: Global, schema: &Schema, value: &Value) -> Result<Opti
     ensures { IfOk result (IsContextSearched (schema_view schema.now) (view value.now)) }
 {
     let ty = asked_type(alloc, schema, value)?;
-    find_in_context_of(alloc, value, ty)
+    find_under(alloc, value, "context", ty)
 }
 
 /// Returns the path to the part that an error is about.
@@ -225,20 +182,6 @@ fn find_part(
     }
 }
 
-/// Returns an error of a value as a request, with its path.
-fn placed_fault(
-    alloc: Global,
-    schema: &Schema,
-    value: &Value,
-    fault: EntityFault,
-) -> Result<Option<PlacedFault>, NoMemory>
-    ensures { IfOk result (λ o. RequestRefused (schema_view schema.now) (view value.now) fault
-        → IsRequestFault (schema_view schema.now) (view value.now) o) }
-{
-    let found = find_part(alloc, schema, value, fault)?;
-    Ok(placed(fault, found))
-}
-
 /// Returns the error of a value as a request under a schema, and the path to the part at fault; `None` if the value
 /// describes a request. The only error is `NoMemory`.
 ///
@@ -254,7 +197,7 @@ pub fn request_fault(
 {
     let read = read_request(alloc, schema, value);
     match fault_of(read)? {
-        Some(fault) => placed_fault(alloc, schema, value, fault),
+        Some(fault) => placed(fault, find_part(alloc, schema, value, fault)),
         None => Ok(None),
     }
 }

@@ -40,13 +40,13 @@ impl Trail {
         }
     }
 
-    /// Returns the path with a step in front of it.
-    pub(crate) fn under(self, step: Step) -> Result<Trail, NoMemory>
-        ensures { IfOk result (λ trail. trail ≡ step ∷ self) }
+    /// Returns the path with a step in front of it. Always `Some`, since callers return optional paths.
+    pub(crate) fn under(self, step: Step) -> Result<Option<Trail>, NoMemory>
+        ensures { IfOk result (λ o. o ≡ Some (step ∷ self)) }
     {
         let Trail { mut steps } = self;
         steps.push(step)?;
-        Ok(Trail { steps })
+        Ok(Some(Trail { steps }))
     }
 
     /// Returns the steps of the path, from the whole value on.
@@ -59,12 +59,14 @@ impl Trail {
     }
 }
 
-/// Returns the path with a key in front of it. Always `Some`, since callers return optional paths.
+/// Returns the path with a key in front of it. Always `Some`.
 pub(crate) fn under_key(alloc: Global, key: &str, trail: Trail) -> Result<Option<Trail>, NoMemory>
     ensures { IfOk result (λ o. o ≡ Some (step.Key key.now ∷ trail)) }
 {
-    let key = Text::from_str(alloc, key)?;
-    Ok(Some(trail.under(Step::Key(key))?))
+    match Text::from_str(alloc, key) {
+        Ok(key) => trail.under(Step::Key(key)),
+        Err(fault) => Err(fault),
+    }
 }
 
 /// Returns the path whose only step is this key. Always `Some`.
@@ -72,11 +74,4 @@ pub(crate) fn at_key(alloc: Global, key: &str) -> Result<Option<Trail>, NoMemory
     ensures { IfOk result (λ o. o ≡ Some (step.Key key.now ∷ [])) }
 {
     under_key(alloc, key, Trail::here(alloc))
-}
-
-/// Returns the path with an index in front of it. Always `Some`.
-pub(crate) fn under_index(index: usize, trail: Trail) -> Result<Option<Trail>, NoMemory>
-    ensures { IfOk result (λ o. o ≡ Some (step.Index index ∷ trail)) }
-{
-    Ok(Some(trail.under(Step::Index(index))?))
 }

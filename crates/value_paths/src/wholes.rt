@@ -1,5 +1,5 @@
 //! Values without parts, which are accepted or rejected as a whole.
-ghost use Rattle.std.specs.Prelude.{◌≡◌, ◌≢◌, [], IfOk, false, is_ok};
+ghost use Rattle.std.specs.Prelude.{◌≡◌, ◌≢◌, [], IfOk, MatchResult, true, false, is_ok};
 ghost use Rattle.serde_json.specs.Data.{object, member, no_members};
 ghost use Rattle.serde_json.specs.View.{view};
 ghost use Rattle.schema_types.specs.Cedar.{record_of, field, no_fields};
@@ -10,7 +10,7 @@ ghost use Rattle.value_paths.specs.inner.FoundPaths.{whole_path};
 
 use crate::steps::Trail;
 use entities::{ValueFault, read_record};
-use plain::{Items, NoMemory, Shared, Text};
+use plain::{Items, NoMemory, Shared, Text, both};
 use schema_types::CedarType;
 use serde_json::{Map, Value, put};
 use std::alloc::Global;
@@ -46,18 +46,34 @@ fn rejected(fault: ValueFault) -> Result<bool, NoMemory>
     }
 }
 
+/// Returns whether parsing gave a value, and drops the value. The only error is `NoMemory`.
+///
+/// The function is generic, so that dropping the value is one step of its proof.
+fn is_value<T: Drop>(read: Result<T, ValueFault>) -> Result<bool, NoMemory>
+    ensures { IfOk result (λ yes. MatchResult read (λ _. yes ≡ true)
+        (λ why. (yes ≡ false) × (why ≢ ValueFault.NoMemory))) }
+{
+    match read {
+        Ok(value) => {
+            drop(value);
+            Ok(true)
+        }
+        Err(fault) => rejected(fault),
+    }
+}
+
 /// Returns whether a type accepts a value: whether a record with only this value is accepted.
 ///
 /// Thus the parser of records decides, and this crate has no typing rules of its own.
 fn is_read(alloc: Global, value: &Value, ty: &CedarType) -> Result<bool, NoMemory>
     ensures { IfOk result (λ yes. yes ≡ is_ok (typed_value (cedar_view ty.now) (view value.now))) }
 {
-    let object = object_with(alloc, value)?;
-    let record = record_with(alloc, ty)?;
-    match read_record(alloc, &object, &record) {
-        Ok(_) => Ok(true),
-        Err(fault) => rejected(fault),
-    }
+    let object = object_with(alloc, value);
+    let (object, record) = both(object, record_with(alloc, ty))?;
+    let read = read_record(alloc, &object, &record);
+    drop(object);
+    drop(record);
+    is_value(read)
 }
 
 /// Returns the path of a value without parts to itself if the type rejects it, else `None`.
@@ -68,8 +84,9 @@ pub(crate) fn find_whole(
 ) -> Result<Option<Trail>, NoMemory>
     ensures { IfOk result (λ o. o ≡ whole_path (typed_value (cedar_view ty.now) (view value.now))) }
 {
-    if is_read(alloc, value, ty)? {
-        return Ok(None);
+    match is_read(alloc, value, ty) {
+        Ok(true) => Ok(None),
+        Ok(false) => Ok(Some(Trail::here(alloc))),
+        Err(fault) => Err(fault),
     }
-    Ok(Some(Trail::here(alloc)))
 }

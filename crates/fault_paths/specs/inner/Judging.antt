@@ -1,14 +1,11 @@
 -- Defines the report on one environment: an error of typing a policy's expression there, and what the error blames.
-use Rattle.std.specs.Prelude.{◌≡◌, ◌≢◌, ℕ, [], Option, Some, None, Result, Ok, Err, MatchOption}
+use Rattle.std.specs.Prelude.{◌≡◌, ℕ, [], Option, MatchOption}
 use Rattle.grammar_core.specs.declared.expr.Expr.{Expr}
 use Rattle.validator.specs.declared.fault.TypeFault.{TypeFault}
 use Rattle.validator.specs.typing.Types.{StaticType}
 use Rattle.validator.specs.typing.Environment.{Environment, ExpressionFault}
 use Rattle.validator.specs.typing.Faults.{Faults}
-use Rattle.validator.specs.Faults.{of_typing, of_types}
-use Rattle.type_checker.specs.declared.typed.Typed.{Typed}
-use Rattle.type_checker.specs.declared.fault.ExpressionFault as at_hand
-use Rattle.type_checker.specs.declared.fault.ExpressionFault.TheVariants.{NoMemory}
+use Rattle.validator.specs.Faults.{of_typing}
 use Rattle.validator.specs.Passing.{HasType}
 use Rattle.typing.specs.BlamedExpressions.{blamed}
 use Rattle.fault_paths.specs.Views.{place_view}
@@ -31,11 +28,3 @@ IsBlamedAt env i x b = (b.environment ≡ i) × IsFault env x b.fault
 -- `IsBlamedIn env i x o` holds if `o` is a report as `IsBlamedAt` says, or `None` and `x` has a type in `env`.
 abbrev pub IsBlamedIn : Environment → ℕ → Expr → Option TypeBlame → Type 0
 IsBlamedIn env i x o = MatchOption o ((t : StaticType) × HasType x t env) (IsBlamedAt env i x)
-
--- `IsTypingFault judged r` holds if `r` is `Ok` with the validator's error for the typing error in `judged`, or with
--- `None` if `judged` has a type; or if `r` is any `Err`.
-abbrev pub IsTypingFault : {B : Type 0} → Result Typed at_hand.ExpressionFault → Result (Option TypeFault) B → Type 0
-IsTypingFault judged (Ok None) = (t : Typed) × (judged ≡ Ok t)
-IsTypingFault judged (Ok (Some g)) =
-    (f : at_hand.ExpressionFault) × (f ≢ NoMemory) × (judged ≡ Err f) × (g ≡ of_types f)
-IsTypingFault judged (Err e) = Unit {0}

@@ -9,13 +9,12 @@ use Rattle.entities.specs.Typing.{with_or}
 use Rattle.entities.specs.schema.Schemas.{StatedSchema}
 use Rattle.entities.specs.declared.fault.EntityFault.{EntityFault}
 use Rattle.entities.specs.declared.requests.Asked.{Asked}
-use Rattle.entities.specs.EntityForms.{is_absent_or_object, or_empty}
+use Rattle.entities.specs.EntityForms.{is_absent_or_object}
 use Rattle.entities.specs.Requests.{Asks, RequestRefused}
 use Rattle.value_paths.specs.declared.steps.Step.{Step}
-use Rattle.value_paths.specs.declared.steps.Step.TheVariants.{Key}
 use Rattle.value_paths.specs.EntityPaths.{Demand, to_key}
 use Rattle.value_paths.specs.RequestPaths.{FormFaultAt, context_type, IsRequestPathOf}
-use Rattle.value_paths.specs.inner.FoundPaths.{under, record_path}
+use Rattle.value_paths.specs.inner.FoundPaths.{path_under}
 
 -- `Names o uid` holds if the value `o` is present and names `uid`.
 abbrev pub Names : Option Data → EntityUid → Type 0
@@ -47,26 +46,10 @@ abbrev pub named_type : StatedSchema → Option EntityUid → Option EntityUid �
 named_type s principal action resource = with_or principal (λ p. with_or action (λ a. with_or resource
     (λ r. context_type s (record { principal = p; action = a; resource = r })) None) None) None
 
--- `IsTypeForResource s d principal action t` holds if `t` is `named_type` for `principal`, `action` and the resource
--- that `d` names. `IsTypeForAction s d principal t` holds if `t` is `named_type` for `principal` and the action and the
--- resource that `d` names.
-abbrev pub IsTypeForResource : StatedSchema → Data → Option EntityUid → Option EntityUid → Option Cedar → Type 0
-IsTypeForResource s d principal action t = (resource : Option EntityUid)
-    × IsRead (Names (get (codes "resource") d)) resource × (t ≡ named_type s principal action resource)
-
-abbrev pub IsTypeForAction : StatedSchema → Data → Option EntityUid → Option Cedar → Type 0
-IsTypeForAction s d principal t = (action : Option EntityUid) × IsRead (Names (get (codes "action") d)) action
-    × IsTypeForResource s d principal action t
-
--- `path_under type d` is the path to the part of the context of `d` that is at fault under `type`, if there is one;
--- `context_path s asked d` is this path under the type that `s` declares for the context of a request with the
--- principal, action and resource `asked`.
-abbrev pub path_under : Option Cedar → Data → Option (List Step)
-path_under type d = under (Key (codes "context"))
-    (with_or type (λ t. record_path t (or_empty (get (codes "context") d))) None)
-
+-- `context_path s asked d` is the path to the part of the context of `d` that is at fault, if there is one, under the
+-- type that `s` declares for the context of a request with the principal, action and resource `asked`.
 abbrev pub context_path : StatedSchema → Asked → Data → Option (List Step)
-context_path s asked d = path_under (context_type s asked) d
+context_path s asked d = path_under (codes "context") (context_type s asked) d
 
 -- `IsContextSearched s d o` holds if `o` is `context_path` for the principal, action and resource that `d` names, or if
 -- `d` does not have the form of a request.

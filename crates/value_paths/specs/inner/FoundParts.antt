@@ -10,11 +10,9 @@ use Rattle.entities.specs.schema.Schemas.{StatedSchema}
 use Rattle.entities.specs.declared.fault.EntityFault.{EntityFault}
 use Rattle.entities.specs.declared.fault.EntityFault.TheVariants.{BadShape, UnknownType, ActionEntity, TagsLeftOut}
 use Rattle.entities.specs.declared.fault.EntityFault.TheVariants.{BadParent, SelfParent}
-use Rattle.entities.specs.EntityForms.{or_empty}
 use Rattle.value_paths.specs.declared.steps.Step.{Step}
-use Rattle.value_paths.specs.declared.steps.Step.TheVariants.{Key}
 use Rattle.value_paths.specs.EntityPaths.{to_key, to_parent, first_unmet, form_demands, items_at, uid_at, shape_at}
-use Rattle.value_paths.specs.inner.FoundPaths.{under, record_path}
+use Rattle.value_paths.specs.inner.FoundPaths.{path_under}
 
 -- `fits s uid parent` tests whether the entity `uid` may have the parent `parent` under the schema `s`.
 abbrev pub fits : StatedSchema → EntityUid → EntityUid → Bool
@@ -29,8 +27,7 @@ unfit_path s uid i (item d ds) =
 
 -- `attributes_path s d` is the path to the part of the attributes of the entity `d` that is at fault, if there is one.
 unfoldable pub attributes_path : StatedSchema → Data → Option (List Step)
-attributes_path s d = under (Key (codes "attrs"))
-    (with_or (shape_at s (get (codes "uid") d)) (λ shape. record_path shape (or_empty (get (codes "attrs") d))) None)
+attributes_path s d = path_under (codes "attrs") (shape_at s (get (codes "uid") d)) d
 
 -- `parents_path s d` is the path to the first parent that the entity `d` may not have, if there is one.
 unfoldable pub parents_path : StatedSchema → Data → Option (List Step)

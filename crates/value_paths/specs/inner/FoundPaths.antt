@@ -7,6 +7,7 @@ use Rattle.serde_json.specs.Find.{get, as_object}
 use Rattle.schema_types.specs.Cedar.{Cedar, CedarFields, no_fields, field}
 use Rattle.entities.specs.declared.value_fault.ValueFault.{ValueFault}
 use Rattle.entities.specs.Parts.{element_of, fields_in, declared_at}
+use Rattle.entities.specs.EntityForms.{or_empty}
 use Rattle.entities.specs.Typing.{typed_value, with_or}
 use Rattle.value_paths.specs.declared.steps.Step.{Step}
 use Rattle.value_paths.specs.declared.steps.Step.TheVariants.{Key, Index}
@@ -61,3 +62,8 @@ unfoldable pub record_path : Cedar → Data → Option (List Step)
 record_path t d = with_or (fields_in t)
     (λ fs. with_or (as_object d) (λ ms. or_else (member_path fs ms) (absent_path fs d)) (Some []))
     (Some [])
+
+-- `path_under key o d` is the path from `d` to the part at fault in its member at `key` under the type in `o`, if there
+-- is one. An absent member counts as an empty object. The path is `None` if `o` is `None`.
+abbrev pub path_under : List ℕ → Option Cedar → Data → Option (List Step)
+path_under key o d = under (Key key) (with_or o (λ t. record_path t (or_empty (get key d))) None)

@@ -1,16 +1,21 @@
-use Rattle.std.proofs.Common.{refl}
-use Rattle.explanation_texts.specs.ExplanationText.{source_text, span_between}
+use Rattle.std.proofs.Common.{◌≡◌, ℕ, List, ◌++◌, append_assoc, ap, refl, string_bytes}
+use Rattle.explanation_texts.specs.ExplanationText.{says_line, place_text, rest_text, source_text}
 use Rattle.explanation_texts.proofs.Joined.{on_ok}
 use Rattle.explanation_texts.proofs.source.push_source.Goals as goal
 
+in_one : (a b c d o p q : List ℕ) → o ≡ a ++ b → p ≡ o ++ c → q ≡ p ++ d → q ≡ a ++ ((b ++ c) ++ d)
+in_one a b c d o p q first second third = rw third rw second rw first (simp append_assoc refl)
+
 pub returns : goal.returns
 returns c =
+    let finding = c.args.finding.now in
     let place = c.place_of-place.result in
     let end = c.place_of-end.result in
+    let span = c.span_to-span.result in
     let says = c.says_and_advice.result.0.now in
     let advice = c.says_and_advice.result.1.now in
-    on_ok c.push_at.result c.push_at.ensures (λ last. (
-      source_text c.args.file.now c.args.text.now c.args.finding.now says advice place (span_between place end),
+    on_ok c.push_rest.result c.push_rest.ensures (λ last. (
+      source_text c.args.file.now c.args.text.now finding says advice place span,
       record {
         says = says;
         advice = advice;
@@ -28,7 +33,9 @@ returns c =
           line = c.place_of-end.ensures.line;
           column = c.place_of-end.ensures.column;
         };
-        is = refl;
+        is = ap (source_text c.args.file.now c.args.text.now finding says advice place) c.span_to-span.ensures;
       },
-      rw (c.span_to-span.ensures) at last,
+      in_one (string_bytes c.args.out.now) (says_line finding.code says finding.cause.now) (place_text c.args.file.now c.args.text.now place span)
+          (rest_text finding advice) (string_bytes c.push_says.new.out) (string_bytes c.push_excerpt.new.out) (string_bytes c.push_rest.new.out)
+          c.in_ok-push_says.ensures c.in_ok-push_excerpt.ensures last,
     ))

@@ -2,15 +2,16 @@ use Rattle.std.proofs.Common.{string_bytes}
 use Rattle.schema_decisions.specs.schema.Views.{schema_view}
 use Rattle.schema_decisions.specs.validator.Passing.{Passes}
 use Rattle.fault_paths.specs.ReportWording.{IsPolicyFault}
+use Rattle.explanations.proofs.Appending.{on_ok}
 use Rattle.explanations.proofs.Joining.{some_so, none_so, policy_passes, policy_rejected}
 use Rattle.explanations.proofs.policies.explain_searched.Goals as goal
 
-pub returns-in_ok-push_fault-in-Some : goal.returns-in_ok-push_fault-in-Some
-returns-in_ok-push_fault-in-Some c = λ searched.
+pub returns-in-Some : goal.returns-in-Some
+returns-in-Some c = λ searched.
     let s = schema_view c.args.schema.now in
     let p = c.args.policy.now in
-    policy_rejected s c.args.file.now c.args.text.now c.args.piece p (string_bytes c.args.out.now) (string_bytes c.push_fault.new.out) c.in-Some.fault searched
-    (some_so (Passes s p) (IsPolicyFault s p) c.in-Some.is c.in_ok-fault.ensures) c.in_ok-push_fault-in-Some.ensures
+    on_ok c.push_fault.result c.push_fault.ensures (policy_rejected s c.args.file.now c.args.text.now c.args.piece p (string_bytes c.args.out.now) (string_bytes c.push_fault.new.out) c.in-Some.fault searched
+    (some_so (Passes s p) (IsPolicyFault s p) c.in-Some.is c.in_ok-fault.ensures))
 
 pub returns-in-None : goal.returns-in-None
 returns-in-None c = λ searched.

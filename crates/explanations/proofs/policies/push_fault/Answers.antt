@@ -1,9 +1,10 @@
 use Rattle.std.proofs.Common.{◌∙◌}
+use Rattle.explanations.proofs.Appending.{on_ok}
 use Rattle.explanations.proofs.policies.push_fault.Goals as goal
 
 pub returns : goal.returns
 returns c =
-    let e = c.in_ok-push_source.ensures in (
+    on_ok c.push_source.result c.push_source.ensures (λ e. (
       e.0,
       record {
         finding = _;
@@ -18,4 +19,4 @@ returns c =
         is_text = e.1;
       },
       e.2,
-    )
+    ))

@@ -1,9 +1,12 @@
-use Rattle.std.proofs.Common.{◌∙◌}
+use Rattle.std.proofs.Common.{[], refl}
 use Rattle.type_checker.specs.Views.{typing_environment}
-use Rattle.fault_paths.proofs.Finding.{told_is}
+use Rattle.fault_paths.proofs.Finding.{typed_there, faulty_there}
 use Rattle.fault_paths.proofs.blaming.fault_in.Goals as goal
 
-pub returns : goal.returns
-returns c =
-    told_is (typing_environment c.args.env) c.args.whole.now _ c.judge_under.result c.typing_fault.result
-    (c.as_slice.ensures.value ∙ c.new-nothing.ensures.items) c.judge_under.ensures.typed c.judge_under.ensures.faulty c.typing_fault.ensures
+pub returns-in-Ok : goal.returns-in-Ok
+returns-in-Ok c = typed_there (typing_environment c.args.env) c.args.whole.now [] c.in-Ok.typed refl c.in-Ok.ensures.typed
+
+pub returns-in_default : goal.returns-in_default
+returns-in_default c =
+    faulty_there (typing_environment c.args.env) c.args.whole.now [] c.in-Err.fault _ refl c.in_default.not-NoMemory c.from.ensures
+    c.in-Err.ensures.faulty

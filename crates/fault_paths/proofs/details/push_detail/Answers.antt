@@ -1,15 +1,33 @@
-use Rattle.std.proofs.Common.{string_bytes}
+use Rattle.std.proofs.Common.{string_bytes, map, ◌∙◌, ◌++◌, ap}
+use Rattle.std.proofs.lemmas.Result.{IfOk-weaker}
 use Rattle.type_checker.specs.schema.Views.{schema_view, environment_view}
-use Rattle.fault_paths.proofs.Reading.{environment_there, environment_past, detail_there, detail_past}
+use Rattle.type_checker.specs.Views.{static_view}
+use Rattle.fault_paths.specs.Words.{types_words}
+use Rattle.fault_paths.proofs.Reading.{environment_there, environment_past, detail_missing, detail_other, detail_past}
 use Rattle.fault_paths.proofs.details.push_detail.Goals as goal
 
-pub returns-in_ok-push_what-in-Some : goal.returns-in_ok-push_what-in-Some
-returns-in_ok-push_what-in-Some c =
+pub returns-then-is_missing : goal.returns-then-is_missing
+returns-then-is_missing c =
     let s = schema_view c.args.schema.now in
+    let b = c.args.blame.now in
     let found = c.in-Some.ensures.lookup in
-    let there = environment_there s c.environments.result.now c.args.blame.now.environment c.environments.ensures c.in-Some.environment.now found.3.0 found.1 in
-    detail_there s c.args.blame.now (string_bytes c.args.out.now) (environment_view c.in-Some.environment.now) (string_bytes c.push_environment.new.out)
-    (string_bytes c.push_what.new.out) there c.in_ok-push_environment-in-Some.ensures c.in_ok-push_what-in-Some.ensures
+    let there = environment_there s c.environments.result.now b.environment c.environments.ensures c.in-Some.environment.now found.3.0 found.1 in
+    IfOk-weaker c.push_declared.result _ _
+    (λ _ h. detail_missing s b (string_bytes c.args.out.now) (environment_view c.in-Some.environment.now) (string_bytes c.push_environment.new.out)
+    (string_bytes c.push_declared.new.out) c.is_missing.result there c.in_ok-push_environment-in-Some.ensures c.is_missing.ensures c.if-is_missing.true h)
+    c.push_declared.ensures
+
+pub returns-else-is_missing : goal.returns-else-is_missing
+returns-else-is_missing c =
+    let s = schema_view c.args.schema.now in
+    let b = c.args.blame.now in
+    let found = c.in-Some.ensures.lookup in
+    let there = environment_there s c.environments.result.now b.environment c.environments.ensures c.in-Some.environment.now found.3.0 found.1 in
+    IfOk-weaker c.push_types.result _ _
+    (λ _ h. detail_other s b (string_bytes c.args.out.now) (environment_view c.in-Some.environment.now) (string_bytes c.push_environment.new.out)
+    (string_bytes c.push_types.new.out) c.is_missing.result there c.in_ok-push_environment-in-Some.ensures c.is_missing.ensures c.if-is_missing.false
+    (h ∙ ap (λ ts. string_bytes c.push_environment.new.out ++ types_words (map static_view ts)) c.as_slice.ensures.value))
+    c.push_types.ensures
 
 pub returns-in-None : goal.returns-in-None
 returns-in-None c =

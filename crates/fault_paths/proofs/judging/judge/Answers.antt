@@ -1,8 +1,30 @@
-use Rattle.type_checker.specs.Views.{typing_environment}
-use Rattle.fault_paths.proofs.Finding.{found_is}
+use Rattle.std.proofs.Common.{◌∙◌, ◌++◌, ap, subst, refl}
+use Rattle.type_checker.specs.Views.{static_view, fault_view, typing_environment}
+use Rattle.type_checker.specs.type_capabilities.CapabilityList.{capabilities}
+use Rattle.validator.specs.typing.Typing.{Types}
+use Rattle.validator.specs.typing.Faults.{Faults}
 use Rattle.fault_paths.proofs.judging.judge.Goals as goal
 
-pub returns : goal.returns
-returns c =
-    found_is (typing_environment c.args.env) c.args.expr.now _ c.args.known.now.items c.judge_under.result c.found.result
-    c.as_slice.ensures.value c.judge_under.ensures.typed c.judge_under.ensures.faulty c.found.ensures
+pub returns-in_ok-extend_from_slice-in-Ok : goal.returns-in_ok-extend_from_slice-in-Ok
+returns-in_ok-extend_from_slice-in-Ok c =
+    let E = typing_environment c.args.env in
+    let x = c.args.expr.now in
+    record {
+      kind = c.in-Ok.typed.kind;
+      gained = c.in-Ok.typed.gains.items;
+      typed = subst (λ gs. Types E (capabilities gs) x (static_view c.in-Ok.typed.kind) (capabilities c.in-Ok.typed.gains.items)) c.as_slice.ensures.value
+          c.in-Ok.ensures.typed;
+      extended = c.in_ok-extend_from_slice-in-Ok.ensures.items ∙ ap (λ l. c.args.known.now.items ++ l) c.as_slice-in-Ok.ensures.value;
+      appended = c.in_ok-push-in-Ok.ensures.items;
+      boolean = c.as_boolean-truth.ensures;
+    }
+
+pub returns-in_default : goal.returns-in_default
+returns-in_default c =
+    let E = typing_environment c.args.env in
+    record {
+      error = fault_view c.in-Err.fault;
+      has_error = subst (λ gs. Faults E (capabilities gs) c.args.expr.now (fault_view c.in-Err.fault)) c.as_slice.ensures.value
+          (c.in-Err.ensures.faulty c.in_default.not-NoMemory);
+      unchanged = refl;
+    }

@@ -1,30 +1,48 @@
-use Rattle.std.proofs.Common.{sym, ap}
-use Rattle.grammar_core.specs.declared.expr.Expr.TheVariants as form
-use Rattle.std.proofs.lemmas.Result.{IfOk-weaker}
+use Rattle.std.proofs.Common.{◌∙◌, sym}
+use Rattle.std.proofs.lemmas.Bool.{false≢true}
 use Rattle.type_checker.specs.Views.{typing_environment}
-use Rattle.type_checker.specs.type_capabilities.CapabilityList.{capabilities}
-use Rattle.fault_paths.proofs.Finding.{some_found, none_found}
-use Rattle.fault_paths.proofs.Stepping.{if_at, if_down_test}
+use Rattle.fault_paths.proofs.Stepping.{forgotten, forgotten_both, if_down_test, if_stop_test, if_down_only_else, if_down_then, if_down_else, if_stop}
 use Rattle.fault_paths.proofs.steps.step_if.Goals as goal
-
-pub returns-in-Some : goal.returns-in-Some
-returns-in-Some c =
-    let E = typing_environment c.args.env in
-    let K = capabilities c.args.known.now.items in
-    let one = c.expressions_have_one_judgement.ensures in
-    let a = c.deref-test.result.now in
-    IfOk-weaker c.from_if.result _ _
-    (λ st h. if_at E K _ st c.deref-test.ensures c.deref-consequent.ensures c.deref-alternative.ensures
-    (h a (some_found E a K c.in-Some.is c.in_ok-typed.ensures)))
-    c.from_if.ensures
 
 pub returns-in-None : goal.returns-in-None
 returns-in-None c =
-    let E = typing_environment c.args.env in
-    let K = capabilities c.args.known.now.items in
-    let one = c.expressions_have_one_judgement.ensures in
-    let b = c.args.consequent.now in
-    let d = c.args.alternative.now in
-    let y = c.deref-test.result in
-    if_down_test one E K (form.If c.args.test.now b d) y b d (ap (λ z. form.If z b d) (sym c.deref-test.ensures))
-    (none_found E y.now K c.in-None.is c.in_ok-typed.ensures).1
+    if_down_test c.expressions_have_one_judgement.ensures (typing_environment c.args.env) c.args.known.now.items c.args.test.now
+    c.args.consequent.now c.args.alternative.now (rw c.in-None.is at c.in_ok-judge.ensures)
+
+pub returns-in-Some-None : goal.returns-in-Some-None
+returns-in-Some-None c =
+    if_stop_test c.expressions_have_one_judgement.ensures (typing_environment c.args.env) c.args.known.now.items c.args.test.now
+    c.args.consequent.now c.args.alternative.now c.requires (rw (c.in-Some-None.is, c.in-Some-None.field-0-is) at c.in_ok-judge.ensures)
+
+pub returns-then-is_false : goal.returns-then-is_false
+returns-then-is_false c =
+    let test = rw (c.in-Some-Some.is, c.in-Some-Some.field-0-is) at c.in_ok-judge.ensures in
+    if_down_only_else c.expressions_have_one_judgement.ensures (typing_environment c.args.env) c.args.known.now.items c.args.test.now
+    c.args.consequent.now c.args.alternative.now test (c.is_false.ensures.0 c.if-is_false.true)
+    (forgotten c.len-count.result (c.len-count.ensures ∙ c.args.known.now.ok.0) test c.truncate.ensures.items)
+
+pub returns-in-None-2 : goal.returns-in-None-2
+returns-in-None-2 c =
+    let test = rw (c.in-Some-Some.is, c.in-Some-Some.field-0-is) at c.in_ok-judge.ensures in
+    if_down_then c.expressions_have_one_judgement.ensures (typing_environment c.args.env) c.args.known.now.items c.args.test.now
+    c.args.consequent.now c.args.alternative.now test (λ e. false≢true (sym c.if-is_false.false ∙ c.is_false.ensures.1 e))
+    (rw c.in-None-2.is at c.in_ok-judge-in-Some-Some.ensures)
+
+pub returns-in-None-3 : goal.returns-in-None-3
+returns-in-None-3 c =
+    let test = rw (c.in-Some-Some.is, c.in-Some-Some.field-0-is) at c.in_ok-judge.ensures in
+    let then = rw c.in-Some.is at c.in_ok-judge-in-Some-Some.ensures in
+    if_down_else c.expressions_have_one_judgement.ensures (typing_environment c.args.env) c.args.known.now.items c.args.test.now
+    c.args.consequent.now c.args.alternative.now test (λ e. false≢true (sym c.if-is_false.false ∙ c.is_false.ensures.1 e)) then
+    (forgotten_both c.len-count.result (c.len-count.ensures ∙ c.args.known.now.ok.0) test then c.truncate-in-Some.ensures.items)
+    (rw c.in-None-3.is at c.in_ok-judge-in-Some.ensures)
+
+pub returns-in-Some-2 : goal.returns-in-Some-2
+returns-in-Some-2 c =
+    let test = rw (c.in-Some-Some.is, c.in-Some-Some.field-0-is) at c.in_ok-judge.ensures in
+    let then = rw c.in-Some.is at c.in_ok-judge-in-Some-Some.ensures in
+    if_stop c.expressions_have_one_judgement.ensures (typing_environment c.args.env) c.args.known.now.items c.args.test.now
+    c.args.consequent.now c.args.alternative.now test (λ e. false≢true (sym c.if-is_false.false ∙ c.is_false.ensures.1 e))
+    c.clear.ensures.items then
+    (forgotten_both c.len-count.result (c.len-count.ensures ∙ c.args.known.now.ok.0) test then c.truncate-in-Some.ensures.items)
+    (rw c.in-Some-2.is at c.in_ok-judge-in-Some.ensures)

@@ -1,28 +1,28 @@
-use Rattle.std.proofs.Common.{sym, ap}
-use Rattle.grammar_core.specs.declared.expr.Expr.TheVariants as form
-use Rattle.std.proofs.lemmas.Result.{IfOk-weaker}
+use Rattle.std.proofs.Common.{◌∙◌}
 use Rattle.type_checker.specs.Views.{typing_environment}
-use Rattle.type_checker.specs.type_capabilities.CapabilityList.{capabilities}
-use Rattle.fault_paths.proofs.Finding.{some_found, none_found}
-use Rattle.fault_paths.proofs.Stepping.{or_at, or_down_left}
+use Rattle.fault_paths.proofs.Stepping.{forgotten, or_down_left, or_stop_left, or_down_right, or_stop_right}
 use Rattle.fault_paths.proofs.steps.step_or.Goals as goal
-
-pub returns-in-Some : goal.returns-in-Some
-returns-in-Some c =
-    let E = typing_environment c.args.env in
-    let K = capabilities c.args.known.now.items in
-    let one = c.expressions_have_one_judgement.ensures in
-    let a = c.deref-left.result.now in
-    IfOk-weaker c.from_or.result _ _
-    (λ st h. or_at E K _ st c.deref-left.ensures c.deref-right.ensures (h a (some_found E a K c.in-Some.is c.in_ok-typed.ensures)))
-    c.from_or.ensures
 
 pub returns-in-None : goal.returns-in-None
 returns-in-None c =
-    let E = typing_environment c.args.env in
-    let K = capabilities c.args.known.now.items in
-    let one = c.expressions_have_one_judgement.ensures in
-    let r = c.args.right.now in
-    let y = c.deref-left.result in
-    or_down_left one E K (form.Or c.args.left.now r) y r (ap (λ z. form.Or z r) (sym c.deref-left.ensures))
-    (none_found E y.now K c.in-None.is c.in_ok-typed.ensures).1
+    or_down_left c.expressions_have_one_judgement.ensures (typing_environment c.args.env) c.args.known.now.items c.args.left.now
+    c.args.right.now (rw c.in-None.is at c.in_ok-judge.ensures)
+
+pub returns-in-Some-None : goal.returns-in-Some-None
+returns-in-Some-None c =
+    or_stop_left c.expressions_have_one_judgement.ensures (typing_environment c.args.env) c.args.known.now.items c.args.left.now
+    c.args.right.now c.requires (rw (c.in-Some-None.is, c.in-Some-None.field-0-is) at c.in_ok-judge.ensures)
+
+pub returns-in-None-2 : goal.returns-in-None-2
+returns-in-None-2 c =
+    let left = rw (c.in-Some-Some.is, c.in-Some-Some.field-0-is) at c.in_ok-judge.ensures in
+    or_down_right c.expressions_have_one_judgement.ensures (typing_environment c.args.env) c.args.known.now.items c.args.left.now
+    c.args.right.now left (forgotten c.len-count.result (c.len-count.ensures ∙ c.args.known.now.ok.0) left c.truncate.ensures.items)
+    (rw c.in-None-2.is at c.in_ok-judge-in-Some-Some.ensures)
+
+pub returns-in-Some : goal.returns-in-Some
+returns-in-Some c =
+    let left = rw (c.in-Some-Some.is, c.in-Some-Some.field-0-is) at c.in_ok-judge.ensures in
+    or_stop_right c.expressions_have_one_judgement.ensures (typing_environment c.args.env) c.args.known.now.items c.args.left.now
+    c.args.right.now left (forgotten c.len-count.result (c.len-count.ensures ∙ c.args.known.now.ok.0) left c.truncate.ensures.items)
+    c.clear.ensures.items (rw c.in-Some.is at c.in_ok-judge-in-Some-Some.ensures)

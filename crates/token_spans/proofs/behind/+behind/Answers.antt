@@ -1,12 +1,31 @@
 use Rattle.std.proofs.Common.{◌≡◌, ℕ, ◌+◌, map, length, refl, sym, ap, ◌∙◌, drop, arith}
 use Rattle.grammar_trees.specs.declared.tree.ExprTree.TheVariants as t
 use Rattle.token_spans.specs.TokenCounts.{tree_count, term_count, entry_count, access_tree_count, each_count, total, lone_count, path_count}
-use Rattle.token_spans.proofs.Dropping.{twice, counted, turned, length-mapped}
-use Rattle.token_spans.proofs.Counts.{count-Uid, count-Call, count-Parentheses, count-Set, count-Record, count-Member, count-Not, count-Minus, count-Product, count-Sum, count-Compare, count-Has, count-Like, count-Is, count-IsIn, count-And, count-Or, count-If}
+use Rattle.token_spans.proofs.Dropping.{twice, one_more, counted, turned, length-mapped}
+use Rattle.token_spans.proofs.Counts.{count-Boolean, count-Number, count-Text, count-Variable, count-Uid, count-Call, count-Parentheses, count-Set, count-Record, count-Member, count-Not, count-Minus, count-Product, count-Sum, count-Compare, count-Has, count-Like, count-Is, count-IsIn, count-And, count-Or, count-If}
 use Rattle.token_spans.proofs.behind.+behind.Goals as goal
 
 regroup : (a b : ℕ) → 1 + (a + b) ≡ 1 + a + b
 regroup a b = omega arith
+
+regroup_if : (a b d : ℕ) → ((1 + (a + 1)) + (b + 1)) + d ≡ ((1 + a + 1) + b + 1) + d
+regroup_if a b d = omega arith
+
+pub tokens_after_tree-returns-in-Boolean : goal.tokens_after_tree-returns-in-Boolean
+tokens_after_tree-returns-in-Boolean t' c =
+    counted c.args.tree.now (t.Boolean c.in-Boolean.field-0) (1) c.args.tokens.now c.skip.result.now (c.skip.ensures) c.in-Boolean.is (count-Boolean c.in-Boolean.field-0)
+
+pub tokens_after_tree-returns-in-Number : goal.tokens_after_tree-returns-in-Number
+tokens_after_tree-returns-in-Number t' c =
+    counted c.args.tree.now (t.Number c.in-Number.field-0) (1) c.args.tokens.now c.skip-in-Number.result.now (c.skip-in-Number.ensures) c.in-Number.is (count-Number c.in-Number.field-0)
+
+pub tokens_after_tree-returns-in-Text : goal.tokens_after_tree-returns-in-Text
+tokens_after_tree-returns-in-Text t' c =
+    counted c.args.tree.now (t.Text c.in-Text.field-0) (1) c.args.tokens.now c.skip-in-Text.result.now (c.skip-in-Text.ensures) c.in-Text.is (count-Text c.in-Text.field-0)
+
+pub tokens_after_tree-returns-in-Variable : goal.tokens_after_tree-returns-in-Variable
+tokens_after_tree-returns-in-Variable t' c =
+    counted c.args.tree.now (t.Variable c.in-Variable.field-0) (1) c.args.tokens.now c.skip-in-Variable.result.now (c.skip-in-Variable.ensures) c.in-Variable.is (count-Variable c.in-Variable.field-0)
 
 pub tokens_after_tree-returns-in-Uid : goal.tokens_after_tree-returns-in-Uid
 tokens_after_tree-returns-in-Uid t' c =
@@ -18,7 +37,7 @@ tokens_after_tree-returns-in-Call t' c =
 
 pub tokens_after_tree-returns-in-Parentheses : goal.tokens_after_tree-returns-in-Parentheses
 tokens_after_tree-returns-in-Parentheses t' c =
-    counted c.args.tree.now (t.Parentheses c.in-Parentheses.inner) (((1 + tree_count c.in-Parentheses.inner) + 1)) c.args.tokens.now c.skip-in-Parentheses-2.result.now (twice c.args.tokens.now c.tokens_after_tree.result.now c.skip-in-Parentheses-2.result.now (1 + tree_count c.in-Parentheses.inner) (1) (twice c.args.tokens.now c.skip-in-Parentheses.result.now c.tokens_after_tree.result.now 1 (tree_count c.in-Parentheses.inner) c.skip-in-Parentheses.ensures (c.tokens_after_tree.ensures ∙ ap (λ a. drop (tree_count a) c.skip-in-Parentheses.result.now) c.deref.ensures)) c.skip-in-Parentheses-2.ensures) c.in-Parentheses.is (count-Parentheses c.in-Parentheses.inner)
+    counted c.args.tree.now (t.Parentheses c.in-Parentheses.inner) (1 + (tree_count c.in-Parentheses.inner + 1)) c.args.tokens.now c.tokens_after_piece.result.now (twice c.args.tokens.now c.skip-in-Parentheses.result.now c.tokens_after_piece.result.now (1) (tree_count c.in-Parentheses.inner + 1) (c.skip-in-Parentheses.ensures) (one_more c.skip-in-Parentheses.result.now c.tokens_after_piece.result.now (tree_count c.in-Parentheses.inner) c.tokens_after_piece.ensures)) c.in-Parentheses.is (count-Parentheses c.in-Parentheses.inner ∙ sym (regroup (tree_count c.in-Parentheses.inner) 1))
 
 pub tokens_after_tree-returns-in-Set : goal.tokens_after_tree-returns-in-Set
 tokens_after_tree-returns-in-Set t' c =
@@ -30,55 +49,62 @@ tokens_after_tree-returns-in-Record t' c =
 
 pub tokens_after_tree-returns-in-Member : goal.tokens_after_tree-returns-in-Member
 tokens_after_tree-returns-in-Member t' c =
-    counted c.args.tree.now (t.Member c.in-Member.inner c.in-Member.accesses) ((tree_count c.in-Member.inner + total (map access_tree_count c.in-Member.accesses))) c.args.tokens.now c.tokens_after_accesses.result.now (twice c.args.tokens.now c.tokens_after_tree-in-Member.result.now c.tokens_after_accesses.result.now (tree_count c.in-Member.inner) (total (map access_tree_count c.in-Member.accesses)) (c.tokens_after_tree-in-Member.ensures ∙ ap (λ a. drop (tree_count a) c.args.tokens.now) c.deref-in-Member.ensures) (c.tokens_after_accesses.ensures ∙ ap (λ xs. drop (total (map access_tree_count xs)) c.tokens_after_tree-in-Member.result.now) c.as_slice-in-Member.ensures)) c.in-Member.is (count-Member c.in-Member.inner c.in-Member.accesses)
+    counted c.args.tree.now (t.Member c.in-Member.inner c.in-Member.accesses) (tree_count c.in-Member.inner + total (map access_tree_count c.in-Member.accesses)) c.args.tokens.now c.tokens_after_accesses.result.now (twice c.args.tokens.now c.tokens_after_operand.result.now c.tokens_after_accesses.result.now (tree_count c.in-Member.inner) (total (map access_tree_count c.in-Member.accesses)) (c.tokens_after_operand.ensures) (c.tokens_after_accesses.ensures ∙ ap (λ xs. drop (total (map access_tree_count xs)) c.tokens_after_operand.result.now) c.as_slice-in-Member.ensures)) c.in-Member.is (count-Member c.in-Member.inner c.in-Member.accesses)
 
 pub tokens_after_tree-returns-in-Not : goal.tokens_after_tree-returns-in-Not
 tokens_after_tree-returns-in-Not t' c =
-    counted c.args.tree.now (t.Not c.in-Not.inner) ((1 + tree_count c.in-Not.inner)) c.args.tokens.now c.tokens_after_tree-in-Not.result.now (twice c.args.tokens.now c.skip-in-Not.result.now c.tokens_after_tree-in-Not.result.now 1 (tree_count c.in-Not.inner) c.skip-in-Not.ensures (c.tokens_after_tree-in-Not.ensures ∙ ap (λ a. drop (tree_count a) c.skip-in-Not.result.now) c.deref-in-Not.ensures)) c.in-Not.is (count-Not c.in-Not.inner)
+    counted c.args.tree.now (t.Not c.in-Not.inner) (1 + tree_count c.in-Not.inner) c.args.tokens.now c.tokens_after_operand-in-Not.result.now (twice c.args.tokens.now c.skip-in-Not.result.now c.tokens_after_operand-in-Not.result.now (1) (tree_count c.in-Not.inner) (c.skip-in-Not.ensures) (c.tokens_after_operand-in-Not.ensures)) c.in-Not.is (count-Not c.in-Not.inner)
 
 pub tokens_after_tree-returns-in-Minus : goal.tokens_after_tree-returns-in-Minus
 tokens_after_tree-returns-in-Minus t' c =
-    counted c.args.tree.now (t.Minus c.in-Minus.inner) ((1 + tree_count c.in-Minus.inner)) c.args.tokens.now c.tokens_after_tree-in-Minus.result.now (twice c.args.tokens.now c.skip-in-Minus.result.now c.tokens_after_tree-in-Minus.result.now 1 (tree_count c.in-Minus.inner) c.skip-in-Minus.ensures (c.tokens_after_tree-in-Minus.ensures ∙ ap (λ a. drop (tree_count a) c.skip-in-Minus.result.now) c.deref-in-Minus.ensures)) c.in-Minus.is (count-Minus c.in-Minus.inner)
+    counted c.args.tree.now (t.Minus c.in-Minus.inner) (1 + tree_count c.in-Minus.inner) c.args.tokens.now c.tokens_after_operand-in-Minus.result.now (twice c.args.tokens.now c.skip-in-Minus.result.now c.tokens_after_operand-in-Minus.result.now (1) (tree_count c.in-Minus.inner) (c.skip-in-Minus.ensures) (c.tokens_after_operand-in-Minus.ensures)) c.in-Minus.is (count-Minus c.in-Minus.inner)
 
 pub tokens_after_tree-returns-in-Product : goal.tokens_after_tree-returns-in-Product
 tokens_after_tree-returns-in-Product t' c =
-    counted c.args.tree.now (t.Product c.in-Product.first c.in-Product.more) ((tree_count c.in-Product.first + each_count (map tree_count c.in-Product.more))) c.args.tokens.now c.tokens_after_each.result.now (twice c.args.tokens.now c.tokens_after_tree-in-Product.result.now c.tokens_after_each.result.now (tree_count c.in-Product.first) (each_count (map tree_count c.in-Product.more)) (c.tokens_after_tree-in-Product.ensures ∙ ap (λ a. drop (tree_count a) c.args.tokens.now) c.deref-in-Product.ensures) (c.tokens_after_each.ensures ∙ ap (λ xs. drop (each_count (map tree_count xs)) c.tokens_after_tree-in-Product.result.now) c.as_slice-in-Product.ensures)) c.in-Product.is (count-Product c.in-Product.first c.in-Product.more)
+    counted c.args.tree.now (t.Product c.in-Product.first c.in-Product.more) (tree_count c.in-Product.first + each_count (map tree_count c.in-Product.more)) c.args.tokens.now c.tokens_after_each.result.now (twice c.args.tokens.now c.tokens_after_operand-in-Product.result.now c.tokens_after_each.result.now (tree_count c.in-Product.first) (each_count (map tree_count c.in-Product.more)) (c.tokens_after_operand-in-Product.ensures) (c.tokens_after_each.ensures ∙ ap (λ xs. drop (each_count (map tree_count xs)) c.tokens_after_operand-in-Product.result.now) c.as_slice-in-Product.ensures)) c.in-Product.is (count-Product c.in-Product.first c.in-Product.more)
 
 pub tokens_after_tree-returns-in-And : goal.tokens_after_tree-returns-in-And
 tokens_after_tree-returns-in-And t' c =
-    counted c.args.tree.now (t.And c.in-And.first c.in-And.more) ((tree_count c.in-And.first + each_count (map tree_count c.in-And.more))) c.args.tokens.now c.tokens_after_each-in-And.result.now (twice c.args.tokens.now c.tokens_after_tree-in-And.result.now c.tokens_after_each-in-And.result.now (tree_count c.in-And.first) (each_count (map tree_count c.in-And.more)) (c.tokens_after_tree-in-And.ensures ∙ ap (λ a. drop (tree_count a) c.args.tokens.now) c.deref-in-And.ensures) (c.tokens_after_each-in-And.ensures ∙ ap (λ xs. drop (each_count (map tree_count xs)) c.tokens_after_tree-in-And.result.now) c.as_slice-in-And.ensures)) c.in-And.is (count-And c.in-And.first c.in-And.more)
+    counted c.args.tree.now (t.And c.in-And.first c.in-And.more) (tree_count c.in-And.first + each_count (map tree_count c.in-And.more)) c.args.tokens.now c.tokens_after_each-in-And.result.now (twice c.args.tokens.now c.tokens_after_operand-in-And.result.now c.tokens_after_each-in-And.result.now (tree_count c.in-And.first) (each_count (map tree_count c.in-And.more)) (c.tokens_after_operand-in-And.ensures) (c.tokens_after_each-in-And.ensures ∙ ap (λ xs. drop (each_count (map tree_count xs)) c.tokens_after_operand-in-And.result.now) c.as_slice-in-And.ensures)) c.in-And.is (count-And c.in-And.first c.in-And.more)
 
 pub tokens_after_tree-returns-in-Or : goal.tokens_after_tree-returns-in-Or
 tokens_after_tree-returns-in-Or t' c =
-    counted c.args.tree.now (t.Or c.in-Or.first c.in-Or.more) ((tree_count c.in-Or.first + each_count (map tree_count c.in-Or.more))) c.args.tokens.now c.tokens_after_each-in-Or.result.now (twice c.args.tokens.now c.tokens_after_tree-in-Or.result.now c.tokens_after_each-in-Or.result.now (tree_count c.in-Or.first) (each_count (map tree_count c.in-Or.more)) (c.tokens_after_tree-in-Or.ensures ∙ ap (λ a. drop (tree_count a) c.args.tokens.now) c.deref-in-Or.ensures) (c.tokens_after_each-in-Or.ensures ∙ ap (λ xs. drop (each_count (map tree_count xs)) c.tokens_after_tree-in-Or.result.now) c.as_slice-in-Or.ensures)) c.in-Or.is (count-Or c.in-Or.first c.in-Or.more)
+    counted c.args.tree.now (t.Or c.in-Or.first c.in-Or.more) (tree_count c.in-Or.first + each_count (map tree_count c.in-Or.more)) c.args.tokens.now c.tokens_after_each-in-Or.result.now (twice c.args.tokens.now c.tokens_after_operand-in-Or.result.now c.tokens_after_each-in-Or.result.now (tree_count c.in-Or.first) (each_count (map tree_count c.in-Or.more)) (c.tokens_after_operand-in-Or.ensures) (c.tokens_after_each-in-Or.ensures ∙ ap (λ xs. drop (each_count (map tree_count xs)) c.tokens_after_operand-in-Or.result.now) c.as_slice-in-Or.ensures)) c.in-Or.is (count-Or c.in-Or.first c.in-Or.more)
 
 pub tokens_after_tree-returns-in-Sum : goal.tokens_after_tree-returns-in-Sum
 tokens_after_tree-returns-in-Sum t' c =
-    counted c.args.tree.now (t.Sum c.in-Sum.first c.in-Sum.terms) ((tree_count c.in-Sum.first + each_count (map term_count c.in-Sum.terms))) c.args.tokens.now c.tokens_after_terms.result.now (twice c.args.tokens.now c.tokens_after_tree-in-Sum.result.now c.tokens_after_terms.result.now (tree_count c.in-Sum.first) (each_count (map term_count c.in-Sum.terms)) (c.tokens_after_tree-in-Sum.ensures ∙ ap (λ a. drop (tree_count a) c.args.tokens.now) c.deref-in-Sum.ensures) (c.tokens_after_terms.ensures ∙ ap (λ xs. drop (each_count (map term_count xs)) c.tokens_after_tree-in-Sum.result.now) c.as_slice-in-Sum.ensures)) c.in-Sum.is (count-Sum c.in-Sum.first c.in-Sum.terms)
+    counted c.args.tree.now (t.Sum c.in-Sum.first c.in-Sum.terms) (tree_count c.in-Sum.first + each_count (map term_count c.in-Sum.terms)) c.args.tokens.now c.tokens_after_terms.result.now (twice c.args.tokens.now c.tokens_after_operand-in-Sum.result.now c.tokens_after_terms.result.now (tree_count c.in-Sum.first) (each_count (map term_count c.in-Sum.terms)) (c.tokens_after_operand-in-Sum.ensures) (c.tokens_after_terms.ensures ∙ ap (λ xs. drop (each_count (map term_count xs)) c.tokens_after_operand-in-Sum.result.now) c.as_slice-in-Sum.ensures)) c.in-Sum.is (count-Sum c.in-Sum.first c.in-Sum.terms)
 
 pub tokens_after_tree-returns-in-Compare : goal.tokens_after_tree-returns-in-Compare
 tokens_after_tree-returns-in-Compare t' c =
-    counted c.args.tree.now (t.Compare c.in-Compare.left c.in-Compare.field-1 c.in-Compare.right) (((tree_count c.in-Compare.left + 1) + tree_count c.in-Compare.right)) c.args.tokens.now c.tokens_after_tree-in-Compare-2.result.now (twice c.args.tokens.now c.skip-in-Compare.result.now c.tokens_after_tree-in-Compare-2.result.now (tree_count c.in-Compare.left + 1) (tree_count c.in-Compare.right) (twice c.args.tokens.now c.tokens_after_tree-in-Compare.result.now c.skip-in-Compare.result.now (tree_count c.in-Compare.left) (1) (c.tokens_after_tree-in-Compare.ensures ∙ ap (λ a. drop (tree_count a) c.args.tokens.now) c.deref-in-Compare-2.ensures) c.skip-in-Compare.ensures) (c.tokens_after_tree-in-Compare-2.ensures ∙ ap (λ a. drop (tree_count a) c.skip-in-Compare.result.now) c.deref-in-Compare.ensures)) c.in-Compare.is (count-Compare c.in-Compare.left c.in-Compare.field-1 c.in-Compare.right)
+    counted c.args.tree.now (t.Compare c.in-Compare.left c.in-Compare.field-1 c.in-Compare.right) ((tree_count c.in-Compare.left + 1) + tree_count c.in-Compare.right) c.args.tokens.now c.tokens_after_operand-in-Compare.result.now (twice c.args.tokens.now c.tokens_after_piece-in-Compare.result.now c.tokens_after_operand-in-Compare.result.now (tree_count c.in-Compare.left + 1) (tree_count c.in-Compare.right) (one_more c.args.tokens.now c.tokens_after_piece-in-Compare.result.now (tree_count c.in-Compare.left) c.tokens_after_piece-in-Compare.ensures) (c.tokens_after_operand-in-Compare.ensures)) c.in-Compare.is (count-Compare c.in-Compare.left c.in-Compare.field-1 c.in-Compare.right)
 
 pub tokens_after_tree-returns-in-Has : goal.tokens_after_tree-returns-in-Has
 tokens_after_tree-returns-in-Has t' c =
-    counted c.args.tree.now (t.Has c.in-Has.inner c.in-Has.field-1) ((tree_count c.in-Has.inner + 2)) c.args.tokens.now c.skip-in-Has.result.now (twice c.args.tokens.now c.tokens_after_tree-in-Has.result.now c.skip-in-Has.result.now (tree_count c.in-Has.inner) (2) (c.tokens_after_tree-in-Has.ensures ∙ ap (λ a. drop (tree_count a) c.args.tokens.now) c.deref-in-Has.ensures) c.skip-in-Has.ensures) c.in-Has.is (count-Has c.in-Has.inner c.in-Has.field-1)
+    counted c.args.tree.now (t.Has c.in-Has.inner c.in-Has.field-1) (tree_count c.in-Has.inner + 2) c.args.tokens.now c.skip-in-Has.result.now (twice c.args.tokens.now c.tokens_after_operand-in-Has.result.now c.skip-in-Has.result.now (tree_count c.in-Has.inner) (2) (c.tokens_after_operand-in-Has.ensures) (c.skip-in-Has.ensures)) c.in-Has.is (count-Has c.in-Has.inner c.in-Has.field-1)
 
 pub tokens_after_tree-returns-in-Like : goal.tokens_after_tree-returns-in-Like
 tokens_after_tree-returns-in-Like t' c =
-    counted c.args.tree.now (t.Like c.in-Like.inner c.in-Like.field-1) ((tree_count c.in-Like.inner + 2)) c.args.tokens.now c.skip-in-Like.result.now (twice c.args.tokens.now c.tokens_after_tree-in-Like.result.now c.skip-in-Like.result.now (tree_count c.in-Like.inner) (2) (c.tokens_after_tree-in-Like.ensures ∙ ap (λ a. drop (tree_count a) c.args.tokens.now) c.deref-in-Like.ensures) c.skip-in-Like.ensures) c.in-Like.is (count-Like c.in-Like.inner c.in-Like.field-1)
+    counted c.args.tree.now (t.Like c.in-Like.inner c.in-Like.field-1) (tree_count c.in-Like.inner + 2) c.args.tokens.now c.skip-in-Like.result.now (twice c.args.tokens.now c.tokens_after_operand-in-Like.result.now c.skip-in-Like.result.now (tree_count c.in-Like.inner) (2) (c.tokens_after_operand-in-Like.ensures) (c.skip-in-Like.ensures)) c.in-Like.is (count-Like c.in-Like.inner c.in-Like.field-1)
 
 pub tokens_after_tree-returns-in-Is : goal.tokens_after_tree-returns-in-Is
 tokens_after_tree-returns-in-Is t' c =
-    counted c.args.tree.now (t.Is c.in-Is.inner c.in-Is.path) (((tree_count c.in-Is.inner + 1) + path_count c.in-Is.path)) c.args.tokens.now c.tokens_after_path-in-Is.result.now (twice c.args.tokens.now c.skip-in-Is.result.now c.tokens_after_path-in-Is.result.now (tree_count c.in-Is.inner + 1) (path_count c.in-Is.path) (twice c.args.tokens.now c.tokens_after_tree-in-Is.result.now c.skip-in-Is.result.now (tree_count c.in-Is.inner) (1) (c.tokens_after_tree-in-Is.ensures ∙ ap (λ a. drop (tree_count a) c.args.tokens.now) c.deref-in-Is.ensures) c.skip-in-Is.ensures) c.tokens_after_path-in-Is.ensures) c.in-Is.is (count-Is c.in-Is.inner c.in-Is.path)
+    counted c.args.tree.now (t.Is c.in-Is.inner c.in-Is.path) ((tree_count c.in-Is.inner + 1) + path_count c.in-Is.path) c.args.tokens.now c.tokens_after_path-in-Is.result.now (twice c.args.tokens.now c.tokens_after_piece-in-Is.result.now c.tokens_after_path-in-Is.result.now (tree_count c.in-Is.inner + 1) (path_count c.in-Is.path) (one_more c.args.tokens.now c.tokens_after_piece-in-Is.result.now (tree_count c.in-Is.inner) c.tokens_after_piece-in-Is.ensures) (c.tokens_after_path-in-Is.ensures)) c.in-Is.is (count-Is c.in-Is.inner c.in-Is.path)
 
 pub tokens_after_tree-returns-in-IsIn : goal.tokens_after_tree-returns-in-IsIn
 tokens_after_tree-returns-in-IsIn t' c =
-    counted c.args.tree.now (t.IsIn c.in-IsIn.inner c.in-IsIn.path c.in-IsIn.outer) (((((tree_count c.in-IsIn.inner + 1) + path_count c.in-IsIn.path) + 1) + tree_count c.in-IsIn.outer)) c.args.tokens.now c.tokens_after_tree-in-IsIn-2.result.now (twice c.args.tokens.now c.skip-in-IsIn-2.result.now c.tokens_after_tree-in-IsIn-2.result.now (((tree_count c.in-IsIn.inner + 1) + path_count c.in-IsIn.path) + 1) (tree_count c.in-IsIn.outer) (twice c.args.tokens.now c.tokens_after_path-tested.result.now c.skip-in-IsIn-2.result.now ((tree_count c.in-IsIn.inner + 1) + path_count c.in-IsIn.path) (1) (twice c.args.tokens.now c.skip-in-IsIn.result.now c.tokens_after_path-tested.result.now (tree_count c.in-IsIn.inner + 1) (path_count c.in-IsIn.path) (twice c.args.tokens.now c.tokens_after_tree-in-IsIn.result.now c.skip-in-IsIn.result.now (tree_count c.in-IsIn.inner) (1) (c.tokens_after_tree-in-IsIn.ensures ∙ ap (λ a. drop (tree_count a) c.args.tokens.now) c.deref-in-IsIn.ensures) c.skip-in-IsIn.ensures) c.tokens_after_path-tested.ensures) c.skip-in-IsIn-2.ensures) (c.tokens_after_tree-in-IsIn-2.ensures ∙ ap (λ a. drop (tree_count a) c.skip-in-IsIn-2.result.now) c.deref-in-IsIn-2.ensures)) c.in-IsIn.is (count-IsIn c.in-IsIn.inner c.in-IsIn.path c.in-IsIn.outer)
+    counted c.args.tree.now (t.IsIn c.in-IsIn.inner c.in-IsIn.path c.in-IsIn.outer) ((((tree_count c.in-IsIn.inner + 1) + path_count c.in-IsIn.path) + 1) + tree_count c.in-IsIn.outer) c.args.tokens.now c.tokens_after_operand-in-IsIn.result.now (twice c.args.tokens.now c.skip-in-IsIn.result.now c.tokens_after_operand-in-IsIn.result.now (((tree_count c.in-IsIn.inner + 1) + path_count c.in-IsIn.path) + 1) (tree_count c.in-IsIn.outer) (twice c.args.tokens.now c.tokens_after_path-tested.result.now c.skip-in-IsIn.result.now ((tree_count c.in-IsIn.inner + 1) + path_count c.in-IsIn.path) (1) (twice c.args.tokens.now c.tokens_after_piece-in-IsIn.result.now c.tokens_after_path-tested.result.now (tree_count c.in-IsIn.inner + 1) (path_count c.in-IsIn.path) (one_more c.args.tokens.now c.tokens_after_piece-in-IsIn.result.now (tree_count c.in-IsIn.inner) c.tokens_after_piece-in-IsIn.ensures) (c.tokens_after_path-tested.ensures)) (c.skip-in-IsIn.ensures)) (c.tokens_after_operand-in-IsIn.ensures)) c.in-IsIn.is (count-IsIn c.in-IsIn.inner c.in-IsIn.path c.in-IsIn.outer)
 
 pub tokens_after_tree-returns-in-If : goal.tokens_after_tree-returns-in-If
 tokens_after_tree-returns-in-If t' c =
-    counted c.args.tree.now (t.If c.in-If.test c.in-If.consequent c.in-If.alternative) ((((((1 + tree_count c.in-If.test) + 1) + tree_count c.in-If.consequent) + 1) + tree_count c.in-If.alternative)) c.args.tokens.now c.tokens_after_tree-in-If.result.now (twice c.args.tokens.now c.skip-in-If-3.result.now c.tokens_after_tree-in-If.result.now ((((1 + tree_count c.in-If.test) + 1) + tree_count c.in-If.consequent) + 1) (tree_count c.in-If.alternative) (twice c.args.tokens.now c.tokens_after_tree-chosen.result.now c.skip-in-If-3.result.now (((1 + tree_count c.in-If.test) + 1) + tree_count c.in-If.consequent) (1) (twice c.args.tokens.now c.skip-in-If-2.result.now c.tokens_after_tree-chosen.result.now ((1 + tree_count c.in-If.test) + 1) (tree_count c.in-If.consequent) (twice c.args.tokens.now c.tokens_after_tree-tested.result.now c.skip-in-If-2.result.now (1 + tree_count c.in-If.test) (1) (twice c.args.tokens.now c.skip-in-If.result.now c.tokens_after_tree-tested.result.now 1 (tree_count c.in-If.test) c.skip-in-If.ensures (c.tokens_after_tree-tested.ensures ∙ ap (λ a. drop (tree_count a) c.skip-in-If.result.now) c.deref-in-If.ensures)) c.skip-in-If-2.ensures) (c.tokens_after_tree-chosen.ensures ∙ ap (λ a. drop (tree_count a) c.skip-in-If-2.result.now) c.deref-in-If-2.ensures)) c.skip-in-If-3.ensures) (c.tokens_after_tree-in-If.ensures ∙ ap (λ a. drop (tree_count a) c.skip-in-If-3.result.now) c.deref-in-If-3.ensures)) c.in-If.is (count-If c.in-If.test c.in-If.consequent c.in-If.alternative)
+    counted c.args.tree.now (t.If c.in-If.test c.in-If.consequent c.in-If.alternative) (((1 + (tree_count c.in-If.test + 1)) + (tree_count c.in-If.consequent + 1)) + tree_count c.in-If.alternative) c.args.tokens.now c.tokens_after_operand-in-If.result.now (twice c.args.tokens.now c.tokens_after_piece-chosen.result.now c.tokens_after_operand-in-If.result.now ((1 + (tree_count c.in-If.test + 1)) + (tree_count c.in-If.consequent + 1)) (tree_count c.in-If.alternative) (twice c.args.tokens.now c.tokens_after_piece-tested.result.now c.tokens_after_piece-chosen.result.now (1 + (tree_count c.in-If.test + 1)) (tree_count c.in-If.consequent + 1) (twice c.args.tokens.now c.skip-in-If.result.now c.tokens_after_piece-tested.result.now (1) (tree_count c.in-If.test + 1) (c.skip-in-If.ensures) (one_more c.skip-in-If.result.now c.tokens_after_piece-tested.result.now (tree_count c.in-If.test) c.tokens_after_piece-tested.ensures)) (one_more c.tokens_after_piece-tested.result.now c.tokens_after_piece-chosen.result.now (tree_count c.in-If.consequent) c.tokens_after_piece-chosen.ensures)) (c.tokens_after_operand-in-If.ensures)) c.in-If.is (count-If c.in-If.test c.in-If.consequent c.in-If.alternative ∙ sym (regroup_if (tree_count c.in-If.test) (tree_count c.in-If.consequent) (tree_count c.in-If.alternative)))
+
+pub tokens_after_operand-returns : goal.tokens_after_operand-returns
+tokens_after_operand-returns t' c =
+    c.tokens_after_tree.ensures ∙ ap (λ a. drop (tree_count a) c.args.tokens.now) c.deref.ensures
+
+pub tokens_after_piece-returns : goal.tokens_after_piece-returns
+tokens_after_piece-returns t' c = c.skip.ensures ∙ ap (drop 1) c.tokens_after_operand.ensures
 
 pub tokens_after_access-returns-in-Method : goal.tokens_after_access-returns-in-Method
 tokens_after_access-returns-in-Method t' c =

@@ -34,3 +34,9 @@ decreases-tokens_after_access l = 5 * goal.size-tokens_after_access l + 3
 
 abbrev pub decreases-tokens_after_accesses : goal.decreases-tokens_after_accesses
 decreases-tokens_after_accesses l = 5 * goal.size-tokens_after_accesses l + 4
+
+abbrev pub decreases-tokens_after_operand : goal.decreases-tokens_after_operand
+decreases-tokens_after_operand l = 5 * goal.size-tokens_after_operand l + 1
+
+abbrev pub decreases-tokens_after_piece : goal.decreases-tokens_after_piece
+decreases-tokens_after_piece l = 5 * goal.size-tokens_after_piece l + 2

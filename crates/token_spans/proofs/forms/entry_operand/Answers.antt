@@ -1,4 +1,4 @@
-use Rattle.std.proofs.Common.{◌∙◌, ap, ℕ, List, Some, drop, take, map}
+use Rattle.std.proofs.Common.{◌∙◌, ap, ℕ, List, Some, drop, take, map, slice_get}
 use Rattle.std.specs.Option.{option_map}
 use Rattle.grammar_trees.specs.grammar_tokens.declared.token.Token.{Token}
 use Rattle.grammar_trees.specs.declared.tree.ExprTree.{ExprTree}
@@ -10,15 +10,16 @@ use Rattle.token_spans.proofs.forms.entry_operand.Goals as goal
 abbrev piece : List (RecordEntry ExprTree) → List Token → ℕ → RecordEntry ExprTree → Form
 piece entries ts i e = whole e.value (drop 2 (drop (each_count (map entry_count (take i entries))) ts))
 
-pub returns-in_err-entry : goal.returns-in_err-entry
-returns-in_err-entry c =
-    ap (option_map form_of) c.from_residual.ensures
-    ∙ ap (option_map (piece c.args.entries.now c.args.tokens.now c.args.index)) c.in_err-entry.ensures
+pub returns-in-None : goal.returns-in-None
+returns-in-None c =
+    ap (option_map (piece c.args.entries.now c.args.tokens.now c.args.index))
+    (c.in-None.ensures ∙ ap (λ xs. slice_get xs c.args.index) c.as_slice-entries.ensures)
 
-pub returns : goal.returns
-returns c =
+pub returns-in-Some : goal.returns-in-Some
+returns-in-Some c =
     let past =
     c.tokens_after_entries-before.ensures
-    ∙ ap (λ xs. drop (each_count (map entry_count xs)) c.args.tokens.now) c.front.ensures in
-    ap (λ f. Some f) (c.whole.ensures ∙ ap (whole c.in_ok-entry.entry.now.value) (c.skip.ensures ∙ ap (drop 2) past))
-    ∙ ap (option_map (piece c.args.entries.now c.args.tokens.now c.args.index)) c.in_ok-entry.ensures
+    ∙ ap (λ xs. drop (each_count (map entry_count xs)) c.args.tokens.now) (c.front.ensures ∙ ap (take c.args.index) c.as_slice-entries.ensures) in
+    ap (λ f. Some f) (c.whole.ensures ∙ ap (whole c.in-Some.entry.now.value) (c.skip.ensures ∙ ap (drop 2) past))
+    ∙ ap (option_map (piece c.args.entries.now c.args.tokens.now c.args.index))
+    (c.in-Some.ensures ∙ ap (λ xs. slice_get xs c.args.index) c.as_slice-entries.ensures)

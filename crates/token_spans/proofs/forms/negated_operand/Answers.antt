@@ -7,8 +7,8 @@ use Rattle.token_spans.proofs.forms.negated_operand.Goals as goal
 
 pub returns-in-Number : goal.returns-in-Number
 returns-in-Number c =
-    ap (λ y. minus_operand y c.args.tree.now c.args.tokens.now c.args.index) (sym (ap out-ExprTree c.in-Number.is ∙ t.outs-Number c.in-Number.field-0))
+    ap (λ y. minus_operand y c.args.tree.now c.args.tokens.now c.args.index) (sym (ap out-ExprTree (sym c.deref.ensures ∙ c.in-Number.is) ∙ t.outs-Number c.in-Number.field-0))
 
 pub returns-in_default : goal.returns-in_default
 returns-in_default c =
-    c.one_operand.ensures ∙ minus_operand-other c.args.tree.now c.args.tokens.now c.args.index c.in_default.not-Number
+    c.one_operand.ensures ∙ minus_operand-other c.args.tree.now c.args.tokens.now c.args.index (λ token e. c.in_default.not-Number token (c.deref.ensures ∙ e))

@@ -1,4 +1,4 @@
-use Rattle.std.proofs.Common.{◌∙◌, ap, ℕ, List, Some, drop, take, map}
+use Rattle.std.proofs.Common.{◌∙◌, ap, ℕ, List, Some, drop, take, map, slice_get}
 use Rattle.std.specs.Option.{option_map}
 use Rattle.grammar_trees.specs.grammar_tokens.declared.token.Token.{Token}
 use Rattle.grammar_trees.specs.declared.tree.ExprTree.{ExprTree}
@@ -9,15 +9,16 @@ use Rattle.token_spans.proofs.forms.row_operand.Goals as goal
 abbrev piece : List ExprTree → List Token → ℕ → ExprTree → Form
 piece items ts i b = whole b (drop (each_count (map tree_count (take i items))) ts)
 
-pub returns-in_err-item : goal.returns-in_err-item
-returns-in_err-item c =
-    ap (option_map form_of) c.from_residual.ensures
-    ∙ ap (option_map (piece c.args.items.now c.args.tokens.now c.args.index)) c.in_err-item.ensures
+pub returns-in-None : goal.returns-in-None
+returns-in-None c =
+    ap (option_map (piece c.args.items.now c.args.tokens.now c.args.index))
+    (c.in-None.ensures ∙ ap (λ xs. slice_get xs c.args.index) c.as_slice-items.ensures)
 
-pub returns : goal.returns
-returns c =
+pub returns-in-Some : goal.returns-in-Some
+returns-in-Some c =
     let past =
     c.tokens_after_each.ensures
-    ∙ ap (λ xs. drop (each_count (map tree_count xs)) c.args.tokens.now) c.front.ensures in
-    ap (λ f. Some f) (c.whole.ensures ∙ ap (whole c.in_ok-item.item.now) past)
-    ∙ ap (option_map (piece c.args.items.now c.args.tokens.now c.args.index)) c.in_ok-item.ensures
+    ∙ ap (λ xs. drop (each_count (map tree_count xs)) c.args.tokens.now) (c.front.ensures ∙ ap (take c.args.index) c.as_slice-items.ensures) in
+    ap (λ f. Some f) (c.whole.ensures ∙ ap (whole c.in-Some.item.now) past)
+    ∙ ap (option_map (piece c.args.items.now c.args.tokens.now c.args.index))
+    (c.in-Some.ensures ∙ ap (λ xs. slice_get xs c.args.index) c.as_slice-items.ensures)

@@ -1,53 +1,46 @@
 use Rattle.std.proofs.Common.{ap, ◌∙◌, drop, take, map, length}
 use Rattle.grammar_trees.specs.declared.tree.ExprTree.TheVariants as t
 use Rattle.grammar_trees.specs.declared.tree.ExprTree.TheOpen.{ExprTree-F as tree}
-use Rattle.token_spans.specs.TokenCounts.{tree_count, term_count, access_tree_count, each_count, total}
-use Rattle.token_spans.specs.Forms.{form_of, kept, tokens_after_test}
+use Rattle.token_spans.specs.TokenCounts.{term_count, access_tree_count, each_count, total}
+use Rattle.token_spans.specs.Forms.{form_of, kept}
 use Rattle.token_spans.proofs.Opening.{seen_behind, behind-other}
 use Rattle.token_spans.proofs.forms.tokens_after_form.Goals as goal
 
 pub returns-in-Member : goal.returns-in-Member
 returns-in-Member c =
     c.tokens_after_accesses.ensures
-    ∙ ap (λ ys. drop (total (map access_tree_count ys)) c.tokens_after_tree.result.now) (c.front-pieces.ensures ∙ ap (λ n. take n c.as_slice.result.now) (c.kept.ensures ∙ ap (kept c.args.form.now.part) c.len.ensures) ∙ ap (take (kept c.args.form.now.part (length c.in-Member.accesses))) c.as_slice.ensures)
-    ∙ ap (drop (total (map access_tree_count (take (kept c.args.form.now.part (length c.in-Member.accesses)) c.in-Member.accesses)))) (c.tokens_after_tree.ensures ∙ ap (λ a. drop (tree_count a) c.args.form.now.tokens.now) c.deref.ensures)
+    ∙ ap (λ ys. drop (total (map access_tree_count ys)) c.tokens_after_operand.result.now) (c.front-pieces.ensures ∙ ap (λ n. take n c.as_slice.result.now) (c.kept.ensures ∙ ap (kept c.args.form.now.part) c.len.ensures) ∙ ap (take (kept c.args.form.now.part (length c.in-Member.accesses))) c.as_slice.ensures)
+    ∙ ap (drop (total (map access_tree_count (take (kept c.args.form.now.part (length c.in-Member.accesses)) c.in-Member.accesses)))) c.tokens_after_operand.ensures
     ∙ seen_behind c.args.form.now.tree.now (t.Member c.in-Member.first c.in-Member.accesses) (tree.Member c.in-Member.first c.in-Member.accesses) (form_of c.args.form.now) c.in-Member.is (t.outs-Member c.in-Member.first c.in-Member.accesses)
 
 pub returns-in-Product : goal.returns-in-Product
 returns-in-Product c =
     c.tokens_after_chain.ensures
-    ∙ ap (λ a. drop (each_count (map tree_count (take (kept c.args.form.now.part (length c.as_slice-in-Product.result.now)) c.as_slice-in-Product.result.now))) (drop (tree_count a) c.args.form.now.tokens.now)) c.deref-in-Product.ensures
-    ∙ ap (λ xs. drop (each_count (map tree_count (take (kept c.args.form.now.part (length xs)) xs))) (drop (tree_count c.in-Product.first) c.args.form.now.tokens.now)) c.as_slice-in-Product.ensures
     ∙ seen_behind c.args.form.now.tree.now (t.Product c.in-Product.first c.in-Product.more) (tree.Product c.in-Product.first c.in-Product.more) (form_of c.args.form.now) c.in-Product.is (t.outs-Product c.in-Product.first c.in-Product.more)
 
 pub returns-in-And : goal.returns-in-And
 returns-in-And c =
     c.tokens_after_chain-in-And.ensures
-    ∙ ap (λ a. drop (each_count (map tree_count (take (kept c.args.form.now.part (length c.as_slice-in-And.result.now)) c.as_slice-in-And.result.now))) (drop (tree_count a) c.args.form.now.tokens.now)) c.deref-in-And.ensures
-    ∙ ap (λ xs. drop (each_count (map tree_count (take (kept c.args.form.now.part (length xs)) xs))) (drop (tree_count c.in-And.first) c.args.form.now.tokens.now)) c.as_slice-in-And.ensures
     ∙ seen_behind c.args.form.now.tree.now (t.And c.in-And.first c.in-And.more) (tree.And c.in-And.first c.in-And.more) (form_of c.args.form.now) c.in-And.is (t.outs-And c.in-And.first c.in-And.more)
 
 pub returns-in-Or : goal.returns-in-Or
 returns-in-Or c =
     c.tokens_after_chain-in-Or.ensures
-    ∙ ap (λ a. drop (each_count (map tree_count (take (kept c.args.form.now.part (length c.as_slice-in-Or.result.now)) c.as_slice-in-Or.result.now))) (drop (tree_count a) c.args.form.now.tokens.now)) c.deref-in-Or.ensures
-    ∙ ap (λ xs. drop (each_count (map tree_count (take (kept c.args.form.now.part (length xs)) xs))) (drop (tree_count c.in-Or.first) c.args.form.now.tokens.now)) c.as_slice-in-Or.ensures
     ∙ seen_behind c.args.form.now.tree.now (t.Or c.in-Or.first c.in-Or.more) (tree.Or c.in-Or.first c.in-Or.more) (form_of c.args.form.now) c.in-Or.is (t.outs-Or c.in-Or.first c.in-Or.more)
 
 pub returns-in-Sum : goal.returns-in-Sum
 returns-in-Sum c =
     c.tokens_after_terms.ensures
-    ∙ ap (λ ys. drop (each_count (map term_count ys)) c.tokens_after_tree-in-Sum.result.now) (c.front-pieces-in-Sum.ensures ∙ ap (λ n. take n c.as_slice-in-Sum.result.now) (c.kept-in-Sum.ensures ∙ ap (kept c.args.form.now.part) c.len-in-Sum.ensures) ∙ ap (take (kept c.args.form.now.part (length c.in-Sum.terms))) c.as_slice-in-Sum.ensures)
-    ∙ ap (drop (each_count (map term_count (take (kept c.args.form.now.part (length c.in-Sum.terms)) c.in-Sum.terms)))) (c.tokens_after_tree-in-Sum.ensures ∙ ap (λ a. drop (tree_count a) c.args.form.now.tokens.now) c.deref-in-Sum.ensures)
+    ∙ ap (λ ys. drop (each_count (map term_count ys)) c.tokens_after_operand-in-Sum.result.now) (c.front-pieces-in-Sum.ensures ∙ ap (λ n. take n c.as_slice-in-Sum.result.now) (c.kept-in-Sum.ensures ∙ ap (kept c.args.form.now.part) c.len-in-Sum.ensures) ∙ ap (take (kept c.args.form.now.part (length c.in-Sum.terms))) c.as_slice-in-Sum.ensures)
+    ∙ ap (drop (each_count (map term_count (take (kept c.args.form.now.part (length c.in-Sum.terms)) c.in-Sum.terms)))) c.tokens_after_operand-in-Sum.ensures
     ∙ seen_behind c.args.form.now.tree.now (t.Sum c.in-Sum.first c.in-Sum.terms) (tree.Sum c.in-Sum.first c.in-Sum.terms) (form_of c.args.form.now) c.in-Sum.is (t.outs-Sum c.in-Sum.first c.in-Sum.terms)
 
 pub returns-in-IsIn : goal.returns-in-IsIn
 returns-in-IsIn c =
     c.tokens_after_in_test.ensures c.in-IsIn.field-2
-    ∙ ap (λ a. tokens_after_test c.args.form.now.part (form_of c.args.form.now) a c.in-IsIn.path c.in-IsIn.field-2) c.deref-in-IsIn.ensures
     ∙ seen_behind c.args.form.now.tree.now (t.IsIn c.in-IsIn.inner c.in-IsIn.path c.in-IsIn.field-2) (tree.IsIn c.in-IsIn.inner c.in-IsIn.path c.in-IsIn.field-2) (form_of c.args.form.now) c.in-IsIn.is (t.outs-IsIn c.in-IsIn.inner c.in-IsIn.path c.in-IsIn.field-2)
 
 pub returns-in_default : goal.returns-in_default
 returns-in_default c =
-    c.tokens_after_tree-in_default.ensures
+    c.tokens_after_tree.ensures
     ∙ behind-other (form_of c.args.form.now) c.in_default.not-Member c.in_default.not-Product c.in_default.not-Sum c.in_default.not-And c.in_default.not-Or c.in_default.not-IsIn

@@ -1,5 +1,5 @@
 use Rattle.std.proofs.Common.{◌∙◌, ap, ℕ, List, Option, Some, drop, take, map}
-use Rattle.std.specs.Option.{option_map, option_and_then}
+use Rattle.std.specs.Option.{option_and_then}
 use Rattle.grammar_trees.specs.grammar_tokens.declared.tree.UidTree.{UidTree}
 use Rattle.grammar_trees.specs.grammar_tokens.declared.token.Token.{Token}
 use Rattle.token_spans.specs.TokenCounts.{uid_count, each_count}
@@ -9,15 +9,13 @@ use Rattle.token_spans.proofs.scopes.uid_at.Goals as goal
 abbrev piece : List UidTree → List Token → ℕ → UidTree → Option (List Token)
 piece uids ts i uid = Some (uid_tokens uid (drop (each_count (map uid_count (take i uids))) ts))
 
-pub returns-in_err-uid : goal.returns-in_err-uid
-returns-in_err-uid c =
-    ap (option_map (λ ts. ts.now)) c.from_residual.ensures
-    ∙ ap (option_and_then (piece c.args.uids.now c.args.tokens.now c.args.index)) c.in_err-uid.ensures
+pub returns-in-None : goal.returns-in-None
+returns-in-None c = ap (option_and_then (piece c.args.uids.now c.args.tokens.now c.args.index)) c.in-None.ensures
 
-pub returns : goal.returns
-returns c =
+pub returns-in-Some : goal.returns-in-Some
+returns-in-Some c =
     let past =
     c.tokens_after_uids.ensures
     ∙ ap (λ xs. drop (each_count (map uid_count xs)) c.args.tokens.now) c.front.ensures in
-    ap (λ ts. Some ts) (c.uid_tokens.ensures ∙ ap (uid_tokens c.in_ok-uid.uid.now) past)
-    ∙ ap (option_and_then (piece c.args.uids.now c.args.tokens.now c.args.index)) c.in_ok-uid.ensures
+    ap (λ ts. Some ts) (c.uid_tokens.ensures ∙ ap (uid_tokens c.in-Some.uid.now) past)
+    ∙ ap (option_and_then (piece c.args.uids.now c.args.tokens.now c.args.index)) c.in-Some.ensures

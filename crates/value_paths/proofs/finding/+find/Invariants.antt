@@ -8,6 +8,6 @@ abbrev pub invariant-find_item-loop-index : goal.invariant-find_item-loop-index
 invariant-find_item-loop-index l =
     item_path (cedar_view l.ty) 0 (items_view l.items.items) ≡ item_path (cedar_view l.ty) l.index (items_view (drop l.index l.item-items))
 
-abbrev pub invariant-find_member-loop-key : goal.invariant-find_member-loop-key
-invariant-find_member-loop-key l =
+abbrev pub invariant-find_in_members-loop-key : goal.invariant-find_in_members-loop-key
+invariant-find_in_members-loop-key l =
     member_path (cedar_fields_view l.fields) (members_view l.members.entries) ≡ member_path (cedar_fields_view l.fields) (members_view l.key-iterator)

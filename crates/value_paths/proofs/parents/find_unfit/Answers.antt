@@ -10,8 +10,8 @@ returns-in-None c =
     unfit_nameless (schema_view c.args.schema.now) c.args.uid.now c.args.parents.now c.loop-index.index c.index-parents-index.result _ c.loop-index-test.true c.index-parents-index.is
     (sym c.in-None.is ∙ c.in_ok-parent.ensures.found) c.loop-index.invariant
 
-pub returns-then-not-fits : goal.returns-then-not-fits
-returns-then-not-fits c =
+pub returns-then-not-fit : goal.returns-then-not-fit
+returns-then-not-fit c =
     let bad : false ≡ fits (schema_view c.args.schema.now) c.args.uid.now c.in-Some.parent = cc in
     subst (λ (x : Option (List Step)). IfOk c.at_parent.result (λ o. o ≡ x))
     (unfit_stops (schema_view c.args.schema.now) c.args.uid.now c.args.parents.now c.loop-index.index c.index-parents-index.result c.in-Some.parent _ c.loop-index-test.true c.index-parents-index.is

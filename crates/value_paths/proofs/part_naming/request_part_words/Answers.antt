@@ -14,5 +14,5 @@ returns-in_ok-found-in-Some c =
     let whole : Option Cedar = option_map (λ t. cedar_view t.now) c.in_ok-context-in-Some.context in
     let found = c.in_ok-found-in-Some.found in
     rw c.in-Some.is (
-    if_ok c.part_words.result (λ (words : List ℕ). words ≡ part_words found whole) (NamesPartOfRequest s (Some d))
-    (λ words e. (found, whole, c.in_ok-found-in-Some.ensures, c.in_ok-context-in-Some.ensures, e)) c.part_words.ensures)
+    if_ok c.part_words-words.result (λ (words : List ℕ). words ≡ part_words found whole) (NamesPartOfRequest s (Some d))
+    (λ words e. (found, whole, c.in_ok-found-in-Some.ensures, c.in_ok-context-in-Some.ensures, e)) c.part_words-words.ensures)

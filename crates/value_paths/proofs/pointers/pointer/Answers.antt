@@ -1,5 +1,5 @@
 use Rattle.std.proofs.Common.{◌≡◌, ◌∙◌, ◌++◌, ◌∷◌, ◌+◌, ◌<◌, [], ℕ, List, length, get_or, take, string_bytes, sym, ap}
-use Rattle.std.proofs.lemmas.List.{append-nil, take_more}
+use Rattle.std.proofs.lemmas.List.{append-nil, take_all, take_more}
 use Rattle.std.proofs.lemmas.Grind.{flat_map-append}
 use Rattle.value_paths.specs.declared.steps.Step.{Step}
 use Rattle.value_paths.specs.Pointers.{token_of, pointer_of}
@@ -17,3 +17,6 @@ pub loop-step-preserved : goal.loop-step-preserved
 loop-step-preserved c =
     one_more c.args.path.now c.loop-step.step-index c.step-item.result (string_bytes c.loop-step.out) (string_bytes c.push_step.new.out) c.loop-step-test.true c.step-item.is
     c.loop-step.invariant c.in_ok-push_step.ensures
+
+pub returns : goal.returns
+returns c = c.from_string.ensures ∙ c.loop-step.invariant ∙ ap pointer_of (take_all c.loop-step.step-index c.args.path.now c.loop-step-test.false)

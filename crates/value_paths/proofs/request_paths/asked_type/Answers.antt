@@ -1,22 +1,13 @@
-use Rattle.std.proofs.Common.{Option, option_map, subst}
-use Rattle.serde_json.specs.Data.{Data}
+use Rattle.std.proofs.Common.{option_map}
 use Rattle.serde_json.specs.View.{view}
 use Rattle.schema_types.specs.CedarViews.{cedar_view}
-use Rattle.entities.specs.entity_uids.Uids.{IsRead}
 use Rattle.entities.specs.schema.Views.{schema_view}
-use Rattle.value_paths.specs.RequestPaths.{IsContextType}
-use Rattle.value_paths.specs.inner.FoundNames.{Names, IsTypeForAction}
-use Rattle.value_paths.proofs.Going.{if_ok}
-use Rattle.value_paths.proofs.Requests.{type_searched}
+use Rattle.value_paths.proofs.Requests.{type_read}
 use Rattle.value_paths.proofs.request_paths.asked_type.Goals as goal
 
 pub returns : goal.returns
 returns c =
-    let s = schema_view c.args.schema.now in
-    let d = view c.args.value.now in
-    let principal = c.in_ok-principal.principal in
-    let read = subst (λ (x : Option Data). IsRead (Names x) principal) c.get.ensures c.in_ok-principal.ensures in
-    if_ok c.type_for_action.result (λ o. IsTypeForAction s d principal (option_map (λ t. cedar_view t.now) o))
-    (λ o. IsContextType s d (option_map (λ t. cedar_view t.now) o))
-    (λ o h. type_searched c.names_read_back.ensures.name s d principal h.0 h.2.0 (option_map (λ t. cedar_view t.now) o) read h.1 h.2.1 h.2.2)
-    c.type_for_action.ensures
+    type_read c.names_read_back.ensures.name (schema_view c.args.schema.now) (view c.args.value.now) c.name_at-principal.result c.name_at-action.result c.name_at-resource.result c.both-others.result
+    (option_map (λ v. view v.now) c.get.result) (option_map (λ v. view v.now) c.get-2.result) (option_map (λ v. view v.now) c.get-3.result) c.in_ok-principal.principal c.in_ok-principal.others
+    (option_map (λ t. cedar_view t.now) c.named_type-ty.result) c.get.ensures c.get-2.ensures c.get-3.ensures c.name_at-principal.ensures c.name_at-action.ensures c.name_at-resource.ensures
+    c.both-others.ensures.first c.both-others.ensures.second c.in_ok-principal.ensures.first c.in_ok-principal.ensures.second c.named_type-ty.ensures

@@ -1,21 +1,20 @@
-use Rattle.std.proofs.Common.{◌≡◌, ◌≢◌, ◌∙◌, Bool, false}
-use Rattle.std.specs.Prelude.{is_ok}
 use Rattle.serde_json.specs.View.{view}
+use Rattle.serde_json.specs.Data.{object, member, no_members}
+use Rattle.serde_json.specs.declared.value.Value.{Value}
+use Rattle.std.proofs.Common.{◌≡◌, [], false}
+use Rattle.schema_types.specs.Cedar.{record_of, field, no_fields}
 use Rattle.schema_types.specs.CedarViews.{cedar_view}
-use Rattle.entities.specs.declared.value_fault.ValueFault.TheVariants.{NoMemory}
-use Rattle.entities.specs.Typing.{typed_value}
-use Rattle.value_paths.proofs.Going.{if_ok}
-use Rattle.value_paths.proofs.Singles.{read_alone, rejected_alone}
+use Rattle.schema_types.specs.declared.cedar.CedarType.{CedarType}
+use Rattle.value_paths.proofs.Going.{made_so}
+use Rattle.value_paths.proofs.Singles.{value_alone}
 use Rattle.value_paths.proofs.wholes.is_read.Goals as goal
-
-pub returns-in-Ok : goal.returns-in-Ok
-returns-in-Ok c =
-    read_alone (cedar_view c.args.ty.now) (view c.args.value.now) (cedar_view c.in_ok-record.record) (view c.in_ok-object.object) c.in-Ok.field-0
-    c.in_ok-record.ensures c.in_ok-object.ensures c.in-Ok.ensures
 
 pub returns : goal.returns
 returns c =
-    if_ok c.rejected.result (λ (yes : Bool). (yes ≡ false) × (c.in-Err.fault ≢ NoMemory)) (λ (yes : Bool). yes ≡ is_ok (typed_value (cedar_view c.args.ty.now) (view c.args.value.now)))
-    (λ yes h. h.0 ∙ rejected_alone (cedar_view c.args.ty.now) (view c.args.value.now) (cedar_view c.in_ok-record.record) (view c.in_ok-object.object) c.in-Err.fault
-    c.in_ok-record.ensures c.in_ok-object.ensures (c.in-Err.ensures h.1))
-    c.rejected.ensures
+    let t = cedar_view c.args.ty.now in
+    let d = view c.args.value.now in
+    let pair = c.in_ok-object in
+    value_alone t d (cedar_view pair.record) (view pair.object) c.read_record-read.result c.is_value.result
+    (made_so c.record_with.result pair.record (λ (x : CedarType). cedar_view x ≡ record_of (field [] t false no_fields)) pair.ensures.second c.record_with.ensures)
+    (made_so c.object_with-object.result pair.object (λ (v : Value). view v ≡ object (member [] d no_members)) pair.ensures.first c.object_with-object.ensures)
+    c.read_record-read.ensures c.is_value.ensures

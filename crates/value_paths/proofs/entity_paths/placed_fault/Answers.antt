@@ -1,8 +1,0 @@
-use Rattle.serde_json.specs.View.{view}
-use Rattle.entities.specs.schema.Views.{schema_view}
-use Rattle.value_paths.proofs.Telling.{entity_told}
-use Rattle.value_paths.proofs.entity_paths.placed_fault.Goals as goal
-
-pub returns : goal.returns
-returns c e =
-    entity_told (schema_view c.args.schema.now) (view c.args.value.now) c.args.fault c.in_ok-found.found c.placed.result e c.in_ok-found.ensures c.placed.ensures
