@@ -579,16 +579,22 @@ def replies_of(text):
     return replies
 
 
+def bound_socket():
+    """Returns a socket that has a port of its own and does not listen: a connection to it is refused, and no other row gets the port."""
+    bound = socket.socket()
+    bound.bind(("127.0.0.1", 0))
+    return bound
+
+
 class Peers:
     """A peer for several calls: it keeps the request of each, and answers with the next of its replies."""
 
     def __init__(self, number, replies, heard):
         self.number, self.replies, self.heard = number, replies, heard
-        self.listener = socket.create_server(("127.0.0.1", 0))
+        self.listener = bound_socket() if replies is None else socket.create_server(("127.0.0.1", 0))
         self.listener.settimeout(SECONDS)
         self.address = f"127.0.0.1:{self.listener.getsockname()[1]}"
         if replies is None:
-            self.listener.close()
             return
         self.thread = threading.Thread(target=self.give, daemon=True)
         self.thread.start()
