@@ -1,13 +1,13 @@
-"""Files that `decide` decides over, of any size: what the measures `decide` and `profile` share."""
+"""Makes files for `decide`, of any size, for the measures `decide`, `profile` and `page`."""
 import json
 import os
 
 WORDS = ("decide", "--policies", "policies.cedar", "--entities", "entities.json", "--request", "request.json")
-ASKED = {"principal": 'User::"u5"', "action": 'Action::"view"', "resource": 'Doc::"d"'}
+REQUEST = {"principal": 'User::"u5"', "action": 'Action::"view"', "resource": 'Doc::"d"'}
 
 
 def policy(number, condition):
-    """Returns the policy of this number: with this condition, or if it is empty with a scope."""
+    """Returns the policy with this number: with this condition and no scope, or if the condition is empty, with a scope."""
     effect = "forbid" if number % 7 == 3 else "permit"
     if condition:
         return f"{effect}(principal, action, resource) when {{ {condition} }};\n"
@@ -16,7 +16,7 @@ def policy(number, condition):
 
 
 def stored(count):
-    """Returns entities: users in groups; a tenth of all are groups, in a tree."""
+    """Returns so many entities: users in groups; a tenth of all are groups, in a tree."""
     groups = max(1, count // 10)
 
     def uid(kind, number):
@@ -27,10 +27,10 @@ def stored(count):
 
 
 def write_inputs(folder, policies, entities):
-    """Writes so many policies and entities, and a request, into a folder."""
+    """Writes so many policies and entities, and a request, into a folder. CONDITION is the condition of each policy."""
     condition = os.environ.get("CONDITION", "")
     with open(f"{folder}/policies.cedar", "w", encoding="utf-8") as file:
         file.writelines(policy(number, condition) for number in range(policies))
-    for name, value in (("entities", stored(entities)), ("request", ASKED)):
+    for name, value in (("entities", stored(entities)), ("request", REQUEST)):
         with open(f"{folder}/{name}.json", "w", encoding="utf-8") as file:
             json.dump(value, file)

@@ -1,13 +1,12 @@
 #!/usr/bin/env python3
-"""Measures the program and its parts: instructions (by valgrind), greatest resident memory, and times where it says so.
+"""Measures the program and its parts: instructions (by valgrind), greatest resident memory, and for some measures times.
 
     bench/measure.py                    lists the measures
-    bench/measure.py NAME [WORD ..]     runs a measure; without arguments, at its usual sizes
+    bench/measure.py NAME [SIZE ..]     runs a measure; without arguments, at its usual sizes
     bench/measure.py NAME --help        prints what it measures, and its arguments
 
-A measure is a module of bench/measures, or one of the tables in bench/measures/parts.py. Instructions are the same on a
-busy machine, times are not. PROGRAM names another binary than the built one. Needs valgrind, and GNU time
-for memory.
+A measure is a module of bench/measures, or a function of bench/measures/parts.py. The load of the machine changes times,
+but not instructions. PROGRAM names another binary than the built one. Needs valgrind, and GNU time for memory.
 """
 import ast
 import os

@@ -1,4 +1,4 @@
-"""Shared by the measures: counted runs of a program, and served sites.
+"""Runs programs and counts their cost, and serves sites, for the measures.
 
 Standard library alone. Counting needs valgrind, TIMING GNU time.
 """
@@ -10,9 +10,9 @@ import sys
 import tempfile
 import time
 
-# with these arguments before it a run reports its instructions, whatever else the machine does
+# with these arguments before its own, a run reports its instructions, which do not depend on the machine's load
 COUNTING = ("valgrind", "--tool=callgrind", "--callgrind-out-file=/dev/null")
-# and with these its memory; the system counts that of its parent too, from the start
+# and with these its memory; the system includes that of its parent at the start
 TIMING = ("/usr/bin/time", "-f", "%M")
 
 
@@ -23,12 +23,12 @@ class Program(str):
     """The path of a program."""
 
     def printed(self, *words):
-        """Returns what a run of it prints."""
+        """Returns the standard output of a run with these arguments."""
         return subprocess.run([self, *words], capture_output=True, text=True, check=False).stdout
 
 
 def named():
-    """Returns the program that PROGRAM names, or none."""
+    """Returns the program that PROGRAM names, or None."""
     return Program(os.path.realpath(os.environ["PROGRAM"])) if os.environ.get("PROGRAM") else None
 
 
@@ -38,7 +38,7 @@ def build(*words):
 
 
 def whole():
-    """Returns the program `cedar_site`: as the gate left it, else proved and built."""
+    """Returns the program `cedar_site`, as the gate built it; proves and builds it if it is absent."""
     built = Program(f"{TOP}/crates/cedar_site/out/cedar_site")
     if named() is None and not os.access(built, os.X_OK):
         build("cedar_site")
@@ -46,7 +46,7 @@ def whole():
 
 
 def part(name):
-    """Returns a program of bench/programs, proved and built unless it was built from these sources."""
+    """Returns a program of bench/programs; proves and builds it unless it was built from these sources."""
     if named() is None:
         build("--if-needed", f"bench/programs/{name}")
     return named() or Program(f"{TOP}/bench/out/{name}")
@@ -58,24 +58,24 @@ def counted(program, *words):
 
 
 def memory(program, *words):
-    """Returns the KiB of memory at most of a run."""
+    """Returns the greatest resident memory of a run, in KiB."""
     return resident(Ended([*TIMING, program, *words]).err)
 
 
-def collected(told):
+def collected(report):
     """Returns the instructions that a run reported."""
-    return int(re.search(r"Collected *: *(\d+)", told)[1])
+    return int(re.search(r"Collected *: *(\d+)", report)[1])
 
 
-def resident(told):
-    """Returns the greatest memory that a run reported, in KiB."""
-    return int(told.split()[-1])
+def resident(report):
+    """Returns the greatest resident memory that a run reported, in KiB."""
+    return int(report.split()[-1])
 
 
 def waited(child):
-    """Returns the status of an ended child, and its seconds of processor time.
+    """Waits for the end of a child. Returns its status, and its seconds of processor time.
 
-    Other work on the machine changes these less than those of the clock.
+    Other work on the machine changes these less than seconds by the clock.
     """
     _, status, used = os.wait4(child.pid, 0)
     child.returncode = os.waitstatus_to_exitcode(status)
@@ -83,7 +83,7 @@ def waited(child):
 
 
 class Ended:
-    """A run that ended: its status, its seconds of processor time, and what it wrote."""
+    """A run that ended: its status, its seconds of processor time, its standard output and its standard error."""
 
     def __init__(self, words, room=None):
         with tempfile.TemporaryFile() as out, tempfile.TemporaryFile() as err:
@@ -100,7 +100,7 @@ def request(method, path, body=b""):
 
 
 class Link:
-    """A connection that is kept."""
+    """A keep-alive connection."""
 
     def __init__(self, port):
         self.stream, self.buffer = socket.create_connection(("127.0.0.1", port), timeout=600), b""
@@ -137,9 +137,9 @@ def free_port():
 
 
 class Served:
-    """Site 1, served on loopback under the file `schema` of a folder; `words` are further words of the command.
+    """Site 1, served on loopback under the file `schema` of a folder; `words` are further arguments of the command.
 
-    `took` is how many seconds went by till it listened. `listens` is false if it ended before that.
+    `took` is the number of seconds until it listened. `listens` is false if it ended before that.
     """
 
     def __init__(self, command, room, *words, **how):
@@ -151,12 +151,12 @@ class Served:
         self.took = time.perf_counter() - began
 
     def peak(self):
-        """Returns its greatest memory so far, in KiB."""
+        """Returns its greatest resident memory so far, in KiB."""
         with open(f"/proc/{self.child.pid}/status", encoding="utf-8") as file:
             return next(int(line.split()[1]) for line in file if line.startswith("VmHWM"))
 
     def ended(self):
-        """Waits for its end: its status, and its seconds of processor time."""
+        """Waits for its end. Returns its status, and its seconds of processor time."""
         return waited(self.child)
 
     def kill(self):
@@ -166,7 +166,7 @@ class Served:
             self.child.wait()
 
     def told(self):
-        """Returns what it wrote on standard error, once it ended."""
+        """Ends it, if it has not ended. Returns its standard error."""
         self.kill()
         self.err.seek(0)
         return self.err.read().decode(errors="replace")

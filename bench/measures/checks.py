@@ -32,16 +32,16 @@ def write_schema(environments, attributes):
 
 
 def write_ordinary(count):
-    """Writes policies with a scope, and a condition that knows an attribute."""
+    """Writes policies with a scope, and a condition that uses a capability."""
     condition = 'principal has age && principal.age > {} && principal.name like "a*"'
     scope = 'principal in Group::"g{}", action, resource is Doc'
     write("policies", "".join(f"permit({scope.format(n)}) when {{ {condition.format(n)} }};\n" for n in range(count)))
 
 
 def write_hostile(count, names):
-    """Writes a policy with a condition of so many `has`, each group of 30 in parentheses, with so many names in turn."""
-    asked = [f"principal has a{n % names}" for n in range(count)]
-    groups = [" && ".join(asked[n:n + 30]) for n in range(0, count, 30)]
+    """Writes a policy with so many `has`, of so many attributes in turn; each 30 are in parentheses."""
+    tests = [f"principal has a{n % names}" for n in range(count)]
+    groups = [" && ".join(tests[n:n + 30]) for n in range(0, count, 30)]
     write("policies", "permit(principal, action, resource) when { " + " && ".join(f"({it})" for it in groups) + " };\n")
 
 

@@ -20,7 +20,7 @@ USUAL = [(policies, entities) for entities in (1000, 100_000) for policies in (1
 
 
 def cost(folder):
-    """Returns the seconds of a run, or its millions of instructions, as text."""
+    """Returns the seconds of a run, or its millions of instructions, as a string."""
     if os.environ.get("INSTRUCTIONS"):
         os.chdir(folder)
         return f"{counted(PROGRAM, *WORDS) / 1e6:.0f}"

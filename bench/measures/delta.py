@@ -1,5 +1,5 @@
 """Measures a delta of ten missing entries: instructions (by valgrind) for each name, of the walk over store and summary and
-of the text. It subtracts the reading of the summary, measured by a summary that is rejected at its last stamp.
+of the text. The cost of reading the summary is subtracted: that of a summary that is rejected at its last stamp.
 
   bench/measure.py delta [NAMES ..]       (default: 10,000 and 100,000)
 
@@ -16,7 +16,7 @@ from rows.sites import connected, free_port, request
 from runs import whole
 
 PROGRAM, SIZES = whole(), [int(it) for it in sys.argv[1:]] or [10_000, 100_000]
-LABEL, NEWS = hashlib.sha256(b"{}").hexdigest(), 10
+LABEL, MISSING = hashlib.sha256(b"{}").hexdigest(), 10
 
 
 def stamp(number, count):
@@ -24,7 +24,7 @@ def stamp(number, count):
 
 
 def counted(folder, summary):
-    """Returns the instructions of a site that is asked once, and its reply."""
+    """Returns the instructions of a site that answers one request for a delta, and its reply."""
     port = free_port()
     words = ["valgrind", "--tool=callgrind", "--callgrind-out-file=/dev/null", PROGRAM, "serve", "--schema",
              f"{folder}/schema", "--site", "1", "--listen", f"127.0.0.1:{port}", "--state", f"{folder}/state",
@@ -36,13 +36,13 @@ def counted(folder, summary):
         link.sendall(request("POST", "/v1/delta", summary))
         link.shutdown(1)
         reply = b"".join(iter(lambda: link.recv(65536), b""))
-    _, told = site.communicate(timeout=600)
-    return int(re.search(rb"Collected : (\d+)", told)[1]), reply
+    _, report = site.communicate(timeout=600)
+    return int(re.search(rb"Collected : (\d+)", report)[1]), reply
 
 
 for size in SIZES:
     with tempfile.TemporaryDirectory() as folder:
-        entries = [{"body": None, **stamp(it, 10**6 + it if it < NEWS else 1 + it)} for it in range(size)]
+        entries = [{"body": None, **stamp(it, 10**6 + it if it < MISSING else 1 + it)} for it in range(size)]
         with open(f"{folder}/schema", "w") as file:
             file.write("{}")
         with open(f"{folder}/state", "w") as file:
@@ -50,8 +50,8 @@ for size in SIZES:
         stamps = [stamp(it, 1 + it) for it in range(size)]
         good, bad = ({"kind": "summary", "schema": LABEL, "stamps": it, "version": 2}
                      for it in (stamps, [*stamps[:-1], stamp(size - 1, 0)]))
-        less, refused = counted(folder, json.dumps(bad).encode())
+        less, rejected = counted(folder, json.dumps(bad).encode())
         more, given = counted(folder, json.dumps(good).encode())
-    if b'"code":54' not in refused or given.count(b'"policy"') != NEWS:
-        sys.exit(f"expected code 54 and {NEWS} entries, got {refused[:200]} and {given[:200]}")
+    if b'"code":54' not in rejected or given.count(b'"policy"') != MISSING:
+        sys.exit(f"expected code 54 and {MISSING} entries, got {rejected[:200]} and {given[:200]}")
     print(f"{size} names: {(more - less) / size:.1f} instructions a name")

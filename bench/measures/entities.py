@@ -4,7 +4,7 @@ text.
   bench/measure.py entities ["ATTRIBUTES PARENTS" ..]   (default: 10 attributes and 3 parents; then more of each)
 
 `merge` does both with each entity of a message. The measure is the difference of two runs: over a message whose last
-entry is rejected, and over the same message under the label of another schema, which is rejected before any entity is
+entry is rejected, and over the same message with the label of another schema, which is rejected before any entity is
 read. PROGRAM names another binary. Needs python3 and valgrind.
 """
 import hashlib
@@ -36,7 +36,7 @@ def entity(attributes, parents):
 
 
 def message(label, text):
-    """Returns a state with so many entries of the entity, and one whose count is rejected."""
+    """Returns a state with COUNT entries of the entity, and one whose count is rejected."""
     entries = [{"body": text, "count": n + 1, "name": {"entity": UID}, "site": "00001"} for n in range(COUNT)]
     entries.append({"body": None, "count": 0, "name": {"policy": "last"}, "site": "00001"})
     return compact({"entries": entries, "kind": "state", "schema": label, "version": 2})

@@ -64,7 +64,7 @@ def ordinary(count):
 
 
 def grouped(parts):
-    """Returns a condition of these parts, each group of 30 in parentheses, so that none nests deep."""
+    """Returns a policy whose condition has these parts, each 30 in parentheses, so that it does not nest deep."""
     groups = [" && ".join(parts[at:at + 30]) for at in range(0, len(parts), 30)]
     while len(groups) > 30:
         groups = ["(" + ") && (".join(groups[at:at + 30]) + ")" for at in range(0, len(groups), 30)]
@@ -72,12 +72,12 @@ def grouped(parts):
 
 
 def known(count):
-    """Returns so many records, each with a number that no other has, and an age."""
+    """Returns a policy with so many `has`, each on another record."""
     return grouped([f"{{a: principal, b: {n}}}.a has age" for n in range(count)])
 
 
 def wide_context(count, required):
-    """Returns a schema whose context has so many fields."""
+    """Returns a schema whose context has so many attributes."""
     fields = {f"f{n:04}": {"type": "Long", "required": required} for n in range(count)}
     context = {"type": "Record", "attributes": fields}
     return compact(TYPES, {"view": {"appliesTo": USES | {"context": context}}})
@@ -88,15 +88,15 @@ def members(expressions):
 
 
 def shared(count):
-    """Returns a condition that has the one before it twice in `is .. in`, until it has so many nodes."""
-    condition, forms = "principal", 1
-    while forms < count:
-        condition, forms = f'(if {condition} is User in Group::"g" then principal else principal)', 2 * forms
+    """Returns a policy whose condition has an `is .. in` twice in the next one, until it has so many nodes."""
+    condition, nodes = "principal", 1
+    while nodes < count:
+        condition, nodes = f'(if {condition} is User in Group::"g" then principal else principal)', 2 * nodes
     return f'permit(principal, action, resource) when {{ {condition} == principal }};'
 
 
 def ran(words, files, status=0):
-    """Returns the instructions of a run over files of these names, which ends with this status."""
+    """Returns the instructions of a run over these files, which must end with this status."""
     with tempfile.TemporaryDirectory() as room:
         for name, text in files.items():
             with open(f"{room}/{name}", "w", encoding="utf-8") as file:
@@ -108,7 +108,7 @@ def ran(words, files, status=0):
 
 
 def checked(schema, policies, status=0):
-    """Returns the instructions of a check, which ends with this status."""
+    """Returns the instructions of a `check`, which must end with this status."""
     return ran(["check", "--schema", "schema", "policies"], {"schema": schema, "policies": policies}, status)
 
 
@@ -117,7 +117,7 @@ def read(schema):
 
 
 def searched(count, operator):
-    """Returns the instructions of deciding by so many policies with a condition on one group, below a chain of others."""
+    """Returns the instructions of `decide` over POLICIES policies with a condition on a group below a chain of others."""
     above = [[{"type": "Group", "id": f"g{n + 1}"}] if n + 1 < count else [] for n in range(count)]
     entities = [{"uid": {"type": "Group", "id": f"g{n}"}, "parents": above[n]} for n in range(count)]
     asked = {"principal": 'User::"u"', "action": 'Action::"a"', "resource": 'Doc::"d"'}
@@ -143,7 +143,7 @@ def served(schema, requests):
 
 
 def asked(count):
-    """Returns the instructions of one request more, under so many environments, at a site that has applied an update."""
+    """Returns the instructions of one request more, under so many environments, at a site that applied an update."""
     body = json.dumps({"principal": 'User::"u"', "action": f'Action::"a{count - 1}"', "resource": 'Doc::"d"'}).encode()
     one, idle = ("POST", "/v1/authorize", body), ("POST", "/no/authorize", body)
     schema, put = environments(count), ("PUT", "/v1/entities", b'{"uid":{"type":"Group","id":"g"}}')

@@ -1,7 +1,7 @@
 r"""Measures HTTP over memory and over loopback, without a site: by the program bench/programs/stream_measures.
 
 bench/measure.py http memory [REQUESTS]     instructions of a GET with five fields, and requests a second
-bench/measure.py http loopback [REQUESTS]   requests a second on one kept connection, one by one and 32 sent together
+bench/measure.py http loopback [REQUESTS]   requests a second on one keep-alive connection, one by one and 32 together
 bench/measure.py http slow                  instructions of a head of 16,384 bytes, of a body of 65,536 after a head of
                                             4,096 and of one of 8,388,608, each at once and, except the longest, byte
                                             by byte
@@ -15,7 +15,7 @@ PROGRAM = part("stream_measures")
 FIELDS = ("Host: 127.0.0.1:7000", "User-Agent: bench", "Accept: */*", "Accept-Encoding: gzip", "Connection: keep-alive")
 REQUEST = "\r\n".join(("GET /v1/policies/p HTTP/1.1", *FIELDS, "", "")).encode()
 REPLY = b"HTTP/1.1 200 OK\r\nContent-Type: application/json\r\nContent-Length: 14\r\n\r\n/v1/policies/p"
-# rows of the program: of a head of 16,384 bytes with one field and with 64, and of two bodies
+# texts for the program: a head of 16,384 bytes with one field and with 64, and two bodies
 ONE_FIELD = r"GET / HTTP/1.1\r\nh: " + "a" * 16361 + r"\r\n\r\n"
 FIELDS_64 = r"GET / HTTP/1.1\r\n" + ("h: " + "a" * 251 + r"\r\n") * 63 + "h: " + "a" * 233 + r"\r\n\r\n"
 BEHIND = r"PUT / HTTP/1.1\r\nContent-Length: 65536\r\nh: " + "a" * 4050 + r"\r\n\r\n" + r"\k" * 64
@@ -25,12 +25,12 @@ ROWS = (
     ("head of 64 fields, at once", "whole", FIELDS_64), ("head of 64 fields, byte by byte", "slow", FIELDS_64),
     ("body of 65,536 bytes behind a head of 4,096, at once", "whole", BEHIND),
     ("body of 65,536 bytes behind a head of 4,096, byte by byte", "slow", BEHIND),
-    ("body of 8,388,608 bytes, at once, with the making of its bytes and of the reply", "whole", BODY),
+    ("body of 8,388,608 bytes, at once, including the making of its bytes and of the reply", "whole", BODY),
 )
 
 
 def counted(row):
-    """Returns the instructions of a run over one row."""
+    """Returns the instructions of a run over one line of input."""
     ran = subprocess.run([*COUNTING, PROGRAM], input=row + "\n", text=True, capture_output=True, check=False)
     return collected(ran.stderr)
 
@@ -38,14 +38,14 @@ def counted(row):
 def seconds(count):
     """Returns the seconds of serving so many requests over memory."""
     began = time.monotonic()
-    told = subprocess.run([PROGRAM], input=f"many {count}\n", text=True, capture_output=True, check=True).stdout
-    if f"{count} asked" not in told or "ended: true" not in told:
-        sys.exit(f"expected {count} requests, got: {told}")
+    output = subprocess.run([PROGRAM], input=f"many {count}\n", text=True, capture_output=True, check=True).stdout
+    if f"{count} calls" not in output or "ended: true" not in output:
+        sys.exit(f"expected {count} calls, got: {output}")
     return time.monotonic() - began
 
 
 def over_memory(requests):
-    # includes the making of the stream
+    # includes making the stream
     print(f"instructions a request: {(counted('many 1500') - counted('many 500')) / 1000:.0f}")
     seconds(1000)
     took = min(seconds(requests) for _ in range(3)) - min(seconds(0) for _ in range(3))
@@ -53,7 +53,7 @@ def over_memory(requests):
 
 
 def asked(port, requests, together):
-    """Returns how many requests a second one connection answered, so many sent together."""
+    """Returns the number of requests that are answered in a second on one connection, so many sent together."""
     stream = Link(port).stream
     began = time.monotonic()
     for _ in range(requests // together):

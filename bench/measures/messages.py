@@ -1,5 +1,5 @@
-"""Measures messages: for each size, instructions for each entry of reading a state, applying its updates and writing it,
-and the greatest resident memory of each. Half of the entries are policies with a condition, half entities with two
+"""Measures messages: instructions an entry to read a state, to apply its updates and to write it, and the greatest resident
+memory of each step. Half of the entries are policies with a condition, half entities with two
 attributes and a parent.
 
   bench/measure.py messages [SIZE ..]       (default: 1,000 and 10,000 entries)
@@ -31,7 +31,7 @@ def compact(value):
 
 
 def entry(number):
-    """Returns the entry of this number: of a policy, or of an entity."""
+    """Returns the entry with this number: a policy, or an entity."""
     if number % 2 == 0:
         name, body = {"policy": f"policy{number}"}, POLICY
     else:
@@ -42,7 +42,7 @@ def entry(number):
 
 
 def state(size, last):
-    """Returns so many entries, and one more with this count: 0 is rejected."""
+    """Returns a state with so many entries, and one more with the count `last`, which is rejected if it is 0."""
     entries = [entry(number) for number in range(size)]
     entries.append({"body": None, "count": last, "name": {"policy": "last"}, "site": "00001"})
     return compact({"entries": entries, "kind": "state", "schema": LABEL, "version": 2})
@@ -55,7 +55,7 @@ def write(room, **texts):
 
 
 def merged(room, first, second, wanted):
-    """Returns the instructions of a merge, and its KiB of memory; it writes a state, or is rejected so."""
+    """Returns the instructions of a merge and its memory in KiB. Its output or its error must have `wanted`."""
     words = [PROGRAM, "merge", "--schema", "schema", first, second]
     ran = Ended([*TIMING, *words], room)
     if wanted not in (ran.out.decode() if ran.status == 0 else ran.err):

@@ -1,14 +1,15 @@
 """Fills the tables of docs/performance.md and of the whole program in bench/measures.md in one run.
 
     bench/measure.py page [ROW ..]             measures these rows (default: all), and writes both pages
-    bench/measure.py page --program [ROW ..]   the same, and of the rows with a plain engine the program alone
+    bench/measure.py page --program [ROW ..]   the same; of the rows with a plain engine it measures the program alone
     bench/measure.py page --list               prints the rows with their names
-    bench/measure.py page --check              measures nothing: the status is 1 if a page has other rows than this script
+    bench/measure.py page --check              measures nothing; its status is 1 if a page has other rows than this script
 
-The rows of docs/performance.md compare the program with a plain engine. PLAIN names it, if it takes the commands of this program; these rows are
-then measured with both programs. Without PLAIN they stay as they are; with --program those in instructions and memory get
-the program's new number, and the ratio to the number of the plain engine that the page has, of a run over other files. Times
-depend on the machine, so they are measured only with PLAIN. PROGRAM names another binary. Needs valgrind and GNU time.
+The rows of docs/performance.md compare the program with a plain engine. If PLAIN names a plain engine with the same
+commands, these rows are measured with both programs. Without PLAIN they stay unchanged; with --program the rows in
+instructions and memory get the program's new number, and its ratio to the plain engine's number on the page, which is of a
+run over other files. Times depend on the machine, so they are measured only with PLAIN. PROGRAM names another binary.
+Needs valgrind and GNU time.
 """
 import datetime
 import json
@@ -39,7 +40,7 @@ def compact(value):
 # ---- rows by the other measures
 
 def printed(program, measure, *words, **more):
-    """Returns the rows that another measure prints, each as a list of words. A measure of a part builds its own program."""
+    """Returns the rows that another measure prints, each as a list of words. If `program` is None, it builds its own."""
     environment = {**os.environ, **more, "PROGRAM": program}
     if program is None:
         del environment["PROGRAM"]
@@ -66,8 +67,8 @@ def taken(program, count):
 
 
 def stored(kind):
-    """Returns the bytes of a stored name, with the message that brought it."""
-    rows = (" ".join(it) for it in printed(None, "kept_site", "memory"))
+    """Returns the bytes of memory of a stored name, including its message."""
+    rows = (" ".join(it) for it in printed(None, "site_caches", "memory"))
     return int(next(re.search(rf"^10000 {kind}.*: (\d+) bytes", it) for it in rows if it.startswith(f"10000 {kind}"))[1])
 
 
@@ -79,7 +80,7 @@ def merged(program):
 # ---- `decide`
 
 def deciding(command, policies, entities, condition):
-    """Returns a decision over so many policies and entities, which has to be answered."""
+    """Returns the run of a decision over so many policies and entities, which must succeed."""
     with tempfile.TemporaryDirectory() as folder:
         os.environ["CONDITION"] = condition
         write_inputs(folder, policies, entities)
@@ -95,7 +96,7 @@ def decided(program, policies, entities, condition=""):
 
 
 def memory(program, policies, entities, condition=""):
-    """Returns the MiB of memory of a decision."""
+    """Returns the greatest resident memory of a decision, in MiB."""
     return resident(deciding((*TIMING, program), policies, entities, condition).err) / 1024
 
 
@@ -106,7 +107,7 @@ def one_more(program, less, more, condition=""):
 
 
 def graph(program, edges):
-    """Returns the milliseconds of processor time of a decision over 10,000 groups, each below so many of those before it."""
+    """Returns the milliseconds of processor time of a decision over 10,000 groups in layers, with so many edges each."""
     def uid(kind, number):
         return {"type": kind, "id": f"{kind[0].lower()}{number}"}
 
@@ -124,7 +125,7 @@ def graph(program, edges):
 
 
 def started(program):
-    """Returns the milliseconds of a run of `--help`, by the clock."""
+    """Returns the median of the milliseconds of a run of `--help`, by the clock."""
     found = []
     for _ in range(50):
         began = time.perf_counter()
@@ -136,7 +137,7 @@ def started(program):
 # ---- served, over loopback
 
 def policy(number):
-    """Returns a policy, of each shape in turn: three of five name a principal, a group or an action, two have a condition alone."""
+    """Returns a policy, of five shapes in turn: three name a principal, a group or an action, two have a condition."""
     scope = (f'principal == User::"u{number}", action, resource', f'principal in Group::"g{number % 100}", action, resource',
              f'principal, action == Action::"view", resource == Doc::"d{number}"', "principal, action, resource",
              "principal is User, action, resource")[number % 5]
@@ -151,7 +152,7 @@ def entity(number):
 
 
 def asked_empty(program, folder, what):
-    """Returns the state or the summary of an empty site; writes the schema into the folder."""
+    """Returns the state or the summary of an empty site, and writes the schema into the folder."""
     with open(f"{folder}/schema", "w", encoding="utf-8") as file:
         json.dump(SCHEMA, file)
     with Served([program], folder) as site:
@@ -180,7 +181,7 @@ def putting(number):
 
 
 def served(program, policies, entities, make, times=2000, together=1):
-    """Returns the microseconds of a request at a site with so many policies and entities, by the clock, and the site's KiB."""
+    """Returns the microseconds of a request at a site with so many policies and entities, and the site's memory in KiB."""
     with tempfile.TemporaryDirectory() as folder:
         sent = state(program, folder, policies, entities)
         with open(f"{folder}/state", "wb") as file:
@@ -197,7 +198,7 @@ def served(program, policies, entities, make, times=2000, together=1):
 
 
 def site_memory(program):
-    """Returns the greatest MiB of memory of a site to which 10,000 policies were put, 50 requests at a time."""
+    """Returns the greatest resident memory, in MiB, of a site after 10,000 puts of policies, 50 at a time."""
     with tempfile.TemporaryDirectory() as folder:
         with open(f"{folder}/schema", "w", encoding="utf-8") as file:
             file.write(compact(SCHEMA))
@@ -219,7 +220,7 @@ def merge_milliseconds(program, count):
 
 
 def message_merged(program):
-    """Returns the milliseconds of a message of 1,000 entries at an empty site."""
+    """Returns the milliseconds of a merge of 1,000 entries at an empty site."""
     with tempfile.TemporaryDirectory() as folder:
         sent = request("POST", "/v1/merge", state(program, folder, 500, 500))
     return served(program, 0, 0, lambda n: sent, 1)[0] / 1000
@@ -238,7 +239,7 @@ def delta_written(program):
 
 
 def in_turn(program):
-    """Returns the microseconds of a request, if each second one is a put of an entity."""
+    """Returns the microseconds of a request, where each second one is a put of an entity."""
     return served(program, 10_000, 1000, lambda n: asking(n % 1000) if n % 2 else putting(2000 + n))[0]
 
 
@@ -249,7 +250,7 @@ class Compared:
         self.name, self.labels, self.unit, self.measure, self.page = name, (what, unit), unit, measure, COMPARED
 
     def cells(self, standing, number, plain_number):
-        """Returns the row's cells, given those that stand, and the new numbers if there are any."""
+        """Returns the row's cells: those of the page, `standing`, with the new numbers, if there are any."""
         program, plain, ratio = standing or ("", "", "")
         program = program if number is None else rounded(number)
         plain = plain if plain_number is None else rounded(plain_number)
@@ -259,21 +260,22 @@ class Compared:
 
 
 class Whole:
-    """A row of bench/measures.md: its name, what is measured, over how much, its unit, which measure, and how."""
+    """A row of bench/measures.md: its name, what is measured, over how many policies and entities, its unit, the measure's
+    command, and the measure."""
 
     def __init__(self, name, what, policies, entities, unit, how, measure):
         self.name, self.labels, self.unit, self.how, self.measure, self.page = (
             name, (what, policies, entities), unit, how, measure, WHOLE)
 
     def cells(self, standing, number, _):
-        """Returns the row's cells, as above."""
-        told = rounded(number) if number is not None else ""
-        return *self.labels, f"{told} {self.unit}".removesuffix(" Ir") if told else standing[0] if standing else "", self.how
+        """Returns the row's cells: those of the page, `standing`, with the new number, if there is one."""
+        text = rounded(number) if number is not None else ""
+        return *self.labels, f"{text} {self.unit}".removesuffix(" Ir") if text else standing[0] if standing else "", self.how
 
 
 ROWS = (
     Compared("file-policy", "a policy of a file, a scope alone", "Ir", lambda it: one_more(it, (2000, 1000), (6000, 1000))),
-    Compared("file-condition", "one with four tests, read and tried", "Ir",
+    Compared("file-condition", "one with four tests, parsed and evaluated", "Ir",
              lambda it: one_more(it, (2000, 1000), (6000, 1000), TESTS)),
     Compared("file-entity", "an entity of a file", "Ir", lambda it: one_more(it, (10, 4000), (10, 8000))),
     Compared("conditions-memory", "memory: 20,000 policies with four tests", "MiB", lambda it: memory(it, 20_000, 1000, TESTS)),
@@ -317,9 +319,9 @@ ROWS = (
     Whole("update-many", "the same", "5,000", "5,000", "Ir", "site take", lambda it: taken(it, 10_000)),
     Whole("update-memory", "its memory, for a message of 2.1 MB", "5,000", "5,000", "MiB", "site take",
           lambda it: float(printed(it, "site", "take", "10000")[-1][4]) / 1024),
-    Whole("stored-policy", "a stored policy, with the message that brought it", "10,000", "", "bytes", "kept_site memory",
+    Whole("stored-policy", "a stored policy, with the message that brought it", "10,000", "", "bytes", "site_caches memory",
           lambda it: stored("policy")),
-    Whole("stored-entity", "a stored entity, with the message that brought it", "", "10,000", "bytes", "kept_site memory",
+    Whole("stored-entity", "a stored entity, with the message that brought it", "", "10,000", "bytes", "site_caches memory",
           lambda it: stored("entity")),
     Whole("entry-merged", "two states merged: an entry read, applied, written", "500", "500", "Ir", "messages", merged),
     Whole("decide-entities", "`decide`: scopes alone, entities in a tree of groups", "10", "100,000 (8.98 MB)", "Ir", "decide",
@@ -334,14 +336,17 @@ TIMES = ("ms", "us")
 
 
 def rounded(number):
-    """Returns a number as text, with three significant digits."""
+    """Returns a number with three significant digits, as a string."""
     if number >= 1e6:
         return f"{float(f'{number / 1e6:.3g}'):,g} M"
     return f"{float(f'{number:.3g}'):,g}" if number < 1000 else f"{int(float(f'{number:.3g}')):,}"
 
 
 def standing_cells(text, row, above):
-    """Returns the cells after the labels of a row that a page has, if it has the row. `above` is the last line not `the same`."""
+    """Returns the cells after the labels of a row, or None if the page has no such row.
+
+    `above` is the label of the last row before it that is not `the same`.
+    """
     at = text.find(row_start((above,))) if above else 0
     found = text.find(row_start(row.labels), max(at, 0))
     if found < 0:
@@ -355,7 +360,7 @@ def row_start(labels):
 
 
 def table(path, text, measured, measured_plain):
-    """Returns the table of a page, with these new numbers by the names of rows."""
+    """Returns the table of a page, with the new numbers of both programs, by the names of rows."""
     lines, above = [], ""
     for row in (it for it in ROWS if it.page == path):
         above = above if row.labels[0].startswith("the same") else row.labels[0]
@@ -371,14 +376,14 @@ def number_of(cell):
 
 
 def with_table(path, text, measured, measured_plain):
-    """Returns the text of a page with these new numbers."""
+    """Returns the text of a page with the new numbers of both programs."""
     head = re.escape(HEADS[path].partition("\n")[0])
     made = table(path, text, measured, measured_plain)
     return re.sub(rf"^{head}\n(?:\|.*\n)*", lambda _: made, text, count=1, flags=re.M)
 
 
 def with_day(text, plain, is_alone):
-    """Returns the text of a page with today as the day of what was measured."""
+    """Returns the text of a page that gives today as the day of its measurements."""
     now = datetime.date.today()
     day = f"{now.day} {now:%B %Y}"
     if plain:
@@ -394,7 +399,7 @@ def with_day(text, plain, is_alone):
 
 
 def medians(row, programs):
-    """Returns the number of a row for each program: one run, but of times the median of nine runs in turn, since they vary."""
+    """Returns the number of a row for each program: of one run; for times, which vary, the median of nine runs in turn."""
     runs = [[row.measure(it) for it in programs] for _ in range(9 if row.unit in TIMES else 1)]
     return [statistics.median(it) for it in zip(*runs)]
 

@@ -17,7 +17,7 @@ USUAL = {"policy": (2000, 6000), "entity": (4000, 8000)}
 
 
 def own(path):
-    """Returns the instructions of each function itself, without those of what it calls."""
+    """Returns the instructions of each function itself, without its callees, by its name."""
     names, found, function, of_call = {}, {}, None, False
     with open(path, encoding="utf-8", errors="replace") as lines:
         for line in lines:
@@ -37,7 +37,7 @@ def own(path):
 
 
 def profile(policies, entities):
-    """Returns the instructions of each function, in a decision over so many policies and entities."""
+    """Returns the instructions of each function itself, in a decision over so many policies and entities."""
     with tempfile.TemporaryDirectory() as folder:
         write_inputs(folder, policies, entities)
         tool = ("valgrind", "--tool=callgrind", f"--callgrind-out-file={folder}/profile")

@@ -1,5 +1,5 @@
-"""Measures the reading of schemas: instructions (by valgrind) of `check` over a file without policies, less those of a
-run with a file of the same length that is rejected at its first byte.
+"""Measures the reading of schemas: instructions (by valgrind) of `check` over a file without policies, less those for a
+schema of the same length that is rejected at its first byte.
 
   bench/measure.py schema [COUNT ..]   COUNT entity types with three attributes, actions with a context and environments
                                        (default: 10, 100 and 1,000)
@@ -27,7 +27,7 @@ def schema(count):
 
 
 def instructions(room, text, status):
-    """Returns the instructions of a check of no policies under a schema of this text, which ends with this status."""
+    """Returns the instructions of a `check` without policies under a schema with this text, which must end with this status."""
     with open(f"{room}/schema", "w", encoding="utf-8") as file:
         file.write(text)
     ran = Ended([*COUNTING, PROGRAM, "check", "--schema", "schema", "policies"], room)

@@ -1,8 +1,8 @@
 """Measures the served program over loopback: microseconds a request (by the clock, so on a quiet machine), and the
-greatest resident memory; of `merge` microseconds of processor time an entry; of a decision's line in a log the
+greatest resident memory; of `merge` the microseconds of processor time an entry; of a decision's line in a log the
 instructions. Needs python3, GNU time, and for `log` valgrind. PROGRAM names another binary.
 
-  bench/measure.py service authorize [POLICIES ..]   one kept connection: one by one, and 32 together (default: 10, 1,000,
+  bench/measure.py service authorize [POLICIES ..]   one keep-alive connection: one by one, and 32 together (default: 10, 1,000,
                                                      10,000)
   bench/measure.py service put [COUNT ..]            puts of policies, one by one, with COUNT policies stored (default:
                                                      1,000, 10,000)
@@ -44,7 +44,7 @@ def write(room, name, text):
 
 
 def asked(port, times, together, make):
-    """Returns the microseconds of a request, over one connection, so many sent together."""
+    """Returns the microseconds of a request on one connection, so many sent together."""
     link, began = Link(port), time.perf_counter()
     for turn in range(times):
         link.ask(*(make(turn * together + n) for n in range(together)))
@@ -101,7 +101,7 @@ def start(room):
 
 
 def instructions(room, times, *words):
-    """Returns the instructions of a served site that makes so many decisions, one by one, on one connection."""
+    """Returns the instructions of a site that makes so many decisions, one by one, on one connection."""
     with Served([*COUNTING, PROGRAM], room, "--state", "state", *words) as site:
         link = Link(site.port)
         for _ in range(times):

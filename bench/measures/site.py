@@ -40,34 +40,34 @@ def compact(value):
 
 
 def policy(n):
-    """Returns a policy: one of ten is of a group that users are in, the others name another user."""
+    """Returns a policy: one in ten names a group of users, the others name a user each."""
     part = f'principal in Group::"g{n % 7}"' if n % 10 == 0 else f'principal == User::"u{n}"'
     condition = f"principal has age && principal.age >= {n % 10}"
     return f'permit({part}, action == Action::"view", resource) when {{ {condition} }};'
 
 
 def policy_of_ten(n):
-    """Returns a policy: ten are of the group that all users are in, the others name another user."""
+    """Returns a policy: ten name the group of all users, the others name other users."""
     part = 'principal in Group::"g0"' if n < 10 else f'principal == User::"v{n}"'
     condition = f"principal has age && principal.age >= {n % 10}"
     return f'permit({part}, action == Action::"view", resource) when {{ {condition} }};'
 
 
 def stated(kind, number, attrs, above):
-    """Returns an entity with at most one group above it."""
+    """Returns an entity whose parent is the group with the number `above`, if it is not None."""
     parents = [] if above is None else [{"id": f"g{above}", "type": "Group"}]
     return {"attrs": attrs, "parents": parents, "uid": {"id": number, "type": kind}}
 
 
 def entity(n, groups):
-    """Returns an entity: users are in groups, and groups in a tree."""
+    """Returns the entity with this number: a group, in a tree of groups, or a user, in a group."""
     if n < groups:
         return stated("Group", f"g{n}", {}, n // 2 if n else None)
     return stated("User", f"u{n}", {"age": n % 9, "name": f"u{n}"}, n % groups)
 
 
 def link(n, _groups):
-    """Returns a group, which is in the one before it."""
+    """Returns the group with this number, in a chain: its parent is the group before it."""
     return stated("Group", f"g{n}", {}, n - 1 if n else None)
 
 
@@ -92,7 +92,7 @@ def authorizing(entities):
 
 
 def putting(n, groups, made_of):
-    """Returns a put of a policy, or of what `made_of` makes."""
+    """Returns a put of a policy, or if `made_of` is given, of the entity that it makes."""
     if made_of is None:
         return "PUT", f"/v1/policies/p{n}", policy(n).encode()
     return "PUT", "/v1/entities", compact(made_of(n, groups)).encode()
@@ -104,7 +104,7 @@ def idle(asked):
 
 
 class Room:
-    """A folder with the schema and a state, and runs of a site that begins with it."""
+    """A folder with the schema and a state, and runs of a site that starts with them."""
 
     def __init__(self, folder):
         self.folder = folder
@@ -118,7 +118,7 @@ class Room:
         self.write("state", state)
 
     def run(self, asked, *before):
-        """Serves one connection with these requests. Returns what it told, its seconds, its KiB and the replies."""
+        """Serves one connection with these requests. Returns its standard error, its seconds, its KiB and the replies."""
         words = ["--state", "state", "--connections", "1"]
         with Served([*before, PROGRAM], self.folder, *words) as site:
             if not site.listens:
@@ -138,7 +138,7 @@ class Room:
         return self.run(asked)[1]
 
     def try_out(self, asked):
-        """Returns the KiB of a run with these requests, each of which has to be answered."""
+        """Returns the KiB of a run with these requests; each must be answered with status 200."""
         _, _, kib, replies = self.run(asked)
         wrong = [it for it in replies if it[0] != 200]
         if wrong:
@@ -146,7 +146,7 @@ class Room:
         return kib
 
     def begun(self, *before):
-        """Returns the run of a site that begins and ends, without a connection."""
+        """Returns the run of a site that starts and ends without a connection."""
         words = ["serve", "--schema", "schema", "--site", "1", "--state", "state", "--connections", "0"]
         ran = Ended([*before, PROGRAM, *words, "--listen", "127.0.0.1:0"], self.folder)
         if ran.status != 0:
@@ -154,7 +154,7 @@ class Room:
         return ran
 
     def beginning(self):
-        """Returns the instructions of a site that begins and ends, without a connection."""
+        """Returns the instructions of a site that starts and ends without a connection."""
         return 0 if os.environ.get("TIMES") else collected(self.begun(*COUNTING).err)
 
 
