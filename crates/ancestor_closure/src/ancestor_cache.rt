@@ -23,18 +23,19 @@ use values::EntityUid;
 /// An ancestor cache of a hierarchy: the ancestors of each entity (the transitive closure), the children of each
 /// entity, and the cyclic entities.
 ///
-/// The caller has the edges, and passes them when the cache is updated. Contracts state which hierarchies the cache is
-/// right for (`IsCacheOf`); its answers are those of each such hierarchy. A cached ancestor takes 8 bytes, or up to 16
-/// while its list has spare capacity (up to 32 in a list of one). Its uid is stored twice, however many lists contain
-/// it.
+/// The caller has the edges, and passes them to each call that needs them. In contracts a cache is right for a
+/// hierarchy (`IsCacheOf`) if it has exactly the ancestors and the children of each entity in this hierarchy, and its
+/// cyclic entities. An ancestor takes 8 bytes in each list of ancestors, or up to 16 while the list has spare capacity
+/// (up to 32 in a list of one ancestor). The uid of an ancestor is stored twice (as a key, and shared among the lists),
+/// however many lists contain the ancestor.
 #[derive(Drop)]
 pub struct AncestorCache {
     alloc: Global,
-    // The entry of each entity: its ancestors and its children.
+    // The ancestors and the children of each entity that has an entry. Other entities have neither.
     relatives: BTreeMap<EntityUid, Relatives>,
     // The cyclic entities.
     cyclic: BTreeSet<Shared<EntityUid>>,
-    // How many lists the last update rewrote.
+    // How many lists of ancestors the last update rewrote.
     touched: usize,
 }
 
@@ -105,8 +106,8 @@ impl AncestorCache {
     }
 
     /// Updates the cache incrementally after a change of the parents of `uid`, given the changed graph. The cache must
-    /// be right for a hierarchy that differs from `graph` at most in these parents. Rewrites only the lists of `uid`
-    /// and of its descendants.
+    /// be right for a hierarchy that differs from `graph` at most in these parents. Of the lists of ancestors,
+    /// rewrites only those of `uid` and of its descendants.
     ///
     /// # Errors
     ///
@@ -133,7 +134,8 @@ impl AncestorCache {
         Ok(())
     }
 
-    /// Returns whether `a` is an ancestor of `b`. Two look-ups. Does not allocate.
+    /// Returns whether `a` is an ancestor of `b`. Looks up the entry of `b`, and `a` in the entry's list. Does not
+    /// allocate.
     pub fn has_ancestor(&self, a: &EntityUid, b: &EntityUid) -> bool
         ensures { (parents : Parents) → IsCacheOf parents self.now → (IsTrue result ↔ IsAncestor parents a.now b.now) }
     {
@@ -182,8 +184,8 @@ impl AncestorCache {
         least_cycle_among(self.alloc, graph, &cyclic)
     }
 
-    /// Returns whether `uid` would be its own ancestor if it had these parents. Two look-ups for each parent. Does not
-    /// allocate.
+    /// Returns whether `uid` would be its own ancestor if it had these parents. For each parent, looks up its entry,
+    /// and `uid` in the entry's list. Does not allocate.
     pub fn would_cycle(&self, uid: &EntityUid, parents: &[EntityUid]) -> bool
         ensures { (before : Parents) → IsCacheOf before self.now →
             (IsTrue result ↔ IsAncestor (with_parents before uid.now parents.now) uid.now uid.now) }
@@ -191,8 +193,8 @@ impl AncestorCache {
         leads_back(&self.relatives, uid, parents)
     }
 
-    /// Returns how many lists the last update rewrote: that of the entity itself, and those of its descendants; 0 if
-    /// its parents stayed the same. A failed update leaves the number unchanged.
+    /// Returns how many lists of ancestors the last update rewrote: the list of the entity whose parents changed, and
+    /// the lists of its descendants; 0 if the parents stayed the same. A failed update leaves the number unchanged.
     pub fn touched(&self) -> usize {
         self.touched
     }

@@ -1,5 +1,5 @@
-//! Computes the new ancestors of an entity and of its descendants when its parents change, from the cached lists where
-//! possible.
+//! Computes the new ancestors of an entity and of its descendants when its parents change: from the cached list of its
+//! only parent if it has no descendants, else by searches.
 ghost use Rattle.std.specs.Prelude.{◌≡◌, ◌↔◌, ◌⊎◌, ◌∷◌, ◌++◌, [], ⊤, Contains, List, IfOk, OnOk, MatchOption};
 ghost use Rattle.std.specs.Prelude.{Vec as PlainVec};
 ghost use Rattle.std.specs.BTreeSet.{insert_key};

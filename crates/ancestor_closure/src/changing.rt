@@ -82,7 +82,8 @@ fn reserve_all(
     Ok(())
 }
 
-/// Adds an empty entry for `uid` and for each of `parents`, if it has none. The only error is `NoMemory`.
+/// Adds an empty entry for `uid` and for each of `parents`, if it has none. The only error is `NoMemory`; after it some
+/// of these entries may be missing.
 pub fn add_entries(
     alloc: Global,
     relatives: &mut BTreeMap<EntityUid, Relatives>,
@@ -149,7 +150,8 @@ fn parents_before(
     those_with_child(alloc, relatives, ancestors_at(relatives, uid), uid)
 }
 
-// Returns the change that gives an entity the parents that it has in the graph, within the budget `budget`.
+// Returns the change that gives an entity the parents that it has in the graph, within the budget `budget`. `parents`
+// are these parents, ascending.
 fn planned<G: ParentsOf>(
     alloc: Global,
     graph: &G,

@@ -167,8 +167,8 @@ fn take_child_unless(
     release(relatives, parent);
 }
 
-/// Removes a child from each entity of `before` that is not one of `parents`, and the entries that are then empty. Does
-/// not allocate.
+/// Removes a child from each entity of `before` that is not one of `parents`, an ascending list, and the entries that
+/// are then empty. Does not allocate.
 pub(crate) fn take_from_all(
     relatives: &mut BTreeMap<EntityUid, Relatives>,
     before: &[Shared<EntityUid>],

@@ -141,7 +141,7 @@ fn set(
     }
 }
 
-// Removes an entity from the edges, and its ancestors from the cache. After an error its parents are unchanged.
+// Removes an entity from the edges, and updates the cache. After an error its parents are unchanged.
 fn unset(
     edges: &mut BTreeMap<EntityUid, Vec<EntityUid>>,
     kept: &mut AncestorCache,

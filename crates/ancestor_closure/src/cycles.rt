@@ -27,7 +27,8 @@ fn enter(
     Ok(())
 }
 
-/// Adds to `cyclic` each entity whose own list of ancestors contains it.
+/// Adds to `cyclic` each entity whose own list of ancestors contains it. The lists must ascend. After an error some of
+/// the entities may be added.
 pub(crate) fn enter_all(
     cyclic: &mut BTreeSet<Shared<EntityUid>>,
     lists: &[(Shared<EntityUid>, Vec<Shared<EntityUid>>)],

@@ -153,7 +153,7 @@ pub(crate) fn lists_of<G: ParentsOf>(
     Ok(lists)
 }
 
-/// Replaces the cached ancestors of each of these entities by the new list. Does not allocate.
+/// Replaces the cached ancestors of each of these entities, which have entries, by the new list. Does not allocate.
 pub(crate) fn write_all(
     relatives: &mut BTreeMap<EntityUid, Relatives>,
     mut lists: Vec<(Shared<EntityUid>, Vec<Shared<EntityUid>>)>,

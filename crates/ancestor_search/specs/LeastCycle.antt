@@ -10,8 +10,8 @@ use Rattle.values.specs.Names.{uid_cmp}
 use Rattle.ancestor_search.specs.Hierarchy.{Parents, Path, IsOnCycle}
 use Rattle.ancestor_search.specs.Decided.{HaveAllParents}
 
--- `IsClosedWalk parents cs` holds if an edge leads from each entity of `cs` to the next, and from the last to the
--- first.
+-- `IsClosedWalk parents cs` holds if `cs` is not empty, and an edge leads from each of its entities to the next, and
+-- from the last to the first.
 abbrev pub IsClosedWalk : Parents → List EntityUid → Type 0
 IsClosedWalk parents [] = ⊥
 IsClosedWalk parents (c ∷ cs) = Path parents c cs c
@@ -34,7 +34,7 @@ abbrev pub IsLeastCycle : Parents → List EntityUid → Type 0
 IsLeastCycle parents [] = ⊥
 IsLeastCycle parents (c ∷ cs) = IsLeastCycleFrom parents c cs
 
--- `LeastCyclesAreOne`: two least cycles are equal.
+-- `LeastCyclesAreOne`: two least cycles of one hierarchy are equal.
 abbrev pub LeastCyclesAreOne : Type 0
 LeastCyclesAreOne = (parents : Parents) (xs ys : List EntityUid) →
     IsLeastCycle parents xs → IsLeastCycle parents ys → xs ≡ ys

@@ -222,7 +222,8 @@ fn least_at<'a>(
 }
 
 // Returns the least, compared item by item, of the shortest walks from `start`, a cyclic entity, back to it. `long` is
-// their length, and `distances` has the distances of entities to `start`.
+// their length. `distances` has correct distances to `start`, among them that of each entity from which a path of at
+// most `long` edges leads to `start`.
 fn walk<'a, G: ParentsOf>(
     alloc: Global,
     graph: &'a G,

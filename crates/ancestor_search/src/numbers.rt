@@ -11,7 +11,7 @@ use std::alloc::Global;
 use std::collections::BTreeSet;
 use values::EntityUid;
 
-// Returns the numbers of those parents that are in the list `uids`.
+// Returns the numbers of those parents that are in the ascending list `uids`.
 fn numbers_of<'a>(
     alloc: Global,
     uids: &[&'a EntityUid],
@@ -29,7 +29,7 @@ fn numbers_of<'a>(
     Ok(numbers)
 }
 
-// Returns, for each entity of the list `uids`, the numbers of those parents that are in the list.
+// Returns, for each entity of the ascending list `uids`, the numbers of those of its parents that are in the list.
 fn numbered<'a, G: ParentsOf>(
     alloc: Global,
     graph: &'a G,

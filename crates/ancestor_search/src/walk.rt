@@ -112,8 +112,8 @@ fn enter(edges: &[Vec<usize>], walk: &mut Walk, number: usize) -> Result<(), NoM
     Ok(())
 }
 
-// Merges the last group with those before it, down to the group with the member at index `place`, counted from 1.
-// Returns the bound of the merged group, which is not in `bounds`.
+// Merges the last group, whose bound is `last`, with those before it, down to the group with the member at index
+// `place`, counted from 1. Returns the bound of the merged group, which is not in `bounds`.
 fn joined(bounds: &mut Vec<Bound>, last: Bound, place: usize) -> Bound
     requires { 0 < place }
     ensures joins { JoinsDownTo place bounds.old.items last bounds.new.items result }

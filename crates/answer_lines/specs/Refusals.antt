@@ -9,8 +9,9 @@ use Rattle.answer_lines.specs.declared.refusal.Refusal.{Refusal}
 abbrev pub no_memory : Refusal
 no_memory = record { code = 1; place = None; within = None }
 
--- `bad_shape place` is the error of a text that is not an entity or a request, or repeats an entity, code 30. `place`
--- is the entity's index in its array, counted from 0; `None` if there is no array.
+-- `bad_shape place` is the error of a text that is not JSON of the demanded form, or of an entity whose uid an earlier
+-- one has, code 30. `place` is the index, counted from 0, of the rejected entity in its array, or of the rejected line
+-- in its script; `None` if the whole text is rejected.
 abbrev pub bad_shape : Option ℕ → Refusal
 bad_shape place = record { code = 30; place = place; within = None }
 

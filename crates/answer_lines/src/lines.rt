@@ -13,8 +13,7 @@ use plain::{NoMemory, Text};
 use std::alloc::Global;
 use values::EntityUid;
 
-/// The capacity in bytes that is reserved for the line of an answer. Most lines fit, and for these the buffer does not
-/// grow.
+/// The capacity in bytes that is reserved for the line of an answer. The buffer grows only for a longer line.
 const USUAL_LINE: usize = 256;
 
 /// Returns the word of a decision in the line.

@@ -60,8 +60,8 @@ impl Refusal {
         }
     }
 
-    /// Returns the error (30) of a text that is not an entity or a request, or repeats an entity. `place` is the index
-    /// of the entity in its array, if it is in one.
+    /// Returns the error (30) of a text that is not JSON of the demanded form, or of an entity whose uid an earlier one
+    /// has. `place` is the index of the rejected entity in its array, or `None` if the whole text is rejected.
     pub fn bad_shape(place: Option<usize>) -> Refusal
         ensures { result ≡ bad_shape place }
     {

@@ -1,7 +1,7 @@
 -- Defines the answer to a request, over policies and stored entities.
 -- Source: Cedar reference guide 4.0, "Authorization" (default deny, forbid overrides permit, skip on error);
 -- cedar-spec, Spec/Authorizer.
--- Rules of this product: over a hierarchy with a cycle the answer is a denial that names the cycle.
+-- Rules of this product: over a hierarchy with a cycle the answer is a denial that names the least cycle.
 use Rattle.std.specs.Prelude.{◌≡◌, ◌⊎◌, ℕ, List, [], ◌∷◌, true, false, Ok, Err}
 use Rattle.std.specs.List.{flat_map}
 use Rattle.values.specs.declared.entity_uid.EntityUid.{EntityUid}

@@ -65,7 +65,7 @@ impl<'a> AncestorMemo<'a> {
     }
 
     /// Looks up the ancestors of an entity, and memoizes them.
-    fn keep<S: Lookup>(&mut self, store: &'a S, uid: EntityUid) -> Result<(), NoMemory>
+    fn memoize<S: Lookup>(&mut self, store: &'a S, uid: EntityUid) -> Result<(), NoMemory>
         requires { HaveAllAncestors (S.parents store.now) self.old }
         ensures { HaveAllAncestors (S.parents store.now) self.new }
     {
@@ -76,13 +76,13 @@ impl<'a> AncestorMemo<'a> {
 
     /// Memoizes the ancestors of the noted entity, if there is one, unless the memo is full. If an allocation fails,
     /// nothing is memoized.
-    pub(crate) fn keep_next<S: Lookup>(&mut self, store: &'a S)
+    pub(crate) fn memoize_next<S: Lookup>(&mut self, store: &'a S)
         requires { HaveAllAncestors (S.parents store.now) self.old }
         ensures { HaveAllAncestors (S.parents store.now) self.new }
     {
         if self.kept.len() < self.most {
             if let Some(uid) = self.next.replace(None) {
-                let _ = self.keep(store, uid);
+                let _ = self.memoize(store, uid);
             }
         }
     }

@@ -24,8 +24,8 @@ pub struct ErringPolicy {
 pub struct Answer {
     /// Whether the request is allowed.
     pub decision: Decision,
-    /// The ids of the determining policies, in the order in which the policies were passed: the satisfied permits of an
-    /// allow, else the satisfied forbids.
+    /// The ids of the determining policies: the satisfied permits of an allow, else the satisfied forbids. They are in
+    /// the order in which the caller passed the policies.
     pub reason: Items<Text>,
     /// The erroring policies, in the same order.
     pub errors: Items<ErringPolicy>,

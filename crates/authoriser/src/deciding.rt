@@ -44,7 +44,7 @@ fn answer_by_policies<L: Lookup>(
 {
     let mut tally = Tally::new(alloc);
     for (id, policy) in policies {
-        known.keep_next();
+        known.memoize_next();
         let outcome = outcome_of(alloc, policy, known)?;
         tally.note(id, policy.effect, outcome)?;
     }
@@ -79,10 +79,10 @@ fn denial_if_cyclic<L: Lookup>(
     }
 }
 
-/// Returns the answer to a request whose entities are already looked up. Otherwise like [`decide`].
+/// Returns the answer to a request, given the ancestors and the attributes of its entities. Otherwise like [`decide`].
 ///
-/// A caller that also needs these entities elsewhere, for example to find candidates in an index, looks them up only
-/// once. The only error is `NoMemory`.
+/// `known` is the request with this data, and has the limit on memoized entities (64 for [`decide`]). The caller may
+/// have used the ancestors before, for example to find candidates in an index. The only error is `NoMemory`.
 pub fn decide_known<L: Lookup>(
     alloc: Global,
     policies: &[(&str, &Policy)],

@@ -2,8 +2,8 @@
 //!
 //! [`decide`] implements the Cedar reference guide's "Authorization": a request is allowed if some `permit` policy is
 //! satisfied and no `forbid` policy is, and an erroring policy counts for neither. A policy's outcome is the result
-//! of evaluating its whole expression, scope and conditions. If the hierarchy has a cycle, no policy is evaluated:
-//! the request is denied and the answer names the least cycle, which is a rule of this product.
+//! of evaluating its whole expression, scope and conditions. By a rule of this product, no policy is evaluated if the
+//! hierarchy has a cycle: the request is denied, and the answer names the least cycle.
 #![tactic(auto)]
 
 mod ancestor_memo;

@@ -71,12 +71,13 @@ impl<'a, L: Lookup> PreparedRequest<'a, L> {
         &self.entities
     }
 
-    /// Memoizes the ancestors of the last queried entity that is neither one of the three nor memoized, unless there is
-    /// none or the memo is full. If an allocation fails, nothing is memoized.
-    pub(crate) fn keep_next(&mut self)
+    /// Memoizes the ancestors of an entity that is neither one of the three nor memoized: the last one whose ancestors
+    /// were queried since the previous call. No-op if there is no such entity or the memo is full. If an allocation
+    /// fails, nothing is memoized.
+    pub(crate) fn memoize_next(&mut self)
         ensures { self.new ≡ self.old }
     {
-        self.others.keep_next(self.store);
+        self.others.memoize_next(self.store);
     }
 }
 

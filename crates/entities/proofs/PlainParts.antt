@@ -15,7 +15,7 @@ use Rattle.json_words.specs.Keys.{has_only}
 use Rattle.json_words.specs.Ascending.{DataAscends, MembersAscend}
 use Rattle.json_words.specs.Plain.{IsWhole, IsPlain}
 use Rattle.json_words.proofs.AsciiLemmas.{ascii_is_utf8}
-use Rattle.values.specs.extensions.DecimalText.{size_text, decimal_text}
+use Rattle.values.specs.extensions.DecimalText.{magnitude_text, decimal_text}
 use Rattle.values.specs.extensions.Network.{Network}
 use Rattle.values.specs.extensions.NetworkText.{ipv4_text, groups_text, address_text, network_text}
 use Rattle.values.specs.extensions.declared.ip_net.Version.{Version}
@@ -141,7 +141,7 @@ coloned xs ys = beside (codes ":") xs ys (ascii_is_utf8 (codes ":") refl)
 digit_more : (xs : List ℕ) (n : ℕ) → IsUtf8 xs → IsUtf8 (xs ++ decimal n)
 digit_more xs n p = IsUtf8-append xs (decimal n) p (decimal_is_utf8 n)
 
-size_is_utf8 : (n : ℕ) → IsUtf8 (size_text n)
+size_is_utf8 : (n : ℕ) → IsUtf8 (magnitude_text n)
 size_is_utf8 n =
     digit_more _ (n % 10) (digit_more _ (n / 10 % 10) (digit_more _ (n / 100 % 10)
     (dotted (decimal (n / 10000)) (decimal (n / 1000 % 10)) (decimal_is_utf8 (n / 10000))
@@ -150,7 +150,7 @@ size_is_utf8 n =
 pub decimal_text_is_utf8 : (z : ℤ) → IsUtf8 (decimal_text z)
 decimal_text_is_utf8 (pos n) = size_is_utf8 n
 decimal_text_is_utf8 (negsuc n) =
-    IsUtf8-append (codes "-") (size_text (suc n)) (ascii_is_utf8 (codes "-") refl) (size_is_utf8 (suc n))
+    IsUtf8-append (codes "-") (magnitude_text (suc n)) (ascii_is_utf8 (codes "-") refl) (size_is_utf8 (suc n))
 
 ipv4_is_utf8 : (n : ℕ) → IsUtf8 (ipv4_text n)
 ipv4_is_utf8 n =

@@ -1,4 +1,4 @@
--- Defines which JSON describes which value of a type, and the error of JSON that describes no record.
+-- Defines which JSON describes which value of a type, and the error of an object that describes no record of a type.
 -- Source: Cedar reference guide 4.0, "Entities and context: JSON format".
 -- Rules of this product: an extension value is `{"__extn":{"fn":F,"arg":A}}`, `{"fn":F,"arg":A}` or the string A
 -- alone; an object that represents an entity or an extension value has no other keys; null describes no value.

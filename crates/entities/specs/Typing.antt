@@ -166,8 +166,8 @@ unfoldable mutual
     Ok ((k, v) ∷ vs)
 
 -- `record_in t d` are the fields of the record of the type `t` that `d` describes, or the first error: `WrongType` if
--- `t` is not a record type or `d` not an object; then that of the first member, ascending by key, that is not declared
--- or not of its declared type; then `Missing` if a required field is absent.
+-- `t` is not a record type or `d` not an object; then that of the first member that is not declared or not of its
+-- declared type; then `Missing` if a required field is absent. (In parsed JSON, members ascend by key.)
 unfoldable pub record_in : Cedar → Data → Result (List (List ℕ × PlainValue)) ValueFault
 record_in t d = do
   fs ← or_fault WrongType (fields_in t)

@@ -47,8 +47,8 @@ fn context_at<'s, S: Sought>(
     }
 }
 
-/// Returns the type of the context of the first environment that is sought, if there is one. O(log n), where n is the
-/// number of environments.
+/// Returns the type of the context of the first environment that is sought, if there is one. Over ascending
+/// environments the results of `sought.compare` must ascend. O(log n), where n is the number of environments.
 pub(crate) fn context_of<'s, S: Sought>(schema: &'s Schema, sought: &S) -> Option<&'s CedarType>
     ensures { (passes : PlainPlace → Bool) → AreFoundBy (S.order sought.now) passes
         → option_map (λ t. cedar_view t.now) result ≡ context_where passes (schema_view schema.now).environments }

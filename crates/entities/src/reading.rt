@@ -101,7 +101,8 @@ fn entity_in(alloc: Global, schema: &Schema, value: &Value) -> Result<Entity, En
     })
 }
 
-/// Parses a JSON value as an entity: `{"uid":{"type":"User","id":"alice"},"attrs":{..},"parents":[..]}`.
+/// Parses a JSON value as an entity: `{"uid":{"type":"User","id":"alice"},"attrs":{..},"parents":[..]}`. Absent
+/// `attrs`, `parents` and `tags` are empty, and other keys are ignored.
 ///
 /// # Errors
 ///
@@ -111,10 +112,10 @@ fn entity_in(alloc: Global, schema: &Schema, value: &Value) -> Result<Entity, En
 /// - `ActionEntity` (32): the entity's type is an action type.
 /// - `UnknownType` (31): the entity's type is not declared.
 /// - `TagsLeftOut` (38): the entity has tags.
-/// - Of the first faulty attribute, ascending by key: `Undeclared` (33), the attribute is not declared; `WrongType`
+/// - For the first faulty attribute, ascending by key: `Undeclared` (33), the attribute is not declared; `WrongType`
 ///   (35), its value is of another type.
 /// - `Missing` (34): a required attribute is missing.
-/// - Of the first faulty parent, in order: `SelfParent` (37), the parent is the entity itself; `BadParent` (36), the
+/// - For the first faulty parent, in order: `SelfParent` (37), the parent is the entity itself; `BadParent` (36), the
 ///   entity may not have a parent of this type.
 /// - `NoMemory` (1): an allocation failed; possible at any point.
 pub fn read_entity(alloc: Global, schema: &Schema, value: &Value) -> Result<Entity, EntityFault>

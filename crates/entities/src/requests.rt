@@ -121,13 +121,16 @@ fn request_in(alloc: Global, schema: &Schema, value: &Value) -> Result<Request, 
     })
 }
 
-/// Parses a JSON value as a request: `{"principal":"User::\"alice\"","action":..,"resource":..,"context":{..}}`.
+/// Parses a JSON value as a request.
+///
+/// Such a value is `{"principal":"User::\"alice\"","action":..,"resource":..,"context":{..}}`. An absent `context` is
+/// empty.
 ///
 /// # Errors
 ///
 /// In this order:
 ///
-/// - `BadShape` (30): the value does not have this form.
+/// - `BadShape` (30): the value does not have the form of a request (docs/formats.md).
 /// - `NotApplicable` (39): the action is not declared, or does not apply to the types of principal and resource.
 /// - Of the first faulty member of the context, ascending by key: `Undeclared` (33), the member is not declared;
 ///   `WrongType` (35), its value is of another type.

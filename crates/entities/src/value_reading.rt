@@ -244,7 +244,7 @@ fn read_network(value: &Json) -> Result<Value, ValueFault>
 }
 
 /// Parses a JSON value as a value of a type that is neither a set type nor a record type. Returns `WrongType` for
-/// another type, and for other JSON. Does not allocate for a boolean, an integer, a decimal or an IP address.
+/// another type, and for other JSON. Does not allocate for a boolean, a Long, a decimal or an IP address.
 #[tactic(auto, using(crate::proofs::Nothing::always_reads))]
 fn read_leaf(alloc: Global, value: &Json, ty: &CedarType) -> Result<Value, ValueFault>
     ensures reads { ReadsAs ValueFault.NoMemory (λ v. v) result (leaf (cedar_view ty.now) (view value.now)) }
@@ -277,9 +277,8 @@ fn inside(fault: ValueFault) -> ValueFault
 
 /// Parses a JSON value as a value of this type.
 ///
-/// Returns `WrongType` if the JSON describes none: another kind of JSON; a number that is not a Long; a string that is
-/// not a decimal or an IP address; an entity of another type; a field that the type does not have; or a missing
-/// required field. Does not allocate for a boolean, an integer, a decimal or an IP address.
+/// Returns `WrongType` if the JSON describes none: for example, if it is of another kind, or an object with an
+/// undeclared key or without a required one. Does not allocate for a boolean, a Long, a decimal or an IP address.
 #[cycle(typed_value)]
 #[tactic(auto, unfolding(crate::specs::Typing::typed_value))]
 fn typed_value(alloc: Global, value: &Json, ty: &CedarType) -> Result<Value, ValueFault>

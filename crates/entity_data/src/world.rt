@@ -16,7 +16,7 @@ use std::alloc::Global;
 use std::marker::Model;
 use values::{EntityUid, Record};
 
-/// The entities of a source and the declared actions, which have no attributes.
+/// The entities of a source, and the declared actions. An action has no attributes.
 ///
 /// Contracts see the source and the actions; `with_actions` defines the entities of both.
 #[derive(Drop)]

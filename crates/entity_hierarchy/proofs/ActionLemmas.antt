@@ -8,7 +8,7 @@ use Rattle.authoriser.specs.ancestor_search.Hierarchy.{Parents, Path, IsAncestor
 use Rattle.authoriser.specs.ancestor_search.Deciding.{Contains-here, Contains-there, Contains-none, same_uid}
 use Rattle.authoriser.specs.ancestor_search.Deciding.{IsAncestor-joined}
 use Rattle.entities.specs.schema_names.Qualifying.{ResolvedAction, ResolvedSchema}
-use Rattle.entities.specs.schema.Schemas.{StatedSchema, Answers, IsAction, action_parents}
+use Rattle.entities.specs.schema.Schemas.{StatedSchema, MatchesDeclarations, IsAction, action_parents}
 use Rattle.entities.specs.schema.Schemas.{with_actions as with_action_parents}
 use Rattle.entities.specs.schema.WellFormed.{IsWellFormed}
 use Rattle.authoriser.specs.evaluator.Operators.{entities_with}
@@ -40,7 +40,7 @@ is_declared s b a h = elim (declared_or no_parents s.actions b a h) [ inl there 
 
 -- ---- the two hierarchies
 
-module _ (s : ResolvedSchema) (v : StatedSchema) (answers : Answers s v) (entities : EntityMap) where
+module _ (s : ResolvedSchema) (v : StatedSchema) (answers : MatchesDeclarations s v) (entities : EntityMap) where
   abbrev P : Parents
   P = (stated_world s v entities).parents
 

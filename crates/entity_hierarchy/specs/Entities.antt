@@ -13,7 +13,8 @@ use Rattle.entities.specs.entity_data.Listing.{keys_are_found}
 abbrev pub actions_under : SchemaEntries → Actions
 actions_under schema u = parents_at schema.member_of u
 
--- `entities_under schema entities` are the stored entities `entities` and the actions of `schema`.
+-- `entities_under schema entities` are the stored entities `entities` and the actions of `schema`; an action takes
+-- precedence over an entity that is stored under its uid.
 abbrev pub entities_under : SchemaEntries → EntityMap → EntityMap
 entities_under schema entities = with_actions (actions_under schema) entities
 

@@ -1,5 +1,5 @@
 //! Evaluates `if`, `&&` and `||`, whose first operand decides what else is evaluated. For each of them one function
-//! returns a value, and one a `bool`, so that no value is built if the result is only tested.
+//! returns a value, and one a `bool`, so that no value is built for a result that is only tested.
 ghost use Rattle.evaluator.specs.inner.Computing.{decided_entities, Answers, meaning, as_test, choice, both, either};
 
 use crate::borrowed_or_owned::BorrowedOrOwned;

@@ -27,7 +27,7 @@ use std::alloc::Global;
 use values::{Record, Request, Value};
 
 /// Evaluates an expression under a request, over the stored entities. Like [`evaluate_in`], with the same errors, but
-/// copies a borrowed value.
+/// the value is always owned: a borrowed one is copied.
 pub fn evaluate<'a, L: Lookup>(
     alloc: Global,
     expr: &'a Expr,
@@ -59,10 +59,10 @@ pub fn evaluate_test<L: Lookup>(
 
 /// Evaluates an expression under the environment's request, over its stored entities, to a value or the first error.
 ///
-/// A value in the expression, the request or the stored entities is borrowed. Set and record expressions may allocate;
-/// so may access to a field of a record that evaluation built, since the field's value is copied, and `in`, since it
-/// queries the hierarchy. Operands are evaluated from left to right, the fields of a record in the order in which they
-/// are written; `&&`, `||` and `if` evaluate only what they need.
+/// The result is borrowed if it is a value in the expression, the request or the stored entities. Set and record
+/// expressions may allocate. Access to a field may allocate if evaluation built the record, since the field's value is
+/// copied; `in` may allocate, since it queries the hierarchy. Operands are evaluated from left to right, the fields of
+/// a record in the order in which they are written; `&&`, `||` and `if` evaluate only what they need.
 ///
 /// # Errors
 ///
@@ -218,7 +218,7 @@ fn one_called<'a, L: EvalEnv>(
     called_on(called, &given)
 }
 
-/// Returns a field or an attribute of the value of an expression.
+/// Returns the field or attribute `name` of the value of an expression.
 #[cycle(evaluate)]
 #[inline(never)]
 pub(crate) fn field_of<'a, L: EvalEnv>(
@@ -243,7 +243,7 @@ pub(crate) fn field_of<'a, L: EvalEnv>(
     }
 }
 
-/// Returns whether the value of an expression has a field or an attribute.
+/// Returns whether the value of an expression has the field or attribute `name`.
 #[cycle(evaluate)]
 #[inline(never)]
 fn has_of<'a, L: EvalEnv>(

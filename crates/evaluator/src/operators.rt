@@ -63,7 +63,7 @@ fn member_entity(member: &Value) -> Result<&EntityUid, EvalFault>
     }
 }
 
-/// Returns whether `a` is `b`, or `b` is among the ancestors of `a`.
+/// Returns whether `a` is `b`, or `b` is among `ancestors`, the ancestors of `a` in ascending order.
 fn is_within(a: &EntityUid, ancestors: &[&EntityUid], b: &EntityUid) -> bool
     requires { IsAscending (names ancestors.now) }
     ensures { IsTrue result ↔ ((a.now ≡ b.now) ⊎ Contains (names ancestors.now) b.now) }
@@ -116,14 +116,14 @@ fn is_member(members: &Set, given: &BorrowedOrOwned<'_>) -> bool
         .is_ok()
 }
 
-/// Returns whether each member of the second set is a member of the first.
+/// Returns whether each member of the set `b` is a member of the set `a`; `TypeError` if `a` or `b` is not a set.
 fn contains_all(a: &BorrowedOrOwned<'_>, b: &BorrowedOrOwned<'_>) -> Result<Value, EvalFault>
     ensures { result ≡ sets (λ x y. list_all (has_member x) y) a.now b.now }
 {
     Ok(Value::boolean(set_of(a)?.contains_all(set_of(b)?)))
 }
 
-/// Returns whether some member of the second set is a member of the first.
+/// Returns whether some member of the set `b` is a member of the set `a`; `TypeError` if `a` or `b` is not a set.
 fn contains_any(a: &BorrowedOrOwned<'_>, b: &BorrowedOrOwned<'_>) -> Result<Value, EvalFault>
     ensures { result ≡ sets (λ x y. list_any (has_member x) y) a.now b.now }
 {

@@ -67,7 +67,8 @@ pub(crate) fn on_operand<'a>(
     }
 }
 
-/// Returns the result of an operator on `left`, the value of its first operand, and the value of its second.
+/// Returns the result of an operator on two operands. `left` is the value of the first, `right` the result of the
+/// second.
 #[inline(never)]
 pub(crate) fn on_operands<'a, L: Lookup>(
     store: &L,
@@ -98,7 +99,7 @@ pub(crate) fn called_on<'a>(
     }
 }
 
-/// Returns the result of a call on `left`, the value of its first operand, and the value of its second.
+/// Returns the result of a call on two operands. `left` is the value of the first, `right` the result of the second.
 #[inline(never)]
 pub(crate) fn called_on_two<'a>(
     called: BinaryCall,
@@ -113,7 +114,7 @@ pub(crate) fn called_on_two<'a>(
     }
 }
 
-/// Returns a field or an attribute of the value of the operand.
+/// Returns the field or attribute `name` of the value of the operand.
 #[inline(never)]
 pub(crate) fn field_in<'a, L: Lookup>(
     alloc: Global,
@@ -130,7 +131,7 @@ pub(crate) fn field_in<'a, L: Lookup>(
     }
 }
 
-/// Returns whether the value of the operand has a field or an attribute.
+/// Returns whether the value of the operand has the field or attribute `name`.
 #[inline(never)]
 pub(crate) fn has_in<'a, L: Lookup>(
     store: &L,

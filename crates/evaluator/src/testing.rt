@@ -1,5 +1,5 @@
-//! Evaluates conditions to a `bool`, and operands of `<` and `<=` to an `i64`. Where possible no value is built, since
-//! only its boolean or its integer would be used.
+//! Evaluates conditions to a `bool`, and operands of `<` and `<=` to an `i64`. No value is built for the result of
+//! `if`, `&&`, `||`, `!`, `has`, `<` or `<=` as a condition, since only its boolean would be used.
 ghost use Rattle.evaluator.specs.inner.Computing.{decided_entities, Answers, meaning, and_then, as_test, field_of};
 ghost use Rattle.evaluator.specs.inner.Computing.{has_field, apply_binary, AnswersNumber, AnswersNumbers};
 

@@ -9,7 +9,7 @@ use Rattle.std.proofs.lemmas.Str.{digit_value_digit}
 use Rattle.std.proofs.lemmas.Int.{ints}
 use Rattle.std.proofs.lemmas.Fmt.{decimal_is_IsNumeral, decimal_digit}
 use Rattle.std.specs.Str.Parse.{IsNumeral, digits_value}
-use Rattle.extensions.specs.DecimalText.{IsUnsignedText, plain, minus, IsDecimalText, size_text, decimal_text}
+use Rattle.extensions.specs.DecimalText.{IsUnsignedText, plain, minus, IsDecimalText, magnitude_text, decimal_text}
 use Rattle.extensions.proofs.DecimalTexts.{digits_value-append}
 
 digit_of : (d : ℕ) → d < 10 → digit_value (48 + d) ≡ d
@@ -37,7 +37,7 @@ split n = omega arith
 total : (w n f : ℕ) (xs ys : List ℕ) → digits_value 10 xs ≡ w → digits_value 10 ys ≡ f → length ys ≡ 4 → w * 10000 + f ≡ n → digits_value 10 (xs ++ ys) ≡ n
 total w n f xs ys d e l h = digits_value-append xs ys ∙ (rw (d, e, l) h)
 
-pub size_reads_back : (n : ℕ) → n < 2 ^ 64 → IsUnsignedText (size_text n) n
+pub size_reads_back : (n : ℕ) → n < 2 ^ 64 → IsUnsignedText (magnitude_text n) n
 size_reads_back n h =
     let whole = decimal_is_IsNumeral (n / 10000) (omega arith) in
     let value = total (n / 10000) n (((n / 1000 % 10 * 10 + n / 100 % 10) * 10 + n / 10 % 10) * 10 + n % 10) (decimal (n / 10000))

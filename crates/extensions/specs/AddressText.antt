@@ -37,7 +37,7 @@ pub record IsFull (text groups : List ℕ) : Type 0 where
   pub eight : length groups ≡ 8
 
 -- `IsElided text groups` holds if `text` is groups, `::` and groups, and denotes the eight numbers `groups`, where `::`
--- represents one or more zeros. There may be no group before `::`, or after it.
+-- represents one or more zeros. The groups before `::` may be missing, and so may those after it.
 pub record IsElided (text groups : List ℕ) : Type 0 where
   pub head_text : List ℕ
   pub tail_text : List ℕ

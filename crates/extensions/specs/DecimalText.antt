@@ -28,13 +28,13 @@ pub data IsSignedText : List ℕ → ℤ → Type 0 where
 abbrev pub IsDecimalText : List ℕ → ℤ → Type 0
 IsDecimalText text z = IsSignedText text z × FitsSigned w64 z
 
--- `size_text n` is the canonical string of `n` ten-thousandths: the whole number, a point, and four digits.
-abbrev pub size_text : ℕ → List ℕ
-size_text n = decimal (n / 10000) ++ codes "." ++ decimal (n / 1000 % 10) ++ decimal (n / 100 % 10)
+-- `magnitude_text n` is the canonical string of `n` ten-thousandths: the whole number, a point, and four digits.
+abbrev pub magnitude_text : ℕ → List ℕ
+magnitude_text n = decimal (n / 10000) ++ codes "." ++ decimal (n / 1000 % 10) ++ decimal (n / 100 % 10)
     ++ decimal (n / 10 % 10) ++ decimal (n % 10)
 
 -- `decimal_text z` is the canonical string of `z` ten-thousandths: exactly four digits after the point, no unnecessary
 -- leading zeros, and no `-` on zero.
 abbrev pub decimal_text : ℤ → List ℕ
-decimal_text (pos n) = size_text n
-decimal_text (negsuc n) = codes "-" ++ size_text (suc n)
+decimal_text (pos n) = magnitude_text n
+decimal_text (negsuc n) = codes "-" ++ magnitude_text (suc n)

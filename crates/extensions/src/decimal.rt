@@ -7,7 +7,7 @@ ghost use Rattle.std.specs.Ordering.{is_eq, int_cmp};
 ghost use Rattle.std.specs.Cmp.{partial_equiv_from_equiv, partial_order_from_agreeing_total, int_cmp_total};
 ghost use Rattle.std.proofs.lemmas.Cmp.{eq_by_cmp_equiv};
 ghost use Rattle.std.specs.Str.Parse.{IsNumeral, digits_value};
-ghost use Rattle.extensions.specs.DecimalText.{IsDecimalText, IsUnsignedText, decimal_text, size_text};
+ghost use Rattle.extensions.specs.DecimalText.{IsDecimalText, IsUnsignedText, decimal_text, magnitude_text};
 ghost use Rattle.extensions.specs.TextsDecided.{decimal_of};
 
 use crate::NoMemory;
@@ -46,8 +46,8 @@ impl Decimal {
         ensures none { IsNone result → (n : ℤ) → ¬ (IsDecimalText text.now n) }
     {
         let ten_thousandths = match text.strip_prefix('-') {
-            Some(size) => negated(size_of_text(size)?)?,
-            None => positive(size_of_text(text)?)?,
+            Some(size) => negated(magnitude_of_text(size)?)?,
+            None => positive(magnitude_of_text(text)?)?,
         };
         Some(Decimal { ten_thousandths })
     }
@@ -84,7 +84,7 @@ impl Decimal {
         if ten_thousandths < 0 {
             append(out, "-");
         }
-        append_size(ten_thousandths.unsigned_abs(), out);
+        append_magnitude(ten_thousandths.unsigned_abs(), out);
         Ok(())
     }
 }
@@ -129,10 +129,10 @@ impl Ord for Decimal {
 
 /// Appends `size` ten-thousandths as a decimal without a sign: the whole number, a point and four digits, in at most 20
 /// bytes. `out` must have capacity for 20 more bytes.
-fn append_size(size: u64, out: &mut String)
+fn append_magnitude(size: u64, out: &mut String)
     requires small { size ≤ 2 ^ 63 }
     requires room { string_len out.old + 20 ≤ string_capacity out.old }
-    ensures { string_bytes out.new ≡ string_bytes out.old ++ size_text size }
+    ensures { string_bytes out.new ≡ string_bytes out.old ++ magnitude_text size }
 {
     append_whole(out, size / 10_000);
     append(out, ".");
@@ -144,7 +144,7 @@ fn append_size(size: u64, out: &mut String)
 
 /// Returns the number of ten-thousandths of a decimal without a sign; `None` for any other string, and for `2^64`
 /// ten-thousandths or more.
-fn size_of_text(text: &str) -> Option<u64>
+fn magnitude_of_text(text: &str) -> Option<u64>
     ensures some { IfSome result (IsUnsignedText text.now) }
     ensures none { IsNone result → (n : ℕ) → IsUnsignedText text.now n → 2 ^ 64 ≤ n }
 {
@@ -188,8 +188,7 @@ fn ten_thousandths(fraction: &str) -> Option<u64>
     Some(number(fraction)? * scale(places))
 }
 
-/// Returns how many ten-thousandths one unit of the last decimal place is, where `places` is the number of places: 100
-/// for two.
+/// Returns `10^(4 - places)`: the number of ten-thousandths in `10^-places`.
 fn scale(places: usize) -> u64
     requires { places ≤ 4 }
     ensures { result ≡ 10 ^ (4 - places) }

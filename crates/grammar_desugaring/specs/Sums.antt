@@ -42,9 +42,9 @@ side_by_side i j = measure (max i.height j.height) (i.node_count + j.node_count)
 abbrev pub paired : Measure → Measure → Measure
 paired i j = node_measure (side_by_side i j)
 
--- `called fault operands` is the measure of a call, where `fault` is the call's own error, and `operands` is the
--- measure of its operands side by side. A call with an error of its own has a placeholder, a leaf, as its core
--- expression.
+-- `called fault operands` is the measure of a call. `fault` is the call's own error, and `operands` is the measure of
+-- its operands side by side, whose errors include `fault`. A call with an error of its own has a placeholder, a leaf,
+-- as its core expression.
 abbrev pub called : Option DesugarFault → Measure → Measure
 called None operands = node_measure operands
 called (Some fault) operands = leaf operands.fault

@@ -12,8 +12,8 @@ pub fn least_fault_is_reported()
     ensures both { LeastOfBoth }
 {}
 
-/// Proves that the value and the literal texts that are computed from a string are those that the grammar of strings
-/// defines. No-op.
+/// Proves that the computed value of a string, and its computed literal texts as a pattern, are those that the grammar
+/// of strings defines. No-op.
 pub fn strings_are_read()
     ensures values { ValueIsValue }
     ensures patterns { PatternIsPattern }

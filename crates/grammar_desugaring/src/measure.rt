@@ -70,8 +70,8 @@ impl Measure {
         self.side_by_side(other).node_measure()
     }
 
-    /// Returns the measure of a call, where `self` is the measure of its operands, and `fault` is the call's own error.
-    /// A call with an error of its own has a placeholder, a leaf, as its core expression.
+    /// Returns the measure of a call. `fault` is the call's own error, and `self` is the measure of its operands, whose
+    /// errors include `fault`. A call with an error of its own has a placeholder, a leaf, as its core expression.
     pub(crate) fn called(self, fault: Option<DesugarFault>) -> Measure
         ensures { result ≡ spec.called fault self }
     {

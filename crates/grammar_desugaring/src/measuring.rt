@@ -116,21 +116,21 @@ fn method_fault(text: &str, name: Token, count: usize) -> Option<DesugarFault>
     call_fault(name.start, takes, count)
 }
 
-/// Returns the measure of a node over one operand.
+/// Returns the measure of a node, given the measure of its operands.
 fn node_measure(operand: MeasureResult) -> MeasureResult
     ensures { IfOk result (λ j. Gave operand (λ i. j ≡ spec.node_measure i)) }
 {
     Ok(operand?.node_measure())
 }
 
-/// Returns the measure of a function call, from its arguments and its own error.
+/// Returns the measure of a function call, given the call's own error and the measure of its arguments.
 fn call(fault: Option<DesugarFault>, arguments: MeasureResult) -> MeasureResult
     ensures { IfOk result (λ j. Gave arguments (λ i. j ≡ spec.called fault (spec.with_fault fault i))) }
 {
     Ok(arguments?.with_fault(fault).called(fault))
 }
 
-/// Returns the measure of a record, from its entries and the error of its keys.
+/// Returns the measure of a record, given the error of its keys and the measure of its entries.
 fn record(fault: Result<Option<DesugarFault>, NoMemory>, entries: MeasureResult) -> MeasureResult
     ensures { IfOk result (λ j. Gave fault (λ o. Gave entries (λ i. j ≡ spec.node_measure (spec.with_fault o i)))) }
 {
@@ -154,7 +154,7 @@ fn compare(operator: Comparison, operands: BothMeasured) -> MeasureResult
     }
 }
 
-/// Returns the measure of `operand is path in ancestor`, in which the operand occurs twice.
+/// Returns the measure of `operand is path in ancestor`, whose core expression has the operand twice.
 fn is_in(operands: BothMeasured) -> MeasureResult
     ensures { IfOk result
         (λ j. Gave operands (λ pair. j ≡ spec.paired (spec.node_measure pair.0) (spec.paired pair.0 pair.1))) }

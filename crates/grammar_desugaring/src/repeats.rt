@@ -32,7 +32,7 @@ fn fault_at(place: Option<usize>) -> Option<DesugarFault>
 
 /// Returns the error of the repeated name at the least offset, or `None` if all names are distinct.
 ///
-/// O(n log n), where n is the length of `marks`. The only error is `NoMemory`.
+/// O(n log n) comparisons of names, where n is the length of `marks`. The only error is `NoMemory`.
 #[tactic(auto, using(crate::proofs::Again::fault_told))]
 pub fn first_duplicate(
     alloc: Global,

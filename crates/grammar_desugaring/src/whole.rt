@@ -20,8 +20,8 @@ use values::TypeName;
 /// Returns the measure of a tree: the size of its core expression, which is not built, and its error at the least
 /// offset, if it has one.
 ///
-/// Allocates only for the keys of records. Takes time proportional to the size of the tree, except that n keys of a
-/// record take O(n log n). The only error is `NoMemory`.
+/// Allocates only for the keys of records. Takes time proportional to the length of the tree's text, except that n keys
+/// of a record take O(n log n) comparisons. The only error is `NoMemory`.
 pub fn measure_expr(alloc: Global, text: &str, tree: &ExprTree) -> Result<Measure, NoMemory>
     requires { IsBuiltFrom text.now (λ tokens. WellFormedExpr tokens tree.now) }
     ensures { IfOk result (λ measure. measure ≡ measured text.now tree.now) }

@@ -161,8 +161,8 @@ module _ (may : Bool) (inner : Parser ExprTree) where
   abbrev pub call_of : PathTree → Parser ExprTree
   call_of p = called >>= (λ found. pure (tree.Call p found))
 
-  -- `call_or_variable p` parses the arguments of a call of the Path `p` if "(" comes next; else `p` must name a
-  -- variable.
+  -- `call_or_variable p` parses the arguments of a call of the Path `p` if "(" comes next, which needs one more level
+  -- of nesting; else `p` must name a variable.
   unfoldable pub call_or_variable : PathTree → Parser ExprTree
   call_or_variable p = either (only k.LParen) (gate may (call_of p)) (alone p)
 
@@ -219,7 +219,8 @@ module _ (may : Bool) (inner : Parser ExprTree) where
   abbrev pub call_arguments : Parser (Option (List ExprTree))
   call_arguments = called >>= (λ found. pure (Some found))
 
-  -- `maybe_called` parses the arguments of a method if "(" comes next, else nothing.
+  -- `maybe_called` parses the arguments of a method if "(" comes next, which needs one more level of nesting; else
+  -- nothing.
   unfoldable pub maybe_called : Parser (Option (List ExprTree))
   maybe_called = either (only k.LParen) (gate may call_arguments) (pure None)
 

@@ -1,5 +1,5 @@
--- Defines the grammar of expressions: which trees of expressions a list of tokens derives. The comment above a
--- definition states the production that the definition writes in the combinators of Lang.
+-- Defines the grammar of expressions: a relation between the lists of tokens that are expressions and their syntax
+-- trees. The comment above a definition states the production that the definition writes in the combinators of Lang.
 -- Source: Cedar reference guide 4.0, "Grammar specification for Cedar policy syntax".
 -- Rules of this product: a variable's word followed by `::` or `(` is a Path, and the nesting of expressions is
 -- limited.
@@ -32,7 +32,7 @@ use Rattle.grammar_trees.specs.grammar_tokens.Grammar.{identifiers, path, uid}
 
 -- ## Tokens whose meaning depends only on their kind
 
--- `symbol meaning`: one token whose kind has a meaning by `meaning`, with that meaning as its value
+-- `symbol meaning`: one token whose kind has a meaning by `meaning`; the value of the production is that meaning
 abbrev pub symbol : {A : Type 0} → (TokenKind → Option A) → Lang A
 symbol meaning ts a = (t : Token) × (ts ≡ t ∷ []) × (meaning t.kind ≡ Some a)
 
@@ -108,8 +108,8 @@ abbrev pub is_in : ExprTree → PathTree → Option ExprTree → ExprTree
 is_in x type_name None = tree.Is x type_name
 is_in x type_name (Some y) = tree.IsIn x type_name y
 
--- `chain first piece make`: First { Piece }, where First is `first` and Piece is `piece`, with the tree that `make`
--- builds from the first and the pieces
+-- `chain first piece make`: First { Piece }, where First is `first` and Piece is `piece`, with the tree that
+-- `joined make` builds from the first and the pieces
 abbrev pub chain : {A : Type 0} → Lang ExprTree → Lang A → (ExprTree → List A → ExprTree) → Lang ExprTree
 chain first piece make = do
   x ← first
@@ -277,7 +277,7 @@ module _ (may : Bool) (inner : Lang ExprTree) where
     y ← optional inside
     empty (is_in x type_name y)
 
-  -- `tailed x` is the language of the tail, which may be empty, of the Relation that begins with the Sum `x`.
+  -- the optional part of a Relation (the brackets of that production, below), after the Sum `x`
   abbrev pub tailed : ExprTree → Lang ExprTree
   tailed x = compared x or has x or like x or type_test x or empty x
 

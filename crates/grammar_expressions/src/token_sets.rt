@@ -8,7 +8,7 @@ use grammar_trees::{KindSet, TokenKind};
 pub(crate) enum TokenSet {
     /// `true` and `false`.
     Booleans,
-    /// An identifier or a string.
+    /// An identifier, or a string without `\*`.
     Keys,
     /// Strings, with or without `\*`.
     Patterns,

@@ -44,8 +44,8 @@ fn cut<'t>(alloc: Global, text: &'t str, tokens: &[Token]) -> Result<Vec<&'t str
 ///
 /// # Errors
 ///
-/// - `BadToken`: no whitespace, comment or token starts at this byte, counted from 0.
-/// - `NoMemory`: an allocation failed; possible at any point.
+/// - `BadToken` (10): no whitespace, comment or token starts at the reported byte, counted from 0.
+/// - `NoMemory` (1): an allocation failed; possible at any point.
 pub fn policy_texts<'t>(alloc: Global, text: &'t str) -> Result<Vec<&'t str>, LexFault>
     ensures cut { IfOk result (λ texts. AreTextsOf text.now (map (λ t. t.now) texts.items)) }
     ensures fault { IfErr result (λ fault. IsFault fault text.now) }

@@ -109,9 +109,9 @@ IsNumber (c ∷ cs) = (is_digit c ≡ true) × AllAre is_digit cs
 
 -- ## Strings
 --
--- A string is a quote, then bytes that denote themselves and escapes, then a quote. The escapes are
+-- A string is a quote, then escapes and bytes that denote themselves, then a quote. The escapes are
 --
--- \n  \r  \t  \\  \0  \'  \"    a letter or mark, with its meaning in `escapes`
+-- \n  \r  \t  \\  \0  \'  \"    one character, with its meaning in `escapes`
 -- \*                            a star, which is not a wildcard in a pattern
 -- \x7F                          two hexadecimal digits, up to 7F: the character of that number
 -- \u{10FFFF}                    one to six hexadecimal digits: the Unicode scalar value of that number
@@ -123,17 +123,17 @@ quote = code "\""
 abbrev pub backslash : ℕ
 backslash = code "\\"
 
--- `escapes` are the letters and marks of the first of these forms, each with its meaning after a backslash.
+-- `escapes` are the characters of the first of these forms, each with its meaning after a backslash.
 abbrev pub escapes : List (ℕ × ℕ)
 escapes = (code "n", code "\n") ∷ (code "r", code "\r") ∷ (code "t", code "\t") ∷ (code "\\", code "\\")
     ∷ (code "0", code "\0") ∷ (code "'", code "'") ∷ (code "\"", code "\"") ∷ []
 
--- `meant_in table c` is the meaning of the letter or mark `c` in `table`, if it is there.
+-- `meant_in table c` is the meaning of the character `c` in `table`, if it is there.
 abbrev pub meant_in : List (ℕ × ℕ) → ℕ → Option ℕ
 meant_in [] c = None
 meant_in ((d, meant) ∷ table) c = if nat_eq c d then Some meant else meant_in table c
 
--- `escaped c` is the meaning of the letter or mark `c` after a backslash, if `escapes` has it.
+-- `escaped c` is the meaning of the character `c` after a backslash, if `escapes` has it.
 abbrev pub escaped : ℕ → Option ℕ
 escaped c = meant_in escapes c
 

@@ -42,7 +42,7 @@ is_wildcard (Byte b) = b == code "*"
 is_wildcard (Char c) = false
 is_wildcard Star = false
 
--- `prefixed bytes texts` are `texts`, with `bytes` in front of the first.
+-- `prefixed bytes texts` are `texts`, with `bytes` in front of the first; if `texts` is empty, only `bytes`.
 abbrev pub prefixed : List ℕ → List (List ℕ) → List (List ℕ)
 prefixed bytes [] = bytes ∷ []
 prefixed bytes (first ∷ more) = (bytes ++ first) ∷ more

@@ -10,7 +10,7 @@ ghost use Rattle.grammar_tokens.specs.inner.Tokenizing.{kind_with, ReportsEscape
 use crate::piece::{Escape, Piece};
 use crate::token::{ScannedToken, TokenKind};
 
-/// Returns the character that a letter or mark after a backslash denotes.
+/// Returns the character that a byte denotes after a backslash, if the byte is one of `n r t \ 0 ' "`.
 fn letter_meant(byte: u8) -> Option<char>
     ensures { result ≡ escaped byte }
 {

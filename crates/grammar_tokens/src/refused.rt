@@ -31,8 +31,8 @@ fn refusal(tokens: &[Token], cursor: &Cursor<'_>, halt: StopCause) -> SyntaxFaul
 /// # Errors
 ///
 /// - `NoMemory`, `TooDeep`: the error of `read`; `TooDeep` has the index of the first remaining token.
-/// - `Slot` if the first remaining token is a slot, else `Unexpected`: the parser stopped before this token, or at the
-///   end, or the token remains after the value. The error has the token's index, or the number of tokens at the end.
+/// - `Slot` if the first remaining token is a slot, else `Unexpected`: the parser stopped there, or tokens remain after
+///   the value. The error has the index of the first remaining token, or the number of tokens if none remains.
 ///
 /// The function is generic, so that dropping the value is one step of its proof, and not one for each kind of tree.
 pub fn read_to_end<T: Drop>(

@@ -28,7 +28,8 @@ fn lesser(a: Option<usize>, b: Option<usize>) -> Option<usize>
 /// Returns the least offset at which a name occurs that also occurs earlier in `marks`, or `None` if all names are
 /// distinct.
 ///
-/// O(n log n), where n is the length of `marks`. Source: Cedar reference guide 4.0, "Data types: Record".
+/// O(n log n) comparisons of names, where n is the length of `marks`. Source: Cedar reference guide 4.0, "Data types:
+/// Record".
 ///
 /// # Errors
 ///

@@ -130,7 +130,7 @@ abbrev pub log_line : List ℕ → List ℕ → List ℕ → StatusCode → List
 log_line method target body status reply =
     head_text (text_of method) (text_of target) ++ tail_of (route_stated method target) status body reply
 
--- `unread_line status` is the line for rejected bytes, and for a request when out of memory:
+-- `unread_line status` is the line for rejected bytes, and for a request if memory ran out before anything was done:
 -- {"method":null,"target":null,"status":400}
 abbrev pub unread_line : StatusCode → List ℕ
 unread_line status = head_text None None ++ plain_tail status

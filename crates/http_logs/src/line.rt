@@ -217,8 +217,8 @@ pub fn put_tail(line: &mut Vec<u8>, route: &Route, status: StatusCode, reply: &[
     put_made_tail(line, route, status, reply);
 }
 
-/// Appends the line for rejected bytes, or for a request when out of memory. Requires spare capacity for
-/// `MOST_UNREAD_LINE` bytes. Does not allocate.
+/// Appends the line for rejected bytes, or for a request if memory ran out before anything was done. Requires spare
+/// capacity for `MOST_UNREAD_LINE` bytes. Does not allocate.
 pub fn put_unread_line(line: &mut Vec<u8>, status: StatusCode)
     requires room { vec_len line.old + MOST_UNREAD_LINE ≤ vec_capacity line.old }
     ensures items { line.new.items ≡ line.old.items ++ unread_line status }

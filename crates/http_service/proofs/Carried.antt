@@ -14,7 +14,7 @@ use Rattle.site_calls.specs.SiteRequest.{SiteRequest, gives, rejects, unserved}
 use Rattle.http_service.specs.RequestInputs.{request_of}
 use Rattle.site_calls.specs.Answers.{Replies}
 use Rattle.http_service.specs.RequestReplies.{answers_over}
-use Rattle.http_service.specs.Serving.{Served, before_requests, Continues, continues_run, IsServed}
+use Rattle.http_service.specs.Serving.{Served, before_requests, Continues, ContinuesRequest, IsServed}
 use Rattle.http_service.specs.declared.site_service.SiteService.{SiteService}
 use Rattle.http_service.proofs.RunLemmas.{RunsTake}
 
@@ -72,7 +72,7 @@ record Carries (start r : SiteService) (v : Served) : Type 0 where
 
 carry_on : (start a b : SiteService) (x : Served) (m t body : List ℕ) (status : StatusCode) (line : List ℕ) → Carries start a x
     → answers_over a m t body status line b
-    → (y : Served) × continues_run x m t body status line y × Carries start b y
+    → (y : Served) × ContinuesRequest x m t body status line y × Carries start b y
 carry_on start a b x m t body status line carries h =
     let asks = request_of (route_stated m t) body in
     let one = one_request start.site.now asks x b.site.now status line carries.running
@@ -100,7 +100,7 @@ module _ {R W : Type 0} (left : R → Option (List ℕ)) (read_failures : R → 
       old.site.now new.site.now result
       × (new.site.ghost_name ≡ old.site.ghost_name)
   served law first last before after old new result h =
-      let all = answered answers_over continues_run (Carries old) (carry_on old) left read_failures reads read_fails
+      let all = answered answers_over ContinuesRequest (Carries old) (carry_on old) left read_failures reads read_fails
       holds write_failures write_fails first last before after old new (before_requests old.site.now) result
       (carried_first old) h in
       let start = old.site.now in
@@ -109,7 +109,7 @@ module _ {R W : Type 0} (left : R → Option (List ℕ)) (read_failures : R → 
         record {
           inputs = all.0.inputs;
           replies = all.0.replies;
-          answered = subst (λ (s : SiteView). IsAnswered continues_run left read_failures reads read_fails holds
+          answered = subst (λ (s : SiteView). IsAnswered ContinuesRequest left read_failures reads read_fails holds
               write_failures write_fails first last before after (before_requests start)
               (record { site = s; inputs = all.0.inputs; replies = all.0.replies }) result) all.2.site all.1;
           run = ran.run;

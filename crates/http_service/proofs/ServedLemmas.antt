@@ -16,7 +16,7 @@ use Rattle.http_service.specs.RequestInputs.{request_of}
 use Rattle.site_calls.specs.Answers.{Replies}
 use Rattle.http_service.specs.RequestReplies.{answers}
 use Rattle.http_service.specs.Streams.{inputs_of, HaveInputs, LeavesRun}
-use Rattle.http_service.specs.Serving.{Served, before_requests, Continues, continues_run, IsServed}
+use Rattle.http_service.specs.Serving.{Served, before_requests, Continues, ContinuesRequest, IsServed}
 use Rattle.http_service.proofs.RunLemmas.{RunsTake, rests_run, ends_run, stops_run}
 
 -- ---- each request is answered by the site
@@ -28,7 +28,7 @@ replied (rejects f) v w status line h = h.0
 replied (unserved s) v w status line h = h.0
 
 one_answer : (v w : Served) (s : SiteView) (m t body : List ℕ) (status : StatusCode) (line : List ℕ) → v.site ≡ s
-    → continues_run v m t body status line w → (u : SiteView) × answers s m t body status line u × (w.site ≡ u)
+    → ContinuesRequest v m t body status line w → (u : SiteView) × answers s m t body status line u × (w.site ≡ u)
 one_answer v w s m t body status line is h =
     let a = request_of (route_stated m t) body in
     (w.site, subst (λ (x : SiteView). Replies x a status line w.site) is (replied a v w status line h), refl)
@@ -59,7 +59,7 @@ handed (rejects f) v w status line h = h.1 ∙ sym (append-nil v.inputs)
 handed (unserved s) v w status line h = h.1 ∙ sym (append-nil v.inputs)
 
 asks_more : (v m w : Served) (bytes after : List ℕ) (last : Bool) (out : List ℕ)
-    → Exchanges continues_run v bytes last out m after → Asks m after w → Asks v bytes w
+    → Exchanges ContinuesRequest v bytes last out m after → Asks m after w → Asks v bytes w
 asks_more v m w bytes after last out h k =
     let a = request_of (route_stated h.head.method h.head.target) h.body in
     let took = handed a v m h.status h.text h.answered in
@@ -71,30 +71,30 @@ asks_more v m w bytes after last out h k =
       joined = k.joined ∙ ap (λ (is : List Input). is ++ k.inputs) took ∙ append_assoc v.inputs (inputs_of a) k.inputs;
     }
 
-asks_then : (n : ℕ) (v m w : Served) (bytes rest out : List ℕ) → Serves continues_run n v bytes rest out m
+asks_then : (n : ℕ) (v m w : Served) (bytes rest out : List ℕ) → Serves ContinuesRequest n v bytes rest out m
     → Asks m rest w → Asks v bytes w
 asks_then zero v m w bytes rest out h k =
     subst (λ (b : List ℕ). Asks v b w) (sym h.0) (subst (λ (x : Served). Asks x rest w) h.2 k)
 asks_then (suc n) v m w bytes rest out h k =
     asks_more v h.0 w bytes h.1 false h.2 h.4 (asks_then n h.0 m w h.1 rest h.3 h.5 k)
 
-asks_closes : (v w : Served) (bytes out : List ℕ) → Closes continues_run v bytes out w → Asks v bytes w
+asks_closes : (v w : Served) (bytes out : List ℕ) → Closes ContinuesRequest v bytes out w → Asks v bytes w
 asks_closes v w bytes out (inl h) = asks_more v w w bytes h.0 true out h.1 (asks_none w w h.0 refl)
 asks_closes v w bytes out (inr h) = asks_none v w bytes h.3
 
-asks_halts : (v w : Served) (bytes out : List ℕ) → RepliesInPart continues_run v bytes out w → Asks v bytes w
+asks_halts : (v w : Served) (bytes out : List ℕ) → RepliesInPart ContinuesRequest v bytes out w → Asks v bytes w
 asks_halts v w bytes out (back, some, inl h) =
     asks_more v w w bytes h.0 h.1 (out ++ back) h.2 (asks_none w w h.0 refl)
 asks_halts v w bytes out (back, some, inr h) = asks_none v w bytes h.3
 
-asks_rests : (v w : Served) (bytes out : List ℕ) → AnswersAllRequests continues_run v bytes out w → Asks v bytes w
+asks_rests : (v w : Served) (bytes out : List ℕ) → AnswersAllRequests ContinuesRequest v bytes out w → Asks v bytes w
 asks_rests v w bytes out h = asks_then h.count v w w bytes h.rest out h.serves (asks_none w w h.rest refl)
 
-asks_ends : (v w : Served) (bytes out : List ℕ) → EndsByReply continues_run v bytes out w → Asks v bytes w
+asks_ends : (v w : Served) (bytes out : List ℕ) → EndsByReply ContinuesRequest v bytes out w → Asks v bytes w
 asks_ends v w bytes out h =
     asks_then h.count v h.mid w bytes h.rest h.before h.serves (asks_closes h.mid w h.rest h.last h.closes)
 
-asks_stops : (v w : Served) (bytes out : List ℕ) → StopsWithinReply continues_run v bytes out w → Asks v bytes w
+asks_stops : (v w : Served) (bytes out : List ℕ) → StopsWithinReply ContinuesRequest v bytes out w → Asks v bytes w
 asks_stops v w bytes out h =
     asks_then h.count v h.mid w bytes h.rest h.before h.serves (asks_halts h.mid w h.rest h.last h.replies_in_part)
 
@@ -112,7 +112,7 @@ module _ {R W : Type 0} (left : R → Option (List ℕ)) (read_failures : R → 
       old new result
   site_answers first last before after old new result h =
       let v : Served = record { site = new; inputs = h.inputs; replies = h.replies } in
-      let all = answered continues_run answers (λ (x : Served) (s : SiteView). x.site ≡ s) one_answer left read_failures reads
+      let all = answered ContinuesRequest answers (λ (x : Served) (s : SiteView). x.site ≡ s) one_answer left read_failures reads
       read_fails holds write_failures write_fails first last before after (before_requests old) v old result refl h.answered
       in
       subst (λ (s : SiteView). IsAnswered answers left read_failures reads read_fails holds write_failures write_fails first
@@ -144,7 +144,7 @@ module _ {R W : Type 0} (left : R → Option (List ℕ)) (read_failures : R → 
 
   asks_as : (first last : R) (before after : W) (v w : Served) (bytes out : List ℕ)
       (result : Result (Unit {0}) StreamFault)
-      → EndsAs continues_run left read_failures reads read_fails holds write_failures write_fails first last before after
+      → EndsAs ContinuesRequest left read_failures reads read_fails holds write_failures write_fails first last before after
       v w bytes out result
       → Asks v bytes w
   asks_as first last before after v w bytes out (Ok done) (inl h, read, written) = asks_rests v w bytes out h.0

@@ -16,7 +16,7 @@ use Rattle.http_service.specs.RequestInputs.{request_of}
 use Rattle.site_calls.specs.Answers.{Replies}
 use Rattle.site_calls.specs.Reports.{reported}
 
--- A `Served` is a site during a stream, with the inputs of the requests so far and the site's reply to each.
+-- A `Served` is a site served over a stream, with the inputs that requests gave it so far and its reply to each.
 pub record Served : Type 0 where
   pub site : SiteView
   pub inputs : List Input
@@ -26,9 +26,9 @@ pub record Served : Type 0 where
 abbrev pub before_requests : SiteView → Served
 before_requests site = record { site = site; inputs = []; replies = [] }
 
--- `Continues old a status line new` holds if the reply to a request that asks for `a` may be `status` with the body
--- `line`, and leads from `old` to `new`. If `a` gives an input, that is one step of the site, and `new` adds the input
--- and its reply. A request that is rejected before it becomes an input, or asks for no operation, adds nothing.
+-- `Continues old a status line new` holds if the site of `old` may reply with `status` and the body `line` to a request
+-- that asks for `a`, and `new` is the next `Served`. If `a` gives an input, the site makes one step, and the input
+-- and its reply are added. For `rejects` and `unserved` the site is not called, and nothing is added.
 abbrev pub Continues : Served → SiteRequest → StatusCode → List ℕ → Served → Type 0
 Continues old (gives i) status line new =
     (r : Reply) × Step (schema_of old.site) old.site.name (store_in old.site) i r (store_in new.site)
@@ -39,23 +39,24 @@ Continues old (rejects f) status line new =
 Continues old (unserved s) status line new =
     Replies old.site (unserved s) status line new.site × (new.inputs ≡ old.inputs) × (new.replies ≡ old.replies)
 
--- `continues_run old method target body status line new` is the same relation for a request with this method, target
+-- `ContinuesRequest old method target body status line new` is the same relation for a request with this method, target
 -- and body.
-abbrev pub continues_run : Served → List ℕ → List ℕ → List ℕ → StatusCode → List ℕ → Served → Type 0
-continues_run old method target body status line new =
+abbrev pub ContinuesRequest : Served → List ℕ → List ℕ → List ℕ → StatusCode → List ℕ → Served → Type 0
+ContinuesRequest old method target body status line new =
     Continues old (request_of (route_stated method target) body) status line new
 
--- `left` to `write_fails` describe the states of a reader and a writer, as in `Serving` of http_streams.
+-- The parameters from `left` to `write_fails` describe the states of a reader and a writer, as in `Serving` of
+-- http_streams.
 module _ {R W : Type 0} (left : R → Option (List ℕ)) (read_failures : R → ℕ) (reads : R → ℕ → List ℕ → R → Type 0)
     (read_fails : R → R → Type 0) (holds : W → Option (List ℕ)) (write_failures : W → ℕ)
     (write_fails : W → W → Type 0) where
   -- `IsServed first last before after old new result` holds if one call served the site `old` and left `new`, the
   -- reader went from the state `first` to `last`, and the writer from `before` to `after`. The call read requests and
-  -- wrote their replies. `inputs` are the inputs of these requests in order, `replies` the site's replies to them, and
-  -- the run of `inputs` with `replies` leads from `old` to `new`. `result` is how the stream ended, and so which
-  -- requests are answered: all, or those up to a reply that ended the stream or was sent only in part.
+  -- wrote their replies, the last perhaps cut off. `inputs` are the inputs of these requests in order, `replies` the
+  -- site's replies to them, and the run of `inputs` with `replies` leads from `old` to `new`. If `result` is `Ok`, no
+  -- bytes were left to read, or a reply ended the stream; else it is the call's error (`EndsAs` of http_streams).
   -- An example: the call reads `PUT /v1/policies/a` and `GET /nowhere`, and then the stream ends. The one input is the
-  -- put of the first request's body under `a`, and the reply to it is a stamp. The call writes the reply 200 with the
+  -- put of the first request's body under `a`, and the reply to it has a stamp. The call writes the reply 200 with the
   -- stamp, then the reply 404. The new store is the join of the updates that the site had and this put.
   pub record IsServed (first last : R) (before after : W) (old new : SiteView) (result : Result (Unit {0}) StreamFault)
       : Type 0 where
@@ -63,7 +64,7 @@ module _ {R W : Type 0} (left : R → Option (List ℕ)) (read_failures : R → 
     pub replies : List Reply
     -- request by request, from the first byte read to the last byte written
     pub answered :
-        IsAnswered continues_run left read_failures reads read_fails holds write_failures write_fails first last
+        IsAnswered ContinuesRequest left read_failures reads read_fails holds write_failures write_fails first last
         before after (before_requests old) (record { site = new; inputs = inputs; replies = replies }) result
     -- the run, to which the theorems on runs of one site apply
     pub run : Run (schema_of old) old.name (store_in old) inputs replies (store_in new)

@@ -27,7 +27,7 @@ HaveInputs (suc n) bytes rest is =
     × (is ≡ inputs_of (request_of (route_stated head.method head.target) body) ++ more) × HaveInputs n after rest more
 
 -- `LeavesRun old bytes new` holds if a run of the inputs of the first `count` requests in `bytes` leads from the site
--- `old` to `new`, and the store of `new` is the join of the updates that `old` had and those that the run applied.
+-- `old` to `new`. The store of `new` is the join of the updates that `old` had and those that the run applied.
 pub record LeavesRun (old : SiteView) (bytes : List ℕ) (new : SiteView) : Type 0 where
   pub count : ℕ
   pub rest : List ℕ

@@ -93,7 +93,7 @@ pub(crate) fn answer(
     }
 }
 
-// ---- with a log
+// ---- with a log: `line` gets method and target before the site is called, and all else once `text` has the reply
 
 /// Returns the status of the reply to a request that asks for no operation, or `None` if it asks for one.
 fn unserved_status(route: &Route) -> Option<StatusCode>
@@ -115,8 +115,8 @@ fn unserved_status(route: &Route) -> Option<StatusCode>
     }
 }
 
-/// Reports that an allocation failed before the site made a step. The reply to a request that asks for no operation has
-/// its own status (404 or 405), also when out of memory.
+/// Reports that an allocation failed before the site made a step; for a request that asks for no operation, reports its
+/// own status (404 or 405) instead.
 fn report_no_memory(route: &Route, text: &mut Vec<u8>) -> StatusCode
     requires room { vec_len text.old + REPLY_ROOM ≤ vec_capacity text.old }
     ensures reply { IsUndoneReply route.now result text.old.items text.new.items }
@@ -128,7 +128,7 @@ fn report_no_memory(route: &Route, text: &mut Vec<u8>) -> StatusCode
     }
 }
 
-/// Reports that an allocation failed for a decision, and ends the line of its request.
+/// Reports that an allocation failed for a decision, and appends the rest of the request's log line to `line`.
 fn report_undecided(text: &mut Vec<u8>, line: &mut Vec<u8>) -> StatusCode
     requires room { vec_len text.old + REPLY_ROOM ≤ vec_capacity text.old }
     requires tail { vec_len line.old + MOST_TAIL ≤ vec_capacity line.old }
@@ -142,8 +142,8 @@ fn report_undecided(text: &mut Vec<u8>, line: &mut Vec<u8>) -> StatusCode
     status
 }
 
-/// Decides the request whose body was parsed as `json`, and ends its line, of which `line` has the beginning. If the
-/// end cannot be allocated, the reply is the error 1 (out of memory, status 503) instead of the decision.
+/// Decides the request whose body was parsed as `json`, and appends the rest of its log line to `line`. If that rest
+/// cannot be allocated, the reply is the error 1 (out of memory, status 503) instead of the decision.
 fn decide_parsed(
     alloc: Global,
     site: &Site,
@@ -170,8 +170,8 @@ fn decide_parsed(
     }
 }
 
-/// Decides a request, and ends its line, of which `line` has the beginning. The body is parsed once, for the decision
-/// and for the line.
+/// Decides a request, and appends the rest of its log line to `line`. The body is parsed once, for the decision and for
+/// the log line.
 fn decide_logged(
     alloc: Global,
     scratch: &mut Scratch,
@@ -193,7 +193,7 @@ fn decide_logged(
     }
 }
 
-/// Answers a request of a route other than `Authorize`, and ends its line, of which `line` has the beginning.
+/// Answers a request of a route other than `Authorize`, and appends the rest of its log line to `line`.
 fn answer_other_route(
     alloc: Global,
     scratch: &mut Scratch,
@@ -217,7 +217,7 @@ fn answer_other_route(
     status
 }
 
-/// Answers a request of a route, and ends its line, of which `line` has the beginning.
+/// Answers a request of a route, and appends the rest of its log line to `line`.
 fn answer_logged(
     alloc: Global,
     scratch: &mut Scratch,
@@ -240,9 +240,9 @@ fn answer_logged(
     }
 }
 
-/// Answers a request like [`answer`], and puts the line of the request into `line`. If the route, or the beginning of
-/// the line with method and target, cannot be allocated, the site makes no step, and the line has neither method nor
-/// target.
+/// Answers a request like [`answer`], and puts the request's log line into `line`. If an allocation fails for the
+/// route, or for the beginning of the log line (method and target), the site makes no step, and the log line has
+/// neither method nor target.
 pub(crate) fn answer_with_line(
     alloc: Global,
     scratch: &mut Scratch,

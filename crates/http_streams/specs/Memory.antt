@@ -3,9 +3,9 @@
 use Rattle.std.specs.Prelude.{◌≡◌, ◌≢◌, ℕ, ◌-◌, ◌^◌, min, max, Option, Some, List, [], ◌∷◌, ◌++◌, length, take}
 use Rattle.http_streams.specs.Devices.{counted}
 
--- A `Planned` is the plan of a device and its progress. `pieces` are the most bytes that each call moves: the last
--- number applies from then on, 0 counts as 1, and an empty list has no limit. `fails_at` is the number, from 0, of the
--- call that fails, if one does; `calls` is the number of calls so far.
+-- A `Planned` is the plan of a device and its progress. `pieces` are the most bytes that each further call moves: the
+-- last number applies from then on, 0 counts as 1, and an empty list has no limit. `fails_at` is the number, from 0, of
+-- the call that fails, if one does; this call uses up no piece. `calls` is the number of calls so far.
 pub record Planned : Type 0 where
   pub pieces : List ℕ
   pub fails_at : Option ℕ

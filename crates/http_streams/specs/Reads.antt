@@ -8,8 +8,8 @@ use Rattle.http_streams.specs.declared.TheConstants.{MAX_READ}
 -- its buffer, the bytes that it read, and the state afterwards.
 module _ {R : Type 0} (left : R → Option (List ℕ)) (reads : R → ℕ → List ℕ → R → Type 0) where
   -- `EndsByOneRead old new bytes front` holds if a reader went from `old` to `new` by reading `bytes`: `front` first,
-  -- and the rest by the last call. The buffer of the last call was not empty, so if this call read 0 bytes, the stream
-  -- is at its end.
+  -- and the rest, at most `MAX_READ` bytes, by the last call. The buffer of the last call was not empty, so if this
+  -- call read 0 bytes, the stream is at its end.
   pub record EndsByOneRead (old new : R) (bytes front : List ℕ) : Type 0 where
     pub between : R
     pub room : ℕ

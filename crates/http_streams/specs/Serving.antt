@@ -21,10 +21,11 @@ module _ {S R W : Type 0} (answers : Answering S) (left : R → Option (List ℕ
   -- `new`. By the result:
   -- - Ok: neither device failed. All requests in `bytes` are answered, and the input is at its end, as the last read
   --   reported; or the last reply ended the stream, and nothing was read after it.
-  -- - Read: the last read failed, or at least 2^64 - 1 bytes were read; all requests in `bytes` are answered.
+  -- - Read: the last read failed, or at least 2^64 - 1 bytes were read; the writer did not fail. All requests in
+  --   `bytes` are answered.
   -- - NoMemory: neither device failed, and all requests in `bytes` are answered: memory is allocated before a read.
-  -- - Write: the last write failed; some requests are answered, and a proper prefix of one more reply may have been
-  --   sent. All requests that were complete before the last read are answered.
+  -- - Write: the last write failed, and the reader did not fail. Some requests are answered, and a proper prefix of one
+  --   more reply may have been sent. All requests that were complete before the last read are answered.
   -- - Log: as Write, but neither the reader nor the writer failed. Logs states that the log did (`HasLogFailed`), and
   --   that nothing of the last reply was sent (`IsLastNoted`).
   abbrev pub EndsAs : R → R → W → W → S → S → List ℕ → List ℕ → Result (Unit {0}) StreamFault → Type 0

@@ -59,8 +59,9 @@ pub(crate) fn drop_front(bytes: &mut Vec<u8>, count: usize)
     bytes.truncate(left);
 }
 
-/// Reads once through `chunk`, appends what was read to `buffer`, and returns whether bytes were read; `false` means
-/// the end of the input. Memory for the bytes is allocated before the read, so that no byte is lost.
+/// Reads once through `chunk`, which must not be empty, appends what was read to `buffer`, and returns whether bytes
+/// were read; `false` means the end of the input. Memory for the bytes is allocated before the read, so that no byte is
+/// lost.
 pub(crate) fn read_more<R: Source>(
     reader: &mut R,
     chunk: &mut [u8],

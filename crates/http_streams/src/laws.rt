@@ -5,11 +5,13 @@ ghost use Rattle.http_streams.specs.Laws.{HasFirst503, StopsIn, in_memory};
 
 use crate::service::Answers;
 
-/// Proves that a stream has one answer, however the stream is split into reads: equal bytes are sent, and the states
-/// afterwards are the same. No-op.
+/// Proves that a stream has at most one answer without a reply 503 (out of memory), however the stream is split into
+/// reads. Two such answers, from states that are the same (`S.same`), send equal bytes, and the states afterwards are
+/// the same. No-op.
 ///
-/// The premise is that states that are the same (`S.same`) have one answer to each request, except 503 (out of memory).
-/// One exception: a stream that ends inside a request target that is not UTF-8 may get the reply 400 or nothing.
+/// The premise is that states that are the same have at most one answer other than 503 to each request, and are the
+/// same after it. One exception: a stream that ends inside a request target that is not UTF-8 may get the reply 400 or
+/// nothing.
 pub fn one_answer<S: Answers>()
     ensures { HasOneAnswer (in_memory S.answers) S.same → (old old2 new new2 : S) → (stream out more : List ℕ)
         → S.same old old2
@@ -18,7 +20,8 @@ pub fn one_answer<S: Answers>()
 {}
 
 /// Proves that what is sent before an error (of the reader, the writer, the log or an allocation) is a prefix of what
-/// is sent without an error. The premise and the exception are those of [`one_answer`]. No-op.
+/// is sent without an error, if neither has a reply 503. The premise and the exception are those of [`one_answer`].
+/// No-op.
 pub fn begins_answer<S: Answers>()
     ensures { HasOneAnswer (in_memory S.answers) S.same → (old old2 new new2 : S) → (stream out more : List ℕ)
         → S.same old old2

@@ -1,4 +1,4 @@
-//! Devices over memory, which read or accept pieces of given sizes and may fail at one given call.
+//! Devices over memory, which read or accept pieces of at most given sizes and may fail at one given call.
 ghost use Rattle.std.specs.Prelude.{◌≡◌, ◌⊎◌, ◌<◌, Some, None, IfSome, []};
 ghost use Rattle.http_streams.specs.Memory.{AcceptsByPlan, CountsOneFailure, Delivers, FailsByPlan, MakesCall};
 ghost use Rattle.http_streams.specs.Memory.{next_piece};
@@ -27,7 +27,8 @@ impl<'a> Plan<'a> {
     /// Creates a plan; no call has been made.
     ///
     /// `pieces` are the most bytes that each call moves: the last one applies from then on, an empty list has no limit,
-    /// and 0 counts as 1. `fails_at` is the number, from 0, of the call that fails, if one does.
+    /// and 0 counts as 1. `fails_at` is the number, from 0, of the call that fails, if one does; this call uses up no
+    /// piece.
     pub fn new(pieces: &'a [usize], fails_at: Option<u64>) -> Plan<'a>
         ensures { result ≡ record { pieces = pieces.entry.now; fails_at = fails_at; calls = 0 } }
     {

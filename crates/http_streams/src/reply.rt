@@ -88,7 +88,7 @@ fn put_status(room: &mut [u8], end: usize, status: StatusCode) -> usize
 }
 
 /// Writes the head of a reply right before its body, which extends from `body` to the end of `room`; returns where the
-/// reply begins. `last` is whether the reply ends the stream.
+/// reply begins. `body` must be at least `HEAD_ROOM`. `last` is whether the reply ends the stream.
 #[tactic(auto, unfolding(crate::specs::ReplyText::reply_text))]
 pub fn put_head(room: &mut [u8], body: usize, last: bool, status: StatusCode) -> usize
     requires fits { HEAD_ROOM ≤ body }
@@ -116,8 +116,8 @@ fn put_error(room: &mut [u8], end: usize, code: u16) -> usize
     put_piece(room, digits, b"{\"error\":{\"code\":")
 }
 
-/// Writes at the end of `room` a whole reply that ends the stream, with the error line of `status`; returns where the
-/// reply begins.
+/// Writes at the end of `room`, which must have `REFUSAL_ROOM` bytes, a whole reply that ends the stream, with the
+/// error line of `status`; returns where the reply begins.
 pub fn put_refusal(room: &mut [u8], status: StatusCode) -> usize
     requires fits { length room.old ≡ REFUSAL_ROOM }
     ensures order { result ≤ length room.new }

@@ -32,8 +32,8 @@ pub trait Service: Answers {
     /// the status.
     ///
     /// `text` has spare capacity for a short reply (`REPLY_ROOM` bytes). So a service that cannot allocate a longer
-    /// reply can report that without allocating. `line` has capacity for a short line (`line_room` bytes). Both keep
-    /// their memory for the next reply.
+    /// reply can report that without allocating. `line` is empty, and has capacity for a short line (`line_room`
+    /// bytes). Both keep their memory for the next reply.
     ///
     /// Each reply announces a body, so a service should not return a status 1xx, 204 or 304 (RFC 9112, section 6.3);
     /// the contract does not demand this.
@@ -54,7 +54,8 @@ pub trait Service: Answers {
         ensures kept { vec_capacity text.old ≤ vec_capacity text.new }
         ensures line_kept { vec_capacity line.old ≤ vec_capacity line.new };
 
-    /// Puts the line for bytes that are rejected with this status into `line`. Does not allocate.
+    /// Puts the line for bytes that are rejected with this status into `line`, which is empty and has capacity for
+    /// `line_room` bytes. Does not allocate.
     fn put_refusal_line(status: StatusCode, line: &mut Vec<u8>)
         requires empty { line.old.items ≡ [] }
         requires room { line_room ≤ vec_capacity line.old }

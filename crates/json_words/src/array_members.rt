@@ -28,13 +28,13 @@ pub enum Member {
     NotJson,
 }
 
-/// Returns the members of the array that `bytes` begin with, or `None` if they are not UTF-8 or do not begin with an
-/// array.
+/// Returns the members of the array that `bytes` begin with, or `None` if they are not UTF-8 or their first token is
+/// not `[`.
 ///
 /// Reading the members shows whether the bytes are JSON: if they are not, the last call of [`ArrayMembers::next`]
 /// returns [`Member::NotJson`] in place of [`Member::End`]. The last value of a duplicate key counts, and arrays and
-/// objects nest at most 127 deep, including the array itself. The scratch grows to the length of the longest string;
-/// its earlier content does not matter. The only error is `NoMemory`.
+/// objects nest at most 127 deep, including the array itself. A scratch that is shorter than `bytes` grows to their
+/// length; its earlier content does not matter. The only error is `NoMemory`.
 pub fn members_of<'a>(
     scratch: &'a mut Scratch,
     bytes: &'a [u8],
@@ -49,7 +49,7 @@ pub fn members_of<'a>(
     }
 }
 
-/// Returns the members of the array that a text begins with, or `None` if it does not begin with an array.
+/// Returns the members of the array that a text begins with, or `None` if its first token is not `[`.
 fn members_in<'a>(
     scratch: &'a mut Scratch,
     text: &'a str,
@@ -92,7 +92,7 @@ impl<'a> ArrayMembers<'a> {
         }
     }
 
-    /// Reads the rest of the text and returns whether it is JSON. Drops each member as soon as it is read.
+    /// Reads the rest of the text and returns whether the text is JSON. Drops each member as soon as it is read.
     ///
     /// A caller that rejects a member calls this, and reports the member's error only if the text is JSON. The only
     /// error is `NoMemory`.

@@ -9,7 +9,8 @@ pub fn json_keys_ascend()
 {}
 
 /// Proves that the compact text of plain JSON, nested at most 127 deep, parses as that JSON; so two such values with
-/// equal texts are equal. Plain JSON has no floats, its strings are UTF-8, and the keys of its objects ascend. No-op.
+/// equal texts are equal. The numbers of plain JSON are integers from -2^63 to 2^64 - 1, its strings and keys are
+/// UTF-8, and the keys of each object ascend. No-op.
 pub fn compact_texts_read_back()
     ensures back { CompactReadsBack }
     ensures one { CompactIsOne }

@@ -50,7 +50,7 @@ pub fn read_json(alloc: Global, bytes: &[u8]) -> Result<Option<Value>, NoMemory>
     }
 }
 
-/// Returns the compact text of a value, without whitespace and, in each object, with the keys ascending by bytes.
+/// Returns the compact text of a value: no whitespace between tokens, and the keys of each object ascending by bytes.
 ///
 /// The text of a value that nests at most 127 deep parses as that value. The contract specifies nothing else of the
 /// text of a value with a float. The only error is `NoMemory`.

@@ -20,8 +20,8 @@ pub(crate) const MOST_DEPTH: usize = 127;
 /// Parses JSON. Returns `None` if the bytes are not UTF-8 or not JSON, if arrays and objects nest deeper than 127, if
 /// an escape has half of a surrogate pair, or if a number is too large for a double.
 ///
-/// The last value of a duplicate key counts. The scratch grows to the length of the longest string; its earlier content
-/// does not matter. The only error is `NoMemory`.
+/// The last value of a duplicate key counts. A scratch that is shorter than `bytes` grows to their length; its earlier
+/// content does not matter. The only error is `NoMemory`.
 pub fn read_json_by(
     scratch: &mut Scratch,
     alloc: Global,

@@ -472,8 +472,8 @@ const SURVIVED: &str = "\
     g3 in; u: | |; v: g2 g3 u | |; g1: g2 g3 u | |; g2: g3 u | |; g3: | |; touched:4/\
     v; v: | |; g1: g2 g3 u | |; g2: g3 u | |; touched:1";
 
-// These rows test that a change rewrites the lists of ancestors of its entity and of all descendants, and no other
-// list.
+// These rows test how many lists of ancestors a change rewrites: that of its entity, and that of each of the entity's
+// descendants.
 const TOUCHED: &str = "\
     u in g1/g1 in g2/g2 in g3/v in g3/touched:1/g2 in/touched:3/\
     new/u in g1/g1 in g2/g2 in g3/v in g3/g2/touched:3/\

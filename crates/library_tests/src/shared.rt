@@ -82,7 +82,7 @@ fn some<T: Drop>(found: Result<Option<T>, NoMemory>) -> Result<T, NoMemory> {
     }
 }
 
-/// Returns the entity of this type and id.
+/// Returns the uid of this type and id. If the type is not a path, the error is `NoMemory`.
 pub(crate) fn uid_of(alloc: Global, type_name: &str, id: &str) -> Result<EntityUid, NoMemory> {
     let type_name = some(TypeName::parse(alloc, type_name));
     let (type_name, id) = both(type_name, SharedText::from_str(alloc, id))?;

@@ -2,8 +2,8 @@
 -- Rules of this product: a message is {"entries":[{"body":text or null,"count":n,"name":N,"site":text},
 -- ..],"kind":K,"schema":label,"version":2}, with "state" or "delta" for K, and {"entity":{"id":..,"type":..}} or
 -- {"policy":id} for N. Each key is required, no others are allowed, and the `body` of a tombstone is null. Messages
--- are written compact, keys and names ascending. They are read in any spelling of JSON, with entries in any order and
--- names any number of times. Version 1, with numbers of sites, is read and never written.
+-- are written compact, keys and names ascending. They are read in any spelling of JSON; their entries may be in any
+-- order, and several entries may have one name. Version 1, where a site is a number, is read and never written.
 use Rattle.std.specs.Prelude.{◌||◌, Bool, ℕ, List, [], ◌∷◌, map, codes, is_some, Option, Some, None}
 use Rattle.std.specs.Prelude.{Result, Ok, if◌then◌else◌}
 use Rattle.std.specs.Str.{bytes_eq}
@@ -63,18 +63,18 @@ delta_text label s = compact_text (delta_json label s)
 
 -- ---- read
 
--- `text_in d` is the body that is the string `d`, or `BadShape` if `d` is not a string.
+-- `text_in d` is the body with the text of the string `d`, or `BadShape` if `d` is not a string.
 unfoldable pub text_in : Data → Result (Option (List ℕ)) MessageFault
 text_in d = do
   text ← or_fault BadShape (as_str d)
   Ok (Some text)
 
--- `body_in d` is the body that `d` describes: that of a tombstone for null, else a string; `BadShape` for other JSON.
+-- `body_in d` is the body that `d` describes: the text of a string, or `None` for null (a tombstone); else `BadShape`.
 unfoldable pub body_in : Data → Result (Option (List ℕ)) MessageFault
 body_in d = if is_some (as_null d) then Ok None else text_in d
 
--- `entry_by stamped_of entry_of d` is the update that the object `d` describes, with its text not yet parsed, or the
--- error of `d`: `stamped_of` reads its name and stamp, and `entry_of` joins the stamp and the body.
+-- `entry_by stamped_of entry_of d` is the update that the object `d` describes, or the error of `d`. `stamped_of` reads
+-- the name and the stamp, and `entry_of` makes the entry from the stamp and the body, whose text is not parsed.
 unfoldable pub entry_by : {S E : Type 0} → (Data → Result (Name × S) MessageFault) → (S → Option (List ℕ) → E) → Data
     → Result (Name × E) MessageFault
 entry_by stamped_of entry_of d = do
@@ -104,7 +104,7 @@ entries_by entry_of d = do
 unfoldable pub entries_in : MessageVersion → Data → Result (List Update) MessageFault
 entries_in version d = entries_by (entry_in version) d
 
--- `is_kind kind` tests whether a message of the kind `kind` has entries: whether it is a state or a delta.
+-- `is_kind kind` tests whether `kind` is the kind of a state or of a delta.
 abbrev pub is_kind : List ℕ → Bool
 is_kind kind = bytes_eq kind (codes "state") || bytes_eq kind (codes "delta")
 
@@ -129,7 +129,7 @@ updates_in label d = do
   updates_by (entries_in version) label d
 
 -- `updates_stated label bytes` is the list of the updates that `bytes` describe for the schema with the label `label`,
--- in order, or the first error of JSON, version, shape or label. Ranges and texts of entries are checked later.
+-- in order, or the first error of JSON, version, shape or label. Updates.antt defines the checks of ranges and texts.
 unfoldable pub updates_stated : List ℕ → List ℕ → Result (List Update) MessageFault
 updates_stated label bytes = do
   d ← or_fault NotJson (json_of bytes)

@@ -159,8 +159,8 @@ abbrev pub site_in : MessageVersion → Data → Result (List ℕ) MessageFault
 site_in One d = raised_in d
 site_in Two d = named_in d
 
--- `stamped_by site_of d` is the name and stamp that the object `d` describes, or the error: `site_of` reads the site,
--- and other keys are ignored.
+-- `stamped_by site_of d` is the name and stamp that the object `d` describes, or the error. `site_of` reads the site;
+-- other keys are ignored.
 unfoldable pub stamped_by : {Site : Type 0} → (Data → Result Site MessageFault) → Data
     → Result (Name × StampAt Site) MessageFault
 stamped_by site_of d = do

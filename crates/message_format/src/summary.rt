@@ -1,4 +1,4 @@
-//! Summaries: the version vector of a store, with a stamp for each name.
+//! Summaries: each name of a store, with the stamp of its entry.
 ghost use Rattle.std.specs.Prelude.{◌≡◌, true};
 ghost use Rattle.message_format.specs.Summaries.{ascend};
 

@@ -134,7 +134,7 @@ impl<T: Eq> Eq for Items<T> {
     ghost laws = { lists_equiv T.Eq.laws };
 }
 
-/// Lists are ordered item by item; a prefix of a list is less than the list. Does not allocate.
+/// Lists are ordered item by item; a proper prefix of a list is less than the list. Does not allocate.
 impl<T: PartialOrd> PartialOrd for Items<T> {
     ghost partial_cmp = { λ xs ys. slice_partial_cmp T.partial_cmp xs ys };
 

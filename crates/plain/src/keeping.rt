@@ -1,4 +1,4 @@
-//! Functions that pair a value, or the value of a result, with the value of a second result.
+//! Functions that pair a value with the value of a result, or the values of two results.
 ghost use Rattle.std.specs.Prelude.{◌≡◌, IfOk, IfErr, Ok, Err};
 
 /// Returns `kept` with the value of `made`, or drops `kept` and returns the error of `made`.

@@ -71,8 +71,8 @@ pub record IsPolicyFile (text : List ℕ) (names : List (List ℕ)) (policies : 
 -- The following definitions have the errors in the order in which they are checked: each is reported only if the text
 -- has none of the earlier ones. `NoMemory` is not among them, since it does not depend on the text.
 
--- `IsReportedOf faults why` holds if `why` is the error that is reported of `faults`: the first in the list of those at
--- the least offset.
+-- `IsReportedOf faults why` holds if `why` is the error that is reported of `faults`: the first of those at the least
+-- offset.
 pub record IsReportedOf (faults : List DesugarFault) (why : ReadFault) : Type 0 where
   pub fault : DesugarFault
   pub first : least faults ≡ Some fault

@@ -21,7 +21,7 @@ use std::collections::VecDeque;
 /// The number of bytes of the longest name by index: `policy` and twenty digits.
 const MOST_PLACED_BYTES: usize = 26;
 
-/// Returns the first annotation with the key `id`.
+/// Returns the first annotation with the key `id`, if there is one.
 fn id_of<'a>(text: &str, annotations: &'a [Annotation]) -> Option<&'a Annotation>
     requires { IsBuiltFrom text.now (λ tokens. AllByRecursion (WellFormedAnnotation tokens) annotations.now) }
     ensures found { option_copied result ≡ find (is_id text.now) annotations.entry.now }

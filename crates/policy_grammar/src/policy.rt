@@ -62,7 +62,7 @@ pub struct Policy {
 }
 
 impl Policy {
-    /// Returns another reference to the policy. Does not copy or allocate.
+    /// Returns an equal policy that shares the scope and the condition of this one. Does not allocate.
     ///
     /// # Errors
     ///

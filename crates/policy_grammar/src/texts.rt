@@ -43,7 +43,7 @@ fn uid_by_tree(alloc: Global, text: &str) -> Result<EntityUid, ReadFault>
 ///
 /// - `TooLong` (18): over 262,144 bytes.
 /// - `BadToken` (10): the first invalid token, anywhere in the text.
-/// - `Unexpected` (11), `Slot` (16): the first token that cannot follow those before it in a uid.
+/// - `Unexpected` (11), `Slot` (16): the first token that cannot follow those before it in a uid, or the text's end.
 /// - `NoMemory` (1): an allocation failed; possible at any point.
 pub fn parse_uid(alloc: Global, text: &str) -> Result<EntityUid, ReadFault>
     ensures read { IfOk result (IsUidText text.now) }
@@ -81,7 +81,7 @@ fn policy_of(alloc: Global, text: &str, tree: &PolicyTree) -> Result<Policy, Rea
 /// - `TooLong` (18): over 262,144 bytes.
 /// - `BadToken` (10): the first invalid token, anywhere in the text.
 /// - `Unexpected` (11), `Slot` (16), `TooDeep` (17): the first token that cannot follow those before it in a policy, or
-///   that would open level 65 of an expression.
+///   that would open level 65 of an expression, or the text's end.
 /// - `RepeatedKey` (15) of an annotation or of a record, `NumberRange` (12), `UnknownCall` (13), `Arity` (14): the
 ///   error at the least offset.
 /// - `TooDeep` (17) at offset 0: the core expression is higher than 1,000 or has over 1,000,000 nodes.
@@ -138,7 +138,7 @@ fn policies_of(
 /// - `TooLong` (18): over 8,388,608 bytes.
 /// - `BadToken` (10): the first invalid token, anywhere in the file.
 /// - `Unexpected` (11), `Slot` (16), `TooDeep` (17): the first token that cannot follow those before it in a file, or
-///   that would open level 65 of an expression.
+///   that would open level 65 of an expression, or the text's end.
 /// - `RepeatedKey` (15) of an annotation, of a record or of a policy's name, `NumberRange` (12), `UnknownCall` (13),
 ///   `Arity` (14): the error at the least offset of the whole file.
 /// - `TooDeep` (17) at offset 0: the core expression of some policy is higher than 1,000 or has over 1,000,000 nodes.

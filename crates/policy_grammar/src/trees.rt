@@ -67,7 +67,7 @@ fn refusal(text: &str, tokens: &[Token], fault: SyntaxFault) -> ReadFault
 ///
 /// - `TooLong` (18): over 262,144 bytes.
 /// - `BadToken` (10): the first invalid token, anywhere in the text.
-/// - `Unexpected` (11), `Slot` (16): the first token that cannot follow those before it in a uid.
+/// - `Unexpected` (11), `Slot` (16): the first token that cannot follow those before it in a uid, or the text's end.
 /// - `NoMemory` (1): an allocation failed; possible at any point.
 pub fn uid_tree(alloc: Global, text: &str) -> Result<UidTree, ReadFault>
     ensures derives { IfOk result (Derives grammar.uid most_policy_bytes text.now) }
@@ -91,7 +91,7 @@ pub fn uid_tree(alloc: Global, text: &str) -> Result<UidTree, ReadFault>
 /// - `TooLong` (18): over 262,144 bytes.
 /// - `BadToken` (10): the first invalid token, anywhere in the text.
 /// - `Unexpected` (11), `Slot` (16), `TooDeep` (17): the first token that cannot follow those before it in a policy, or
-///   that would open level 65 of an expression.
+///   that would open level 65 of an expression, or the text's end.
 /// - `NoMemory` (1): an allocation failed; possible at any point.
 ///
 /// Source: Cedar reference guide 4.0, "Grammar specification for Cedar policy syntax".

@@ -1,6 +1,6 @@
 -- Defines the steps of runs: reading files, writing one, opening a connection, reporting the outcome.
 -- Source: docs/operating.md.
--- Rules of this product: nothing is read after an error.
+-- Rules of this product: after an error no further file is read.
 use Rattle.std.specs.Prelude.{◌≡◌, ◌⊎◌, ℕ, Bool, true, false, List, [], ◌∷◌, Option, None, Some, Result, Ok, Err}
 use Rattle.program_drills.specs.http_service.answer_lines.declared.refusal.Refusal.{Refusal}
 use Rattle.program.specs.declared.device.FileFault.{FileFault}

@@ -1,8 +1,8 @@
 -- Defines a run of `load`, which puts files of policies and entities into a site.
 -- Source: docs/operating.md.
--- Rules of this product: all files are read before anything is checked: the schema, then the initial state, the
--- policies and the entities, each if it is named; the initial site is that of `serve`; the state of the site after the
--- puts is printed, unless anything is rejected.
+-- Rules of this product: before anything is checked, all files are read: the schema, then the initial state, the
+-- policies and the entities, each if it is named; the initial site is created as in `serve`; the state of the site
+-- after the puts is printed, unless anything is rejected.
 use Rattle.std.specs.Prelude.{◌⊎◌, ℕ, List, Option, None, Some, option_map}
 use Rattle.site_loading.specs.site_steps.SiteViews.{SiteView, schema_of, store_in}
 use Rattle.site_loading.specs.Loads as loads
@@ -14,8 +14,8 @@ use Rattle.program.specs.ExplainOption.{file_with_content, policies_of, schema_f
 use Rattle.program.specs.ExplainOption.{IsLineOrErrorExplained}
 use Rattle.program.specs.ExplainCommand.{file_named}
 
--- `load_files options schema policies entities` are the files that a run explains if a file or a put is rejected after
--- the initial site was created: those that `options` name, with the contents `schema`, `policies` and `entities`.
+-- `load_files options schema policies entities` are the files with these three contents, named as in `options`. A
+-- run with `--explain` explains them if the initial site is created, but `policies`, `entities` or a put is rejected.
 abbrev pub load_files : LoadOptions → List ℕ → Option (List ℕ) → Option (List ℕ) → Files
 load_files options schema policies entities = record {
   schema = Some (file_with_content options.schema.now schema);
@@ -34,9 +34,10 @@ module _ {L : Type 0} where
       (loads.IsLoadedState (schema_of site) site.name (store_in site) policies entities)
       (loads.IsRefused (schema_of site) site.name (store_in site) policies entities)
 
-  -- `IsLoadedOrRefused options schema state policies entities`: `policies` and `entities` are put into the initial site
-  -- of `schema` and `state`. Or the error of `schema` or `state`, or out of memory, is reported and, if `options` have
-  -- `--explain`, explained, and the files to put are not parsed.
+  -- `IsLoadedOrRefused options schema state policies entities`: the initial site of `schema` and `state` is created,
+  -- and `IsPutOrRefused` holds of it; or, whatever `policies` and `entities` contain, the error of `schema` or `state`,
+  -- or out of memory, is reported. In this second case, if `options` have `--explain`, the error in the schema's file
+  -- is then explained; if that file has no error, the reported code is explained.
   abbrev pub IsLoadedOrRefused : LoadOptions → List ℕ → Option (List ℕ) → Option (List ℕ) → Option (List ℕ) → Course L
   IsLoadedOrRefused options schema state policies entities events end =
       ((site : SiteView) × IsInitialSite schema options.site state site
@@ -44,8 +45,8 @@ module _ {L : Type 0} where
       ⊎ IsErrorExplained options.explain (schema_files options.schema.now schema) (IsInitialSiteRefused schema state)
       events end
 
-  -- `IsLoadRun options`: of the files that `options` name, the schema is read, then the state, the policies and the
-  -- entities, each if it is named; the policies and the entities are then put.
+  -- `IsLoadRun options`: the schema's file is read, then the files of the state, the policies and the entities, each
+  -- if `options` name it; then `IsLoadedOrRefused` holds of their contents.
   abbrev pub IsLoadRun : LoadOptions → Course L
   IsLoadRun options =
       Reads options.schema.now (λ schema.

@@ -52,8 +52,8 @@ module _ {R W : Type 0} (reader : Source R) (writer : Sink W) where
       IsAnswered reader.left reader.reads writer.holds request link.reader left.reader link.writer left.writer 200 body
 
   -- `IsNotMoreThanAsked schema state address link left` holds if the connection is unchanged (`left` is `link`), or a
-  -- prefix of the request to `address` for the entries that `state` lacks under `schema` was written, possibly empty or
-  -- whole.
+  -- prefix of the request to `address` was written, perhaps empty or all of it. The request asks for the entries that
+  -- `state` lacks under `schema`.
   abbrev pub IsNotMoreThanAsked : List ℕ → Option (List ℕ) → List ℕ → Link R W → Link R W → Type 0
   IsNotMoreThanAsked schema state address link left = (left ≡ link)
       ⊎ ((s : StatedSchema) × (m : Store) × IsReady schema state s m

@@ -54,8 +54,8 @@ module _ {L : Type 0} where
   abbrev pub IsRefusalReported : Refusal → List (Event L) → ℕ → Type 0
   IsRefusalReported refusal = IsReported Faults (error_line refusal) 1
 
-  -- `IsMemoryReported`: out of memory is reported by the error line of code 1 or, if that cannot be allocated, by the
-  -- constant `no_memory_line`.
+  -- `IsMemoryReported`: out of memory is reported on standard error, by its error line (code 1) or by the constant
+  -- `no_memory_line`, and the run ends with 1.
   abbrev pub IsMemoryReported : List (Event L) → ℕ → Type 0
   IsMemoryReported events end = IsRefusalReported no_memory events end ⊎ IsReported Faults no_memory_line 1 events end
 

@@ -148,7 +148,7 @@ module _ {R W G : Type 0} (reader : Source R) (writer : Sink W) (log : Sink G) w
   IsLineRun (Drill options) = IsDrillRun options
   IsLineRun (Explain options) = IsExplainRun options
 
-  -- `IsRun words`: if the arguments `words` are a command, it is run; else their error is reported.
+  -- `IsRun words`: the command of the arguments `words` is run, or their error, or out of memory, is reported.
   abbrev pub IsRun : List Text → Course (Link R W)
   IsRun words events end =
       ((line : Line) × IsCommandOf words line × (fault_of site_app words ≡ []) × IsLineRun line events end)

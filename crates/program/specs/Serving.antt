@@ -69,8 +69,8 @@ pub record Serving (G : Type 0) : Type 0 where
 
 module _ {R W G : Type 0} (reader : Source R) (writer : Sink W) (log : Sink G) where
   -- `IsLoggedOver old link end left new` holds if the log `old`, if there is one, became `new` and got the line of each
-  -- reply before the reply was sent over the connection, whose states are `link` before and `left` after. `end` is how
-  -- serving ended; without a log it is not the error `Log`.
+  -- reply before the reply was sent. `link` is the connection before, and `left` after. `end` is how serving ended;
+  -- without a log it is not the error `Log`.
   abbrev pub IsLoggedOver : Option G → Link R W → Result (Unit {0}) StreamFault → Link R W → Option G → Type 0
   IsLoggedOver None link end left None = end ≢ Err stream_fault.Log
   IsLoggedOver (Some old) link end left (Some new) = IsLogged IsLogLine unread_line log.holds log.failed log.fails

@@ -128,8 +128,8 @@ fn report_call<H: Host>(
     }
 }
 
-/// Returns the body of the reply to a call. Without a reply of status 200 reports the error, and returns the status of
-/// the run as the error.
+/// Returns the body of the reply to a call. If there is no reply of status 200, reports why, and returns the status of
+/// the run as the error. `Refused`, which [`ask`] returns only for out of memory, is reported as out of memory.
 fn reply_or_end<H: Host>(
     alloc: Global,
     host: &mut H,
@@ -150,8 +150,8 @@ fn reply_or_end<H: Host>(
     }
 }
 
-/// Makes a call over an open connection, closes the connection, and returns the body of the reply. Without a reply of
-/// status 200 reports the error, and returns the status of the run as the error.
+/// Makes a call over an open connection, closes the connection, and returns the body of the reply. If there is no reply
+/// of status 200, reports why, and returns the status of the run as the error.
 fn call_over<H: Host>(
     alloc: Global,
     host: &mut H,
@@ -178,8 +178,8 @@ fn call_over<H: Host>(
     reply_or_end(alloc, host, at, came)
 }
 
-/// Makes a call over a new connection, and returns the body of the reply. Without a reply of status 200 reports the
-/// error, and returns the status of the run as the error.
+/// Makes a call over a new connection, and returns the body of the reply. If there is no reply of status 200, reports
+/// why, and returns the status of the run as the error.
 fn call_at<H: Host>(
     alloc: Global,
     host: &mut H,
@@ -198,8 +198,8 @@ fn call_at<H: Host>(
     }
 }
 
-/// Writes `line`, the received count, to standard output. If `line` is not a count, reports that instead. In this case,
-/// and if the stream fails, returns the status of the run as the error.
+/// Writes `line`, the reply to a merge, to standard output. If `line` is not a count, reports that instead. In this
+/// case, and if writing fails, returns the status of the run as the error.
 fn write_taken<H: Host>(
     alloc: Global,
     host: &mut H,
@@ -220,8 +220,9 @@ fn write_taken<H: Host>(
     }
 }
 
-/// Brings the site at `to` up to date from the one at `from` by three calls, numbered from `first`. If a call fails,
-/// reports the error, and returns the status of the run as the error.
+/// Brings the site at `to` up to date from the one at `from` by three calls, numbered from `first`. Writes the reply to
+/// the last call, a count of updates, to standard output. If a call fails, reports why. In this case, and if writing
+/// fails, returns the status of the run as the error.
 fn exchange<H: Host>(
     alloc: Global,
     host: &mut H,

@@ -45,8 +45,8 @@ abbrev pub within : ℕ → ℕ → Option ℕ → Option ℕ
 within least most None = None
 within least most (Some k) = if nat_le least k && nat_lt k most then Some k else None
 
--- `number_in key least most d` is the number at `key` in the object `d`, if it is an integer from 0 to 2^64 - 1,
--- written without a point or an exponent, at least `least` and below `most`.
+-- `number_in key least most d` is the number at `key` in the object `d`, if it is at least `least` and below `most`. It
+-- must be an integer from 0 to 2^64 - 1, written without a point or an exponent.
 abbrev pub number_in : List ℕ → ℕ → ℕ → Data → Option ℕ
 number_in key least most d = within least most (option_and_then as_u64 (option_and_then as_number (get key d)))
 

@@ -11,7 +11,8 @@ pub(crate) struct MadeCounts {
     pub(crate) summaries: usize,
 }
 
-/// Returns the numbers of messages and summaries after an operation.
+/// Returns the numbers of messages and summaries after an operation, where `made` has the numbers before it, each below
+/// 2^63.
 pub(crate) fn after_operation(made: MadeCounts, operation: &Operation) -> MadeCounts
     requires messages { made.messages < 2 ^ 63 }
     requires summaries { made.summaries < 2 ^ 63 }

@@ -43,7 +43,7 @@ fn number_in(value: &Value, key: &str, least: usize, most: usize) -> Option<usiz
     }
 }
 
-/// Returns the JSON at a key as bytes.
+/// Returns the JSON at a key as bytes, or `None` without this key.
 fn bytes_at(alloc: Global, value: &Value, key: &str) -> Result<Option<Items<u8>>, NoMemory>
     requires { depth (view value.now) ≤ max_depth }
     ensures { IfOk result (AreBytesOf (get key.now (view value.now))) }

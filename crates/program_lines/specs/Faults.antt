@@ -1,7 +1,7 @@
 -- Defines why arguments are not a command: the first error of parsing them, a request for help, an invalid site name, a
--- missing option, or out of memory.
+-- missing option or an invalid number, or out of memory.
 -- Source: the contracts of the crate clap.
--- Rules of this product: the site name is checked last.
+-- Rules of this product: the site name is checked after all that clap checks.
 use Rattle.std.specs.Prelude.{◌≡◌, Bool, true, false, List, [], ⊤}
 use Rattle.clap.specs.Words.{Text, IsAmong, fault_of, kind_of, subcommand_of}
 use Rattle.clap.specs.declared.error.Error.{Error}

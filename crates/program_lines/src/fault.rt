@@ -19,8 +19,8 @@ pub enum LineFault {
     /// The value of `--site` is not a site name. clap accepted the arguments.
     #[error("error: the value of '--site' is not a site name: 1 to 32 ASCII letters, digits, '-', '_' or '.'\n")]
     Site,
-    /// clap accepted the arguments, but a command or a required option is missing. This is not expected, since clap is
-    /// to reject such arguments.
+    /// clap accepted the arguments, but a command or a required option is missing, or a number is invalid. This is not
+    /// expected, since clap is to reject such arguments.
     #[error("error: an option is missing\n")]
     Incomplete,
     /// An argument is not UTF-8. `line_of` never returns this, since its arguments are strings.

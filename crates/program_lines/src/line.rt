@@ -409,7 +409,8 @@ fn has_invalid_site(matches: &ArgMatches<'_>) -> bool
     }
 }
 
-/// Returns why clap found no complete command: an invalid site name, else a missing command or option.
+/// Returns why clap found no complete command: an invalid site name; else a missing command or option, or an invalid
+/// number.
 fn why_incomplete(matches: &ArgMatches<'_>) -> LineFault
     ensures { IsWhyIncomplete (subcommand_rows_of matches.now) result }
 {
@@ -431,7 +432,8 @@ fn why_incomplete(matches: &ArgMatches<'_>) -> LineFault
 /// - [`LineFault::Help`]: help, or the version, is requested.
 /// - [`LineFault::Words`]: clap rejects the arguments.
 /// - [`LineFault::Site`]: the value of `--site` is not a site name, and clap accepts the arguments.
-/// - [`LineFault::Incomplete`]: clap accepts the arguments, but they are not a command with its required options.
+/// - [`LineFault::Incomplete`]: clap accepts the arguments, but they are not a command with its required options and
+///   valid numbers.
 /// - [`LineFault::NoMemory`]: an allocation failed, at any point.
 pub fn line_of<'a>(alloc: Global, words: &'a [String]) -> Result<Line<'a>, LineFault>
     ensures ok { IfOk result (IsCommandOf (map string_bytes words.entry.now)) }

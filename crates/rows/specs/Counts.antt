@@ -9,9 +9,9 @@ said target [] = target
 said target (b ∷ body) = b ∷ body
 
 -- `counts old method target body status reply new` holds if a counter in the state `old` may answer a request by
--- `status` and `reply`, and then has the state `new`. The request has `target` and `body`, and any `method`. The status
--- is 200, and `reply` is `said target body`, or the status is 503 (a failed allocation). `new` counts one more request
--- and, for 503, one more failure, each up to `2^64 - 1`.
+-- `status` and `reply`, and then has the state `new`. The request has `target` and `body`, and any `method`. Either the
+-- status is 200 and `reply` is `said target body`; or the status is 503 (a failed allocation) and `reply` is any text.
+-- `new` counts one more request and, for 503, one more failure, each up to `2^64 - 1`.
 abbrev pub counts : Counter → List ℕ → List ℕ → List ℕ → StatusCode → List ℕ → Counter → Type 0
 counts old method target body status reply new =
     (new.requests ≡ min (old.requests + 1) (2 ^ 64 - 1))

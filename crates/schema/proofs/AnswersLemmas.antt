@@ -22,7 +22,7 @@ use Rattle.sha2.specs.Sha256.{sha256}
 use Rattle.hex.specs.Hex.{encode_lower}
 use Rattle.schema_names.specs.Naming.{DescribesFile}
 use Rattle.schema_names.specs.Laws.{IsEntityType, NamesItsEntityTypes}
-use Rattle.schema.specs.Schemas.{EnvironmentOf, Answers, IsSound, IsShape, IsAction, IsEnvironment, IsEnvironmentKey}
+use Rattle.schema.specs.Schemas.{EnvironmentOf, MatchesDeclarations, IsSound, IsShape, IsAction, IsEnvironment, IsEnvironmentKey}
 use Rattle.schema.specs.Schemas.{IsRecordOf, action_parents, type_parents, type_uid, place_cmp}
 use Rattle.schema.specs.SchemaEntries.{kept}
 use Rattle.schema.specs.Places.{environment_of}
@@ -199,7 +199,7 @@ module _ (s : ResolvedSchema) (places : Places) (are : ArePlaces s.commons s.act
 -- ---- all together
 
 made_answers : (s : ResolvedSchema) → NamesItsEntityTypes s → AreNamed s → (label : List ℕ) (t : Types) (h : Hierarchies) → AreTypesOf s.commons s t → AreHierarchiesOf s h
-    → Answers s (schema_view (kept label t.environments h.actions t.shapes h.members h.above.numbers h.above.spans h.types.numbers h.types.spans))
+    → MatchesDeclarations s (schema_view (kept label t.environments h.actions t.shapes h.members h.above.numbers h.above.spans h.types.numbers h.types.spans))
 made_answers s own called label t h types hierarchies = record {
   shapes = shape_found s t.shapes types.shapes;
   all_shapes = shape_there s t.shapes types.shapes;

@@ -26,7 +26,7 @@ use Rattle.schema_names.specs.Naming.{DescribesFile}
 use Rattle.schema_names.specs.Laws as names
 use Rattle.schema.specs.declared.parts.EnvironmentKey.{EnvironmentKey}
 use Rattle.schema.specs.Schemas as schemas
-use Rattle.schema.specs.Schemas.{EnvironmentOf, StatedSchema, Answers, IsAction, IsEnvironment, IsEnvironmentKey, IsRecordOf}
+use Rattle.schema.specs.Schemas.{EnvironmentOf, StatedSchema, MatchesDeclarations, IsAction, IsEnvironment, IsEnvironmentKey, IsRecordOf}
 use Rattle.schema.specs.Schemas.{IsSound, action_parents, type_parents, type_uid, place_cmp}
 use Rattle.schema.specs.inner.ByNaming as parsed
 use Rattle.schema.specs.inner.ByNaming.{IsUnsound, IsParsedAs, ParsedOrNot, SomeParsed}
@@ -272,7 +272,7 @@ module _ (s : ResolvedSchema) (sound : IsSound s) where
         subst (λ (q : EnvironmentKey). Contains (map (λ e. e.place) environments_in_order) q) same
         (all_in_order place_cmp (λ e. e.place) place_cmp-IsTotalOrder place_cmp-IsAntisymmetric made_environments.0 x.0 x.1)
 
-    built_answers : (bytes : List ℕ) → Answers s (built bytes)
+    built_answers : (bytes : List ℕ) → MatchesDeclarations s (built bytes)
     unfolding built
     built_answers bytes = record {
       shapes = shape_found s.entity_types made_shapes;

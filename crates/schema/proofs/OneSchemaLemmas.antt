@@ -19,7 +19,7 @@ use Rattle.schema_names.specs.Qualifying.{ResolvedEntityType, ResolvedAppliesTo,
 use Rattle.schema_names.specs.Laws as names
 use Rattle.schema_names.specs.Laws.{DeclaresOnce}
 use Rattle.schema.specs.declared.parts.EnvironmentKey.{EnvironmentKey}
-use Rattle.schema.specs.Schemas.{StatedSchema, EnvironmentOf, Answers, Applies, IsRecordOf, IsEnvironment, IsEnvironmentKey}
+use Rattle.schema.specs.Schemas.{StatedSchema, EnvironmentOf, MatchesDeclarations, Applies, IsRecordOf, IsEnvironment, IsEnvironmentKey}
 use Rattle.schema.specs.Schemas.{place_cmp}
 use Rattle.schema.specs.inner.ByNaming.{OneParsed}
 use Rattle.schema.proofs.PlaceLemmas.{place_cmp-IsTotalOrder}
@@ -159,7 +159,7 @@ module _ (one : OneWritten) (lists : AscendingListsAreOne) (s : ResolvedSchema) 
       lists_are_one environment_cmp-IsTotalOrder es fs (in_order es ordered) (in_order fs ordered')
       (λ e. ((λ h. there fs are' all' e (are e h)), (λ h. there es are all e (are' e h))))
 
-  module _ (v w : StatedSchema) (a : Answers s v) (b : Answers s w) where
+  module _ (v w : StatedSchema) (a : MatchesDeclarations s v) (b : MatchesDeclarations s w) where
     shape_same : (n : List ℕ) (o p : Option Cedar) → v.shape n ≡ o → w.shape n ≡ p → o ≡ p
     shape_same n None None e f = refl
     shape_same n (Some t) None e f =
@@ -214,4 +214,4 @@ module _ (one : OneWritten) (lists : AscendingListsAreOne) (s : ResolvedSchema) 
 pub one_schema : OneWritten → names.FilesDeclareOnce → AscendingListsAreOne → names.OneFile → OneParsed
 one_schema one once lists file bytes v w a b =
     let same = file bytes a.named b.named a.states b.states in
-    one_answer one lists b.named (once bytes b.named b.states) v w (subst (λ (s : ResolvedSchema). Answers s v) same a.answers) b.answers (a.label ∙ sym b.label)
+    one_answer one lists b.named (once bytes b.named b.states) v w (subst (λ (s : ResolvedSchema). MatchesDeclarations s v) same a.answers) b.answers (a.label ∙ sym b.label)

@@ -18,8 +18,8 @@ sound_or_not one s once sound _ (parsed.type_cycle endless) =
     endless.has_no_expansion at.0 at.1
 sound_or_not one s once sound _ (parsed.action_cycle ends cycle) = sound.no_cycle cycle
 sound_or_not one s once sound _ (parsed.too_large ends no_cycle large) =
-    let at = sound.is_written large.type large.stands in
-    at.2 (subst (λ (t : Cedar). IsTooLarge t) (one s.commons once.commons large.type large.whole at.0 large.is_written at.1) large.too_large)
+    let at = sound.is_written large.type large.is_type in
+    at.2 (subst (λ (t : Cedar). IsTooLarge t) (one s.commons once.commons large.type large.whole at.0 large.is_expansion at.1) large.too_large)
 
 schema_or_not : OneWritten → names.FilesDeclareOnce → names.OneFile → names.NotBoth → (bytes : List ℕ) (v : StatedSchema) (f : SchemaFault) → IsParsedAs bytes v → IsNotParsed bytes f → ⊥
 schema_or_not one once file both bytes v _ is (parsed.naming f refused) = both bytes is.named f is.states refused

@@ -23,7 +23,7 @@ use Rattle.schema_names.specs.Qualifying.{ResolvedEntityType, ResolvedAppliesTo,
 use Rattle.schema_names.specs.Laws as names
 use Rattle.schema_names.specs.Laws.{DeclaresOnce, DeclaresItsCommonTypes}
 use Rattle.schema.specs.Schemas as schemas
-use Rattle.schema.specs.Schemas.{IsWritten, IsSchemaType, SomeActionIsOnCycle, SomeTypeIsTooLarge, IsSound}
+use Rattle.schema.specs.Schemas.{HasSmallExpansion, IsSchemaType, SomeActionIsOnCycle, SomeTypeIsTooLarge, IsSound}
 use Rattle.schema.specs.inner.ByNaming.{IsUnsound}
 use Rattle.schema.specs.inner.ByNaming as parsed
 use Rattle.schema.specs.Schemas.{type_uid, with_actions, with_types}
@@ -242,29 +242,29 @@ module _ (s : ResolvedSchema) (ends : TypesExpandOrSomeCommonDoesNot) (once : De
       by (inr all) = inr (λ endless. let w = all (endless.name, endless.type) (declared_inside s.commons endless.name endless.type endless.declared) in endless.has_no_expansion w.0 w.1)
 
   module _ (none : SomeHasNoExpansion s.commons → ⊥) where
-    fits_or_not : (r : Qualified) → IsSchemaType s r → IsClosed s.commons r → SomeTypeIsTooLarge s ⊎ IsWritten s.commons r
+    fits_or_not : (r : Qualified) → IsSchemaType s r → IsClosed s.commons r → SomeTypeIsTooLarge s ⊎ HasSmallExpansion s.commons r
     fits_or_not r stands closed = by (written_or_not r closed)
       where
-        sized : (t : Cedar) → IsExpansion s.commons r t → IsTooLarge t ⊎ (IsTooLarge t → ⊥) → SomeTypeIsTooLarge s ⊎ IsWritten s.commons r
-        sized t w (inl large) = inl (record { type = r; whole = t; stands = stands; is_written = w; too_large = large })
+        sized : (t : Cedar) → IsExpansion s.commons r t → IsTooLarge t ⊎ (IsTooLarge t → ⊥) → SomeTypeIsTooLarge s ⊎ HasSmallExpansion s.commons r
+        sized t w (inl large) = inl (record { type = r; whole = t; is_type = stands; is_expansion = w; too_large = large })
         sized t w (inr small) = inr (t, w, small)
 
-        by : ((t : Cedar) × IsExpansion s.commons r t) ⊎ SomeHasNoExpansion s.commons → SomeTypeIsTooLarge s ⊎ IsWritten s.commons r
+        by : ((t : Cedar) × IsExpansion s.commons r t) ⊎ SomeHasNoExpansion s.commons → SomeTypeIsTooLarge s ⊎ HasSmallExpansion s.commons r
         by (inl (t, w)) = sized t w (large_or_not t)
         by (inr endless) = absurd (none endless)
 
-    record_fits : (o : Option Qualified) → ((r : Qualified) → o ≡ Some r → names.IsShapeOrContext s r) → SomeTypeIsTooLarge s ⊎ ((r : Qualified) → o ≡ Some r → IsWritten s.commons r)
+    record_fits : (o : Option Qualified) → ((r : Qualified) → o ≡ Some r → names.IsShapeOrContext s r) → SomeTypeIsTooLarge s ⊎ ((r : Qualified) → o ≡ Some r → HasSmallExpansion s.commons r)
     record_fits None is = inr (λ r e. absurd cc)
     record_fits (Some r) is = by (fits_or_not r (schemas.shape_or_context r (is r refl)) (own.records r (is r refl)))
       where
         some_same : (x y : Qualified) → Some x ≡ Some y → x ≡ y
         some_same x y e = cc
 
-        by : SomeTypeIsTooLarge s ⊎ IsWritten s.commons r → SomeTypeIsTooLarge s ⊎ ((q : Qualified) → Some r ≡ Some q → IsWritten s.commons q)
+        by : SomeTypeIsTooLarge s ⊎ HasSmallExpansion s.commons r → SomeTypeIsTooLarge s ⊎ ((q : Qualified) → Some r ≡ Some q → HasSmallExpansion s.commons q)
         by (inl large) = inl large
-        by (inr w) = inr (λ q e. subst (λ (x : Qualified). IsWritten s.commons x) (some_same r q e) w)
+        by (inr w) = inr (λ q e. subst (λ (x : Qualified). HasSmallExpansion s.commons x) (some_same r q e) w)
 
-    use_fits : (a : ResolvedAction) → Contains s.actions a → (o : Option ResolvedAppliesTo) → a.applies_to ≡ o → SomeTypeIsTooLarge s ⊎ ((u : ResolvedAppliesTo) → a.applies_to ≡ Some u → (r : Qualified) → u.context ≡ Some r → IsWritten s.commons r)
+    use_fits : (a : ResolvedAction) → Contains s.actions a → (o : Option ResolvedAppliesTo) → a.applies_to ≡ o → SomeTypeIsTooLarge s ⊎ ((u : ResolvedAppliesTo) → a.applies_to ≡ Some u → (r : Qualified) → u.context ≡ Some r → HasSmallExpansion s.commons r)
     use_fits a h None is = inr (λ u e r c. absurd (none_is u (sym is ∙ e)))
       where
         none_is : (u : ResolvedAppliesTo) → None ≡ Some u → ⊥
@@ -274,37 +274,37 @@ module _ (s : ResolvedSchema) (ends : TypesExpandOrSomeCommonDoesNot) (once : De
         some_same : (x y : ResolvedAppliesTo) → Some x ≡ Some y → x ≡ y
         some_same x y e = cc
 
-        by : SomeTypeIsTooLarge s ⊎ ((r : Qualified) → v.context ≡ Some r → IsWritten s.commons r) → SomeTypeIsTooLarge s ⊎ ((u : ResolvedAppliesTo) → a.applies_to ≡ Some u → (r : Qualified) → u.context ≡ Some r → IsWritten s.commons r)
+        by : SomeTypeIsTooLarge s ⊎ ((r : Qualified) → v.context ≡ Some r → HasSmallExpansion s.commons r) → SomeTypeIsTooLarge s ⊎ ((u : ResolvedAppliesTo) → a.applies_to ≡ Some u → (r : Qualified) → u.context ≡ Some r → HasSmallExpansion s.commons r)
         by (inl large) = inl large
         by (inr w) = inr (λ u e r c. w r (ap (λ (x : ResolvedAppliesTo). x.context) (some_same v u (sym is ∙ e)) ∙ c))
 
-    commons_fit : SomeTypeIsTooLarge s ⊎ ((d : List ℕ × Qualified) → Contains s.commons d → IsWritten s.commons (qualified.common d.0))
-    commons_fit = first s.commons (some_or_all (λ d. SomeTypeIsTooLarge s) (λ d. IsWritten s.commons (qualified.common d.0)) s.commons
+    commons_fit : SomeTypeIsTooLarge s ⊎ ((d : List ℕ × Qualified) → Contains s.commons d → HasSmallExpansion s.commons (qualified.common d.0))
+    commons_fit = first s.commons (some_or_all (λ d. SomeTypeIsTooLarge s) (λ d. HasSmallExpansion s.commons (qualified.common d.0)) s.commons
         (λ d h. fits_or_not (qualified.common d.0) (schemas.common d.0 d.1 (inside_declared s.commons d h)) (common_closed d h)))
 
-    shapes_fit : SomeTypeIsTooLarge s ⊎ ((e : ResolvedEntityType) → Contains s.entity_types e → (r : Qualified) → e.shape ≡ Some r → IsWritten s.commons r)
-    shapes_fit = first s.entity_types (some_or_all (λ e. SomeTypeIsTooLarge s) (λ e. (r : Qualified) → e.shape ≡ Some r → IsWritten s.commons r) s.entity_types
+    shapes_fit : SomeTypeIsTooLarge s ⊎ ((e : ResolvedEntityType) → Contains s.entity_types e → (r : Qualified) → e.shape ≡ Some r → HasSmallExpansion s.commons r)
+    shapes_fit = first s.entity_types (some_or_all (λ e. SomeTypeIsTooLarge s) (λ e. (r : Qualified) → e.shape ≡ Some r → HasSmallExpansion s.commons r) s.entity_types
         (λ e h. record_fits e.shape (λ r is. inl (e, h, is))))
 
-    contexts_fit : SomeTypeIsTooLarge s ⊎ ((a : ResolvedAction) → Contains s.actions a → (u : ResolvedAppliesTo) → a.applies_to ≡ Some u → (r : Qualified) → u.context ≡ Some r → IsWritten s.commons r)
-    contexts_fit = first s.actions (some_or_all (λ a. SomeTypeIsTooLarge s) (λ a. (u : ResolvedAppliesTo) → a.applies_to ≡ Some u → (r : Qualified) → u.context ≡ Some r → IsWritten s.commons r) s.actions
+    contexts_fit : SomeTypeIsTooLarge s ⊎ ((a : ResolvedAction) → Contains s.actions a → (u : ResolvedAppliesTo) → a.applies_to ≡ Some u → (r : Qualified) → u.context ≡ Some r → HasSmallExpansion s.commons r)
+    contexts_fit = first s.actions (some_or_all (λ a. SomeTypeIsTooLarge s) (λ a. (u : ResolvedAppliesTo) → a.applies_to ≡ Some u → (r : Qualified) → u.context ≡ Some r → HasSmallExpansion s.commons r) s.actions
         (λ a h. use_fits a h a.applies_to refl))
 
-    module _ (commons : (d : List ℕ × Qualified) → Contains s.commons d → IsWritten s.commons (qualified.common d.0))
-        (shapes : (e : ResolvedEntityType) → Contains s.entity_types e → (r : Qualified) → e.shape ≡ Some r → IsWritten s.commons r)
-        (contexts : (a : ResolvedAction) → Contains s.actions a → (u : ResolvedAppliesTo) → a.applies_to ≡ Some u → (r : Qualified) → u.context ≡ Some r → IsWritten s.commons r) where
-      all_fit : (r : Qualified) → IsSchemaType s r → IsWritten s.commons r
+    module _ (commons : (d : List ℕ × Qualified) → Contains s.commons d → HasSmallExpansion s.commons (qualified.common d.0))
+        (shapes : (e : ResolvedEntityType) → Contains s.entity_types e → (r : Qualified) → e.shape ≡ Some r → HasSmallExpansion s.commons r)
+        (contexts : (a : ResolvedAction) → Contains s.actions a → (u : ResolvedAppliesTo) → a.applies_to ≡ Some u → (r : Qualified) → u.context ≡ Some r → HasSmallExpansion s.commons r) where
+      all_fit : (r : Qualified) → IsSchemaType s r → HasSmallExpansion s.commons r
       all_fit _ (schemas.common q r d) = commons (q, r) (declared_inside s.commons q r d)
       all_fit _ (schemas.shape_or_context r (inl (e, h, is))) = shapes e h r is
       all_fit _ (schemas.shape_or_context r (inr (a, h, (u, applies, is)))) = contexts a h u applies r is
 
-    sizes_decided : SomeTypeIsTooLarge s ⊎ ((r : Qualified) → IsSchemaType s r → IsWritten s.commons r)
+    sizes_decided : SomeTypeIsTooLarge s ⊎ ((r : Qualified) → IsSchemaType s r → HasSmallExpansion s.commons r)
     sizes_decided = by commons_fit shapes_fit contexts_fit
       where
-        by : SomeTypeIsTooLarge s ⊎ ((d : List ℕ × Qualified) → Contains s.commons d → IsWritten s.commons (qualified.common d.0))
-            → SomeTypeIsTooLarge s ⊎ ((e : ResolvedEntityType) → Contains s.entity_types e → (r : Qualified) → e.shape ≡ Some r → IsWritten s.commons r)
-            → SomeTypeIsTooLarge s ⊎ ((a : ResolvedAction) → Contains s.actions a → (u : ResolvedAppliesTo) → a.applies_to ≡ Some u → (r : Qualified) → u.context ≡ Some r → IsWritten s.commons r)
-            → SomeTypeIsTooLarge s ⊎ ((r : Qualified) → IsSchemaType s r → IsWritten s.commons r)
+        by : SomeTypeIsTooLarge s ⊎ ((d : List ℕ × Qualified) → Contains s.commons d → HasSmallExpansion s.commons (qualified.common d.0))
+            → SomeTypeIsTooLarge s ⊎ ((e : ResolvedEntityType) → Contains s.entity_types e → (r : Qualified) → e.shape ≡ Some r → HasSmallExpansion s.commons r)
+            → SomeTypeIsTooLarge s ⊎ ((a : ResolvedAction) → Contains s.actions a → (u : ResolvedAppliesTo) → a.applies_to ≡ Some u → (r : Qualified) → u.context ≡ Some r → HasSmallExpansion s.commons r)
+            → SomeTypeIsTooLarge s ⊎ ((r : Qualified) → IsSchemaType s r → HasSmallExpansion s.commons r)
         by (inl large) b c = inl large
         by (inr a) (inl large) c = inl large
         by (inr a) (inr b) (inl large) = inl large
@@ -313,7 +313,7 @@ module _ (s : ResolvedSchema) (ends : TypesExpandOrSomeCommonDoesNot) (once : De
   pub sound_or_not : PathsAreDecided → IsSound s ⊎ ((f : SchemaFault) × IsUnsound s f)
   sound_or_not decided = by some_endless
     where
-      sized : (SomeHasNoExpansion s.commons → ⊥) → (SomeActionIsOnCycle s → ⊥) → SomeTypeIsTooLarge s ⊎ ((r : Qualified) → IsSchemaType s r → IsWritten s.commons r) → IsSound s ⊎ ((f : SchemaFault) × IsUnsound s f)
+      sized : (SomeHasNoExpansion s.commons → ⊥) → (SomeActionIsOnCycle s → ⊥) → SomeTypeIsTooLarge s ⊎ ((r : Qualified) → IsSchemaType s r → HasSmallExpansion s.commons r) → IsSound s ⊎ ((f : SchemaFault) × IsUnsound s f)
       sized endless cycle (inl large) = inr (TypeTooLarge, parsed.too_large endless cycle large)
       sized endless cycle (inr all) = inl (record { no_cycle = cycle; is_written = all })
 

@@ -12,7 +12,7 @@ use Rattle.schema_types.specs.declared.fault.SchemaFault.{SchemaFault}
 use Rattle.schema_types.specs.declared.fault.SchemaFault.TheVariants.{ActionCycle}
 use Rattle.schema_names.specs.Qualifying.{ResolvedSchema}
 use Rattle.schema_names.specs.Laws.{IsShapeOrContext}
-use Rattle.schema.specs.Schemas.{SomeActionIsOnCycle, IsSchemaType, IsWritten, IsSound}
+use Rattle.schema.specs.Schemas.{SomeActionIsOnCycle, IsSchemaType, HasSmallExpansion, IsSound}
 use Rattle.schema.specs.inner.ByNaming.{IsUnsound}
 use Rattle.schema.specs.inner.ByNaming as parsed
 use Rattle.schema.specs.Schemas as schemas
@@ -47,8 +47,8 @@ sizes_fault s _ ends no_cycle (outcome.large_common large) =
     parsed.too_large ends no_cycle (record {
       type = qualified.common large.name;
       whole = large.type;
-      stands = schemas.common large.name declared.0 declared.1;
-      is_written = large.is_written;
+      is_type = schemas.common large.name declared.0 declared.1;
+      is_expansion = large.is_written;
       too_large = large.too_large;
     })
 
@@ -60,8 +60,8 @@ type_fault s r _ ends no_cycle is (outcome.large_type large) =
     parsed.too_large ends no_cycle (record {
       type = r;
       whole = large.type;
-      stands = schemas.shape_or_context r is;
-      is_written = large.is_written;
+      is_type = schemas.shape_or_context r is;
+      is_expansion = large.is_written;
       too_large = large.large;
     })
 
@@ -69,12 +69,12 @@ pub types_refused : (s : ResolvedSchema) (f : SchemaFault) → (SomeHasNoExpansi
 types_refused s f ends no_cycle h = type_fault s h.0 f ends no_cycle h.1 h.2
 
 -- each shape and each context was written out
-pub records_written : (s : ResolvedSchema) (t : Types) → AreTypesOf s.commons s t → (r : Qualified) → IsShapeOrContext s r → IsWritten s.commons r
+pub records_written : (s : ResolvedSchema) (t : Types) → AreTypesOf s.commons s t → (r : Qualified) → IsShapeOrContext s r → HasSmallExpansion s.commons r
 records_written s t are r (inl e) = are.shapes.also e.0 e.1 r e.2
 records_written s t are r (inr a) = are.are.also a.0 a.1 a.2.0 a.2.1 r a.2.2
 
-module _ (s : ResolvedSchema) (known : TypeTable) (are : AreWritten s.commons known) (whole : AreWhole s.commons known) (records : (r : Qualified) → IsShapeOrContext s r → IsWritten s.commons r) where
-  stands_written : (r : Qualified) → IsSchemaType s r → IsWritten s.commons r
+module _ (s : ResolvedSchema) (known : TypeTable) (are : AreWritten s.commons known) (whole : AreWhole s.commons known) (records : (r : Qualified) → IsShapeOrContext s r → HasSmallExpansion s.commons r) where
+  stands_written : (r : Qualified) → IsSchemaType s r → HasSmallExpansion s.commons r
   stands_written _ (schemas.common q r d) =
       let at = are.all q r d in
       let it = whole q r d at.0 at.1 in

@@ -14,7 +14,7 @@ use Rattle.schema_types.specs.Mentions.{MentionsEntity, NamesEntity}
 use Rattle.schema_names.specs.Qualifying.{ResolvedSchema}
 use Rattle.schema_names.specs.Laws as names
 use Rattle.schema_names.specs.Laws.{IsShapeOrContext, DeclaresOnce, TypesAscend, IsEntityType, NamesItsEntityTypes}
-use Rattle.schema.specs.Schemas.{StatedSchema, Answers, IsAction, IsRecordOf, IsSound, shape_or_context, action_parents}
+use Rattle.schema.specs.Schemas.{StatedSchema, MatchesDeclarations, IsAction, IsRecordOf, IsSound, shape_or_context, action_parents}
 use Rattle.schema.specs.Schemas.{type_parents, type_uid}
 use Rattle.schema.proofs.HierarchyLemmas.{last_edge, action_edge, above_declared, below_declared}
 use Rattle.schema.proofs.NameLemmas.{AreNamed, names_of}
@@ -77,7 +77,7 @@ module _ (one : OneWritten) (written : WrittenTypesAscend) (s : ResolvedSchema) 
         small = subst (λ (x : Cedar). IsTooLarge x → ⊥) (one s.commons once.commons r small.0 t small.1 w) small.2;
       }
 
-  module _ (v : StatedSchema) (answers : Answers s v) where
+  module _ (v : StatedSchema) (answers : MatchesDeclarations s v) where
     there : (q : List ℕ) → IsEntityType s q → IsSome (v.shape q)
     there q (e, here, name) = subst (λ (n : List ℕ). IsSome (v.shape n)) name (answers.all_shapes e here)
 

@@ -1,5 +1,5 @@
--- Defines the theorems that parsing agrees with the relations on JSON: each relation holds of exactly one result, that
--- of the parsing function.
+-- Defines the theorems that parsing agrees with the relations on JSON. These relate JSON to exactly one value or error:
+-- the result of the parsing function.
 use Rattle.std.specs.Prelude.{◌↔◌, ℕ, List, Bool}
 use Rattle.serde_json.specs.Data.{Data}
 use Rattle.schema_types.specs.TypeShape.{type_of}

@@ -1,4 +1,4 @@
--- Defines the look-ups in the parts of a schema, each a list of entries in the order of their keys.
+-- Defines the look-ups in the parts of a schema, where a map is the list of its entries in the order of their keys.
 use Rattle.std.specs.Prelude.{List, ℕ, Bool, false, Option, Some, None}
 use Rattle.std.specs.List.{slice_get}
 use Rattle.std.specs.Map.{lookup}

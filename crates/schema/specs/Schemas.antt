@@ -1,4 +1,4 @@
--- Defines the schema that bytes describe, and the error of bytes that describe none, by its cause.
+-- Defines the schema that bytes describe, and the first error of bytes that describe none.
 -- Source: Cedar reference guide 4.0, "Schema JSON format": `shape`, `memberOfTypes`, `memberOf`, `appliesTo`.
 -- Rules of this product: the limits on types (10,000 nodes, 64 deep); no action is its own ancestor; the order of the
 -- errors: not JSON (20), then the form of the whole file (21), unknown names (22), cycles of common types (23), cycles
@@ -58,7 +58,7 @@ ActionHasAncestor v u above = (us : List EntityUid) × (v.ancestors u ≡ Some u
 
 -- ---- hierarchies
 
--- `with_actions parents as` is `parents` with the edges by `memberOf`: each action of `as` in turn gets its parents.
+-- `with_actions parents actions` is `parents` with the edges by `memberOf`: each of `actions` in turn gets its parents.
 abbrev pub with_actions : Parents → List ResolvedAction → Parents
 with_actions parents [] = parents
 with_actions parents (a ∷ rest) = with_actions (with_parents parents a.uid a.parents) rest
@@ -99,17 +99,17 @@ pub data IsSchemaType (s : ResolvedSchema) : Qualified → Type 0 where
   common : (q : List ℕ) (r : Qualified) → Declares s.commons q r → IsSchemaType s (qualified.common q)
   shape_or_context : (r : Qualified) → IsShapeOrContext s r → IsSchemaType s r
 
--- `IsWritten commons r` holds if the type `r` has an expansion within the limits; `commons` are the declared common
--- types.
-abbrev pub IsWritten : Declarations → Qualified → Type 0
-IsWritten commons r = (t : Cedar) × IsExpansion commons r t × (IsTooLarge t → ⊥)
+-- `HasSmallExpansion commons r` holds if the type `r` has an expansion within the limits; `commons` are the declared
+-- common types.
+abbrev pub HasSmallExpansion : Declarations → Qualified → Type 0
+HasSmallExpansion commons r = (t : Cedar) × IsExpansion commons r t × (IsTooLarge t → ⊥)
 
 -- `SomeTypeIsTooLarge s` holds if the expansion of some type of the schema `s` is too large.
 pub record SomeTypeIsTooLarge (s : ResolvedSchema) : Type 0 where
   pub type : Qualified
   pub whole : Cedar
-  pub stands : IsSchemaType s type
-  pub is_written : IsExpansion s.commons type whole
+  pub is_type : IsSchemaType s type
+  pub is_expansion : IsExpansion s.commons type whole
   pub too_large : IsTooLarge whole
 
 -- ---- the schema of a file with resolved names
@@ -142,9 +142,10 @@ IsEnvironment s e = (applied : ResolvedAppliesTo) × Applies s e.place applied
 abbrev pub IsEnvironmentKey : ResolvedSchema → EnvironmentKey → Type 0
 IsEnvironmentKey s p = (applied : ResolvedAppliesTo) × Applies s p applied
 
--- `Answers s v` holds if each look-up of `v` finds exactly what `s` declares. The actions, the ancestors of each action
--- and the environments ascend, without duplicates; the parents of an action are in the order of its `memberOf`.
-pub record Answers (s : ResolvedSchema) (v : StatedSchema) : Type 0 where
+-- `MatchesDeclarations s v` holds if each look-up of `v` finds exactly what `s` declares. The actions, the ancestors of
+-- each action and the environments ascend, without duplicates; the parents of an action are in the order of its
+-- `memberOf`.
+pub record MatchesDeclarations (s : ResolvedSchema) (v : StatedSchema) : Type 0 where
   pub shapes : (n : List ℕ) (t : Cedar) → v.shape n ≡ Some t → IsShape s n t
   pub all_shapes : (e : ResolvedEntityType) → Contains s.entity_types e → IsSome (v.shape e.name)
   pub actions : (u : EntityUid) → Contains v.actions u ↔ IsAction s u
@@ -166,7 +167,7 @@ pub record Answers (s : ResolvedSchema) (v : StatedSchema) : Type 0 where
 -- `IsSound s` holds if no action of `s` is its own ancestor, and each type of `s` has an expansion within the limits.
 pub record IsSound (s : ResolvedSchema) : Type 0 where
   pub no_cycle : SomeActionIsOnCycle s → ⊥
-  pub is_written : (r : Qualified) → IsSchemaType s r → IsWritten s.commons r
+  pub is_written : (r : Qualified) → IsSchemaType s r → HasSmallExpansion s.commons r
 
 -- `HasContent bytes ns` holds if `bytes` are JSON that describes the namespaces `ns`.
 pub record HasContent (bytes : List ℕ) (ns : List NamespaceOf) : Type 0 where
@@ -174,7 +175,7 @@ pub record HasContent (bytes : List ℕ) (ns : List NamespaceOf) : Type 0 where
   pub json : json_of bytes ≡ Some value
   pub states : DescribesNamespaces value ns
 
--- `HasDeclarations bytes s` holds if `bytes` describe a file whose shapes and contexts are records, and `s` are its
+-- `HasDeclarations bytes s` holds if `bytes` are a schema file whose shapes and contexts are records, and `s` are its
 -- declarations with their names resolved.
 pub record HasDeclarations (bytes : List ℕ) (s : ResolvedSchema) : Type 0 where
   pub namespaces : List NamespaceOf
@@ -182,27 +183,27 @@ pub record HasDeclarations (bytes : List ℕ) (s : ResolvedSchema) : Type 0 wher
   pub records : SomeIsNotRecord namespaces → ⊥
   pub resolved : ResolvesFile namespaces s
 
--- `IsSchemaOf bytes v` holds if `bytes` describe the schema `v`. The bytes describe a file (`HasDeclarations`) in which
+-- `IsSchemaOf bytes v` holds if `bytes` describe the schema `v`. The bytes are a schema file (`HasDeclarations`) where
 -- no action is its own ancestor and each type has an expansion within the limits. `v` has the label of `bytes`, and
--- each look-up of `v` finds what the file declares. Nothing is declared twice, since the keys of a parsed object are
--- distinct: a theorem of `schema_names`.
+-- each look-up of `v` finds what the file declares. No common type, entity type or action is declared twice: this is
+-- a theorem of `schema_names` (`files_are_in_order`).
 pub record IsSchemaOf (bytes : List ℕ) (v : StatedSchema) : Type 0 where
   pub named : ResolvedSchema
   pub states : HasDeclarations bytes named
   pub sound : IsSound named
   pub label : v.label ≡ encode_lower (sha256 bytes)
-  pub answers : Answers named v
+  pub answers : MatchesDeclarations named v
 
 -- `SomeCommonLeadsBack s` holds if the declaration of some common type of `s` names that type, directly or through the
 -- declarations of other common types.
 abbrev pub SomeCommonLeadsBack : ResolvedSchema → Type 0
 SomeCommonLeadsBack s = (q : List ℕ) × Leads s.commons q q
 
--- `RefusedFor bytes fault` holds if `bytes` describe no schema, and `fault` is the first error, by its cause.
+-- `RefusedFor bytes fault` holds if `bytes` describe no schema, and `fault` is the first error.
 pub data RefusedFor (bytes : List ℕ) : SchemaFault → Type 0 where
   -- 20: the bytes are not JSON
   not_json : json_of bytes ≡ None → RefusedFor bytes NotJson
-  -- 21: the JSON describes no file, or some shape or context is not a record
+  -- 21: the JSON does not have the form of a schema file, or some shape or context is not a record
   no_file : (d : Data) → json_of bytes ≡ Some d → IsNoFile d → RefusedFor bytes BadShape
   no_record : (ns : List NamespaceOf) → HasContent bytes ns → SomeIsNotRecord ns → RefusedFor bytes BadShape
   -- 22: some name denotes no declaration

@@ -13,9 +13,9 @@ use values::{EntityUid, TypeName};
 ///
 /// Look-ups do not allocate and take logarithmic time. Actions and entity types are numbered, and the numbers of the
 /// ancestors of each are stored as spans of consecutive numbers. A test for an ancestor also takes time linear in the
-/// number of these spans, which is one in a chain, for example (numbering.rt). Contracts see the entries of a schema,
-/// which are plain data, and state properties of the abstract schema (`schema_view`). Each schema is one that some
-/// bytes describe ([`Schema::is_stated`]).
+/// number of these spans, which is at most one if the hierarchy is a chain, for example (numbering.rt). Contracts see
+/// the entries of a schema, which are plain data, and state properties of the abstract schema (`schema_view`). Each
+/// schema is one that some bytes describe ([`Schema::is_stated`]).
 #[derive(Drop)]
 pub struct Schema {
     pub(crate) label: Text,

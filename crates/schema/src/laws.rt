@@ -37,7 +37,7 @@ pub fn files_are_read_as_stated()
 }
 
 /// Proves that resolving the names of a file gives the file's declarations with each name resolved, or the error if a
-/// name means no declaration. No-op.
+/// name means nothing. No-op.
 ///
 /// The names of a file have exactly one meaning or are rejected with exactly one error, never both.
 pub fn names_are_resolved_as_stated()
@@ -91,7 +91,8 @@ pub fn bytes_have_one_outcome()
 ///
 /// Attributes and contexts are records, within the limits and with ascending keys. Environments, actions and ancestors
 /// ascend. No action is its own ancestor, and the ancestor relation is transitive. Each named entity type is declared,
-/// and so is each ancestor of an action. Only actions have a type whose last word is `Action`.
+/// and so is each ancestor of an action. The type of each action has the last word `Action`, and no declared entity
+/// type has.
 pub fn stated_schemas_are_well_formed()
     ensures { StatedSchemasAreWellFormed }
 {

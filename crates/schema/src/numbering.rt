@@ -1,8 +1,8 @@
 //! The ancestors of each entity, as numbers.
 //!
-//! Entities are numbered, each after its ancestors unless these lead back to it. So the numbers of an entity's
-//! ancestors are often consecutive, and few spans contain them. One span suffices for each entity of a chain, and of
-//! layers in which each entity is a member of all entities of the layer before.
+//! Entities are numbered, each after its parents unless these lead back to it. So the numbers of an entity's
+//! ancestors are often consecutive, and few spans contain them. One span suffices for each entity if the hierarchy is a
+//! chain, or layers in which each entity is a member of all entities of the layer before.
 ghost use Rattle.std.specs.Prelude.{◌≡◌, ◌++◌, ◌∷◌, ⊤, [], Contains, Some, None, true, IfOk, OnOk, MatchOption};
 ghost use Rattle.std.specs.Prelude.{option_map};
 ghost use Rattle.std.specs.List.{slice_get};
@@ -78,7 +78,7 @@ fn edges_by_place(
     Ok(found)
 }
 
-/// Returns the uids at these indices.
+/// Returns the uids at these indices. Skips an index past the end.
 fn those_at<'e>(
     alloc: Global,
     uids: &'e [EntityUid],

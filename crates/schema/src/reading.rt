@@ -106,8 +106,9 @@ fn make_hierarchies(
     })
 }
 
-/// Returns the schema of `bytes`, which describe the file `found`. The hierarchy of its actions and the sizes of its
-/// common types are already checked. The only errors are `TypeTooLarge` (25), for a shape or a context, and `NoMemory`.
+/// Returns the schema of `bytes`, whose declarations, with resolved names, are `found`. The hierarchy of the actions
+/// (`edges`) and the sizes of the expanded common types (`table`) are already checked. The only errors are
+/// `TypeTooLarge` (25), for a shape or a context, and `NoMemory`.
 fn make_schema(
     alloc: Global,
     bytes: &[u8],
@@ -142,7 +143,7 @@ fn make_schema(
     })
 }
 
-/// Returns the schema of `bytes`, which describe the file `found`.
+/// Returns the schema of `bytes`, whose declarations, with resolved names, are `found`.
 ///
 /// # Errors
 ///
@@ -174,7 +175,7 @@ fn sound_schema(alloc: Global, bytes: &[u8], found: &ResolvedFile) -> Result<Sch
 /// - `NotJson` (20): the bytes are not JSON.
 /// - `BadShape` (21): the JSON does not have the form of a schema, or, checked after the whole form, a shape or a
 ///   context is not a record.
-/// - `UnknownName` (22): a name is not declared.
+/// - `UnknownName` (22): a name does not resolve.
 /// - `TypeCycle` (23): a common type refers to itself, directly or indirectly.
 /// - `ActionCycle` (24): an action is its own ancestor.
 /// - `TypeTooLarge` (25): a type, expanded, has over 10,000 nodes or is over 64 deep.

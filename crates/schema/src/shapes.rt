@@ -1,4 +1,4 @@
-//! Shapes and contexts, expanded.
+//! Expanded shapes and contexts: each common type is replaced by its definition.
 ghost use Rattle.std.specs.Prelude.{◌≡◌, ◌≢◌, Some, MatchResult, map, option_map};
 ghost use Rattle.schema_types.specs.QualifiedViews.{qualified_view};
 ghost use Rattle.schema_types.specs.Cedar.{record_of, no_fields};
@@ -29,8 +29,8 @@ fn no_attributes(alloc: Global) -> Result<CedarType, SchemaFault>
     Ok(CedarType::Record(fields))
 }
 
-/// Returns a shape or a context, expanded; if it is missing, a record without attributes. The only errors are
-/// `TypeTooLarge` (25), and `NoMemory`.
+/// Returns the expanded type of a shape or a context, or a record without attributes if it is missing. The only errors
+/// are `TypeTooLarge` (25) and `NoMemory`.
 pub(crate) fn make_record(
     alloc: Global,
     ty: &Option<QualifiedType>,
@@ -68,7 +68,7 @@ fn add_shape(
     Ok(())
 }
 
-/// Returns the shapes of entity types, by their names. The only errors are `TypeTooLarge` (25), and `NoMemory`.
+/// Returns the shapes of entity types, by their names. The only errors are `TypeTooLarge` (25) and `NoMemory`.
 pub(crate) fn make_shapes(
     alloc: Global,
     entity_types: &[ResolvedEntityType],

@@ -81,7 +81,7 @@ fn check_file(alloc: Global, schema: &Schema, policies: &[u8]) -> Result<(Vec<u8
 ///
 /// The lines have the order of the file, with a line feed between each two:
 ///
-/// - `{"id":"policy0","verdict":"accepted"}`: the policy passes validation.
+/// - `{"id":"policy0","verdict":"accepted"}`: the policy passes validation, and is not impossible.
 /// - `{"id":"policy0","verdict":"impossible"}`: the policy passes, and its type is False in each environment of the
 ///   schema, so that no request satisfies it if the request and the entities conform to the schema.
 /// - `{"code":44,"id":"policy0","verdict":"refused"}`: the policy does not pass; `code` is the code of its error (40 to

@@ -36,7 +36,7 @@ pub record AppliesToOf : Type 0 where
   pub resources : List (List ℕ)
   pub context : Option Raw
 
--- An `ActionOf` is an action of the file: its id, its parents, and what it applies to, if it applies to anything.
+-- An `ActionOf` is an action of the file: its id, its parents, and what it applies to, if the file has its `appliesTo`.
 pub record ActionOf : Type 0 where
   pub id : List ℕ
   pub parents : List StatedParent

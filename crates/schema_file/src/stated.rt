@@ -15,7 +15,7 @@ pub struct StatedCommon {
 #[derive(Drop)]
 pub struct StatedEntityType {
     pub name: TypeName,
-    /// The names of the types that the parents of its entities may have.
+    /// The names of its parent types, as its `memberOfTypes` lists them.
     pub parents: Items<TypeName>,
     /// The type of the record of its entities' attributes, if the file has one.
     pub shape: Option<RawType>,
@@ -38,7 +38,7 @@ pub struct StatedParent {
     pub id: Text,
 }
 
-/// An action: its id within its namespace, its parents, and what it applies to, if it applies to anything.
+/// An action: its id within its namespace, its parents, and what it applies to, if the file has its `appliesTo`.
 #[derive(Drop)]
 pub struct StatedAction {
     pub id: Text,

@@ -1,6 +1,6 @@
 -- Defines the theorems that bytes describe one schema file or are rejected with one error, and theorems about such
--- files. A file declares each type that it mentions, and nothing twice; the keys of its records ascend; its shapes and
--- contexts are records.
+-- files. A file declares each type that it mentions, and nothing twice; the keys of its records ascend; the expansions
+-- of its shapes and contexts are records.
 use Rattle.std.specs.Prelude.{◌≡◌, ◌⊎◌, ℕ, List, Contains, map, Some}
 use Rattle.schema_types.specs.Qualified.{Qualified}
 use Rattle.schema_types.specs.Cedar.{Cedar, CedarFields, record_of}

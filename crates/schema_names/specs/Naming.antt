@@ -1,6 +1,6 @@
 -- Defines the schema file that bytes describe, with resolved names, and the error if they describe none.
 -- Rules of this product: the order of errors. `NotJson` comes first, then `BadShape`, wherever in the file, then
--- `UnknownName`, a name that is not declared.
+-- `UnknownName`, a name that does not resolve.
 use Rattle.std.specs.Prelude.{◌≡◌, ℕ, List, Some, None, Ok, Err}
 use Rattle.json_words.specs.Json.{json_of}
 use Rattle.serde_json.specs.Data.{Data}
@@ -17,7 +17,7 @@ pub record IsNamed (ns : List NamespaceOf) (s : ResolvedSchema) : Type 0 where
   pub found : qualified ns ≡ Ok s
 
 -- `NamesRefused ns f` holds if `f` is the error of resolving the names of the namespaces `ns`: some shape or context is
--- not a record, or else a name is not declared.
+-- not a record, or else a name does not resolve.
 pub data NamesRefused (ns : List NamespaceOf) : SchemaFault → Type 0 where
   no_record : SomeIsNoRecord ns → NamesRefused ns BadShape
   unknown : (f : SchemaFault) → (SomeIsNoRecord ns → ⊥) → qualified ns ≡ Err f → NamesRefused ns f

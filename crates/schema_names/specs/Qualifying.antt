@@ -50,7 +50,8 @@ entity_types_declared ns = all_of (λ n. map (λ e. full_name n.name e.name) n.e
 abbrev pub actions_declared : List NamespaceOf → List EntityUid
 actions_declared ns = all_of (λ n. map (λ a. action_uid (action_type n.name) a.id) n.actions) ns
 
--- `scope_in ns` has two tests: whether the namespaces `ns` declare a common type, and an entity type, with a full name.
+-- `scope_in ns` has two tests of a full name: whether it is that of a common type that the namespaces `ns` declare, and
+-- whether it is that of an entity type that they declare.
 abbrev pub scope_in : List NamespaceOf → Scope
 scope_in ns = record {
   commons = λ q. list_any (λ c. bytes_eq c.name q) (commons_declared ns);

@@ -37,7 +37,7 @@ fn read_value(alloc: Global, bytes: &[u8]) -> Result<Value, SchemaFault>
 /// In this order:
 ///
 /// - `BadShape` (21): a shape or a context is not a record.
-/// - `UnknownName` (22): a name is not declared.
+/// - `UnknownName` (22): a name does not resolve.
 /// - `NoMemory` (1): an allocation failed; possible at any point.
 fn name_all(alloc: Global, stated: &[StatedNamespace]) -> Result<Items<ResolvedFile>, SchemaFault>
     ensures { MatchResult result (λ ps. IsNamed (map namespace_view stated.now) (together (map resolved_view ps)))
@@ -67,7 +67,7 @@ fn read_parts(alloc: Global, bytes: &[u8]) -> Result<Items<ResolvedFile>, Schema
 /// - `NotJson` (20): the bytes are not JSON.
 /// - `BadShape` (21): the JSON does not have the form of a schema, or, checked after the whole form, a shape or a
 ///   context is not a record.
-/// - `UnknownName` (22): a name is not declared.
+/// - `UnknownName` (22): a name does not resolve.
 /// - `NoMemory` (1): an allocation failed; possible at any point.
 pub fn read_named(alloc: Global, bytes: &[u8]) -> Result<ResolvedFile, SchemaFault>
     ensures { MatchResult result (λ found. DescribesFile bytes.now (resolved_view found))

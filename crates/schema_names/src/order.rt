@@ -81,7 +81,7 @@ fn place_at(name: &str, places: &BTreeMap<String, usize>) -> Option<usize>
     places.get(name).copied()
 }
 
-/// Returns the index of the common type that a type names, if it names one.
+/// Returns the index that `places` has for the common type that a type names, if there is one.
 fn place_meant(
     alloc: Global,
     names: &Names,
@@ -109,8 +109,8 @@ fn in_list(alloc: Global, place: Option<usize>) -> Result<Vec<usize>, NoMemory>
     Ok(places)
 }
 
-/// Returns the index that `places` has for the common type whose name is the definition of `listed`, as a list. The
-/// list is empty if the definition is not such a name, or if `places` has no index for it.
+/// Returns, as a list, the index of the common type that the definition of `listed` names. The list is empty if the
+/// definition names no common type, or if `places` has no index for the name.
 fn reference_of(
     alloc: Global,
     names: &Names,
@@ -144,8 +144,8 @@ fn uses_of(
 }
 
 /// Returns the indices of the common types, without duplicates. A common type whose definition is only the name of
-/// another comes after that other, unless the other leads back to it. In this order one pass finds each common type
-/// that is not a record.
+/// another comes after that other, unless the other leads back to it. If no name is declared twice, one pass in this
+/// order finds each common type that is not a record.
 pub(crate) fn order_of(
     alloc: Global,
     names: &Names,

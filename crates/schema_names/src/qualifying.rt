@@ -1,5 +1,5 @@
 //! The resolution of the names in a schema file. `own` is the name of the namespace that uses a name; `None` is the
-//! empty namespace. The only errors are `UnknownName` (22), for a name that is not declared, and `NoMemory` (1).
+//! empty namespace. The only errors are `UnknownName` (22), for a name that does not resolve, and `NoMemory` (1).
 ghost use Rattle.std.specs.Prelude.{◌≡◌, IfOk, map, option_map};
 ghost use Rattle.json_words.specs.ReadsAs.{ReadsAs};
 ghost use Rattle.schema_types.specs.Views.{raw_view};
@@ -33,7 +33,7 @@ use values::{EntityUid, SharedText, TypeName};
 pub struct ResolvedEntityType {
     /// Its full name.
     pub name: TypeName,
-    /// The full names of the types that the parents of its entities may have.
+    /// The full names of its parent types, in the order of `memberOfTypes`.
     pub parents: Items<TypeName>,
     /// The type of its entities' attributes, if the file has one.
     pub shape: Option<QualifiedType>,
@@ -356,7 +356,7 @@ pub(crate) fn qualify_namespace(
 ///
 /// # Errors
 ///
-/// - `UnknownName` (22): a name is not declared.
+/// - `UnknownName` (22): a name does not resolve.
 /// - `NoMemory` (1): an allocation failed; possible at any point.
 pub(crate) fn qualify_namespaces(
     alloc: Global,

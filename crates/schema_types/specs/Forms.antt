@@ -21,7 +21,7 @@ form_named w =
     if bytes_eq w (codes "Extension") then Extension else
     if bytes_eq w (codes "EntityOrCommon") then EntityOrCommon else Common
 
--- `own_keys form` are the keys that are specific to the form `form`.
+-- `own_keys form` are the keys that JSON of the form `form` may have, except those that JSON of every form may have.
 abbrev pub own_keys : Form → List (List ℕ)
 own_keys Text = []
 own_keys Long = []

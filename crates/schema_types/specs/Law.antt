@@ -1,5 +1,5 @@
--- Defines the theorems that a type has at most one expansion, when it has one, and that the names that a type mentions
--- are declared. In this file `commons` are the declared common types, each with its definition.
+-- Defines the theorems on when a type has an expansion, that it has at most one, and that the names that a type
+-- mentions are declared. In this file `commons` are the declared common types, each with its definition.
 -- Source: Cedar reference guide 4.0, "Schema JSON format".
 use Rattle.std.specs.Prelude.{◌≡◌, ◌⊎◌, ℕ, List, true, Option, Ok}
 use Rattle.schema_types.specs.Raw.{Raw}

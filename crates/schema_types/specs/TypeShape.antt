@@ -94,7 +94,7 @@ by_form Common w d element fields = do
   Ok (raw.common n)
 
 -- `formed is_attribute d element fields` is the type that `d` describes, or the first error. The keys of `d` must be
--- those of its form; `element` and `fields` are as in `by_form`, `is_attribute` as in `type_of`.
+-- among those of its form; `element` and `fields` are as in `by_form`, `is_attribute` as in `type_of`.
 unfoldable pub formed : Bool → Data → Option (Result Raw SchemaFault) → Option (Result RawFields SchemaFault)
     → Result Raw SchemaFault
 formed is_attribute d element fields = do

@@ -17,7 +17,7 @@ pub enum SchemaFault {
     /// The JSON does not have the form of a schema, or a shape or a context is not a record.
     #[error("schema 21: JSON without the form of a schema")]
     BadShape,
-    /// A name does not resolve to a declared type or action.
+    /// A name does not resolve to a type or an action.
     #[error("schema 22: name of no declared type or action")]
     UnknownName,
     /// A common type refers to itself, directly or indirectly.

@@ -44,7 +44,8 @@ pub fn written_entities_are_named()
 {}
 
 /// Proves that the keys of each record ascend strictly: in parsed JSON, in the types that it describes, and in these
-/// types with resolved names. If the keys in each declared common type ascend, so do those in the expansions. No-op.
+/// types with resolved names. If the keys in a type and in each declared common type ascend, so do those in the type's
+/// expansion. No-op.
 pub fn keys_ascend()
     ensures json { JsonAscends }
     ensures stated { StatedTypesAscend }

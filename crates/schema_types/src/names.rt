@@ -179,7 +179,7 @@ fn resolve_common(
 ///
 /// # Errors
 ///
-/// - `UnknownName` (22): a name is not declared.
+/// - `UnknownName` (22): a name in the type does not resolve.
 /// - `NoMemory` (1): an allocation failed; possible at any point.
 #[cycle(resolve)]
 #[tactic(auto, unfolding(crate::specs::Names::qualified_of))]

@@ -1,5 +1,6 @@
 //! Expands the types of a schema: replaces each common type by its definition, and computes the sizes of the results.
-//! Also finds an order of a graph's nodes in which each node comes after its successors.
+//! Also finds an order of a graph's nodes in which each node comes after its successors, except those that lead back to
+//! it.
 #![tactic(auto)]
 
 mod commons;

@@ -1,4 +1,4 @@
-//! An order of a graph's nodes in which each node comes after its successors.
+//! An order of a graph's nodes in which each node comes after its successors, except those that lead back to it.
 ghost use Rattle.std.specs.Prelude.{◌≡◌, ◌∷◌, ◌<◌, [], true, false, length, replicate, slice_set, IfOk, OnOk};
 ghost use Rattle.schema_written_types.specs.Orders.{graph_of, ends_of as ends_at, IsSuccessorsFirst};
 ghost use Rattle.schema_written_types.specs.inner.Ordering.{is_new, entered, IsWalk, WalksOn, KeepsSeen, one_if_seen};

@@ -1,4 +1,4 @@
-//! The size of an expanded type, up to one more than the limits of 10,000 nodes and a depth of 64.
+//! The size of an expanded type. Sizes saturate at one more than the limits of 10,000 nodes and a depth of 64.
 ghost use Rattle.std.specs.Prelude.{◌≡◌, option_map};
 ghost use Rattle.schema_written_types.specs.inner.Table.{leaf_size, no_size as none_of, node_size as above_of};
 ghost use Rattle.schema_written_types.specs.inner.Table.{side_by_side as side_by_side_of};

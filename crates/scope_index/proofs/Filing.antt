@@ -17,20 +17,20 @@ use Rattle.std.specs.declared.string.String.{String}
 use Rattle.policy_grammar.specs.declared.policy.Policy.{Policy}
 use Rattle.scope_index.specs.declared.buckets.Buckets.{Buckets}
 use Rattle.scope_index.specs.Keys.{IndexKey, Always, Principal, Resource, index_key, Kept, kept_at}
-use Rattle.scope_index.specs.Buckets.{Bucket, TypeBuckets, EntityBuckets, policy_in_bucket, policy_of_entity_id, policy_of_uid, bucket_of, is_text, is_key, in_bucket}
-use Rattle.scope_index.specs.Buckets.{IsSetAtUid, IsSetAtId, IsSetAtKey, IsSameUnder, IsSameNamed, AreSame, AreEmpty, policy_with_key, AreFiled}
+use Rattle.scope_index.specs.Buckets.{Bucket, TypeBuckets, EntityBuckets, policy_in_bucket, policy_of_entity_id, policy_of_uid, bucket_of, is_same_text, is_same_key, in_bucket}
+use Rattle.scope_index.specs.Buckets.{IsSetAtUid, IsSetAtId, IsSetAtKey, AreSameEntityBuckets, AreSameTypeBuckets, AreSameBuckets, AreEmpty, policy_with_key, AreFiled}
 
 -- ---- the policies under one entity of a type
 
-same_text : (a b : List ℕ) → is_text a b ≡ true → a ≡ b
+same_text : (a b : List ℕ) → is_same_text a b ≡ true → a ≡ b
 same_text a b h = tells_apart text_cmp-IsAntisymmetric a b h
 
 pub turned : (entity id : List ℕ) (there : Option Policy) (m n : TypeBuckets) (w : Bucket)
-    → ((e : List ℕ) → get text_cmp n e ≡ cond (is_text entity e) (Some w) (get text_cmp m e))
+    → ((e : List ℕ) → get text_cmp n e ≡ cond (is_same_text entity e) (Some w) (get text_cmp m e))
     → ((q : List ℕ) → kept_at w.entries q ≡ cond (bytes_eq id q) there (policy_of_entity_id m entity q))
     → IsSetAtId entity id there m n
 turned entity id there m n w at has e q =
-    elim (is_text entity e) as (λ b. is_text entity e ≡ b → get text_cmp n e ≡ cond b (Some w) (get text_cmp m e)
+    elim (is_same_text entity e) as (λ b. is_same_text entity e ≡ b → get text_cmp n e ≡ cond b (Some w) (get text_cmp m e)
     → policy_of_entity_id n e q ≡ cond (b && bytes_eq id q) there (policy_of_entity_id m e q)) [
       | true ↦ λ same is. ap (λ o. policy_in_bucket o q) is ∙ has q
           ∙ ap (λ x. cond (bytes_eq id q) there (policy_of_entity_id m x q)) (same_text entity e same)
@@ -38,10 +38,10 @@ turned entity id there m n w at has e q =
     ] refl (at e)
 
 pub emptied : (entity : List ℕ) (m n : TypeBuckets)
-    → ((e : List ℕ) → get text_cmp n e ≡ cond (is_text entity e) None (get text_cmp m e))
-    → ((q : List ℕ) → policy_of_entity_id m entity q ≡ None) → IsSameNamed m n
+    → ((e : List ℕ) → get text_cmp n e ≡ cond (is_same_text entity e) None (get text_cmp m e))
+    → ((q : List ℕ) → policy_of_entity_id m entity q ≡ None) → AreSameTypeBuckets m n
 emptied entity m n at none e q =
-    elim (is_text entity e) as (λ b. is_text entity e ≡ b → get text_cmp n e ≡ cond b None (get text_cmp m e)
+    elim (is_same_text entity e) as (λ b. is_same_text entity e ≡ b → get text_cmp n e ≡ cond b None (get text_cmp m e)
     → policy_of_entity_id n e q ≡ policy_of_entity_id m e q) [
       | true ↦ λ same is. ap (λ o. policy_in_bucket o q) is ∙ sym (subst (λ x. policy_of_entity_id m x q ≡ None) (same_text entity e same) (none q))
       | false ↦ λ apart is. ap (λ o. policy_in_bucket o q) is
@@ -49,10 +49,10 @@ emptied entity m n at none e q =
 
 -- what is written under an entity is what was there
 pub same_written : (entity : List ℕ) (m n : TypeBuckets) (w : Bucket)
-    → ((e : List ℕ) → get text_cmp n e ≡ cond (is_text entity e) (Some w) (get text_cmp m e))
-    → ((q : List ℕ) → kept_at w.entries q ≡ policy_of_entity_id m entity q) → IsSameNamed m n
+    → ((e : List ℕ) → get text_cmp n e ≡ cond (is_same_text entity e) (Some w) (get text_cmp m e))
+    → ((q : List ℕ) → kept_at w.entries q ≡ policy_of_entity_id m entity q) → AreSameTypeBuckets m n
 same_written entity m n w at has e q =
-    elim (is_text entity e) as (λ b. is_text entity e ≡ b → get text_cmp n e ≡ cond b (Some w) (get text_cmp m e)
+    elim (is_same_text entity e) as (λ b. is_same_text entity e ≡ b → get text_cmp n e ≡ cond b (Some w) (get text_cmp m e)
     → policy_of_entity_id n e q ≡ policy_of_entity_id m e q) [
       | true ↦ λ same is. ap (λ o. policy_in_bucket o q) is ∙ has q ∙ ap (λ x. policy_of_entity_id m x q) (same_text entity e same)
       | false ↦ λ apart is. ap (λ o. policy_in_bucket o q) is
@@ -61,7 +61,7 @@ same_written entity m n w at has e q =
 -- nothing is under the entity
 pub nothing_there : (entity id : List ℕ) (m : TypeBuckets) → get text_cmp m entity ≡ None → IsSetAtId entity id None m m
 nothing_there entity id m none e q =
-    elim (is_text entity e) as (λ b. is_text entity e ≡ b → policy_of_entity_id m e q ≡ cond (b && bytes_eq id q) None (policy_of_entity_id m e q)) [
+    elim (is_same_text entity e) as (λ b. is_same_text entity e ≡ b → policy_of_entity_id m e q ≡ cond (b && bytes_eq id q) None (policy_of_entity_id m e q)) [
       | true ↦ λ same.
           let absent : policy_of_entity_id m e q ≡ None = subst (λ x. policy_of_entity_id m x q ≡ None) (same_text entity e same) (ap (λ o. policy_in_bucket o q) none) in
           elim (bytes_eq id q) as (λ t. policy_of_entity_id m e q ≡ cond t None (policy_of_entity_id m e q)) [ true ↦ absent | false ↦ refl ]
@@ -71,9 +71,9 @@ nothing_there entity id m none e q =
 -- ---- the policies under one entity
 
 pub turned_type : (uid : EntityUid) (id : List ℕ) (there : Option Policy) (m n : EntityBuckets) (w : TypeBuckets)
-    → ((t : List ℕ) → get text_cmp n t ≡ cond (is_text uid.type_name t) (Some w) (get text_cmp m t))
+    → ((t : List ℕ) → get text_cmp n t ≡ cond (is_same_text uid.type_name t) (Some w) (get text_cmp m t))
     → ((e q : List ℕ) → policy_of_entity_id w e q
-    ≡ cond (is_text uid.id e && bytes_eq id q) there (policy_in_bucket (bucket_of (get text_cmp m uid.type_name) e) q))
+    ≡ cond (is_same_text uid.id e && bytes_eq id q) there (policy_in_bucket (bucket_of (get text_cmp m uid.type_name) e) q))
     → IsSetAtUid uid id there m n
 turned_type uid id there m n w at has u q =
     elim (text_cmp uid.type_name u.type_name) as (λ o. text_cmp uid.type_name u.type_name ≡ o
@@ -81,16 +81,16 @@ turned_type uid id there m n w at has u q =
     → policy_of_uid n u q ≡ cond (is_eq (ordering_then o (text_cmp uid.id u.id)) && bytes_eq id q) there (policy_of_uid m u q)) [
       | Less ↦ λ apart e. ap (λ o. policy_in_bucket (bucket_of o u.id) q) e
       | Equal ↦ λ same e. ap (λ o. policy_in_bucket (bucket_of o u.id) q) e ∙ has u.id q
-          ∙ ap (λ t. cond (is_text uid.id u.id && bytes_eq id q) there (policy_in_bucket (bucket_of (get text_cmp m t) u.id) q))
+          ∙ ap (λ t. cond (is_same_text uid.id u.id && bytes_eq id q) there (policy_in_bucket (bucket_of (get text_cmp m t) u.id) q))
           (text_cmp-IsAntisymmetric uid.type_name u.type_name same)
       | Greater ↦ λ apart e. ap (λ o. policy_in_bucket (bucket_of o u.id) q) e
     ] refl (at u.type_name)
 
 pub emptied_type : (uid : EntityUid) (m n : EntityBuckets)
-    → ((t : List ℕ) → get text_cmp n t ≡ cond (is_text uid.type_name t) None (get text_cmp m t))
-    → ((u : EntityUid) (q : List ℕ) → IsTrue (is_text uid.type_name u.type_name) → policy_of_uid m u q ≡ None) → IsSameUnder m n
+    → ((t : List ℕ) → get text_cmp n t ≡ cond (is_same_text uid.type_name t) None (get text_cmp m t))
+    → ((u : EntityUid) (q : List ℕ) → IsTrue (is_same_text uid.type_name u.type_name) → policy_of_uid m u q ≡ None) → AreSameEntityBuckets m n
 emptied_type uid m n at none u q =
-    elim (is_text uid.type_name u.type_name) as (λ b. is_text uid.type_name u.type_name ≡ b
+    elim (is_same_text uid.type_name u.type_name) as (λ b. is_same_text uid.type_name u.type_name ≡ b
     → get text_cmp n u.type_name ≡ cond b None (get text_cmp m u.type_name) → policy_of_uid n u q ≡ policy_of_uid m u q) [
       | true ↦ λ same e. ap (λ o. policy_in_bucket (bucket_of o u.id) q) e ∙ sym (none u q same)
       | false ↦ λ apart e. ap (λ o. policy_in_bucket (bucket_of o u.id) q) e
@@ -98,10 +98,10 @@ emptied_type uid m n at none u q =
 
 -- what is written under a type is what was there
 pub same_type_written : (uid : EntityUid) (m n : EntityBuckets) (w : TypeBuckets)
-    → ((t : List ℕ) → get text_cmp n t ≡ cond (is_text uid.type_name t) (Some w) (get text_cmp m t))
-    → ((e q : List ℕ) → policy_of_entity_id w e q ≡ policy_in_bucket (bucket_of (get text_cmp m uid.type_name) e) q) → IsSameUnder m n
+    → ((t : List ℕ) → get text_cmp n t ≡ cond (is_same_text uid.type_name t) (Some w) (get text_cmp m t))
+    → ((e q : List ℕ) → policy_of_entity_id w e q ≡ policy_in_bucket (bucket_of (get text_cmp m uid.type_name) e) q) → AreSameEntityBuckets m n
 same_type_written uid m n w at has u q =
-    elim (is_text uid.type_name u.type_name) as (λ b. is_text uid.type_name u.type_name ≡ b
+    elim (is_same_text uid.type_name u.type_name) as (λ b. is_same_text uid.type_name u.type_name ≡ b
     → get text_cmp n u.type_name ≡ cond b (Some w) (get text_cmp m u.type_name) → policy_of_uid n u q ≡ policy_of_uid m u q) [
       | true ↦ λ same e. ap (λ o. policy_in_bucket (bucket_of o u.id) q) e ∙ has u.id q
           ∙ ap (λ t. policy_in_bucket (bucket_of (get text_cmp m t) u.id) q) (same_text uid.type_name u.type_name same)
@@ -118,7 +118,7 @@ nothing_of_type uid id m none u q =
           let absent : policy_of_uid m u q ≡ None =
           subst (λ t. policy_in_bucket (bucket_of (get text_cmp m t) u.id) q ≡ None) (text_cmp-IsAntisymmetric uid.type_name u.type_name same)
           (ap (λ o. policy_in_bucket (bucket_of o u.id) q) none) in
-          elim (is_text uid.id u.id && bytes_eq id q) as (λ t. policy_of_uid m u q ≡ cond t None (policy_of_uid m u q)) [
+          elim (is_same_text uid.id u.id && bytes_eq id q) as (λ t. policy_of_uid m u q ≡ cond t None (policy_of_uid m u q)) [
             | true ↦ absent
             | false ↦ refl
           ]
@@ -127,12 +127,12 @@ nothing_of_type uid id m none u q =
 
 -- ---- keys
 
-pub key_self : (k : IndexKey) → is_key k k ≡ true
+pub key_self : (k : IndexKey) → is_same_key k k ≡ true
 key_self Always = refl
 key_self (Principal a) = same_self a
 key_self (Resource a) = same_self a
 
-pub key_same : (a b : IndexKey) → is_key a b ≡ true → a ≡ b
+pub key_same : (a b : IndexKey) → is_same_key a b ≡ true → a ≡ b
 key_same Always Always h = refl
 key_same Always (Principal b) h = absurd (cc)
 key_same Always (Resource b) h = absurd (cc)
@@ -147,10 +147,10 @@ key_same (Resource a) (Resource b) h = ap Resource (same_uid a b h)
 
 -- at the id of the change
 here : (b b' : Buckets) (key k : IndexKey) (there : Option Policy) (q : List ℕ) (t : Bool) → t ≡ true
-    → in_bucket b' k q ≡ cond (is_key key k && t) there (in_bucket b k q)
-    → in_bucket b' k q ≡ cond (is_key key k) there (in_bucket b k q)
+    → in_bucket b' k q ≡ cond (is_same_key key k && t) there (in_bucket b k q)
+    → in_bucket b' k q ≡ cond (is_same_key key k) there (in_bucket b k q)
 here b b' key k there q t is e =
-    elim (is_key key k) as (λ x. in_bucket b' k q ≡ cond (x && t) there (in_bucket b k q)
+    elim (is_same_key key k) as (λ x. in_bucket b' k q ≡ cond (x && t) there (in_bucket b k q)
     → in_bucket b' k q ≡ cond x there (in_bucket b k q)) [
       | true ↦ λ h. subst (λ y. in_bucket b' k q ≡ cond y there (in_bucket b k q)) is h
       | false ↦ λ h. h
@@ -158,9 +158,9 @@ here b b' key k there q t is e =
 
 -- at another id
 elsewhere : (b b' : Buckets) (key k : IndexKey) (there : Option Policy) (q : List ℕ) (t : Bool) → t ≡ false
-    → in_bucket b' k q ≡ cond (is_key key k && t) there (in_bucket b k q) → in_bucket b' k q ≡ in_bucket b k q
+    → in_bucket b' k q ≡ cond (is_same_key key k && t) there (in_bucket b k q) → in_bucket b' k q ≡ in_bucket b k q
 elsewhere b b' key k there q t is e =
-    elim (is_key key k) as (λ x. in_bucket b' k q ≡ cond (x && t) there (in_bucket b k q) → in_bucket b' k q ≡ in_bucket b k q) [
+    elim (is_same_key key k) as (λ x. in_bucket b' k q ≡ cond (x && t) there (in_bucket b k q) → in_bucket b' k q ≡ in_bucket b k q) [
       | true ↦ λ h. subst (λ y. in_bucket b' k q ≡ cond y there (in_bucket b k q)) is h
       | false ↦ λ h. h
     ] e
@@ -184,9 +184,9 @@ module _ (kept kept' : Kept) (b b' : Buckets) (id : List ℕ) (filed : AreFiled 
         | true ↦ λ is e.
             let key = index_key p.scope in
             let there : kept_at kept q ≡ Some p = subst (λ i. kept_at kept i ≡ Some p) ((bytes_eq-Decides id q).0 is) was in
-            let before : in_bucket b k q ≡ cond (is_key key k) (Some p) None = filed k q ∙ ap (policy_with_key k) there in
+            let before : in_bucket b k q ≡ cond (is_same_key key k) (Some p) None = filed k q ∙ ap (policy_with_key k) there in
             here b b' key k None q (bytes_eq id q) is (turns k q)
-            ∙ ap (λ o. cond (is_key key k) None o) before ∙ struck (is_key key k) p ∙ sym (ap (policy_with_key k) e)
+            ∙ ap (λ o. cond (is_same_key key k) None o) before ∙ struck (is_same_key key k) p ∙ sym (ap (policy_with_key k) e)
         | false ↦ λ is e. carried k q (elsewhere b b' (index_key p.scope) k None q (bytes_eq id q) is (turns k q)) e
       ] refl (at q)
 
@@ -201,7 +201,7 @@ module _ (kept kept' : Kept) (b b' : Buckets) (id : List ℕ) (filed : AreFiled 
             let there : kept_at kept q ≡ None = subst (λ i. kept_at kept i ≡ None) ((bytes_eq-Decides id q).0 is) was in
             let before : in_bucket b k q ≡ None = filed k q ∙ ap (policy_with_key k) there in
             here b b' key k (Some p) q (bytes_eq id q) is (turns k q)
-            ∙ ap (λ o. cond (is_key key k) (Some p) o) before ∙ sym (ap (policy_with_key k) e)
+            ∙ ap (λ o. cond (is_same_key key k) (Some p) o) before ∙ sym (ap (policy_with_key k) e)
         | false ↦ λ is e. carried k q (elsewhere b b' (index_key p.scope) k (Some p) q (bytes_eq id q) is (turns k q)) e
       ] refl (at q)
 
@@ -225,7 +225,7 @@ undone kept kept' kept'' id p was into out q =
     ] refl (into q) (out q)
 
 pub still_filed : (kept kept' : Kept) (b b' : Buckets) → AreFiled kept b
-    → ((q : List ℕ) → kept_at kept' q ≡ kept_at kept q) → AreSame b b' → AreFiled kept' b'
+    → ((q : List ℕ) → kept_at kept' q ≡ kept_at kept q) → AreSameBuckets b b' → AreFiled kept' b'
 still_filed kept kept' b b' filed at same k q = carried kept kept' b b' [] filed k q (same k q) (at q)
 
 -- ---- what one call says
@@ -249,19 +249,19 @@ of_err (Err e) P is h = h
 -- what a call on the buckets of a type says, said of all types
 module _ {E : Type 0} (r : Result (Unit {0}) E) (uid : EntityUid) (m n : EntityBuckets) (was w : TypeBuckets)
     (held : get text_cmp m uid.type_name ≡ Some was)
-    (at : (t : List ℕ) → get text_cmp n t ≡ cond (is_text uid.type_name t) (Some w) (get text_cmp m t)) where
+    (at : (t : List ℕ) → get text_cmp n t ≡ cond (is_same_text uid.type_name t) (Some w) (get text_cmp m t)) where
   before : (e q : List ℕ) → policy_of_entity_id was e q ≡ policy_in_bucket (bucket_of (get text_cmp m uid.type_name) e) q
   before e q = ap (λ o. policy_in_bucket (bucket_of o e) q) (sym held)
 
   pub ok_turned : (id : List ℕ) (there : Option Policy) → OnOk r (IsSetAtId uid.id id there was w) → OnOk r (IsSetAtUid uid id there m n)
   ok_turned id there h = elim r as (λ x. OnOk x (IsSetAtId uid.id id there was w) → OnOk x (IsSetAtUid uid id there m n)) [
     | Ok u ↦ λ k. turned_type uid id there m n w at
-        (λ e q. k e q ∙ ap (λ o. cond (is_text uid.id e && bytes_eq id q) there o) (before e q))
+        (λ e q. k e q ∙ ap (λ o. cond (is_same_text uid.id e && bytes_eq id q) there o) (before e q))
     | Err e ↦ λ k. tt
   ] h
 
-  pub err_same : OnErr r (IsSameNamed was w) → OnErr r (IsSameUnder m n)
-  err_same h = elim r as (λ x. OnErr x (IsSameNamed was w) → OnErr x (IsSameUnder m n)) [
+  pub err_same : OnErr r (AreSameTypeBuckets was w) → OnErr r (AreSameEntityBuckets m n)
+  err_same h = elim r as (λ x. OnErr x (AreSameTypeBuckets was w) → OnErr x (AreSameEntityBuckets m n)) [
     | Ok u ↦ λ k. tt
     | Err e ↦ λ k. same_type_written uid m n w at (λ e q. k e q ∙ before e q)
   ] h
@@ -302,22 +302,22 @@ module _ (b : Buckets) (key : IndexKey) (id : List ℕ) (there : Option Policy) 
       by_kind (Resource u) q = turns u q
 
 -- where a call on one kind of bucket fails, all are as they were
-pub principals_same : {E : Type 0} (r : Result (Unit {0}) E) (b : Buckets) (m : EntityBuckets) → OnErr r (IsSameUnder b.principals m)
-    → OnErr r (AreSame b (record { always = b.always; principals = m; resources = b.resources }))
+pub principals_same : {E : Type 0} (r : Result (Unit {0}) E) (b : Buckets) (m : EntityBuckets) → OnErr r (AreSameEntityBuckets b.principals m)
+    → OnErr r (AreSameBuckets b (record { always = b.always; principals = m; resources = b.resources }))
 principals_same (Ok u) b m h = tt
 principals_same (Err e) b m h = by_kind
   where
-    by_kind : AreSame b (record { always = b.always; principals = m; resources = b.resources })
+    by_kind : AreSameBuckets b (record { always = b.always; principals = m; resources = b.resources })
     by_kind Always q = refl
     by_kind (Principal u) q = h u q
     by_kind (Resource u) q = refl
 
-pub resources_same : {E : Type 0} (r : Result (Unit {0}) E) (b : Buckets) (m : EntityBuckets) → OnErr r (IsSameUnder b.resources m)
-    → OnErr r (AreSame b (record { always = b.always; principals = b.principals; resources = m }))
+pub resources_same : {E : Type 0} (r : Result (Unit {0}) E) (b : Buckets) (m : EntityBuckets) → OnErr r (AreSameEntityBuckets b.resources m)
+    → OnErr r (AreSameBuckets b (record { always = b.always; principals = b.principals; resources = m }))
 resources_same (Ok u) b m h = tt
 resources_same (Err e) b m h = by_kind
   where
-    by_kind : AreSame b (record { always = b.always; principals = b.principals; resources = m })
+    by_kind : AreSameBuckets b (record { always = b.always; principals = b.principals; resources = m })
     by_kind Always q = refl
     by_kind (Principal u) q = refl
     by_kind (Resource u) q = h u q

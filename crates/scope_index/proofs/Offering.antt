@@ -24,7 +24,7 @@ use Rattle.policy_grammar.specs.declared.policy.Policy.{Policy}
 use Rattle.scope_index.specs.declared.buckets.Buckets.{Buckets}
 use Rattle.scope_index.specs.Keys.{IndexKey, Always, Principal, Resource, index_key, IsMet, Kept, kept_at, Candidate, ids, lent, IsCandidate}
 use Rattle.scope_index.specs.Scopes.{IsScopeTrue}
-use Rattle.scope_index.specs.Buckets.{Bucket, policy_in_bucket, is_key, in_bucket, policy_with_key, AreFiled, HaveOnePolicy, AreOneAmong, AreOneAtEach, IsUnder}
+use Rattle.scope_index.specs.Buckets.{Bucket, policy_in_bucket, is_same_key, in_bucket, policy_with_key, AreFiled, BucketsHaveOnePolicyPerId, HaveOnePolicyPerIdTogether, HaveOnePolicyPerId, IsUnder}
 use Rattle.scope_index.proofs.Filing.{key_self, key_same}
 use Rattle.scope_index.proofs.Meeting.{scope_meets}
 
@@ -281,7 +281,7 @@ module _ (parents : Parents) (q : Request) (b : Buckets) (none others always : L
       → (o : Candidate) → Contains all o ↔ IsFound parents q b o
   offered_beside all j o = ((λ h. (in_either o).0 ((j o).0 h)), (λ f. (j o).1 ((in_either o).1 f)))
 
-  pub one_among : HaveOnePolicy b → AreOneAmong always others
+  pub one_among : BucketsHaveOnePolicyPerId b → HaveOnePolicyPerIdTogether always others
   one_among one id p r has_p has_r =
       let f = (in_either (id, p)).0 has_p in
       let g = (in_either (id, r)).0 has_r in
@@ -292,7 +292,7 @@ module _ (parents : Parents) (q : Request) (b : Buckets) (none others always : L
 due_is : (k : IndexKey) (o : Option Policy) (p : Policy) → policy_with_key k o ≡ Some p → (o ≡ Some p) × (index_key p.scope ≡ k)
 due_is k None p e = absurd (cc (e))
 due_is k (Some x) p e =
-    elim (is_key (index_key x.scope) k) as (λ t. is_key (index_key x.scope) k ≡ t → cond t (Some x) None ≡ Some p
+    elim (is_same_key (index_key x.scope) k) as (λ t. is_same_key (index_key x.scope) k ≡ t → cond t (Some x) None ≡ Some p
     → (Some x ≡ Some p) × (index_key p.scope ≡ k)) [
       | true ↦ λ is f. (f, subst (λ (y : Policy). index_key y.scope ≡ k) (one x f) (key_same (index_key x.scope) k is))
       | false ↦ λ is f. absurd (cc (f))
@@ -304,14 +304,14 @@ due_is k (Some x) p e =
 is_due : (p : Policy) → policy_with_key (index_key p.scope) (Some p) ≡ Some p
 is_due p = ap (λ t. cond t (Some p) None) (key_self (index_key p.scope))
 
-pub have_one : (seen kept : Kept) (b : Buckets) → kept ≡ seen → AreFiled kept b → HaveOnePolicy b
+pub have_one : (seen kept : Kept) (b : Buckets) → kept ≡ seen → AreFiled kept b → BucketsHaveOnePolicyPerId b
 have_one seen kept b is filed k l q p r at_k at_l =
     let first : kept_at kept q ≡ Some p = (due_is k (kept_at kept q) p (sym (filed k q) ∙ at_k)).0 in
     let second : kept_at kept q ≡ Some r = (due_is l (kept_at kept q) r (sym (filed l q) ∙ at_l)).0 in
     cc (first, second)
 
-pub one_at_each : (parents : Parents) (q : Request) (b : Buckets) (os : List Candidate) → HaveOnePolicy b
-    → ((o : Candidate) → Contains os o ↔ IsFound parents q b o) → AreOneAtEach os
+pub one_at_each : (parents : Parents) (q : Request) (b : Buckets) (os : List Candidate) → BucketsHaveOnePolicyPerId b
+    → ((o : Candidate) → Contains os o ↔ IsFound parents q b o) → HaveOnePolicyPerId os
 one_at_each parents q b os one are id p r has_p has_r =
     let f = (are (id, p)).0 has_p in
     let g = (are (id, r)).0 has_r in

@@ -14,7 +14,7 @@ use Rattle.values.specs.Names.{text_cmp, text_cmp-IsTotalOrder, text_cmp-IsAntis
 use Rattle.policy_grammar.specs.declared.policy.Policy.{Policy}
 use Rattle.ancestor_search.specs.Deciding.{Contains-here, Contains-there, Contains-cases, Contains-none}
 use Rattle.scope_index.specs.Keys.{Candidate, ids, lent}
-use Rattle.scope_index.specs.Buckets.{AreOneAmong, AreOneAtEach}
+use Rattle.scope_index.specs.Buckets.{HaveOnePolicyPerIdTogether, HaveOnePolicyPerId}
 use Rattle.scope_index.proofs.Offering.{Lent, behind, lent-push, Contains-pushed}
 
 -- the id of a policy
@@ -144,7 +144,7 @@ Contains-of_take i xs o h =
     (subst (λ l. Contains l o) (sym (lent-append (take i xs) (drop i xs))) (Contains-append_left (lent (take i xs)) (lent (drop i xs)) o h))
 
 -- the next one has the one policy of its id
-pub one_of_next : (os all : List Candidate) (ps : List Lent) (i : ℕ) (x : Lent) → i < length ps → x ≡ get_or ps i x → AreOneAmong os (lent ps)
+pub one_of_next : (os all : List Candidate) (ps : List Lent) (i : ℕ) (x : Lent) → i < length ps → x ≡ get_or ps i x → HaveOnePolicyPerIdTogether os (lent ps)
     → ((o : Candidate) → Contains all o ↔ Contains os o ⊎ Contains (lent (take i ps)) o)
     → (p : Policy) → Contains all (id x, p) → p ≡ x.1.now
 one_of_next os all ps i x lt at one so_far p h = one (id x) p x.1.now (elim ((so_far (id x, p)).0 h) [
@@ -186,5 +186,5 @@ in_both xs ys all is o =
       (λ s. subst (λ l. Contains l o) (sym shown) (elim s [ inl t ↦ Contains-append_left (lent xs) (lent ys) o t | inr t ↦ Contains-append_right (lent xs) (lent ys) o t ])),
     )
 
-pub one_at_each_joined : (xs ys all : List Lent) → all ≡ xs ++ ys → AreOneAmong (lent xs) (lent ys) → AreOneAtEach (lent all)
+pub one_at_each_joined : (xs ys all : List Lent) → all ≡ xs ++ ys → HaveOnePolicyPerIdTogether (lent xs) (lent ys) → HaveOnePolicyPerId (lent all)
 one_at_each_joined xs ys all is one i p r has_p has_r = one i p r ((in_both xs ys all is (i, p)).0 has_p) ((in_both xs ys all is (i, r)).0 has_r)

@@ -11,7 +11,7 @@ use Rattle.std.proofs.lemmas.List.Sorted.{Contains-permutation, IsPermutation-sy
 use Rattle.values.specs.Names.{text_cmp, text_cmp-IsTotalOrder}
 use Rattle.ancestor_search.specs.Deciding.{Contains-here, Contains-there, Contains-cases}
 use Rattle.scope_index.specs.Keys.{Candidate, lent, ids}
-use Rattle.scope_index.specs.Buckets.{AreOneAtEach}
+use Rattle.scope_index.specs.Buckets.{HaveOnePolicyPerId}
 use Rattle.scope_index.proofs.Offering.{Lent, behind}
 
 -- whether two have one id, of references and of what they refer to
@@ -52,14 +52,14 @@ ids-dedup (x ∷ xs) = ids-dedup_from x xs
 same_offer : (x o : Candidate) → x.0 ≡ o.0 → x.1 ≡ o.1 → x ≡ o
 same_offer x o id policy = λ i. (id i, policy i)
 
-one_of_two : (x y : Candidate) (os : List Candidate) → AreOneAtEach os → Contains os x → Contains os y → x.0 ≡ y.0 → x ≡ y
+one_of_two : (x y : Candidate) (os : List Candidate) → HaveOnePolicyPerId os → Contains os x → Contains os y → x.0 ≡ y.0 → x ≡ y
 one_of_two x y os one has_x has_y id =
     same_offer x y id (one y.0 x.1 y.1 (subst (λ i. Contains os (i, x.1)) id has_x) has_y)
 
-fewer : (x : Candidate) (xs : List Candidate) → AreOneAtEach (x ∷ xs) → AreOneAtEach xs
+fewer : (x : Candidate) (xs : List Candidate) → HaveOnePolicyPerId (x ∷ xs) → HaveOnePolicyPerId xs
 fewer x xs one id p r has_p has_r = one id p r (Contains-there x xs (id, p) has_p) (Contains-there x xs (id, r) has_r)
 
-first_and_rest : (x y : Candidate) (xs : List Candidate) → AreOneAtEach (x ∷ y ∷ xs) → AreOneAtEach (x ∷ xs)
+first_and_rest : (x y : Candidate) (xs : List Candidate) → HaveOnePolicyPerId (x ∷ y ∷ xs) → HaveOnePolicyPerId (x ∷ xs)
 first_and_rest x y xs one id p r has_p has_r = one id p r (within (id, p) has_p) (within (id, r) has_r)
   where
     within : (o : Candidate) → Contains (x ∷ xs) o → Contains (x ∷ y ∷ xs) o
@@ -68,7 +68,7 @@ first_and_rest x y xs one id p r has_p has_r = one id p r (within (id, p) has_p)
       | inr t ↦ Contains-there x (y ∷ xs) o (Contains-there y xs o t)
     ]
 
-kept_from : (x : Candidate) (xs : List Candidate) (o : Candidate) → AreOneAtEach (x ∷ xs) → Contains (x ∷ xs) o → Contains (dedup_from same_id x xs) o
+kept_from : (x : Candidate) (xs : List Candidate) (o : Candidate) → HaveOnePolicyPerId (x ∷ xs) → Contains (x ∷ xs) o → Contains (dedup_from same_id x xs) o
 kept_from x [] o one h = h
 kept_from x (y ∷ xs) o one h =
     elim (same_id y x) as (λ b. same_id y x ≡ b
@@ -86,19 +86,19 @@ kept_from x (y ∷ xs) o one h =
       ]
     ] refl
 
-all_kept : (os : List Candidate) (o : Candidate) → AreOneAtEach os → Contains os o → Contains (dedup same_id os) o
+all_kept : (os : List Candidate) (o : Candidate) → HaveOnePolicyPerId os → Contains os o → Contains (dedup same_id os) o
 all_kept [] o one h = h
 all_kept (x ∷ xs) o one h = kept_from x xs o one h
 
 -- ---- the calls
 
-pub same_in_order : (xs ys zs : List Lent) → AreOneAtEach (lent xs) → IsPermutation xs ys → zs ≡ dedup one_id ys
+pub same_in_order : (xs ys zs : List Lent) → HaveOnePolicyPerId (lent xs) → IsPermutation xs ys → zs ≡ dedup one_id ys
     → (o : Candidate) → Contains (lent zs) o ↔ Contains (lent xs) o
 same_in_order xs ys zs one moved left o =
     let whole : lent zs ≡ dedup same_id (lent ys) = ap lent left ∙ lent-dedup ys in
     let moves : IsPermutation (lent xs) (lent ys) = IsPermutation-map behind xs ys moved in
     let back : IsPermutation (lent ys) (lent xs) = IsPermutation-sym (lent xs) (lent ys) moves in
-    let still : AreOneAtEach (lent ys) = λ id p r has_p has_r. one id p r
+    let still : HaveOnePolicyPerId (lent ys) = λ id p r has_p has_r. one id p r
     (Contains-permutation (lent ys) (lent xs) (id, p) back has_p) (Contains-permutation (lent ys) (lent xs) (id, r) back has_r) in (
       (λ h. Contains-permutation (lent ys) (lent xs) o back
           (Contains-from_dedup same_id (lent ys) o (subst (λ l. Contains l o) whole h))),

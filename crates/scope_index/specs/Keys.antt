@@ -59,7 +59,7 @@ Kept = List (String Global × Policy)
 abbrev pub kept_at : Kept → List ℕ → Option Policy
 kept_at kept id = lookup (is_at (λ k. slice_cmp nat_cmp id (string_bytes k))) kept
 
--- A `Candidate` is an id with its policy. `IsCandidate` relates it to the requests that its key matches.
+-- A `Candidate` is an id with its policy. `IsCandidate` relates it to the requests that the policy's key matches.
 abbrev pub Candidate : Type 0
 Candidate = List ℕ × Policy
 

@@ -3,9 +3,9 @@ ghost use Rattle.std.specs.Prelude.{◌≡◌, ◌&&◌, IsTrue, IfOk, OnOk, OnE
 ghost use Rattle.std.specs.Str.{bytes_eq};
 ghost use Rattle.scope_index.specs.Keys.{index_key, kept_at};
 ghost use Rattle.values.specs.declared.entity_uid.EntityUid.{EntityUid as PlainUid};
-ghost use Rattle.scope_index.specs.Buckets.{policy_of_entity_id, policy_of_uid, is_text, IsSetAtUid, IsSetAtId};
+ghost use Rattle.scope_index.specs.Buckets.{policy_of_entity_id, policy_of_uid, is_same_text, IsSetAtUid, IsSetAtId};
 ghost use Rattle.scope_index.specs.Buckets.{IsSetAtKey};
-ghost use Rattle.scope_index.specs.Buckets.{IsSameUnder, IsSameNamed, AreSame, AreEmpty};
+ghost use Rattle.scope_index.specs.Buckets.{AreSameEntityBuckets, AreSameTypeBuckets, AreSameBuckets, AreEmpty};
 
 use crate::scope_key::{ScopeKey, key_of};
 use plain::{NoMemory, pair_with};
@@ -52,7 +52,7 @@ fn put_named(
     policy: Policy,
 ) -> Result<(), NoMemory>
     ensures ok { OnOk result (IsSetAtId entity.now (string_bytes id) (Some policy) named.old named.new) }
-    ensures err { OnErr result (IsSameNamed named.old named.new) }
+    ensures err { OnErr result (AreSameTypeBuckets named.old named.new) }
 {
     if let Some(bucket) = named.get_mut(entity) {
         bucket.insert(id, policy)?;
@@ -71,7 +71,7 @@ fn only(
     policy: Policy,
 ) -> Result<TypeBuckets, NoMemory>
     ensures { IfOk result (λ named. (e q : List ℕ) → policy_of_entity_id named e q
-        ≡ cond (is_text entity.now e && bytes_eq (string_bytes id) q) (Some policy) None) }
+        ≡ cond (is_same_text entity.now e && bytes_eq (string_bytes id) q) (Some policy) None) }
 {
     let mut named = BTreeMap::new(alloc);
     put_named(alloc, &mut named, entity, id, policy)?;
@@ -87,7 +87,7 @@ fn put_under(
     policy: Policy,
 ) -> Result<(), NoMemory>
     ensures ok { OnOk result (IsSetAtUid uid.now (string_bytes id) (Some policy) under.old under.new) }
-    ensures err { OnErr result (IsSameUnder under.old under.new) }
+    ensures err { OnErr result (AreSameEntityBuckets under.old under.new) }
 {
     if let Some(named) = under.get_mut(&uid.type_name) {
         return put_named(alloc, named, &uid.id, id, policy);
@@ -126,7 +126,7 @@ fn take_named(named: &mut TypeBuckets, entity: &SharedText, id: &str)
 // buckets.
 fn remove_from_type(under: &mut EntityBuckets, uid: &EntityUid, id: &str) -> bool
     ensures turns { IsSetAtUid uid.now id.now None under.old under.new }
-    ensures none { IsTrue result → (u : PlainUid) (q : List ℕ) → IsTrue (is_text uid.now.type_name u.type_name)
+    ensures none { IsTrue result → (u : PlainUid) (q : List ℕ) → IsTrue (is_same_text uid.now.type_name u.type_name)
         → policy_of_uid under.new u q ≡ None }
 {
     match under.get_mut(&uid.type_name) {
@@ -171,7 +171,7 @@ pub(crate) fn put(
 ) -> Result<(), NoMemory>
     ensures ok { OnOk result (IsSetAtKey (index_key scope.now) (string_bytes id) (Some policy) buckets.old
         buckets.new) }
-    ensures err { OnErr result (AreSame buckets.old buckets.new) }
+    ensures err { OnErr result (AreSameBuckets buckets.old buckets.new) }
 {
     match key_of(scope) {
         ScopeKey::Always => {

@@ -7,7 +7,8 @@ ghost use Rattle.values.specs.Names.{text_cmp};
 ghost use Rattle.ancestor_search.specs.Hierarchy.{IsIn, names};
 ghost use Rattle.policy_grammar.specs.declared.policy.Policy.{Policy as PlainPolicy};
 ghost use Rattle.scope_index.specs.Keys.{IndexKey, IsMet, Candidate, ids, kept_at, lent};
-ghost use Rattle.scope_index.specs.Buckets.{HaveOnePolicy, AreOneAmong, AreOneAtEach, IsUnder};
+ghost use Rattle.scope_index.specs.Buckets.{BucketsHaveOnePolicyPerId, HaveOnePolicyPerIdTogether, HaveOnePolicyPerId};
+ghost use Rattle.scope_index.specs.Buckets.{IsUnder};
 ghost use Rattle.scope_index.specs.Buckets.{bucket_at, policy_of_uid, in_bucket};
 
 use crate::buckets::{Buckets, EntityBuckets};
@@ -22,8 +23,8 @@ use values::{EntityUid, Request};
 // other candidates are added to them. Only the time depends on this number, not the result.
 const MANY: usize = 64;
 
-// The greatest number of other candidates that are inserted one by one. Only the time depends on this number, not the
-// result.
+// The greatest number of candidates, other than the candidates of every request, that are inserted one by one. Only the
+// time depends on this number, not the result.
 const FEW: usize = 128;
 
 // Appends the policies of a bucket to the candidates.
@@ -77,18 +78,6 @@ fn add_unbound<'a>(
     offer(&buckets.always, found)
 }
 
-// Appends the policies in the bucket of the entity itself.
-fn add_own<'a>(
-    under: &'a EntityBuckets,
-    uid: &EntityUid,
-    found: &mut Vec<(&'a str, &'a Policy)>,
-) -> Result<(), NoMemory>
-    ensures { OnOk result ((o : Candidate) → Contains (lent found.new.items) o
-        ↔ Contains (lent found.old.items) o ⊎ (policy_of_uid under.now uid.now o.0 ≡ Some o.1)) }
-{
-    add_bucket(under, uid, found)
-}
-
 // Appends the policies in the bucket of each of these entities.
 fn add_each<'a>(
     under: &'a EntityBuckets,
@@ -116,7 +105,7 @@ fn add_with_ancestors<'a, A: Ancestry>(
         ↔ Contains (lent found.old.items) o
         ⊎ ((e : PlainUid) × IsIn (A.parents ancestry.now) uid.now e × (policy_of_uid under.now e o.0 ≡ Some o.1))) }
 {
-    add_own(under, uid, found)?;
+    add_bucket(under, uid, found)?;
     let ancestors = ancestry.ancestors(uid)?;
     add_each(under, &ancestors, found)?;
     Ok(())
@@ -167,7 +156,7 @@ fn sort_by_id<'a>(policies: &mut Vec<(&'a str, &'a Policy)>)
 
 // Returns the policies `found`, ascending by id and without duplicates.
 fn in_order<'a>(found: Vec<(&'a str, &'a Policy)>) -> Vec<(&'a str, &'a Policy)>
-    requires { AreOneAtEach (lent found.items) }
+    requires { HaveOnePolicyPerId (lent found.items) }
     ensures same { (o : Candidate) → Contains (lent result.items) o ↔ Contains (lent found.entry.items) o }
     ensures ascending { IsStrictlySortedBy text_cmp (ids (lent result.items)) }
 {
@@ -220,7 +209,7 @@ fn place_each<'a>(
     policies: &[(&'a str, &'a Policy)],
 ) -> Result<(), NoMemory>
     requires ascending { IsStrictlySortedBy text_cmp (ids (lent all.old.items)) }
-    requires one { AreOneAmong (lent all.old.items) (lent policies.now) }
+    requires one { HaveOnePolicyPerIdTogether (lent all.old.items) (lent policies.now) }
     ensures ascending { OnOk result (IsStrictlySortedBy text_cmp (ids (lent all.new.items))) }
     ensures same { OnOk result ((o : Candidate) → Contains (lent all.new.items) o
         ↔ Contains (lent all.old.items) o ⊎ Contains (lent policies.now) o) }
@@ -232,7 +221,7 @@ fn place_each<'a>(
 }
 
 // Returns whether the others are few enough to be inserted one by one: at most `FEW`, and at most a quarter of `all`.
-// Each insertion moves the policies after it; if there are more others, all are sorted instead.
+// Each insertion moves the policies after it, so beyond these limits all candidates are sorted instead.
 fn are_few(others: usize, all: usize) -> bool {
     others <= FEW && others <= all / 4
 }
@@ -244,7 +233,7 @@ fn joined<'a>(
     others: &[(&'a str, &'a Policy)],
 ) -> Result<Vec<(&'a str, &'a Policy)>, NoMemory>
     requires ascending { IsStrictlySortedBy text_cmp (ids (lent all.items)) }
-    requires one { AreOneAmong (lent all.items) (lent others.now) }
+    requires one { HaveOnePolicyPerIdTogether (lent all.items) (lent others.now) }
     ensures same { IfOk result (λ ps. (o : Candidate) → Contains (lent ps.items) o
         ↔ Contains (lent all.entry.items) o ⊎ Contains (lent others.now) o) }
     ensures ascending { IfOk result (λ ps. IsStrictlySortedBy text_cmp (ids (lent ps.items))) }
@@ -266,7 +255,7 @@ fn offered_among<'a, A: Ancestry>(
     request: &Request,
     ancestry: &A,
 ) -> Result<Vec<(&'a str, &'a Policy)>, NoMemory>
-    requires { HaveOnePolicy buckets.now }
+    requires { BucketsHaveOnePolicyPerId buckets.now }
     ensures found { IfOk result (λ ps. (o : Candidate) → Contains (lent ps.items) o
         ↔ ((k : IndexKey) × IsMet (A.parents ancestry.now) request.now k × (in_bucket buckets.now k o.0 ≡ Some o.1))) }
     ensures ascending { IfOk result (λ ps. IsStrictlySortedBy text_cmp (ids (lent ps.items))) }
@@ -284,7 +273,7 @@ pub(crate) fn offered<'a, A: Ancestry>(
     request: &Request,
     ancestry: &A,
 ) -> Result<Vec<(&'a str, &'a Policy)>, NoMemory>
-    requires { HaveOnePolicy buckets.now }
+    requires { BucketsHaveOnePolicyPerId buckets.now }
     ensures found { IfOk result (λ ps. (o : Candidate) → Contains (lent ps.items) o
         ↔ ((k : IndexKey) × IsMet (A.parents ancestry.now) request.now k × (in_bucket buckets.now k o.0 ≡ Some o.1))) }
     ensures ascending { IfOk result (λ ps. IsStrictlySortedBy text_cmp (ids (lent ps.items))) }

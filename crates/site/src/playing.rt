@@ -23,8 +23,8 @@ pub(crate) fn has_texts(operation: &Operation)
     }
 }
 
-/// Returns the input that an operation gives its site, or `None` if the operation names a message or summary that is
-/// not among `messages` or `summaries`, those that were made so far.
+/// Returns the input that an operation gives its site, or `None` if the operation names a message or summary that was
+/// not made yet. `messages` and `summaries` are those that were made so far.
 fn input_by<'a>(
     operation: &'a Operation,
     messages: &'a [Items<u8>],

@@ -33,6 +33,7 @@ fn put_entity(site: &mut Site, place: usize, value: &Value) -> Result<(), Refusa
 }
 
 /// Puts the remaining entities of an array, in their order, up to the first that is rejected. The earlier puts remain.
+/// The unread text must be the rest of a JSON array, with fewer than 2^63 JSON tokens.
 fn put_each(alloc: Global, site: &mut Site, members: &mut ArrayMembers<'_>) -> Result<(), Refusal>
     requires few { length members.old.reader < 2 ^ 63 }
     requires json { (ds : List Data) × (unread_members members.old ≡ Some ds) }
@@ -64,7 +65,7 @@ fn put_each(alloc: Global, site: &mut Site, members: &mut ArrayMembers<'_>) -> R
 ///
 /// - 30 to 38, at the entity's index in the array: the first error of the array, as for a decision; 30 without an index
 ///   if the bytes are not an array.
-/// - The error of the first rejected put, at the entity's index.
+/// - The error of the first rejected put, at the entity's index; the earlier puts remain.
 /// - `NoMemory` (1): an allocation failed; possible at any point.
 pub(crate) fn load_entities(alloc: Global, site: &mut Site, bytes: &[u8]) -> Result<(), Refusal>
     ensures loaded { OnOk result (LoadsEntities (schema_of site.old) site.old.name (store_in site.old) bytes.now

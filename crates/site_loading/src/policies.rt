@@ -48,7 +48,7 @@ fn texts_of<'t>(alloc: Global, bytes: &'t [u8]) -> Result<Vec<&'t str>, NoMemory
 }
 
 /// Puts `texts` under the names in `policies`, in their order, up to the first that is rejected. The earlier puts
-/// remain.
+/// remain. There must be as many texts as policies.
 fn put_each(site: &mut Site, policies: &[(String, Policy)], texts: &[&str]) -> Result<(), Refusal>
     requires { length texts.now ≡ length policies.now }
     ensures accepted { OnOk result (AcceptsAll (schema_of site.old) site.old.name (store_in site.old)
@@ -71,7 +71,7 @@ fn put_each(site: &mut Site, policies: &[(String, Policy)], texts: &[&str]) -> R
 /// In this order:
 ///
 /// - 10 to 19, at a byte offset: the file is rejected.
-/// - The error of the first rejected put, at the policy's index in the file.
+/// - The error of the first rejected put, at the policy's index in the file; the earlier puts remain.
 /// - `NoMemory` (1): an allocation failed; possible at any point.
 pub(crate) fn load_policies(alloc: Global, site: &mut Site, bytes: &[u8]) -> Result<(), Refusal>
     ensures loaded { OnOk result (LoadsPolicies (schema_of site.old) site.old.name (store_in site.old) bytes.now

@@ -1,4 +1,4 @@
-//! Inputs as a case writes them.
+//! Inputs as a test case writes them.
 use crate::line::BETWEEN;
 use crate::written::{expanded, expanded_text, first_word};
 use http_service::Input;
@@ -6,7 +6,7 @@ use plain::{Items, NoMemory, Text, pair_with};
 use std::alloc::Global;
 use values::{EntityUid, SharedText, TypeName};
 
-/// An input that owns its texts and bytes, as a case writes it.
+/// An input that owns its texts and bytes, as a test case writes it.
 #[derive(Drop)]
 pub(crate) enum OwnedInput {
     PutPolicy(Text, Text),
@@ -48,7 +48,7 @@ pub(crate) fn all_lent(alloc: Global, inputs: &[OwnedInput]) -> Result<Vec<Input
     Ok(lent)
 }
 
-/// Returns the put of a policy, which a string gives by its id, a blank and its text.
+/// Returns the input that puts a policy. The string has the policy's id, a blank and the policy's text.
 fn policy_put(alloc: Global, text: &str) -> Result<Option<OwnedInput>, NoMemory> {
     let (id, text) = first_word(text);
     let id = expanded_text(alloc, id)?;
@@ -63,8 +63,9 @@ pub(crate) fn uid_of(alloc: Global, type_name: TypeName, id: &str) -> Result<Ent
     Ok(EntityUid { type_name, id })
 }
 
-/// Returns the deletion of an entity, which a string gives by its type, a blank and its id. If the type is not a path,
-/// returns a put of no bytes, which has the error that a served site reports for a malformed uid: `BadShape` (30).
+/// Returns the input that deletes an entity. The string has the entity's type, a blank and the entity's id. If the type
+/// is not a path, returns a put of no bytes, which has the error that a served site reports for a malformed uid:
+/// `BadShape` (30).
 fn entity_deleted(alloc: Global, text: &str) -> Result<Option<OwnedInput>, NoMemory> {
     let (type_name, id) = first_word(text);
     match TypeName::parse(alloc, type_name)? {

@@ -3,7 +3,7 @@
 //! Each line of standard input is one case. The program prints the line, an arrow, and the outcome. It copies a line
 //! that is empty or begins with `#`, so line N of its output belongs to line N of its input.
 //!
-//! - `under SCHEMA` sets the schema of the cases after it.
+//! - `under SCHEMA` sets the schema of the cases after it, and prints `given`.
 //! - `start NAME` starts an empty site of this name, and prints the label of the schema.
 //! - `NAME INPUT` gives the site of this name an input, and prints the reply. ` ¶ ` separates several inputs, which are
 //!   one run, and their replies. An input is `put_policy ID TEXT`, `delete_policy ID`, `put_entity JSON`,

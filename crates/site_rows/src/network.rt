@@ -2,8 +2,8 @@
 use crate::line::{BAD_ROW, Line};
 use http_service::{FetchFault, StreamFault};
 
-/// Appends the message of an error of the network: of a served stream if the word `served` precedes it, else of a
-/// request.
+/// Appends the message of the error that `text` names: an error of a served stream if `text` begins with `served`, else
+/// of a request. Appends `bad row` if `text` names no such error.
 pub(crate) fn push_network(text: &str, line: &mut Line) {
     match text {
         "served read" => line.push_shown(&StreamFault::Read),

@@ -33,7 +33,7 @@ fn push_repeated(bytes: &mut Line, part: &str, count: usize) {
     }
 }
 
-/// Appends bytes that are written in hexadecimal digits, with a blank between each two.
+/// Appends bytes that are written in hexadecimal digits and separated by blanks.
 fn push_hexadecimal(bytes: &mut Line, text: &str) {
     for digits in text.split(' ') {
         bytes.push(&[u8::from_str_radix(digits, 16).unwrap_or(0)]);

@@ -42,8 +42,9 @@ ParsedDataConforms = (bytes : List ℕ) (s : StatedSchema) → IsSchemaOf bytes 
     → (e : EnvironmentOf) × Contains s.environments e × Conforms (typing_environment_of s e) (closed_world s entities) q
 
 -- `ValidationIsSound`: let finitely many entities and a request be parsed under a schema that bytes describe. Over
--- these entities and the schema's actions, and for this request, a policy that passes validation gives a boolean,
--- `EntityDoesNotExist` or `ArithBoundsError`; an impossible policy never gives true.
+-- these entities and the schema's actions, each with all of its ancestors as parents, and for this request, a policy
+-- that passes validation gives a boolean, `EntityDoesNotExist` or `ArithBoundsError`; an impossible policy never gives
+-- true.
 abbrev pub ValidationIsSound : Type 0
 ValidationIsSound = (bytes : List ℕ) (s : StatedSchema) → IsSchemaOf bytes s → (entities : EntityMap)
     → AreRead s entities → (us : List EntityUid) → AreListed entities us → (d : Data) (q : Request)

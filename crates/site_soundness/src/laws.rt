@@ -27,7 +27,7 @@ pub fn what_is_read_is_of_its_type()
 }
 
 /// Proves that entities and a request that were parsed under a schema, which bytes describe, conform to an environment
-/// of the schema, with the schema's actions added to the entities. This is the premise of the soundness of validation.
+/// of the schema, with the schema's actions added to the entities. This is a premise of the soundness of validation.
 /// No-op.
 pub fn parsed_data_conforms()
     ensures { ParsedDataConforms }
@@ -41,8 +41,9 @@ pub fn parsed_data_conforms()
 
 /// Proves that validation is sound over parsed entities. No-op.
 ///
-/// If finitely many entities and a request were parsed under a schema that bytes describe, a policy that passes
-/// validation gives a boolean, `EntityDoesNotExist` or `ArithBoundsError`; an impossible policy never gives true.
+/// Let finitely many entities and a request be parsed under a schema that bytes describe. Over them and the schema's
+/// actions, a policy that passes validation gives a boolean, `EntityDoesNotExist` or `ArithBoundsError`; an impossible
+/// policy never gives true.
 pub fn validation_is_sound()
     ensures { ValidationIsSound }
 {

@@ -30,8 +30,8 @@ use Rattle.site_soundness.specs.schema_names.Records.{is_no_record, common_meant
 use Rattle.site_soundness.specs.schema_names.Records.{SomeIsNoRecord}
 use Rattle.site_soundness.specs.schema_names.Naming.{DescribesFile}
 use Rattle.site_soundness.specs.schema.Laws.{DeclarationsAreRead}
-use Rattle.site_soundness.specs.schema.Schemas.{IsSchemaOf, IsSound, Answers, action_parents, type_parents, IsSchemaType}
-use Rattle.site_soundness.specs.schema.Schemas.{IsWritten, IsAction, IsShape, IsEnvironment, Applies, EnvironmentOf}
+use Rattle.site_soundness.specs.schema.Schemas.{IsSchemaOf, IsSound, MatchesDeclarations, action_parents, type_parents, IsSchemaType}
+use Rattle.site_soundness.specs.schema.Schemas.{HasSmallExpansion, IsAction, IsShape, IsEnvironment, Applies, EnvironmentOf}
 use Rattle.site_soundness.specs.schema.Schemas.{place_cmp, type_uid, IsRecordOf}
 use Rattle.site_soundness.specs.schema_names.Laws.{IsShapeOrContext}
 use Rattle.site_soundness.specs.schema.Places.{place_of}
@@ -144,10 +144,10 @@ is_the_shape r (inr (a, c, used_by)) =
     let used : the_use ≡ used_by.0 = some_same (subst (λ (x : ResolvedAction). x.applies_to ≡ Some used_by.0) (sym (only c)) used_by.1) in
     some_none (subst (λ (x : ResolvedAppliesTo). x.context ≡ Some r) (sym used) used_by.2)
 
-is_written : (r : Qualified) → IsSchemaType named r → IsWritten [] r
+is_written : (r : Qualified) → IsSchemaType named r → HasSmallExpansion [] r
 is_written r (IsSchemaType.common q s d) = absurd d
 is_written r (IsSchemaType.shape_or_context s h) =
-    subst (λ (x : Qualified). IsWritten [] x) (sym (is_the_shape r h)) (user_shape, shape_written, small)
+    subst (λ (x : Qualified). HasSmallExpansion [] x) (sym (is_the_shape r h)) (user_shape, shape_written, small)
 
 pub sound : IsSound named
 sound = record { no_cycle = λ h. no_path (action_parents named) no_parent h.0 h.0 h.1; is_written = is_written }
@@ -209,7 +209,7 @@ place_is p u h =
     let resource : user ≡ p.resource = only (subst (λ (x : ResolvedAppliesTo). Contains x.resources p.resource) (sym used) h.resource) in
     ap (λ (a : EntityUid). place_of a user user) action ∙ ap (λ (n : List ℕ). place_of p.action n user) principal ∙ ap (λ (n : List ℕ). place_of p.action p.principal n) resource
 
-pub answers : Answers named schema
+pub answers : MatchesDeclarations named schema
 answers = record {
   shapes = λ n t h. shape_there n (bytes_eq n user) refl t h;
   all_shapes = λ e c. subst (λ (x : ResolvedEntityType). IsSome (schema.shape x.name)) (only c) refl;

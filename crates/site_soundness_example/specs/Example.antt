@@ -62,7 +62,7 @@ alice_json = object (member (codes "attrs") (object (member (codes "age") (numbe
 abbrev pub alice_data : EntityData
 alice_data = record { attrs = (codes "age", long (pos 30)) ∷ []; parents = [] }
 
--- `entities` maps the uid of Alice to `alice_data`, and no other uid.
+-- `entities` maps the uid of Alice to `alice_data`, and every other uid to `None`.
 abbrev pub entities : EntityMap
 entities u = if is_same alice u then Some alice_data else None
 

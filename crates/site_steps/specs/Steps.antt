@@ -36,9 +36,9 @@ use Rattle.site_steps.specs.Admitted.{IsRequestOf, IsNoRequest}
 abbrev pub most_count : ℕ
 most_count = 1_000_000_000_000_000_000
 
--- `Records n s name body stamp t` holds if a stamp is left in `s`, and `body` is stored under `name` with `stamp`, the
--- next stamp of the site `n`: `t` is the store of the updates of `s` and this update. Each use has its own conditions
--- on what may be put as `body`.
+-- `Records n s name body stamp t` holds if the greatest count in `s` is less than `most_count`, and `body` is stored
+-- under `name` with `stamp`, the next stamp of the site `n`: `t` is the store of the updates of `s` and this update.
+-- The definitions below that use `Records` state which bodies they allow.
 pub record Records (n : List ℕ) (s : Store) (name : Name) (body : Option (List ℕ)) (stamp : Stamp) (t : Store) : Type 0
   where
     pub clock : greatest_count s < most_count
@@ -87,9 +87,9 @@ Deletes n s name (Err _) t = ⊥
 
 -- ---- updates that another site sent
 
--- `TakesUpdates s us taken t` holds if `taken` reports that all of the updates `us`, or exactly the first `k`, were
--- applied, and `t` is the store of the updates of `s` and the applied ones. At each name `t` has the greatest entry
--- among them (`IsStoreOf` of stamped_store).
+-- `TakesUpdates s us taken t` holds if `taken` reports that all of the updates `us`, or exactly the first `k` of them
+-- (`Short k`), were applied, and `t` is the store of the updates of `s` and the applied ones. At each name `t` has the
+-- greatest entry among them (`IsStoreOf` of stamped_store).
 abbrev pub TakesUpdates : Store → List Update → taking.Taken → Store → Type 0
 TakesUpdates s us (All k) t = (k ≡ length us) × (t ≡ store_of (updates s ++ us))
 TakesUpdates s us (Short k) t = (k < length us) × (t ≡ store_of (updates s ++ take k us))

@@ -34,7 +34,7 @@ fn is_id(id: &str) -> bool
     1 <= id.len() && id.len() <= MOST_ID_BYTES
 }
 
-/// Validates a policy, and returns whether the policy is impossible.
+/// Validates a policy, and returns whether the policy is impossible, or the site's error for the validator's error.
 fn is_impossible(alloc: Global, schema: &Schema, policy: &Policy) -> Result<bool, SiteFault>
     ensures passes { IfOk result (λ yes. Passes (schema_view schema.now) policy.now
         × (IsTrue yes ↔ IsImpossible (schema_view schema.now) policy.now)) }

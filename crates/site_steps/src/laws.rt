@@ -26,7 +26,7 @@ use site_store::{
 /// Proves convergence: sites of one schema that had and applied equal sets of updates have equal stores. No-op.
 ///
 /// The names of the sites do not matter, nor do the order, the repeats and the grouping of the updates. So these sites
-/// write equal states and give equal answers.
+/// write equal states and, under a schema that bytes describe, give equal answers.
 pub fn equal_updates_leave_equal_stores()
     ensures stores { (schema : StatedSchema) (us vs : List Update) (s t : Store) → IsLeftBy schema us s
         → IsLeftBy schema vs t → ((u : Update) → (Contains us u ↔ Contains vs u)) → s ≡ t }

@@ -81,8 +81,8 @@ impl Site {
         self.store.schema()
     }
 
-    /// Proves the site's invariant: some bytes describe its schema, each name and stamp of its store is in its range,
-    /// and each text can be parsed under the schema. No-op.
+    /// Proves the site's invariant: some bytes describe its schema, the names and stamps of its store are in their
+    /// ranges, and each text can be parsed under the schema. No-op.
     pub fn holds_valid_updates(&self)
         ensures stated { IsStated self.now.schema }
         ensures held { IsValidStore (schema_of self.now) (store_in self.now) }
@@ -172,9 +172,9 @@ impl Site {
     /// Each error in the answer is `EntityDoesNotExist` or `ArithBoundsError`.
     ///
     /// Evaluates only the candidates that the policy index has for the request, and looks up ancestors in the ancestor
-    /// cache. If the index is absent, or there is no memory for its candidates, every policy is evaluated. If the cache
-    /// is absent, the hierarchy is searched for ancestors and, as a whole, for cycles. In either case the time grows
-    /// with the store.
+    /// cache. If the index is absent, or there is no memory for its candidates, every policy is a candidate. If the
+    /// cache is absent, the hierarchy is searched for ancestors, and all of it for cycles. In either case the time
+    /// grows with the store.
     ///
     /// # Errors
     ///
@@ -193,10 +193,13 @@ impl Site {
         Ok(answered?)
     }
 
-    /// Rebuilds the absent caches, if there is memory, as each applied put, deletion or message does. No entry changes.
+    /// Rebuilds the absent caches, if there is memory; the ancestor cache only if it would not be too large. Each
+    /// applied put, deletion or message does so too. No entry changes.
     ///
-    /// After a build of the ancestor cache that found too many ancestors, the next build is postponed. Intended for a
-    /// site that is queried before anything was put into it.
+    /// If the last build of the ancestor cache found too many ancestors, the cache stays absent during many further
+    /// updates of entities (`RebuildRule` of site_store counts them).
+    ///
+    /// Call this on a site that is queried before anything is put into it: a new site has no ancestor cache.
     pub fn rebuild(&mut self)
         ensures { self.new ≡ self.old }
     {
@@ -208,13 +211,12 @@ impl Site {
         self.store.caches_present()
     }
 
-    /// Returns how many policies the last answer evaluated; for tests alone.
+    /// Returns how many policies the last answer evaluated, or would have without a cycle; for tests alone.
     pub fn evaluated(&self) -> usize {
         self.store.evaluated()
     }
 
-    /// Drops the caches, as a failed allocation does, so that the next answers search and evaluate everything; for
-    /// tests alone.
+    /// Drops the caches, so that the next answers search and evaluate everything; for tests and measurements alone.
     pub fn drop_caches(&mut self)
         ensures { self.new ≡ self.old }
     {

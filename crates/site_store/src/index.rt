@@ -69,7 +69,7 @@ fn add_entry(index: &mut ScopeIndex, id: &str, entry: &Entry<Policy>) -> Result<
 ///
 /// # Errors
 ///
-/// - `NoMemory`: an allocation failed.
+/// - `NoMemory`: an allocation failed, or a count of references to a policy would overflow.
 fn index_of<E: Drop>(alloc: Global, store: &StampedStore<Policy, E>) -> Result<ScopeIndex, NoMemory>
     ensures { IfOk result (AreIndexed store.now.policies) }
 {

@@ -2,20 +2,20 @@
 
 use ancestor_closure::CacheBudget;
 
-/// The number of cached ancestors that the limit allows for each entity: for `n` entities the cache may have
-/// `ANCESTORS_PER_ENTITY * n` ancestors, and [`EXTRA_ANCESTORS`] more.
+/// The number of cached ancestors that the limit allows for each entity, stored or deleted: for `n` of them the cache
+/// may have `ANCESTORS_PER_ENTITY * n` ancestors, and [`EXTRA_ANCESTORS`] more.
 const ANCESTORS_PER_ENTITY: usize = 64;
 
 /// The part of the limit on cached ancestors that does not depend on the store.
 const EXTRA_ANCESTORS: usize = 1_000_000;
 
-/// The number of changes of entities, in addition to one for each entity, between a build that found too many ancestors
+/// The number of updates of entities, in addition to one for each entity, between a build that found too many ancestors
 /// and the next attempt: 15,625. A build ends once it has found too many ancestors, so its cost is that of some 64
-/// ancestors for each change in between.
+/// ancestors for each update in between.
 const CHANGES_BEFORE_RETRY: usize = EXTRA_ANCESTORS / ANCESTORS_PER_ENTITY;
 
-/// The number of ancestors that the incremental updates for a message may write or visit, in addition to those that a
-/// rebuild writes, before the cache is dropped.
+/// The number of ancestors that the incremental updates for a put or a message may write or visit, in addition to those
+/// that a rebuild writes, before the cache is dropped.
 const EXTRA_WRITES: usize = 10_000;
 
 /// The counts that decide when the ancestor cache is rebuilt or dropped. No contract and no answer depends on them.
@@ -24,7 +24,7 @@ pub(crate) struct RebuildRule {
     /// How many ancestors the cache has, how many it may have, and how many the current put or message has written or
     /// visited.
     pub(crate) budget: CacheBudget,
-    /// The number of changes of entities before the next attempt to build the cache.
+    /// The number of updates of entities before the next attempt to build the cache.
     pause: usize,
 }
 
@@ -39,8 +39,8 @@ impl RebuildRule {
 
     /// Begins a put or ends a message, and returns whether to build the cache now.
     ///
-    /// `is_present` is whether the cache is present; if it is, the result is false. `entities` is the number of
-    /// entities.
+    /// `is_present` is whether the cache is present; if it is, the result is false. `entities` is the number of the
+    /// store's entries of entities, including tombstones.
     pub(crate) fn begin(&mut self, is_present: bool, entities: usize) -> bool {
         let most = entities
             .saturating_mul(ANCESTORS_PER_ENTITY)
@@ -63,7 +63,7 @@ impl RebuildRule {
         }
     }
 
-    /// Counts a change of an entity towards the next attempt to build the cache.
+    /// Counts an update of an entity, whether or not it wins, towards the next attempt to build the cache.
     pub(crate) fn count_change(&mut self) {
         self.pause = self.pause.saturating_sub(1);
     }

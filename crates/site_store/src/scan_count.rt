@@ -4,9 +4,11 @@ use scope_index::{EntityScope, Policy};
 use stamped_store::Entry;
 use std::cell::Cell;
 
-/// The number of policies that the last answer evaluated, and whether any policy that was ever to be joined names an
+/// The number of policies that the last answer evaluated, and whether any policy passed to [`ScanCount::note`] names an
 /// entity in its constraint on the principal or the resource. As long as no policy does, all are candidates, and
 /// listing the candidates would cost more than it saves.
+///
+/// For an answer that reports a cycle, the number is that of the policies that it would otherwise have evaluated.
 ///
 /// No contract and no answer depends on these measures.
 #[derive(Drop)]
@@ -32,7 +34,7 @@ impl ScanCount {
         }
     }
 
-    /// Records the scope of the policy of an entry that is to be joined; a tombstone has none.
+    /// Records whether the policy of an entry that is to be joined names an entity; a tombstone has no policy.
     pub(crate) fn note(&mut self, entry: &Entry<Policy>) {
         if let Some(text) = &entry.body {
             let scope = &*text.read.scope;
@@ -52,7 +54,7 @@ impl ScanCount {
         self.evaluated.set(evaluated);
     }
 
-    /// Returns how many policies the last answer evaluated.
+    /// Returns how many policies the last answer evaluated, or would have without a cycle.
     pub(crate) fn evaluated(&self) -> usize {
         self.evaluated.get()
     }

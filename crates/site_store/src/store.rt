@@ -245,7 +245,8 @@ impl IndexedStore {
     /// Rebuilds the absent caches, if there is memory, with one attempt for each. No entry changes.
     ///
     /// Intended for the end of a message. After a build of the ancestor cache that found too many ancestors, the next
-    /// build waits for as many changes of entities as there were entities, and 15,625 more.
+    /// build waits for as many updates of entities as the store had entries of entities, and 15,625 more. Updates that
+    /// lose count too.
     pub fn rebuild(&mut self)
         ensures { self.new ≡ self.old }
     {
@@ -325,8 +326,7 @@ impl IndexedStore {
         world.would_cycle(entity)
     }
 
-    /// Drops the caches, as a failed allocation does; for tests alone, which cannot make allocations fail. No entry
-    /// changes.
+    /// Drops both caches, as failed allocations do; for tests and measurements alone. No entry changes.
     pub fn drop_caches(&mut self)
         ensures { self.new ≡ self.old }
     {
@@ -339,7 +339,7 @@ impl IndexedStore {
         (self.ancestors.is_some(), self.index.is_some())
     }
 
-    /// Returns how many policies the last answer evaluated; for tests alone.
+    /// Returns how many policies the last answer evaluated, or would have without a cycle; for tests alone.
     pub fn evaluated(&self) -> usize {
         self.scan_count.evaluated()
     }

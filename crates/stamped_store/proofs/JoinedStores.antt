@@ -25,7 +25,7 @@ use Rattle.stamped_store.specs.EntryOrder.{PlainEntry, plain_entry, entry_cmp, e
 use Rattle.stamped_store.specs.JoinMaps.{value_at, value_at_text, all_joined, joined_onto, IsBelow}
 use Rattle.stamped_store.specs.Greatest.{greatest_count, max_count}
 use Rattle.stamped_store.specs.Abstraction.{abstract_entry, abstract_entries}
-use Rattle.stamped_store.specs.Store.{Store, Update, StoreEntries, kept, all_kept, first_kept, updates, store_of, first_names, plain_below, IsStoreBelow, IsStoreJoin, joined_stores, id_name, entity_name, abstract_updates, abstract_store, KeepsOtherNames, issue, issued}
+use Rattle.stamped_store.specs.Store.{Store, Update, StoreEntries, kept, joined_entries, first_entries, updates, store_of, first_names, plain_below, IsStoreBelow, IsStoreJoin, joined_stores, id_name, entity_name, abstract_updates, abstract_store, KeepsOtherNames, issue, issued}
 use Rattle.plain.proofs.Members.{Contains-none, Contains-here, Contains-there}
 use Rattle.stamped_store.proofs.Greatests.{count_le, count_of_find, greater_assoc, greater_commutes, greater_itself, greatest_count-store_of, max_count-append, entry_order}
 use Rattle.stamped_store.proofs.GreatestsBy.{by_place, get-joined, joined_is_least, one_if_below, one_least, store_of-append, store_of-append_right, store_of-push}
@@ -97,21 +97,21 @@ below_at_text ps qs h bytes (Some a) e =
 
 module _ {P E : Type 0} where
   -- the updates of the first names
-  first_updates : (n : ℕ) (k : StoreEntries P E) → abstract_updates (first_kept n k) ≡ take n (abstract_updates k)
+  first_updates : (n : ℕ) (k : StoreEntries P E) → abstract_updates (first_entries n k) ≡ take n (abstract_updates k)
   first_updates n k = sym (
       take_both n (abstract_entries id_name k.policies) (abstract_entries entity_name k.entities)
       ∙ ap (λ us. us ++ take (n - length (abstract_entries id_name k.policies)) (abstract_entries entity_name k.entities)) (take-map (abstract_entry id_name) n k.policies)
       ∙ ap (λ us. abstract_entries id_name (take n k.policies) ++ us) (ap (λ m. take (n - m) (abstract_entries entity_name k.entities)) (length-map k.policies (abstract_entry id_name)) ∙ take-map (abstract_entry entity_name) (n - length k.policies) k.entities))
 
   -- a store that took all that another has is their join
-  pub joined_whole : (s o t : StoreEntries P E) → updates (abstract_store o) ≡ abstract_updates o → t ≡ all_kept s o → IsStoreJoin (abstract_store s) (abstract_store o) (abstract_store t)
+  pub joined_whole : (s o t : StoreEntries P E) → updates (abstract_store o) ≡ abstract_updates o → t ≡ joined_entries s o → IsStoreJoin (abstract_store s) (abstract_store o) (abstract_store t)
   joined_whole s o t h e =
       let path : abstract_store t ≡ joined_stores (abstract_store s) (abstract_store o) =
       ap abstract_store e ∙ shown-all_joined s.policies o.policies s.entities o.entities ∙ ap (λ us. store_of (updates (abstract_store s) ++ us)) (sym h) in
       subst (IsStoreJoin (abstract_store s) (abstract_store o)) (sym path) (joined_is_join (abstract_store s) (abstract_store o))
 
   -- and one that took the first names' entries is the join with these
-  pub joined_first : (s o t : StoreEntries P E) (n : ℕ) → updates (abstract_store o) ≡ abstract_updates o → t ≡ all_kept s (first_kept n o) → IsStoreJoin (abstract_store s) (first_names n (abstract_store o)) (abstract_store t)
+  pub joined_first : (s o t : StoreEntries P E) (n : ℕ) → updates (abstract_store o) ≡ abstract_updates o → t ≡ joined_entries s (first_entries n o) → IsStoreJoin (abstract_store s) (first_names n (abstract_store o)) (abstract_store t)
   joined_first s o t n h e =
       let path : abstract_store t ≡ joined_stores (abstract_store s) (first_names n (abstract_store o)) =
       ap abstract_store e
@@ -121,13 +121,13 @@ module _ {P E : Type 0} where
       subst (IsStoreJoin (abstract_store s) (first_names n (abstract_store o))) (sym path) (joined_is_join (abstract_store s) (first_names n (abstract_store o)))
 
   -- memory was refused among the policies
-  pub kept_first_policies : (s o : StoreEntries P E) (n : List (String Global × Entry P)) (k : ℕ) → n ≡ all_joined string_cmp greater s.policies (take k o.policies) → k < length o.policies → kept n s.entities ≡ all_kept s (first_kept k o)
+  pub kept_first_policies : (s o : StoreEntries P E) (n : List (String Global × Entry P)) (k : ℕ) → n ≡ all_joined string_cmp greater s.policies (take k o.policies) → k < length o.policies → kept n s.entities ≡ joined_entries s (first_entries k o)
   kept_first_policies s o n k e short =
       let none : 0 ≡ k - length o.policies = omega arith in
       ap (λ ps. kept ps s.entities) e ∙ ap (λ m. kept (all_joined string_cmp greater s.policies (take k o.policies)) (all_joined uid_cmp greater s.entities (take m o.entities))) none
 
   -- memory was refused among the entities
-  pub kept_first_entities : (s o : StoreEntries P E) (n : List (String Global × Entry P)) (m : List (EntityUid × Entry E)) (j k : ℕ) → n ≡ all_joined string_cmp greater s.policies o.policies → m ≡ all_joined uid_cmp greater s.entities (take j o.entities) → k ≡ length o.policies + j → kept n m ≡ all_kept s (first_kept k o)
+  pub kept_first_entities : (s o : StoreEntries P E) (n : List (String Global × Entry P)) (m : List (EntityUid × Entry E)) (j k : ℕ) → n ≡ all_joined string_cmp greater s.policies o.policies → m ≡ all_joined uid_cmp greater s.entities (take j o.entities) → k ≡ length o.policies + j → kept n m ≡ joined_entries s (first_entries k o)
   kept_first_entities s o n m j k e f is =
       let some : j ≡ k - length o.policies = omega arith in
       let all : o.policies ≡ take k o.policies = sym (take_all k o.policies (omega arith)) in

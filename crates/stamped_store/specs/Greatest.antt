@@ -35,7 +35,7 @@ module _ {N V : Type 0} (cmp : V → V → Ordering) where
   IsStoreBelow s t = (q : N) → option_below (λ a b. is_le (cmp a b)) (get s q) (get t q) ≡ true
 
 module _ {N V : Type 0} (cmp : V → V → Ordering) (R : N → N → Ordering) where
-  -- `store_of us` is the store that results from applying the updates `us` one after another.
+  -- `store_of us` is the store that results from applying the updates `us` one after another, the last of them first.
   abbrev pub store_of : List (N × V) → FinMap R V
   store_of [] = empty
   store_of (u ∷ us) = insert (store_of us) u.0 (joined_onto (greater_of cmp) (get (store_of us) u.0) u.1)

@@ -1,5 +1,5 @@
 -- Defines when each text of a store has a permitted parsed form.
--- Rules of this product: each text is stored with its parsed form, so that nothing is parsed twice.
+-- Rules of this product: each text is stored with its parsed form, so that a stored text is not parsed again.
 use Rattle.std.specs.Prelude.{ℕ, List, Option, Some, None, string_bytes}
 use Rattle.std.specs.List.{AllByRecursion}
 use Rattle.values.specs.declared.entity_uid.EntityUid.{EntityUid}

@@ -79,7 +79,7 @@ joined_stores s t = updates_of.joined_stores entry_cmp name_cmp s t
 abbrev pub issue : Store → List ℕ → Stamp
 issue s site = record { count = updates_of.greatest_count s + 1; site = site }
 
--- `issued stamp body` is the entry of a local command, with the issued stamp `stamp` and the body `body`.
+-- `issued stamp body` is the entry with the stamp `stamp` and the body `body`.
 abbrev pub issued : Stamp → Option (List ℕ) → PlainEntry
 issued stamp body = record { count = stamp.count; site = stamp.site; body = body }
 
@@ -115,14 +115,14 @@ abstract_updates k = abstract_entries id_name k.policies ++ abstract_entries ent
 abbrev pub abstract_store : {P E : Type 0} → StoreEntries P E → Store
 abstract_store k = map.from_entries (abstract_updates k)
 
--- `all_kept k l` are the concrete entries `k`, with each entry of `l` joined in turn.
-abbrev pub all_kept : {P E : Type 0} → StoreEntries P E → StoreEntries P E → StoreEntries P E
-all_kept k l = kept (all_joined string_cmp greater k.policies l.policies)
+-- `joined_entries k l` are the concrete entries `k`, with each entry of `l` joined in turn.
+abbrev pub joined_entries : {P E : Type 0} → StoreEntries P E → StoreEntries P E → StoreEntries P E
+joined_entries k l = kept (all_joined string_cmp greater k.policies l.policies)
     (all_joined uid_cmp greater k.entities l.entities)
 
--- `first_kept n k` are the entries of the first `n` names of `k`; policies come before entities.
-abbrev pub first_kept : {P E : Type 0} → ℕ → StoreEntries P E → StoreEntries P E
-first_kept n k = kept (take n k.policies) (take (n - length k.policies) k.entities)
+-- `first_entries n k` are the entries of the first `n` names of `k`; policies come before entities.
+abbrev pub first_entries : {P E : Type 0} → ℕ → StoreEntries P E → StoreEntries P E
+first_entries n k = kept (take n k.policies) (take (n - length k.policies) k.entities)
 
 -- `IsCounted k greatest` is the invariant of the concrete store. It holds if `greatest` is the greatest count of the
 -- entries `k`, and the updates of `k` are those of the abstract store, in order.

@@ -20,7 +20,7 @@ ghost use Rattle.stamped_store.specs.JoinMaps.{IsBelowAt, joined_at, value_at, t
 ghost use Rattle.stamped_store.specs.Greatest.{greatest_count};
 ghost use Rattle.stamped_store.specs.Store.{Store, Update, updates, store_of, plain_below, IsStoreBelow, IsStoreJoin};
 ghost use Rattle.stamped_store.specs.Store.{joined_stores, issue, issued, policy_name, entity_name};
-ghost use Rattle.stamped_store.specs.Store.{StoreEntries, IsStoreOf, kept, all_kept, first_kept};
+ghost use Rattle.stamped_store.specs.Store.{StoreEntries, IsStoreOf, kept, joined_entries, first_entries};
 ghost use Rattle.stamped_store.specs.Reading.{IsEntryRead, AreEntriesRead};
 ghost use Rattle.stamped_store.specs.Contents.{text_under, policies_of, entities_of};
 ghost use Rattle.stamped_store.specs.Deltas.{Summary, stamp_of, summary_of, is_unseen, delta, HaveOneEntryForAStamp};
@@ -149,11 +149,11 @@ pub fn readings_are_preserved<P: Drop, E: Drop, R: Readings<P, E>>()
         (kept k.policies (taken uid_cmp greater k.entities uid entry)) }
     ensures merged { (r : R) (k l : StoreEntries P E) → AreEntriesRead (R.reads_policy r) (R.reads_entity r) k
         → AreEntriesRead (R.reads_policy r) (R.reads_entity r) l
-        → AreEntriesRead (R.reads_policy r) (R.reads_entity r) (all_kept k l) }
+        → AreEntriesRead (R.reads_policy r) (R.reads_entity r) (joined_entries k l) }
     ensures cut_short { (r : R) (n : ℕ) (k l : StoreEntries P E)
         → AreEntriesRead (R.reads_policy r) (R.reads_entity r) k
         → AreEntriesRead (R.reads_policy r) (R.reads_entity r) l
-        → AreEntriesRead (R.reads_policy r) (R.reads_entity r) (all_kept k (first_kept n l)) }
+        → AreEntriesRead (R.reads_policy r) (R.reads_entity r) (joined_entries k (first_entries n l)) }
 {}
 
 /// Proves that the test `is_site_name` accepts exactly the names of sites, and that such a name is valid UTF-8. The

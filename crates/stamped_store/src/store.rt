@@ -1,4 +1,4 @@
-//! The store of a site: an entry for each name of a policy or an entity.
+//! The store of a site: at most one entry for each name of a policy or an entity.
 ghost use Rattle.std.specs.Prelude.{◌≡◌, ◌↔◌, ◌<◌, ◌+◌, ◌^◌, ◌++◌, ◌∷◌, [], length, max, String, string_bytes, IsTrue};
 ghost use Rattle.std.specs.Prelude.{OnOk, OnErr, IfOk, IfErr};
 ghost use Rattle.std.specs.declared.alloc.Global.{Global};
@@ -13,8 +13,8 @@ ghost use Rattle.stamped_store.specs.EntryOrder.{plain_entry, greater, entry_at_
 ghost use Rattle.stamped_store.specs.Greatest.{greatest_count};
 ghost use Rattle.stamped_store.specs.Abstraction.{greatest_kept};
 ghost use Rattle.stamped_store.specs.JoinMaps.{value_at, value_at_text, taken, IsBelow};
-ghost use Rattle.stamped_store.specs.Store.{abstract_store, abstract_updates, store_of, updates, kept, all_kept};
-ghost use Rattle.stamped_store.specs.Store.{first_kept};
+ghost use Rattle.stamped_store.specs.Store.{abstract_store, abstract_updates, store_of, updates, kept, joined_entries};
+ghost use Rattle.stamped_store.specs.Store.{first_entries};
 ghost use Rattle.stamped_store.specs.Store.{policy_name, entity_name, KeepsOtherNames, IsStoreBelow, IsStoreJoin};
 ghost use Rattle.stamped_store.specs.Store.{first_names, issue};
 
@@ -30,7 +30,8 @@ pub const COUNT_MAX: u64 = 1_000_000_000_000_000_000;
 /// The store of a site: the entries of policies by id, with parsed forms of type `P`, and those of entities by uid,
 /// with parsed forms of type `E`.
 ///
-/// Contracts see these entries, and the abstract store over names: policies come before entities.
+/// Contracts see these entries, and the abstract store that they represent, with at most one entry at each name. In the
+/// order of names, policies come before entities.
 #[derive(Drop)]
 pub struct StampedStore<P: Drop, E: Drop> {
     policies: Stamped<String, Entry<P>>,
@@ -159,7 +160,7 @@ impl<P: Drop, E: Drop> StampedStore<P, E> {
         Ok(())
     }
 
-    /// Replaces this store by the join of both.
+    /// Replaces this store by its join with the other store.
     ///
     /// # Errors
     ///
@@ -168,10 +169,10 @@ impl<P: Drop, E: Drop> StampedStore<P, E> {
     pub fn merge(&mut self, other: Self) -> Result<(), Short>
         ensures ok { OnOk result
             (IsStoreJoin (abstract_store self.old) (abstract_store other) (abstract_store self.new)) }
-        ensures ok_kept { OnOk result (self.new ≡ all_kept self.old other) }
+        ensures ok_kept { OnOk result (self.new ≡ joined_entries self.old other) }
         ensures short { IfErr result (λ s. IsStoreJoin (abstract_store self.old)
             (first_names s.taken (abstract_store other)) (abstract_store self.new)) }
-        ensures short_kept { IfErr result (λ s. self.new ≡ all_kept self.old (first_kept s.taken other)) }
+        ensures short_kept { IfErr result (λ s. self.new ≡ joined_entries self.old (first_entries s.taken other)) }
         ensures cut { IfErr result (λ s. s.taken < length (updates (abstract_store other))) }
     {
         let StampedStore {
@@ -192,7 +193,7 @@ impl<P: Drop, E: Drop> StampedStore<P, E> {
         Ok(())
     }
 
-    /// Returns whether each name of this store has an entry in the other that is at least as great. Does not
+    /// Returns whether the other store has, at each name of this store, an entry that is at least as great. Does not
     /// allocate.
     pub fn below(&self, other: &Self) -> bool
         ensures { IsTrue result ↔ IsStoreBelow (abstract_store self.now) (abstract_store other.now) }
@@ -220,7 +221,7 @@ fn take_counted<K: Ord + Drop, P: Drop>(
     Ok(greater_count(greatest, count))
 }
 
-// Returns whether each key of the first has an entry in the second that is at least as great.
+// Returns whether `second` has, at each key of `first`, an entry that is at least as great.
 fn all_below<K: Ord + Drop, P: Drop>(
     first: &Stamped<K, Entry<P>>,
     second: &Stamped<K, Entry<P>>,

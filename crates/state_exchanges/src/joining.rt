@@ -74,7 +74,8 @@ pub struct Joined {
     pub taken: usize,
 }
 
-/// Joins the updates of a state or a delta into a store, in order: at each name the greater entry wins.
+/// Joins the updates of a state or a delta into a store, in order: at each name the greater entry wins. If each update
+/// of `store` is in its ranges and valid under the schema, so is each update of the joined store.
 ///
 /// # Errors
 ///

@@ -34,8 +34,8 @@ pub data DescribesSite : MessageVersion → Data → List ℕ → Type 0 where
 
 -- ---- versions
 
--- `HasVersion d n` holds if `d` is an object with the number `n`, an integer in unsigned 64 bits, under the key
--- `version`.
+-- `HasVersion d n` holds if `d` is an object with the number `n` under the key `version`. (In parsed JSON, `n` is an
+-- integer in unsigned 64 bits.)
 abbrev pub HasVersion : Data → ℕ → Type 0
 HasVersion d n = get (codes "version") d ≡ Some (number (unsigned n))
 

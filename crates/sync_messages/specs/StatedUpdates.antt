@@ -38,7 +38,8 @@ pub record IsUpdates (d : Data) (schema : List ℕ) (us : List Update) : Type 0 
   pub state : AllZip (DescribesEntry version) (list_of entries) us
 
 -- `DescribesUpdates label bytes us` holds if `bytes` have the form of a state or delta for the schema with the label
--- `label`, with the updates `us`. The counts and names may be out of their ranges, and the texts need not be valid.
+-- `label`, with the updates `us`. The counts and the ids of policies may be out of their ranges, and the texts need not
+-- be valid.
 abbrev pub DescribesUpdates : List ℕ → List ℕ → List Update → Type 0
 DescribesUpdates label bytes us = DescribesForm IsUpdates label bytes us
 

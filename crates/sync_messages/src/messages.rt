@@ -17,7 +17,7 @@ use validator::{Entity, Schema};
 
 /// Parses a state or a delta under a schema.
 ///
-/// Returns the message's updates in their order, with each text parsed under the schema.
+/// Returns the updates in the order of the message, with each text parsed under the schema.
 ///
 /// # Errors
 ///

@@ -263,7 +263,7 @@ read [] = []
 read (t ∷ ts) = read_one t (read ts)
 
 -- `literal_read`, `unary_back` and `named_back`: a literal, a unary operator and the fields of a record are read back
--- from their contents. `take_front` and `drop_front`: the parts of `xs ++ st` up to and after the length of `xs`.
+-- from their contents. `take_front` and `drop_front`: `xs ++ st` is `xs` up to the length of `xs`, and `st` after it.
 literal_read : (l : Literal) (st : List Expr) → read_one (0, literal_content l) st ≡ form.Literal l ∷ st
 literal_read (literal.Boolean b) st = ap (λ c. form.Literal (literal.Boolean c) ∷ st) (is_one-as_number b)
 literal_read (literal.Long z) st = refl

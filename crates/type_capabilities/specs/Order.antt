@@ -40,8 +40,8 @@ unary_rank unary.Negate = 1
 unary_rank (unary.Like p) = 2
 unary_rank (unary.Is n) = 3
 
--- `pattern_cmp p q` compares the patterns `p` and `q`, each the list of its literal pieces: by the number of these,
--- then piece by piece.
+-- `pattern_cmp p q` compares the patterns `p` and `q`, each the list of its literal texts: by the number of these, then
+-- text by text.
 abbrev pub pattern_cmp : List (List ℕ) → List (List ℕ) → Ordering
 pattern_cmp p q = ordering_then (nat_cmp (length p) (length q)) (slice_cmp text_cmp p q)
 

@@ -45,8 +45,8 @@ code_cmp = then_cmp (on (λ t. t.0) nat_cmp) (on (λ t. t.1) content_cmp)
 abbrev codes_cmp : List NodeCode → List NodeCode → Ordering
 codes_cmp = slice_cmp code_cmp
 
--- `then_equal`, `then_assoc` and `both_equal`: for `ordering_then`, `Equal` is neutral on the right; it is associative;
--- and it gives `Equal` only for two `Equal`.
+-- `then_equal`, `then_assoc` and `both_equal`: `ordering_then` has `Equal` as right identity, is associative, and gives
+-- `Equal` only for two `Equal`.
 then_equal : (o : Ordering) → ordering_then o Equal ≡ o
 then_equal Less = refl
 then_equal Equal = refl
@@ -295,7 +295,7 @@ from_layer x f l e d h y s t =
     ∙ ap (λ us. codes_cmp (layer_codes l ++ s) (us ++ t)) (codes_out y)))
 
 -- `compare_step l y` compares the node `l`, given how its operands compare with other expressions, with the expression
--- `y`. `Comparison` and `NodeCodeList` are the results of folding an expression by `compare_step` and by `codes_step`.
+-- `y`. `Comparison` and `NodeCodeList` are the types to which `compare_step` and `codes_step` fold an expression.
 abbrev compare_step : Expr-F (Expr → Ordering) → Expr → Ordering
 compare_step l y = layers_cmp l (out-Expr y)
 

@@ -50,7 +50,7 @@ fn unary_rank(operator: &Unary) -> u8
     }
 }
 
-/// Compares patterns: by the number of their literal pieces, then piece by piece.
+/// Compares patterns: by the number of their literal texts, then text by text.
 #[tactic(auto, using(crate::proofs::Patterns::pattern_is))]
 fn compare_patterns(one: &Pattern, other: &Pattern) -> Ordering
     ensures { result ≡ pattern_cmp one.now other.now }

@@ -162,8 +162,8 @@ impl<'a> TypingEnvironment<'a> {
 
     /// Returns whether, by the schema, the action `above` is an ancestor of `action`. Does not allocate.
     ///
-    /// Takes O(log n) comparisons, where n is the number of actions, and time linear in the number of spans in which
-    /// the schema lists the ancestors of `action`.
+    /// Takes O(log n) comparisons, where n is the number of actions. The schema lists the ancestors of an action as
+    /// spans of consecutive numbers; the test also takes time linear in the number of the spans for `action`.
     pub fn is_action_ancestor(self, action: &EntityUid, above: &EntityUid) -> bool
         ensures { IsTrue result ↔ Contains ((typing_environment self.entry).action_ancestors action.now) above.now }
     {

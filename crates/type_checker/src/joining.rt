@@ -63,7 +63,7 @@ pub(crate) fn left_type<'a>(
 }
 
 /// Returns the type of a conjunction whose last part has the type `truth`; never `None`. The conjunction of the parts
-/// before it has the type `so_far`, which is `None` if there are none.
+/// before it has the type `so_far`, which is `None` if no part precedes it.
 pub(crate) fn and_one_more(so_far: Option<BooleanType>, truth: BooleanType) -> Option<BooleanType>
     ensures { option_map boolean_view result
         ≡ Some (and_so_far (option_map boolean_view so_far) (boolean_view truth)) }
@@ -75,8 +75,8 @@ pub(crate) fn and_one_more(so_far: Option<BooleanType>, truth: BooleanType) -> O
 }
 
 /// Returns the type of a conjunction whose last part has the type `last`. The conjunction of the parts before it has
-/// the type `so_far`, which is `None` if there are none. Returns `Unexpected` if there are parts before it and `last`
-/// is not boolean.
+/// the type `so_far`, which is `None` if no part precedes it. Returns `Unexpected` if parts precede it and `last` is
+/// not boolean.
 pub(crate) fn and_last<'a>(
     so_far: Option<BooleanType>,
     last: StaticType<'a>,

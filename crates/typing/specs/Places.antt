@@ -28,7 +28,7 @@ operands_in (Expr-F.BinaryCall called a b) = a ∷ b ∷ []
 abbrev pub operands_of : Expr → List Expr
 operands_of x = operands_in (out-Expr x)
 
--- `and_then o f` is `f` of the expression `o`, or `None` if `o` is `None`.
+-- `and_then o f` is `f` of the expression in `o`, or `None` if `o` is `None`.
 abbrev pub and_then : Option Expr → (Expr → Option Expr) → Option Expr
 and_then None f = None
 and_then (Some x) f = f x

@@ -45,7 +45,8 @@ abbrev pub field_declared_at : List ℕ → FieldTypes → Declared
 field_declared_at k no_field_types = undeclared
 field_declared_at k (field_type l t r ts) = if bytes_eq k l then declared_as r t else field_declared_at k ts
 
--- `put_required k t fields` are the fields `fields` with a required one of type `t` at `k`.
+-- `put_required k t fields` are the fields `fields`, whose keys ascend, with a required field of type `t` at the key
+-- `k`, in place of any other at `k`.
 abbrev pub put_required : List ℕ → StaticType → FieldTypes → FieldTypes
 put_required k t no_field_types = field_type k t true no_field_types
 put_required k t (field_type l s r ts) =

@@ -49,7 +49,7 @@ mutual
         → Types env (K ++ L) b t M → Types env K (form.If a b c) t (L ++ M)
     if_of_false : {K L M : CapabilityList} (a b c : Expr) {t : StaticType} → Types env K a false_type L
         → Types env K c t M → Types env K (form.If a b c) t M
-    -- the whole gains `B`: the capabilities `N` of `else` that the test and `then` together (`L ++ M`) gain too
+    -- the whole gains `B`: the capabilities that are both in `N` (of `else`) and in `L ++ M` (of the test and `then`)
     if_of_both : {K L M N B : CapabilityList} (a b c : Expr) {s t u : StaticType} → Types env K a boolean_type L
         → Types env (K ++ L) b s M → Types env K c t N → common s t ≡ Some u → InBoth N (L ++ M) B
         → Types env K (form.If a b c) u B

@@ -85,8 +85,8 @@ pub fn operand<'a>(expr: &'a Expr, at: usize) -> Option<&'a Expr>
     }
 }
 
-/// Returns the expression to which a path, a list of indexes of operands, leads from `whole`; `None` if it leads to
-/// none. Does not allocate.
+/// Returns the expression to which a path, a list of indexes of operands, leads from `whole`, if it leads to one. Does
+/// not allocate.
 pub fn at_path<'a>(whole: &'a Expr, path: &[usize]) -> Option<&'a Expr>
     ensures { MatchOption result (follow path.now whole.entry.now ≡ None) (λ y. follow path.now whole.entry.now
         ≡ Some y.now) }

@@ -17,7 +17,7 @@ pub fn policies_have_one_outcome()
 }
 
 /// Proves that validation is sound. On a request and entities that conform to the schema, a policy that passes gives a
-/// boolean, `EntityDoesNotExist` or `ArithBoundsError`. An impossible policy never gives true. No-op.
+/// boolean, `EntityDoesNotExist` or `ArithBoundsError`, and an impossible policy never gives true. No-op.
 ///
 /// The theorem assumes that a test decides the ancestor relation of the entities.
 pub fn passing_policies_are_sound()

@@ -82,7 +82,7 @@ fn entity_literals(alloc: Global, uids: &[EntityUid]) -> Result<Items<Expr>, NoM
     Ok(Items::from_vec(literals))
 }
 
-/// Returns `action in` the set of these entities, or `false` if there are none.
+/// Returns `action in` the set of these entities, or `false` if the set is empty.
 fn within_list(alloc: Global, uids: &Items<EntityUid>) -> Result<Expr, NoMemory>
     ensures { IfOk result (λ x. x ≡ action_part (ActionScope.InList uids.now)) }
 {
@@ -153,7 +153,7 @@ fn behind_principal(
 ///
 /// # Errors
 ///
-/// - `NoMemory`: an allocation failed.
+/// - `NoMemory`: an allocation failed, or a count of references would overflow.
 pub fn expression_of(alloc: Global, policy: &Policy) -> Result<Expr, NoMemory>
     ensures { IfOk result (λ x. x ≡ expression_of policy.now) }
 {

@@ -1,13 +1,13 @@
 -- Defines the Path that a list of words forms, and computable tests of whether a string is an identifier or a Path.
 -- Source: Cedar reference guide 4.0, "Grammar specification for Cedar policy syntax", Path = Ident { "::" Ident },
--- without blanks or comments.
+-- without whitespace or comments.
 use Prim.Native.Char.{code}
 use Rattle.std.specs.Prelude.{◌↔◌, IsTrue, false, ℕ, List, [], ◌∷◌, ◌++◌, Bool, not, ◌==◌, ◌&&◌, if◌then◌else◌}
 use Rattle.std.specs.List.{list_any, list_all}
 use Rattle.std.specs.Str.{bytes_eq}
 use Rattle.extensions.specs.plain.Words.{is_letter, is_word_byte, reserved_words, joined_path, IsIdent, IsPath}
 
--- `path_of words` is the string of the words `words` joined by `::`; it is empty if there are none.
+-- `path_of words` is the words `words` joined by `::`, and the empty string if there are no words.
 abbrev pub path_of : List (List ℕ) → List ℕ
 path_of [] = []
 path_of (first ∷ more) = joined_path first more

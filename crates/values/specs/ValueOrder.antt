@@ -92,8 +92,8 @@ then_into o p q e = ap (ordering_then o) e
 then_same : (o p q : Ordering) → o ≡ p → ordering_then o q ≡ ordering_then p q
 then_same o p q e = ap (λ r. ordering_then r q) e
 
--- An end comes before the first token of each value, so a prefix comes first; `end_last` compares the same two lists
--- the other way round.
+-- An end token comes before the first token of each value, so a prefix comes first; `end_last` compares the same two
+-- lists the other way round.
 end_first : (w : PlainValue) (s t : List Token) → tokens_cmp ((0, (pos 0, ([], []))) ∷ s) (tokens w ++ t) ≡ Less
 end_first (boolean b) s t = refl
 end_first (long z) s t = refl

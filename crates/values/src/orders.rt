@@ -15,8 +15,8 @@ use crate::set::Set;
 use crate::type_name::TypeName;
 use crate::value::Value;
 
-/// Proves that type names are compared by their bytes: `cmp` is that order, which is total, and is `Equal` only for
-/// equal names; `==` is true if and only if the names are equal. No-op.
+/// Proves that type names are compared by their bytes: `cmp` is that order, which is total, and `cmp` is `Equal` only
+/// for equal names; `==` is true if and only if the names are equal. No-op.
 pub fn type_names_are_ordered()
     ensures by { (a b : TypeName) → ⟦<TypeName as Ord>⟧.cmp a b ≡ text_cmp a b }
     ensures same { (a b : TypeName) → IsTrue (⟦<TypeName as PartialEq>⟧.eq a b) ↔ (a ≡ b) }
@@ -24,8 +24,8 @@ pub fn type_names_are_ordered()
     ensures exact { IsAntisymmetric text_cmp }
 {}
 
-/// Proves that entity uids are compared by the type's name, then by the id: `cmp` is that order, which is total, and is
-/// `Equal` only for equal uids; `==` is true if and only if the uids are equal. No-op.
+/// Proves that entity uids are compared by the type's name, then by the id: `cmp` is that order, which is total, and
+/// `cmp` is `Equal` only for equal uids; `==` is true if and only if the uids are equal. No-op.
 pub fn entity_uids_are_ordered()
     ensures by { (a b : EntityUid) → ⟦<EntityUid as Ord>⟧.cmp a b ≡ uid_cmp a b }
     ensures same { (a b : EntityUid) → IsTrue (⟦<EntityUid as PartialEq>⟧.eq a b) ↔ (a ≡ b) }
@@ -33,8 +33,8 @@ pub fn entity_uids_are_ordered()
     ensures exact { IsAntisymmetric uid_cmp }
 {}
 
-/// Proves that names are compared with policies before entities: `cmp` is that order, which is total, and is `Equal`
-/// only for equal names; `==` is true if and only if the names are equal. No-op.
+/// Proves that names are compared with policies before entities: `cmp` is that order, which is total, and `cmp` is
+/// `Equal` only for equal names; `==` is true if and only if the names are equal. No-op.
 pub fn names_are_ordered()
     ensures by { (a b : Name) → ⟦<Name as Ord>⟧.cmp a b ≡ name_cmp a b }
     ensures same { (a b : Name) → IsTrue (⟦<Name as PartialEq>⟧.eq a b) ↔ (a ≡ b) }
@@ -43,7 +43,7 @@ pub fn names_are_ordered()
 {}
 
 /// Proves that requests are compared by principal, action, resource and context: `cmp` is that order, which is total,
-/// and is `Equal` only for equal requests; `==` is true if and only if the requests are equal. No-op.
+/// and `cmp` is `Equal` only for equal requests; `==` is true if and only if the requests are equal. No-op.
 pub fn requests_are_ordered()
     ensures by { (a b : Request) → ⟦<Request as Ord>⟧.cmp a b ≡ request_cmp a b }
     ensures same { (a b : Request) → IsTrue (⟦<Request as PartialEq>⟧.eq a b) ↔ (a ≡ b) }
@@ -51,8 +51,8 @@ pub fn requests_are_ordered()
     ensures exact { IsAntisymmetric request_cmp }
 {}
 
-/// Proves that values are compared by kind, then by content: `cmp` is that order, which is total, and is `Equal` only
-/// for equal values; `==` is true if and only if the values are equal. No-op.
+/// Proves that values are compared by kind, then by content: `cmp` is that order, which is total, and `cmp` is `Equal`
+/// only for equal values; `==` is true if and only if the values are equal. No-op.
 pub fn values_are_ordered()
     ensures by { (a b : Value) → ⟦<Value as Ord>⟧.cmp a b ≡ value_cmp a b }
     ensures same { (a b : Value) → IsTrue (⟦<Value as PartialEq>⟧.eq a b) ↔ (a ≡ b) }

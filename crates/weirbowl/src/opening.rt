@@ -1,4 +1,4 @@
-//! Opening a site for a program.
+//! Opening an embedded site.
 ghost use Rattle.std.specs.Prelude.{◌≡◌, [], IfOk, IfErr, MatchOption};
 ghost use Rattle.site_calls.specs.site_steps.SiteViews.{schema_of, store_in};
 ghost use Rattle.site_calls.specs.site_steps.stamped_store.SiteNames.{IsSiteName};
@@ -34,7 +34,7 @@ impl OpenError {
     }
 }
 
-/// Returns a site with memory for the body of a reply to a change, and no reply yet.
+/// Returns `site` as an embedded site. Its `body` is empty, with capacity for the body of a reply to a change.
 fn embedded(alloc: Global, site: Site) -> Result<EmbeddedSite, NoMemory>
     ensures site { IfOk result (λ e. e.site ≡ site) }
     ensures fresh { IfOk result (λ e. e.body.items ≡ []) }
@@ -54,7 +54,7 @@ fn embedded(alloc: Global, site: Site) -> Result<EmbeddedSite, NoMemory>
     })
 }
 
-/// Returns a site of this name with nothing stored, under a schema.
+/// Returns an empty site of this name, under a schema.
 fn open_under(alloc: Global, schema: Schema, name: &str) -> Result<EmbeddedSite, NoMemory>
     requires { IsSiteName name.now }
     ensures schema { IfOk result (λ e. e.site.schema ≡ schema) }
@@ -66,7 +66,8 @@ fn open_under(alloc: Global, schema: Schema, name: &str) -> Result<EmbeddedSite,
     embedded(alloc, Site::new(alloc, schema, name))
 }
 
-/// Returns an empty site with this site name, under the schema that bytes describe, or the error of the schema.
+/// Returns an empty site with this site name, under the schema that bytes describe; or the error of the schema, or of a
+/// failed allocation.
 fn open_named(alloc: Global, schema: &[u8], name: &str) -> Result<EmbeddedSite, Refusal>
     requires { IsSiteName name.now }
     ensures opened { IfOk result (IsOpened schema.now name.now) }
@@ -76,7 +77,7 @@ fn open_named(alloc: Global, schema: &[u8], name: &str) -> Result<EmbeddedSite, 
     Ok(open_under(alloc, schema, name)?)
 }
 
-/// Returns a site like [`open_named`], with the error as an [`OpenError`].
+/// Opens a site like [`open_named`], with the error as an [`OpenError`].
 fn open_as(alloc: Global, schema: &[u8], name: &str) -> Result<EmbeddedSite, OpenError>
     requires { IsSiteName name.now }
     ensures opened { IfOk result (IsOpened schema.now name.now) }

@@ -34,8 +34,8 @@ IsInOwn lists x = (list : Vec EntityUid Global) × Contains lists (x, list) × C
 abbrev pub ListsAscend : List (EntityUid × Vec EntityUid Global) → Type 0
 ListsAscend lists = (x : EntityUid) (list : Vec EntityUid Global) → Contains lists (x, list) → IsAscending list.items
 
--- `Enters lists before after` holds if `after` has the entities of `before`, and no others except some whose own list
--- in `lists` contains them (`IsInOwn`).
+-- `Enters lists before after` holds if `after` has the entities of `before`, and each other entity of `after` is in its
+-- own list in `lists` (`IsInOwn`).
 pub record Enters (lists : List (EntityUid × Vec EntityUid Global)) (before after : List EntityUid) : Type 0 where
   pub kept : (x : EntityUid) → Contains before x → Contains after x
   pub from : (x : EntityUid) → Contains after x → Contains before x ⊎ IsInOwn lists x

@@ -162,7 +162,7 @@ pub record IsWalkingWithRemovedEdge (e : Edges) (place : List ℕ) (found : List
 
 -- `JoinsDownTo at bounds last bounds' last'` holds if the invariant `HasRemovedEdge` is preserved when `bounds'` and
 -- `last'` replace `bounds` and `last`, where the edge to be visited leads to the member at index `at`, counted from 1.
--- The new bounds are those of the path with its last groups merged, down to that member's group.
+-- It holds, for example, for the bounds of the path with its last groups merged, down to that member's group.
 abbrev pub JoinsDownTo : ℕ → List Bound → Bound → List Bound → Bound → Type 0
 JoinsDownTo at bounds last bounds' last' =
     (e : Edges) (place : List ℕ) (y : ℕ) (members pending : List ℕ) →
@@ -181,8 +181,8 @@ KeepsSeen place place' = (x : ℕ) → IsSeen place x → IsSeen place' x
 abbrev pub HasOpen : List ℕ → List ℕ → Type 0
 HasOpen ys place = (y : ℕ) × Contains ys y × (IsDone place y → ⊥)
 
--- `FindsOpen e place members found found'` holds if `found'` marks what `found` marks, and those of `members` from
--- which an edge leads to a number that is not done.
+-- `FindsOpen e place members found found'` holds if `found'` has the length of `found`, and marks what `found` marks
+-- and those of `members` below this length from which an edge leads to a number that is not done.
 pub record FindsOpen (e : Edges) (place members : List ℕ) (found found' : List Bool) : Type 0 where
   pub len : length found' ≡ length found
   pub same : (x : ℕ) → IsTrue (slice_index_or found' x false)

@@ -47,8 +47,8 @@ use Rattle.evaluator.specs.Outcomes.{EvaluationResult, boolean_in, long_in, text
 use Rattle.evaluator.specs.Outcomes.{decimal_in, network_in}
 use Rattle.evaluator.specs.Evaluation.{literal_value, variable_value}
 
--- `DecidedEntities` is entity data for this function: the attributes of each stored entity, and a test of the ancestor
--- relation.
+-- A `DecidedEntities` is the entity data over which `meaning` evaluates: the attributes of each stored entity, and a
+-- test of the ancestor relation.
 pub record DecidedEntities : Type 0 where
   pub stored : EntityUid → Option (List Field)
   pub ancestor_test : EntityUid → EntityUid → Bool
@@ -275,7 +275,7 @@ abbrev pub AnswersNext : {A B : Type 0} → Result A EvalFault → (A → Result
 AnswersNext {A} given f r = (m : Result A EvalFault) → Answers given m → Answers r (and_then m f)
 
 -- `AnswersInto given P r` holds if, for each outcome `m` that `given` answers, `r` is a success and `P` holds of the
--- value in `m`, or `r` answers the error in `m`.
+-- value in `m`, or `r` is the error in `m`, or `NoMemory`.
 abbrev pub AnswersInto : {A : Type 0} → EvaluationResult → (PlainValue → Type 0) → Result A EvalFault → Type 0
 AnswersInto given P r = (m : EvaluationResult) → Answers given m
     → MatchResult r (λ _. (v : PlainValue) × (m ≡ Ok v) × P v) (λ e. e ≢ NoMemory → m ≡ Err e)

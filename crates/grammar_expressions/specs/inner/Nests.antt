@@ -9,7 +9,7 @@ use Rattle.grammar_trees.specs.grammar_tokens.ParsesTo.{ParsesTo}
 use Rattle.grammar_expressions.specs.ExpressionParsing.{expr}
 
 -- `Nests levels pre post` holds if a closure with the precondition `pre` and the postcondition `post` may always be
--- called with `levels`, and then parses as `expr levels`.
+-- called with `levels`, and then parses as `expr levels`, or returns `NoMemory`.
 pub record Nests (levels : ℕ) (pre : Global → MutBor Cursor → ℕ → Type 0)
     (post : Global → MutBor Cursor → ℕ → Result ExprTree StopCause → MutBor Cursor → Type 0) : Type 0 where
   pub callable : (alloc : Global) (old : MutBor Cursor) → pre alloc old levels

@@ -1,4 +1,4 @@
--- Defines how a site applies the updates of a message before it serves.
+-- Defines how the initial site of a run applies the updates of a message.
 use Rattle.std.specs.Prelude.{◌≡◌, ℕ, List, ◌++◌}
 use Rattle.program_drills.specs.http_service.policy_grammar.declared.policy.Policy.{Policy}
 use Rattle.program_drills.specs.http_service.entity_data.declared.entity.Entity.{Entity}

@@ -8,7 +8,7 @@ use Rattle.schema_types.specs.declared.fault.SchemaFault.{SchemaFault}
 use Rattle.schema_types.specs.declared.fault.SchemaFault.TheVariants.{TypeCycle, ActionCycle, TypeTooLarge}
 use Rattle.schema_names.specs.Qualifying.{ResolvedSchema}
 use Rattle.schema_names.specs.Naming.{DescribesFile, IsNamingError}
-use Rattle.schema.specs.Schemas.{StatedSchema, IsSound, Answers, SomeActionIsOnCycle, SomeTypeIsTooLarge}
+use Rattle.schema.specs.Schemas.{StatedSchema, IsSound, MatchesDeclarations, SomeActionIsOnCycle, SomeTypeIsTooLarge}
 use Rattle.schema.specs.Schemas.{IsSchemaOf, RefusedFor}
 use Rattle.schema.specs.WellFormed.{IsWellFormed}
 
@@ -26,7 +26,7 @@ pub record IsParsedAs (bytes : List ℕ) (v : StatedSchema) : Type 0 where
   pub states : DescribesFile bytes named
   pub sound : IsSound named
   pub label : v.label ≡ encode_lower (sha256 bytes)
-  pub answers : Answers named v
+  pub answers : MatchesDeclarations named v
 
 -- `IsNotParsed bytes f` holds if the functions give the error `f` for `bytes`, or give a file whose first error is `f`.
 pub data IsNotParsed (bytes : List ℕ) : SchemaFault → Type 0 where

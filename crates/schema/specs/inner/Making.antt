@@ -1,5 +1,5 @@
 -- Defines how the code builds the parts of a schema, one after another. Each relation `Adds..` holds if the map `new`
--- is the map `old` with the entries that the relation's comment says to be added; `..May` holds of the entries that may
+-- is the map `old` with the further entries that the relation's comment states. `..May` holds of the entries that may
 -- be added, `..Must` of the keys that must be there afterwards (Filling). `commons` are the declared common types.
 use Rattle.std.specs.Prelude.{◌≡◌, ⊤, ℕ, List, Contains, Option, Some, None, option_map}
 use Rattle.std.specs.BTreeMap.{BTreeMap, get}
@@ -18,7 +18,7 @@ use Rattle.schema_names.specs.Qualifying.{ResolvedEntityType, ResolvedAppliesTo,
 use Rattle.schema.specs.declared.parts.EnvironmentKey.{EnvironmentKey}
 use Rattle.schema.specs.declared.parts.EntityDecl.{EntityDecl}
 use Rattle.schema.specs.Places.{place_cmp, place_of}
-use Rattle.schema.specs.Schemas.{IsRecordOf, IsWritten}
+use Rattle.schema.specs.Schemas.{IsRecordOf, HasSmallExpansion}
 use Rattle.schema.specs.inner.Filling.{AddsEntries, AddsEach, SomeMay, SomeMust, HoldsForEach}
 
 -- ---- expanded types
@@ -27,10 +27,10 @@ use Rattle.schema.specs.inner.Filling.{AddsEntries, AddsEach, SomeMay, SomeMust,
 abbrev pub IsClosedAt : Declarations → Option Qualified → Type 0
 IsClosedAt commons o = (r : Qualified) → o ≡ Some r → IsClosed commons r
 
--- `IsWrittenAt commons o` holds if the type in `o` has an expansion within the limits, or `o` is `None`; `commons` are
--- the declared common types.
-abbrev pub IsWrittenAt : Declarations → Option Qualified → Type 0
-IsWrittenAt commons o = (r : Qualified) → o ≡ Some r → IsWritten commons r
+-- `HasSmallExpansionAt commons o` holds if the type in `o` has an expansion within the limits, or `o` is `None`;
+-- `commons` are the declared common types.
+abbrev pub HasSmallExpansionAt : Declarations → Option Qualified → Type 0
+HasSmallExpansionAt commons o = (r : Qualified) → o ≡ Some r → HasSmallExpansion commons r
 
 -- `IsRefusedAt commons o f` holds if `f` is the error of expanding the type in `o` by `commons`.
 abbrev pub IsRefusedAt : Declarations → Option Qualified → SchemaFault → Type 0
@@ -40,7 +40,7 @@ IsRefusedAt commons o f = (r : Qualified) × (o ≡ Some r) × TypeRefused commo
 -- without attributes if `o` is `None`.
 pub record IsMade (commons : Declarations) (o : Option Qualified) (t : Cedar) : Type 0 where
   pub is_record : IsRecordOf commons o t
-  pub is_written : IsWrittenAt commons o
+  pub is_written : HasSmallExpansionAt commons o
 
 -- ---- look-ups
 
@@ -64,14 +64,16 @@ ShapeMust e n = e.name ≡ n
 abbrev pub AddsShape : Declarations → ResolvedEntityType → BTreeMap (List ℕ) EntityDecl → BTreeMap (List ℕ) EntityDecl
     → Type 0
 AddsShape commons e old new =
-    AddsEntries (ShapeMay commons e) (ShapeMust e) (IsWrittenAt commons e.shape) (get text_cmp old) (get text_cmp new)
+    AddsEntries (ShapeMay commons e) (ShapeMust e) (HasSmallExpansionAt commons e.shape) (get text_cmp old)
+    (get text_cmp new)
 
 -- `AddsShapes commons es old new` holds if `new` is `old` with the shapes of the entity types `es` added, expanded by
 -- `commons` within the limits.
 abbrev pub AddsShapes : Declarations → List ResolvedEntityType → BTreeMap (List ℕ) EntityDecl
     → BTreeMap (List ℕ) EntityDecl → Type 0
 AddsShapes commons es old new =
-    AddsEach (ShapeMay commons) ShapeMust (λ e. IsWrittenAt commons e.shape) es (get text_cmp old) (get text_cmp new)
+    AddsEach (ShapeMay commons) ShapeMust (λ e. HasSmallExpansionAt commons e.shape) es (get text_cmp old)
+    (get text_cmp new)
 
 -- `AreShapesClosed commons es` holds if each common type that a shape of the entity types `es` names is declared in
 -- `commons`.
@@ -87,7 +89,8 @@ SomeShapeIsRefused commons es f = (e : ResolvedEntityType) × Contains es e × I
 -- `commons` within the limits.
 abbrev pub AreShapes : Declarations → List ResolvedEntityType → BTreeMap (List ℕ) EntityDecl → Type 0
 AreShapes commons es shapes =
-    AddsEach (ShapeMay commons) ShapeMust (λ e. IsWrittenAt commons e.shape) es (λ n. None) (get text_cmp shapes)
+    AddsEach (ShapeMay commons) ShapeMust (λ e. HasSmallExpansionAt commons e.shape) es (λ n. None)
+    (get text_cmp shapes)
 
 -- ---- environments
 
@@ -138,7 +141,7 @@ UseMay commons action u p c = UseMust action u p × IsRecordOf commons u.context
 -- added, and at each the context of `u`, expanded by `commons` within the limits.
 abbrev pub AddsUse : Declarations → EntityUid → ResolvedAppliesTo → Places → Places → Type 0
 AddsUse commons action u old new =
-    AddsEntries (UseMay commons action u) (UseMust action u) (IsWrittenAt commons u.context)
+    AddsEntries (UseMay commons action u) (UseMust action u) (HasSmallExpansionAt commons u.context)
     (get place_cmp old) (get place_cmp new)
 
 -- `ActionMust a p` holds if `p` is a place of the action `a`.
@@ -153,7 +156,7 @@ ActionMay commons a p c = (u : ResolvedAppliesTo) × (a.applies_to ≡ Some u) �
 -- `IsContextWritten commons a` holds if the context of the action `a`, if it has one, has an expansion by `commons`
 -- within the limits.
 abbrev pub IsContextWritten : Declarations → ResolvedAction → Type 0
-IsContextWritten commons a = (u : ResolvedAppliesTo) → a.applies_to ≡ Some u → IsWrittenAt commons u.context
+IsContextWritten commons a = (u : ResolvedAppliesTo) → a.applies_to ≡ Some u → HasSmallExpansionAt commons u.context
 
 -- `IsContextClosed commons a` holds if each common type that the context of `a` names is declared in `commons`.
 abbrev pub IsContextClosed : Declarations → ResolvedAction → Type 0

@@ -52,8 +52,8 @@ abbrev pub HasAncestors : Parents → Numbers → EntityUid → List NumberSpan 
 HasAncestors parents at u spans =
     (q : EntityUid) (i : ℕ) → at q ≡ Some i → IsTrue (has_number spans i) ↔ IsAncestor parents q u
 
--- `KeepsAncestors parents at reached` holds if the spans that `reached` has at the number of an entity in `at`, if any,
--- contain exactly the numbers of the entity's ancestors in `parents` (`HasAncestors`).
+-- `KeepsAncestors parents at reached` holds if `HasAncestors` holds of each entity that has a number in `at`, with the
+-- spans that `reached` has at this number, if it has any.
 abbrev pub KeepsAncestors : Parents → Numbers → List (List NumberSpan) → Type 0
 KeepsAncestors parents at reached =
     (u : EntityUid) (i : ℕ) (spans : List NumberSpan) → at u ≡ Some i → slice_get reached i ≡ Some spans

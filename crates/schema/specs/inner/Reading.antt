@@ -46,8 +46,8 @@ TypesRefused commons s f = (r : Qualified) × IsShapeOrContext s r × TypeRefuse
 abbrev pub AreTypesClosed : Declarations → ResolvedSchema → Type 0
 AreTypesClosed commons s = (r : Qualified) → IsShapeOrContext s r → IsClosed commons r
 
--- `AreHierarchiesOf s h` holds if `h` has the actions of `s` with their parents, and the numbered ancestors of
--- actions and of types.
+-- `AreHierarchiesOf s h` holds if `h` has the actions of `s` with their parents, and the numbered ancestors of actions
+-- and of types.
 pub record AreHierarchiesOf (s : ResolvedSchema) (h : Hierarchies) : Type 0 where
   pub members : AreMembers (action_parents s) s.actions h.members
   pub actions : h.actions ≡ keys h.members

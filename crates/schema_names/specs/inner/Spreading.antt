@@ -73,8 +73,8 @@ abbrev pub tried_in_order : List CommonOf → List ℕ → List CommonOf
 tried_in_order cs [] = []
 tried_in_order cs (i ∷ is) = tried_one (slice_get cs i) ++ tried_in_order cs is
 
--- `ReportsRecords ns known` holds if, in a file of the namespaces `ns`, `is_known_non_record` with the test `known` of
--- common types is true of exactly the types that mean a type that is not a record.
+-- `ReportsRecords ns known` holds if, in a file of the namespaces `ns`, `is_known_non_record known` is true of a type
+-- `r` if and only if `r` means a type that is not a record (`MeansNoRecord`).
 pub record ReportsRecords (ns : List NamespaceOf) (known : List ℕ → Bool) : Type 0 where
   pub sound : (own : Option (List ℕ)) (r : Raw) → is_known_non_record known (scope_in ns) own r ≡ true
       → MeansNoRecord ns own r
@@ -89,7 +89,7 @@ abbrev pub is_record_at : (List ℕ → Bool) → Scope → Option (List ℕ) �
 is_record_at known s own None = true
 is_record_at known s own (Some r) = not (is_known_non_record known s own r)
 
--- `is_record_in known s own o` is `is_record_at known s own` of the context in `o`, which is what an action of the
+-- `is_record_in known s own o` is `is_record_at known s own` of the context in `o`, where `o` is what an action of the
 -- namespace `own` applies to; it is true if the action applies to nothing (`None`).
 abbrev pub is_record_in : (List ℕ → Bool) → Scope → Option (List ℕ) → Option AppliesToOf → Bool
 is_record_in known s own None = true
@@ -99,7 +99,8 @@ is_record_in known s own (Some u) = is_record_at known s own u.context
 abbrev pub are_shapes : (List ℕ → Bool) → Scope → Option (List ℕ) → List EntityTypeOf → Bool
 are_shapes known s own es = list_all (λ e. is_record_at known s own e.shape) es
 
--- `are_contexts known s own us` tests whether `is_record_in known s own` is true of each context of the actions `us`.
+-- `are_contexts known s own us` tests whether `is_record_in known s own` is true of what each of the actions `us`
+-- applies to.
 abbrev pub are_contexts : (List ℕ → Bool) → Scope → Option (List ℕ) → List ActionOf → Bool
 are_contexts known s own us = list_all (λ a. is_record_in known s own a.applies_to) us
 

@@ -1,4 +1,5 @@
--- Defines the invariant of a depth-first search, which lists each node after its successors.
+-- Defines the invariant of a depth-first search, which lists each node after its successors, except those that lead
+-- back to it.
 use Rattle.std.specs.Prelude.{◌≡◌, ◌⊎◌, ◌+◌, ◌-◌, ◌<◌, ⊤, ℕ, zero, suc, List, [], ◌∷◌, length, Contains, Bool, true}
 use Rattle.std.specs.Prelude.{false, not, if◌then◌else◌, Option, Some, None, slice_index_or}
 use Rattle.schema_written_types.specs.declared.place_order.Step.{Step}
@@ -51,9 +52,9 @@ IsPath g order next [] = ⊤
 IsPath g order next (s ∷ path) =
     AreFollowed g order next s × IsEdgeTo g s.place next × IsPath g order (Some s.place) path
 
--- `IsWalk g path seen order` holds if each node that is marked in `seen` occurs exactly once, on `path` or in `order`,
--- and no other node occurs; `path` is a path of the graph `g` (`IsPath`); and each node of `order` comes after its
--- successors (`ComeAfterSuccessors`).
+-- `IsWalk g path seen order` holds if `path` is a path of the graph `g` (`IsPath`), `ComeAfterSuccessors` holds of
+-- `order`, and `seen` has an entry for each node of `g`. Each node that is marked in `seen` occurs exactly once, on
+-- `path` or in `order`, and no other node occurs.
 pub record IsWalk (g : Graph) (path : List Step) (seen : List Bool) (order : List ℕ) : Type 0 where
   pub len : length seen ≡ length g
   pub counts : (a : ℕ) → times a order + times_on a path ≡ one_if_seen seen a
@@ -85,8 +86,8 @@ abbrev pub effort : Graph → List Step → List Bool → ℕ
 effort g path seen = path_effort g path + unseen_effort g seen
 
 -- `WalksOn g path path' seen seen' order order'` describes one turn of the search in the graph `g`, from the lists
--- `path`, `seen` and `order` to the primed ones. It holds if the turn preserves the invariant `IsWalk` and the marks of
--- nodes, and decreases the measure.
+-- `path`, `seen` and `order` to the primed ones. It holds if the turn preserves the invariant `IsWalk`, the marks of
+-- nodes and the length of `seen`, and, if `seen` has an entry for each node, decreases the measure.
 pub record WalksOn (g : Graph) (path path' : List Step) (seen seen' : List Bool) (order order' : List ℕ)
     : Type 0 where
   pub walks : IsWalk g path seen order → IsWalk g path' seen' order'

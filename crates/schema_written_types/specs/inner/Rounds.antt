@@ -16,7 +16,7 @@ pub record Stays (d : List ℕ × Qualified) (old new : BTreeMap (String Global)
   pub same : new ≡ old
   pub settled : type_table old d.0 ≡ None → size_in (type_table old) d.1 ≡ None
 
--- `AddsToTable d old new` holds if the table `new` is `old` with an entry for the declaration `d`.
+-- `AddsToTable d old new` holds if the table `new` is `old` with an entry for the declaration `d`, computed from `old`.
 pub record AddsToTable (d : List ℕ × Qualified) (old new : BTreeMap (String Global) CommonEntry) : Type 0 where
   pub longer : btree_map_len old < btree_map_len new
   pub added : TableEntry
@@ -24,8 +24,8 @@ pub record AddsToTable (d : List ℕ × Qualified) (old new : BTreeMap (String G
   pub whole : added.whole ≡ built_of (type_table old) added.size d.1
   pub known : (q : List ℕ) → type_table new q ≡ (if bytes_eq d.0 q then Some added else type_table old q)
 
--- `Steps d old new` holds if the table `new` is the table `old` with an entry for the declaration `d`, or is `old`,
--- since no such entry can be added.
+-- `Steps d old new` holds if the table `new` is the table `old` with an entry for the declaration `d` (`AddsToTable`),
+-- or is `old`, since `old` has such an entry or none can be computed (`Stays`).
 abbrev pub Steps : List ℕ × Qualified → BTreeMap (String Global) CommonEntry → BTreeMap (String Global) CommonEntry
     → Type 0
 Steps d old new = Stays d old new ⊎ AddsToTable d old new

@@ -53,8 +53,8 @@ put_result impossible (Err f) = Err f
 abbrev pub IsDescribed : StatedSchema → Entity → Type 0
 IsDescribed schema e = (d : Data) × (entity_stated_in schema d ≡ Ok e)
 
--- `IsStatedBy schema json b` holds if `json` describes the entity in `b` under `schema`, and the text in `b` is the
--- canonical text of this entity.
+-- `IsStatedBy schema json b` holds if `json` describes the entity in `b` under `schema`, and the text in `b` is this
+-- entity's canonical text, which is parsed under `schema` as the entity. The entity's type name is a path.
 pub record IsStatedBy (schema : StatedSchema) (json : Option Data) (b : ReadText Entity) : Type 0 where
   pub states : entity_stated schema json ≡ Ok b.read
   pub path : IsPath b.read.uid.type_name

@@ -9,7 +9,7 @@ use Rattle.typing.specs.Typing.{Types}
 use Rattle.typing.specs.Faults.{Faults}
 
 -- `and_so_far s t` is the type of a conjunction whose last part has the type `t`. The conjunction of the parts before
--- it has the type `s`, which is `None` if there are none.
+-- it has the type `s`, which is `None` if no part precedes it.
 abbrev pub and_so_far : Option StaticType → StaticType → StaticType
 and_so_far None t = t
 and_so_far (Some s) t = and_type s t

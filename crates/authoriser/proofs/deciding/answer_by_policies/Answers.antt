@@ -16,7 +16,7 @@ loop-id-init g c = record {
 pub loop-id-preserved : goal.loop-id-preserved
 loop-id-preserved g c =
     let k = c.args.known.now in
-    let same = c.keep_next.ensures ∙ c.loop-id.invariant.same in
+    let same = c.memoize_next.ensures ∙ c.loop-id.invariant.same in
     let outcome = subst (λ s. PolicyEvaluatesTo (entities_with (g.L.Lookup.stored s.0) (g.L.Ancestry.parents s.0)) s.1 c.loop-id-item.result.1.now c.in_ok-outcome.outcome) same c.in_ok-outcome.ensures in
     record {
       same = same;

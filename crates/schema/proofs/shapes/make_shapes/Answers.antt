@@ -3,7 +3,7 @@ use Rattle.std.proofs.lemmas.Result.{err_from_is_err_and}
 use Rattle.std.specs.BTreeMap.{get}
 use Rattle.values.specs.Names.{text_cmp}
 use Rattle.schema_names.specs.ResolvedViews.{resolved_entity_type_view}
-use Rattle.schema.specs.inner.Making.{ShapeMay, ShapeMust, IsWrittenAt}
+use Rattle.schema.specs.inner.Making.{ShapeMay, ShapeMust, HasSmallExpansionAt}
 use Rattle.schema.proofs.FillingLemmas.{adds_first, each_step, each_end, contains_item, get_empty}
 use Rattle.schema.proofs.shapes.make_shapes.Goals as goal
 
@@ -16,7 +16,7 @@ add_shape-requires g c = (
 
 pub loop-entity_type-init : goal.loop-entity_type-init
 loop-entity_type-init g c = λ last h.
-    adds_first (ShapeMay g.commons) ShapeMust (λ e. IsWrittenAt g.commons e.shape) (map resolved_entity_type_view c.args.entity_types.now) (get text_cmp c.new-shapes.result) (get text_cmp last)
+    adds_first (ShapeMay g.commons) ShapeMust (λ e. HasSmallExpansionAt g.commons e.shape) (map resolved_entity_type_view c.args.entity_types.now) (get text_cmp c.new-shapes.result) (get text_cmp last)
     (get_empty text_cmp c.new-shapes.result c.new-shapes.ensures.empty) h
 
 pub returns-in_err-add_shape : goal.returns-in_err-add_shape
@@ -30,10 +30,10 @@ returns-in_err-add_shape g c =
 
 pub loop-entity_type-preserved : goal.loop-entity_type-preserved
 loop-entity_type-preserved g c = λ last rest. c.loop-entity_type.invariant last
-    (each_step (ShapeMay g.commons) ShapeMust (λ e. IsWrittenAt g.commons e.shape) resolved_entity_type_view c.args.entity_types.now c.loop-entity_type.entity_type-index c.entity_type-item.result
+    (each_step (ShapeMay g.commons) ShapeMust (λ e. HasSmallExpansionAt g.commons e.shape) resolved_entity_type_view c.args.entity_types.now c.loop-entity_type.entity_type-index c.entity_type-item.result
     (get text_cmp c.loop-entity_type.shapes) (get text_cmp c.add_shape.new.shapes) (get text_cmp last) c.loop-entity_type-test.true c.entity_type-item.is c.in_ok-add_shape.ensures rest)
 
 pub returns : goal.returns
 returns g c = c.loop-entity_type.invariant c.loop-entity_type.shapes
-    (each_end (ShapeMay g.commons) ShapeMust (λ e. IsWrittenAt g.commons e.shape) resolved_entity_type_view c.args.entity_types.now c.loop-entity_type.entity_type-index
+    (each_end (ShapeMay g.commons) ShapeMust (λ e. HasSmallExpansionAt g.commons e.shape) resolved_entity_type_view c.args.entity_types.now c.loop-entity_type.entity_type-index
     (get text_cmp c.loop-entity_type.shapes) c.loop-entity_type-test.false)

@@ -5,7 +5,7 @@ use Rattle.std.specs.Option.{option_copied_mut}
 use Rattle.std.specs.BTreeMap.{get}
 use Rattle.std.specs.Str.{bytes_eq}
 use Rattle.values.specs.Names.{text_cmp}
-use Rattle.scope_index.specs.Buckets.{policy_in_bucket, bucket_of, is_text}
+use Rattle.scope_index.specs.Buckets.{policy_in_bucket, bucket_of, is_same_text}
 use Rattle.scope_index.proofs.Filing.{turned_type, ok_turned, err_same}
 use Rattle.scope_index.proofs.buckets.put_under.Goals as goal
 
@@ -35,9 +35,9 @@ returns-clause-ok c =
     let copied : c.in_ok-named.type_name ≡ c.args.uid.now.type_name =
     subst (λ r. IfOk r (λ t. t ≡ c.args.uid.now.type_name)) c.in_ok-named.ensures.made c.copy.ensures in
     turned_type c.args.uid.now (string_bytes c.args.id) (Some c.args.policy) m c.insert.new.self w
-    (λ t. subst (λ v. get text_cmp c.insert.new.self t ≡ cond (is_text v t) (Some w) (get text_cmp m t)) copied
+    (λ t. subst (λ v. get text_cmp c.insert.new.self t ≡ cond (is_same_text v t) (Some w) (get text_cmp m t)) copied
     (c.in_ok-insert.ensures.updates.0 t
-    ∙ ap (λ n. cond (is_text c.in_ok-named.type_name t) (Some w) (get text_cmp n t)) c.get_mut.follows.holds-at-none))
+    ∙ ap (λ n. cond (is_same_text c.in_ok-named.type_name t) (Some w) (get text_cmp n t)) c.get_mut.follows.holds-at-none))
     (λ e q. ap (λ n. policy_in_bucket (get text_cmp n e) q) c.in_ok-named.ensures.kept ∙ c.in_ok-only.ensures e q
-    ∙ ap (λ o. cond (is_text c.args.uid.now.id e && bytes_eq (string_bytes c.args.id) q) (Some c.args.policy) o)
+    ∙ ap (λ o. cond (is_same_text c.args.uid.now.id e && bytes_eq (string_bytes c.args.id) q) (Some c.args.policy) o)
     (sym (ap (λ o. policy_in_bucket (bucket_of o e) q) none)))

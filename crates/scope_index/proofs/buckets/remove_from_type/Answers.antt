@@ -4,7 +4,7 @@ use Rattle.std.specs.Option.{option_copied_mut}
 use Rattle.std.specs.BTreeMap.{get}
 use Rattle.std.specs.Str.{bytes_eq}
 use Rattle.values.specs.Names.{text_cmp}
-use Rattle.scope_index.specs.Buckets.{policy_in_bucket, bucket_of, is_text, IsSetAtUid}
+use Rattle.scope_index.specs.Buckets.{policy_in_bucket, bucket_of, is_same_text, IsSetAtUid}
 use Rattle.scope_index.proofs.Filing.{turned_type, nothing_of_type}
 use Rattle.scope_index.proofs.buckets.remove_from_type.Goals as goal
 
@@ -17,7 +17,7 @@ returns-in-Some-clause-turns c =
     turned_type c.args.uid.now c.args.id.now None m (c.get_mut.follows.lender w) w
     (λ t. ((c.get_mut.follows.holds w).3 (ap is_some held)).0 t)
     (λ e q. c.take_named.ensures e q
-    ∙ ap (λ o. cond (is_text c.args.uid.now.id e && bytes_eq c.args.id.now q) None (policy_in_bucket (bucket_of o e) q)) (sym held))
+    ∙ ap (λ o. cond (is_same_text c.args.uid.now.id e && bytes_eq c.args.id.now q) None (policy_in_bucket (bucket_of o e) q)) (sym held))
 
 pub returns-in-None-clause-turns : goal.returns-in-None-clause-turns
 returns-in-None-clause-turns c =

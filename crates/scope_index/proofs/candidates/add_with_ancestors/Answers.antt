@@ -17,7 +17,7 @@ returns g c =
     (lent c.args.found.now.items) (lent c.add_each.new.found.items)
     (it_and_above (g.A.Ancestry.parents c.args.ancestry.now) Has uid above c.in_ok-ancestors.ensures.all)
     (in_turn (λ o. Has uid o) (λ o. (e : EntityUid) × Contains above e × Has e o)
-    (lent c.args.found.now.items) (lent c.add_own.new.found.items) (lent c.add_each.new.found.items)
-    c.in_ok-add_own.ensures
+    (lent c.args.found.now.items) (lent c.add_bucket.new.found.items) (lent c.add_each.new.found.items)
+    c.in_ok-add_bucket.ensures
     (subst (λ (us : List (Bor EntityUid)). Offers (λ o. (e : EntityUid) × Contains (names us) e × Has e o)
-    (lent c.add_own.new.found.items) (lent c.add_each.new.found.items)) c.deref.ensures.value c.in_ok-add_each.ensures))
+    (lent c.add_bucket.new.found.items) (lent c.add_each.new.found.items)) c.deref.ensures.value c.in_ok-add_each.ensures))

@@ -1,13 +1,13 @@
 use Rattle.std.proofs.Common.{List, ap, sym, subst}
 use Rattle.std.specs.Prelude.{Contains, ◌↔◌, ◌⊎◌}
 use Rattle.scope_index.specs.Keys.{Candidate, lent}
-use Rattle.scope_index.specs.Buckets.{AreOneAmong}
+use Rattle.scope_index.specs.Buckets.{HaveOnePolicyPerIdTogether}
 use Rattle.scope_index.proofs.Offering.{Lent, one_among, offered_beside}
 use Rattle.scope_index.proofs.candidates.offered_among.Goals as goal
 
 pub joined-requires-clause-one : goal.joined-requires-clause-one
 joined-requires-clause-one g c =
-    subst (λ (l : List Lent). AreOneAmong (lent c.in_ok-all.all.items) (lent l)) (sym c.deref.ensures.value)
+    subst (λ (l : List Lent). HaveOnePolicyPerIdTogether (lent c.in_ok-all.all.items) (lent l)) (sym c.deref.ensures.value)
     (one_among (g.A.Ancestry.parents c.args.ancestry.now) c.args.request.now c.args.buckets.now
     (lent c.new-others.result.items) (lent c.add_bound.new.found.items) (lent c.in_ok-all.all.items)
     (ap lent c.new-others.ensures.items) c.in_ok-add_bound.ensures c.in_ok-all.ensures.all c.requires)

@@ -4,7 +4,7 @@ use Rattle.std.proofs.lemmas.Map.Text.{btree_map_updates_text}
 use Rattle.policy_grammar.specs.declared.policy.Policy.{Policy}
 use Rattle.policy_grammar.specs.declared.policy.Scope.{Scope}
 use Rattle.scope_index.specs.Keys.{index_key}
-use Rattle.scope_index.specs.Buckets.{IsSetAtKey, AreSame}
+use Rattle.scope_index.specs.Buckets.{IsSetAtKey, AreSameBuckets}
 use Rattle.scope_index.proofs.Filing.{entered, undone, still_filed, on_ok, on_err, of_ok, of_err, let_in}
 use Rattle.scope_index.proofs.entries.enter.Goals as goal
 
@@ -33,7 +33,7 @@ returns-then-is_err-clause-filed c =
     let p = c.args.policy.now in
     let at = let_in c.args.kept.now.entries c.insert.new.self.entries c.args.own.0 c.args.id.now c.args.own.1 p c.requires.own_id c.requires.own_share
     (btree_map_updates_text (string_bytes c.args.own.0) c.args.kept.now c.insert.new.self (Some c.args.own.1) c.in_ok-insert.ensures.updates) in
-    let same : AreSame c.args.buckets.now c.put-filed.new.buckets =
+    let same : AreSameBuckets c.args.buckets.now c.put-filed.new.buckets =
     of_err c.put-filed.result _ (sym c.is_err.ensures.value ∙ c.if-is_err.true) c.put-filed.ensures.err in
     still_filed c.args.kept.now.entries c.remove.new.self.entries c.args.buckets.now c.put-filed.new.buckets c.requires.filed
     (undone c.args.kept.now.entries c.insert.new.self.entries c.remove.new.self.entries c.args.id.now p c.requires.absent at

@@ -2,7 +2,7 @@ use Rattle.std.proofs.Common.{◌≡◌, ◌∙◌, ap, subst, refl, take, ◌+�
 use Rattle.std.specs.String.{string_cmp}
 use Rattle.stamped_store.specs.EntryOrder.{greater}
 use Rattle.stamped_store.specs.JoinMaps.{all_joined}
-use Rattle.stamped_store.specs.Store.{kept, all_kept, first_kept, abstract_store, abstract_updates, updates}
+use Rattle.stamped_store.specs.Store.{kept, joined_entries, first_entries, abstract_store, abstract_updates, updates}
 use Rattle.stamped_store.proofs.Stores.{counted_all, counted_anew}
 use Rattle.stamped_store.proofs.JoinedStores.{joined_whole, joined_first, kept_first_policies, kept_first_entities}
 use Rattle.stamped_store.proofs.store.StampedStore.merge.Goals as goal
@@ -18,8 +18,8 @@ returns-in-Err-clause-short_kept g c =
     let self = kept c.self.inside.policies c.self.inside.entities in
     let other = kept c.other.inside.policies c.other.inside.entities in
     kept_first_policies self other c.merge.new.self c.in-Err.short.taken c.in-Err.ensures.short_entries c.in-Err.ensures.cut
-    ∙ ap (λ s. all_kept s (first_kept c.in-Err.short.taken other)) c.self.view_is
-    ∙ ap (λ o. all_kept c.args.self.now (first_kept c.in-Err.short.taken o)) c.other.view_is
+    ∙ ap (λ s. joined_entries s (first_entries c.in-Err.short.taken other)) c.self.view_is
+    ∙ ap (λ o. joined_entries c.args.self.now (first_entries c.in-Err.short.taken o)) c.other.view_is
 
 pub returns-in-Err-clause-short : goal.returns-in-Err-clause-short
 returns-in-Err-clause-short g c =
@@ -37,8 +37,8 @@ returns-in-Err-merge-clause-short_kept g c =
     let other = kept c.other.inside.policies c.other.inside.entities in
     let k = c.short_behind.result.taken in
     kept_first_entities self other c.merge.new.self c.merge-2.new.self c.in-Err-merge.short.taken k c.in_default.ensures.ok_entries c.in-Err-merge.ensures.short_entries (c.short_behind.ensures ∙ ap (λ n. n + c.in-Err-merge.short.taken) c.len-before.ensures.len)
-    ∙ ap (λ s. all_kept s (first_kept k other)) c.self.view_is
-    ∙ ap (λ o. all_kept c.args.self.now (first_kept k o)) c.other.view_is
+    ∙ ap (λ s. joined_entries s (first_entries k other)) c.self.view_is
+    ∙ ap (λ o. joined_entries c.args.self.now (first_entries k o)) c.other.view_is
 
 pub returns-in-Err-merge-clause-short : goal.returns-in-Err-merge-clause-short
 returns-in-Err-merge-clause-short g c =
@@ -55,8 +55,8 @@ pub returns-clause-ok_kept : goal.returns-clause-ok_kept
 returns-clause-ok_kept g c =
     ap (λ ps. kept ps c.merge-2.new.self) c.in_default.ensures.ok_entries
     ∙ ap (kept (all_joined string_cmp greater c.self.inside.policies c.other.inside.policies)) c.in_default-merge.ensures.ok_entries
-    ∙ ap (λ s. all_kept s (kept c.other.inside.policies c.other.inside.entities)) c.self.view_is
-    ∙ ap (all_kept c.args.self.now) c.other.view_is
+    ∙ ap (λ s. joined_entries s (kept c.other.inside.policies c.other.inside.entities)) c.self.view_is
+    ∙ ap (joined_entries c.args.self.now) c.other.view_is
 
 pub returns-clause-ok : goal.returns-clause-ok
 returns-clause-ok g c =

@@ -1,6 +1,6 @@
 use Rattle.std.proofs.Common.{arith, append_assoc, ◌/◌, ◌%◌}
 use Rattle.extensions.proofs.CanonicalDecimals.{one_glyph}
-use Rattle.extensions.proofs.decimal.append_size.Goals as goal
+use Rattle.extensions.proofs.decimal.append_magnitude.Goals as goal
 
 pub returns : goal.returns
 returns c =

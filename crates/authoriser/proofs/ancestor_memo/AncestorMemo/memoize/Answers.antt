@@ -1,7 +1,7 @@
 use Rattle.std.specs.Prelude.{◌∷◌, ◌++◌, []}
 use Rattle.std.proofs.lemmas.List.Elements.{All-same, All-push}
 use Rattle.authoriser.specs.inner.Views.{HasAllAncestors}
-use Rattle.authoriser.proofs.ancestor_memo.AncestorMemo.keep.Goals as goal
+use Rattle.authoriser.proofs.ancestor_memo.AncestorMemo.memoize.Goals as goal
 
 pub returns : goal.returns
 returns g c =
