@@ -3,7 +3,11 @@ use Rattle.std.proofs.Common.{◌≡◌, ◌∙◌, ℕ, ◌+◌, ◌<◌, List,
 use Rattle.std.specs.Prelude.{codes}
 use Rattle.std.proofs.lemmas.List.{append_assoc, append-nil, take_more, map-append}
 use Rattle.type_checker.specs.declared.static_type.StaticType.{StaticType}
-use Rattle.type_checker.specs.Views.{static_view}
+use Rattle.type_checker.specs.declared.static_type.BooleanType.{BooleanType}
+use Rattle.type_checker.specs.declared.static_type.BooleanType.TheVariants as truth
+use Rattle.type_checker.specs.declared.static_type.Leaf.{Leaf}
+use Rattle.type_checker.specs.declared.static_type.Leaf.TheVariants as leaf
+use Rattle.type_checker.specs.Views.{boolean_view, leaf_view, static_view}
 use Rattle.validator.specs.typing.Types as types
 use Rattle.fault_paths.specs.Words.{type_word, more_words, types_words}
 use Rattle.fault_paths.proofs.Appending.{in_turn}
@@ -45,3 +49,11 @@ comma_after ts i t below here = not_first (take i ts) t ∙ ap separator_after (
     not_first : (us : List StaticType) (u : StaticType) → codes ", " ≡ separator_after (us ++ u ∷ [])
     not_first [] u = refl
     not_first (v ∷ us) u = refl
+
+pub boolean_word : (l : Leaf) (b : BooleanType) → l ≡ leaf.Boolean b → codes "Boolean" ≡ type_word (leaf_view l)
+boolean_word l b e = of b ∙ ap (λ k. type_word (leaf_view k)) (sym e)
+  where
+    of : (k : BooleanType) → codes "Boolean" ≡ type_word (boolean_view k)
+    of truth.True = refl
+    of truth.False = refl
+    of truth.Either = refl

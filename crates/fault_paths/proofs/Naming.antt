@@ -1,7 +1,6 @@
 -- Names of an expression, operand by operand.
 use Rattle.std.specs.Prelude.{◌≡◌, ℕ, ◌+◌, ◌-◌, ◌<◌, List, [], ◌∷◌, ◌++◌, map, length, take, drop, All, Option, Some, None, slice_get}
-use Rattle.std.specs.Prelude.{IsTrue, false, is_some, refl}
-use Rattle.std.proofs.lemmas.Bool.{false≢true}
+use Rattle.std.specs.Prelude.{refl}
 use Rattle.std.proofs.Common.{sym, ap, ◌∙◌, subst, append_assoc, arith}
 use Rattle.std.proofs.lemmas.List.{append-nil, length-append, take_at}
 use Rattle.std.proofs.lemmas.List.Elements.{All-nil, All-cons, All-head, All-tail, All-append}
@@ -26,7 +25,7 @@ use Rattle.typing.proofs.Items.{within, parted, grown, as_many, all_taken}
 use Rattle.typing.proofs.Lower.{lower}
 use Rattle.fault_paths.specs.NamesAt
 use Rattle.fault_paths.specs.NamesAt.{names_at, name_view, FirstUnknownAt}
-use Rattle.fault_paths.specs.inner.Naming.{AreNames, IsOwnName, IsNameFound}
+use Rattle.fault_paths.specs.inner.Naming.{IsOwnName, IsNameFound}
 use Rattle.fault_paths.specs.declared.names.NameFault.{NameFault}
 
 -- ---- names by operands
@@ -163,9 +162,6 @@ module _ (s : StatedSchema) where
   none_named : All (IsKnown s) []
   none_named = All-nil (IsKnown s)
 
-  pub own_at : (x y : Expr) (z : Expr-F Expr) (o : Option NameFault) → x ≡ y → out-Expr y ≡ z → AreNames s (names_at z) o → IsOwnName s x o
-  own_at x y z o e f h = subst (λ w. AreNames s (names_at w) o) (sym (ap out-Expr e ∙ f)) h
-
   pub no_name : (x : Expr) → ((l : Literal) → x ≡ form.Literal l → ⊥) → ((op : Unary) (a : Expr) → x ≡ form.Unary op a → ⊥)
       → IsOwnName s x None
   no_name x no_literal no_unary = at (out-Expr x) refl
@@ -202,30 +198,20 @@ module _ (s : StatedSchema) where
     NamesAt.unknown_itself k h.0 h.1,
   )
 
-  pub found_below : (x : Expr) (old : List ℕ) (i : ℕ) (y : Expr) (o : Option NameFault) (between new : List ℕ)
+  pub found_below : (x : Expr) (old : List ℕ) (i : ℕ) (y : Expr) (f : NameFault) (between new : List ℕ)
       → slice_get (operands_of x) i ≡ Some y → All AreKnown (take i (operands_of x)) → between ≡ old ++ i ∷ []
-      → IsNameFound s y between new o → IsTrue (is_some o) → IsNameFound s x old new o
-  found_below x old i y None between new e k b h t = absurd (false≢true t)
-  found_below x old i y (Some f) between new e k b h t =
+      → IsNameFound s y between new (Some f) → IsNameFound s x old new (Some f)
+  found_below x old i y f between new e k b h =
       let p = h.0 in
       let g = found_in x i y p (name_view f.name) f.fault e k h.2 h.3 in
       (i ∷ p, h.1 ∙ (ap (λ q. q ++ p) b ∙ append_assoc old (i ∷ []) p), g.0, g.1)
 
-  pub none_below : (y : Expr) (o : Option NameFault) (between new : List ℕ) → IsNameFound s y between new o → is_some o ≡ false
-      → AreKnown y × (new ≡ between)
-  none_below y None between new h e = h
-  none_below y (Some f) between new h e = absurd (false≢true (sym e))
-
   -- what is told of the whole
-  pub name_told : (x : Expr) (old new : List ℕ) {o : Option NameFault} (f : NameFault) → old ≡ [] → o ≡ Some f → IsNameFound s x old new o
+  pub name_told : (x : Expr) (old new : List ℕ) (f : NameFault) → old ≡ [] → IsNameFound s x old new (Some f)
       → FirstUnknown s (names_in x) f.fault × FirstUnknownAt s x new (name_view f.name) f.fault
-  name_told x old new f e is h =
-      let g = subst (IsNameFound s x old new) is h in
-      let p : new ≡ g.0 = g.1 ∙ ap (λ q. q ++ g.0) e in
-      (g.2, subst (λ q. FirstUnknownAt s x q (name_view f.name) f.fault) (sym p) g.3)
-
-  pub none_named_told : (x : Expr) (old new : List ℕ) {o : Option NameFault} → o ≡ None → IsNameFound s x old new o → AreKnown x
-  none_named_told x old new is h = (subst (IsNameFound s x old new) is h).0
+  name_told x old new f e h =
+      let p : new ≡ h.0 = h.1 ∙ ap (λ q. q ++ h.0) e in
+      (h.2, subst (λ q. FirstUnknownAt s x q (name_view f.name) f.fault) (sym p) h.3)
 
   pub known_start : (x : Expr) → All AreKnown (take 0 (operands_of x))
   known_start x = All-nil AreKnown

@@ -9,7 +9,7 @@ use Rattle.validator.specs.Names.{Name, names_in}
 use Rattle.validator.specs.Unknown.{FirstUnknown}
 use Rattle.validator.proofs.KnownLemmas.{none_first}
 use Rattle.fault_paths.specs.NamesAt
-use Rattle.fault_paths.specs.NamesAt.{names_at, FirstUnknownAt}
+use Rattle.fault_paths.specs.NamesAt.{FirstUnknownAt}
 use Rattle.fault_paths.proofs.Naming.{AreKnown, itself_first, operand_first}
 
 same_name : {m n : Name} → m ∷ [] ≡ n ∷ [] → m ≡ n

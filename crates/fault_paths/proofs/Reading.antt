@@ -14,6 +14,8 @@ use Rattle.type_checker.specs.schema.Views.{environment_view}
 use Rattle.type_checker.specs.FromSchemas.{typing_environment_of}
 use Rattle.type_checker.specs.Views.{static_view}
 use Rattle.fault_paths.specs.declared.blaming.TypeBlame.{TypeBlame}
+use Rattle.validator.specs.declared.fault.TypeFault.{TypeFault}
+use Rattle.validator.specs.declared.fault.TypeFault.TheVariants as fault
 use Rattle.validator.specs.typing.Environment as typing
 use Rattle.validator.specs.typing.Types as types
 use Rattle.validator.specs.typing.Rows.{Row, field_type_of}
@@ -53,12 +55,36 @@ decided (Err n) true h = absurd (apart (h.0 refl))
     apart : IsType (Err n) → ⊥
     apart (t, e) = cc
 
-pub first_declared : (E : typing.Environment) (k : List ℕ) (ts : List StaticType) (t : StaticType) (rest : List StaticType) (b : Bool) → ts ≡ t ∷ rest
+pub first_declared : (E : typing.Environment) (k : List ℕ) (ts : List StaticType) (t : StaticType) (b : Bool) → Some t ≡ slice_get ts 0
     → IsTrue b ↔ IsType (field_type_of E true k (static_view t))
     → declaration_words b (static_view t) ≡ declared_words E k (map static_view ts)
-first_declared E k ts t rest b is h =
+first_declared E k [] t b is h = absurd (some_not_none is)
+  where
+    some_not_none : Some t ≡ None → ⊥
+    some_not_none e = cc
+first_declared E k (u ∷ rest) t b is h =
     ap (λ c. declaration_words c (static_view t)) (decided (field_type_of E true k (static_view t)) b h)
-    ∙ ap (λ l. declared_words E k (map static_view l)) (sym is)
+    ∙ ap (λ s. declared_words E k (static_view s ∷ map static_view rest)) (some_same is)
+  where
+    some_same : Some t ≡ Some u → t ≡ u
+    some_same e = cc
+
+pub none_declared : (E : typing.Environment) (k : List ℕ) (ts : List StaticType) → None ≡ slice_get ts 0 → declared_words E k (map static_view ts) ≡ []
+none_declared E k [] is = refl
+none_declared E k (u ∷ rest) is = absurd (none_not_some is)
+  where
+    none_not_some : None ≡ Some u → ⊥
+    none_not_some e = cc
+
+pub not_missing : (f : TypeFault) → ¬ (f ≡ fault.AttributeMayBeMissing) → false ≡ is_missing f
+not_missing fault.AttributeMayBeMissing other = absurd (other refl)
+not_missing fault.NoMemory other = refl
+not_missing fault.UnknownType other = refl
+not_missing fault.UnknownAction other = refl
+not_missing fault.Unexpected other = refl
+not_missing fault.NoCommonType other = refl
+not_missing fault.EmptySet other = refl
+not_missing fault.BadExtensionLiteral other = refl
 
 -- ---- environments
 

@@ -1,5 +1,5 @@
 -- What is told of a policy, by its names and its environments.
-use Rattle.std.specs.Prelude.{◌≡◌, All, Option, Some, None, MatchOption}
+use Rattle.std.specs.Prelude.{◌≡◌, All}
 use Rattle.std.proofs.Common.{sym, subst}
 use Rattle.grammar_core.specs.declared.expr.Expr.{Expr}
 use Rattle.type_checker.specs.policy_grammar.declared.policy.Policy.{Policy}
@@ -31,10 +31,3 @@ module _ (s : StatedSchema) (policy : Policy) (whole : Expr) (is : whole ≡ exp
   pub told_passes : All (IsKnown s) (names_in whole) → All (HasBooleanType (expression_of policy)) (environments_of s)
       → Passes s policy
   told_passes k t = record { known = subst (λ x. All (IsKnown s) (names_in x)) is k; typed = t }
-
--- an answer that is known to be there, or not
-pub some_told : {X : Type 0} (P : Type 0) (Q : X → Type 0) {o : Option X} {x : X} → o ≡ Some x → MatchOption o P Q → Q x
-some_told P Q e h = subst (λ p. MatchOption p P Q) e h
-
-pub none_told : {X : Type 0} (P : Type 0) (Q : X → Type 0) {o : Option X} → o ≡ None → MatchOption o P Q → P
-none_told P Q e h = subst (λ p. MatchOption p P Q) e h

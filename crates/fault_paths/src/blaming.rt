@@ -11,9 +11,7 @@ use crate::descending::{BlamedForm, blame_in};
 use grammar_core::Expr;
 use plain::NoMemory;
 use std::alloc::Global;
-use type_checker::{
-    ExpressionFault, Policy, Schema, TypingEnvironment, expressions_have_one_judgement, judge_under,
-};
+use type_checker::{ExpressionFault, Policy, Schema, TypingEnvironment, judge_under};
 use validator::TypeFault;
 
 /// The first typing error of a policy, and what it blames.
@@ -70,20 +68,22 @@ pub fn blame_type<'a>(
         (All (HasBooleanType (expression_of policy.now)) (environments_of s))
         (IsTypeBlame s (expression_of policy.now))) }
 {
-    expressions_have_one_judgement();
     let environments = schema.environments();
     for (at, environment) in environments.iter().enumerate() {
         let env = TypingEnvironment::new(schema, environment);
-        match fault_in(alloc, env, whole)? {
-            Some(fault) => {
-                let place = blame_in(alloc, env, whole)?;
-                return Ok(Some(TypeBlame {
-                    fault,
-                    environment: at,
-                    place,
-                }));
-            }
-            None => {}
+        match fault_in(alloc, env, whole) {
+            Err(error) => return Err(error),
+            Ok(Some(fault)) => match blame_in(alloc, env, whole) {
+                Err(error) => return Err(error),
+                Ok(place) => {
+                    return Ok(Some(TypeBlame {
+                        fault,
+                        environment: at,
+                        place,
+                    }));
+                }
+            },
+            Ok(None) => {}
         }
     }
     Ok(None)

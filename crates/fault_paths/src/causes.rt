@@ -11,13 +11,7 @@ pub(crate) fn is_missing(fault: TypeFault) -> bool
 {
     match fault {
         TypeFault::AttributeMayBeMissing => true,
-        TypeFault::NoMemory => false,
-        TypeFault::UnknownType => false,
-        TypeFault::UnknownAction => false,
-        TypeFault::Unexpected => false,
-        TypeFault::NoCommonType => false,
-        TypeFault::EmptySet => false,
-        TypeFault::BadExtensionLiteral => false,
+        _ => false,
     }
 }
 

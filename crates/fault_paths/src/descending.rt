@@ -43,16 +43,17 @@ fn descend<'a>(
 {
     let mut form = whole;
     'down: loop {
-        match step_from(alloc, env, known, types, form)? {
-            Step::Down(at, operand) => {
+        match step_from(alloc, env, known, types, form) {
+            Err(error) => return Err(error),
+            Ok(None) => return Ok(form),
+            Ok(Some(step)) => {
+                let Step { at, faulty } = step;
                 path.push(at)?;
-                form = operand;
+                match faulty {
+                    Some(operand) => form = operand,
+                    None => return Ok(form),
+                }
             }
-            Step::Stop(Some(last)) => {
-                path.push(last)?;
-                return Ok(form);
-            }
-            Step::Stop(None) => return Ok(form),
         }
     }
 }

@@ -3,15 +3,14 @@ ghost use Rattle.std.specs.Prelude.{◌≡◌, ◌++◌, OnOk, map, codes, strin
 ghost use Rattle.type_checker.specs.schema.Views.{schema_view, environment_view};
 ghost use Rattle.type_checker.specs.FromSchemas.{typing_environment_of};
 ghost use Rattle.type_checker.specs.Views.{static_view};
-ghost use Rattle.fault_paths.specs.Words.{attribute_of, declared_words, typing_detail};
+ghost use Rattle.fault_paths.specs.Words.{declared_words, typing_detail};
 
 use crate::attributes::is_declared;
 use crate::blaming::TypeBlame;
 use crate::causes::{attribute_of, is_missing};
-use crate::descending::BlamedForm;
 use crate::wording::{push_environment, push_types, type_word};
 use plain::NoMemory;
-use type_checker::{Environment, Schema};
+use type_checker::{Environment, Schema, StaticType};
 
 /// Returns the words before the name of a type which say that an attribute is optional in the type if `declared`, else
 /// that it is not declared there.
@@ -25,26 +24,26 @@ fn words_before(declared: bool) -> &'static str
     }
 }
 
-/// Appends whether the first of the types in `place` declares the attribute that the form there accesses; nothing if
-/// `place` has no type.
+/// Appends whether the first of `types` declares the attribute `name`; nothing without types.
 fn push_declared<'a>(
     out: &mut String,
     schema: &'a Schema,
     environment: &'a Environment,
-    place: &BlamedForm<'a>,
+    types: &[StaticType<'a>],
+    name: &str,
 ) -> Result<(), NoMemory>
     ensures { OnOk result (string_bytes out.new ≡ string_bytes out.old
         ++ declared_words (typing_environment_of (schema_view schema.entry.now)
-        (environment_view environment.entry.now)) (attribute_of place.now.form.now)
-        (map static_view place.now.types.items)) }
+        (environment_view environment.entry.now)) name.now (map static_view types.now)) }
 {
-    match place.types.as_slice().split_first() {
-        Some((owner, _)) => {
-            let declared = is_declared(schema, environment, owner, attribute_of(place.form))?;
-            out.push_str(words_before(declared))?;
-            out.push_str(type_word(owner))?;
-            Ok(())
-        }
+    match types.first() {
+        Some(owner) => match is_declared(schema, environment, owner, name) {
+            Ok(declared) => {
+                out.push_str(words_before(declared))?;
+                out.push_str(type_word(owner))
+            }
+            Err(error) => Err(error),
+        },
         None => Ok(()),
     }
 }
@@ -63,10 +62,17 @@ pub(crate) fn push_detail<'a>(
     match schema.environments().get(blame.environment) {
         Some(environment) => {
             push_environment(out, environment)?;
+            let types = blame.place.types.as_slice();
             if is_missing(blame.fault) {
-                push_declared(out, schema, environment, &blame.place)
+                push_declared(
+                    out,
+                    schema,
+                    environment,
+                    types,
+                    attribute_of(blame.place.form),
+                )
             } else {
-                push_types(out, blame.place.types.as_slice())
+                push_types(out, types)
             }
         }
         None => Ok(()),

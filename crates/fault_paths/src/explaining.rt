@@ -89,12 +89,13 @@ fn explain_whole<'a>(
     ensures { let s = schema_view schema.entry.now in IfOk result (λ o. MatchOption o
         (Passes s policy.now) (IsPolicyFault s policy.now)) }
 {
-    match blame(alloc, schema, policy, whole)? {
-        Some(blame) => {
-            let fault = report(alloc, schema, blame)?;
-            Ok(Some(fault))
-        }
-        None => Ok(None),
+    match blame(alloc, schema, policy, whole) {
+        Err(error) => Err(error),
+        Ok(None) => Ok(None),
+        Ok(Some(blame)) => match report(alloc, schema, blame) {
+            Err(error) => Err(error),
+            Ok(fault) => Ok(Some(fault)),
+        },
     }
 }
 

@@ -1,10 +1,10 @@
 //! The search for the first name of a policy that the schema does not declare.
 ghost use Rattle.std.specs.Prelude.{IfOk, MatchOption, All};
 ghost use Rattle.type_checker.specs.schema.Views.{schema_view};
-ghost use Rattle.validator.specs.Names.{names_in, literal_names, operator_names};
+ghost use Rattle.validator.specs.Names.{names_in};
 ghost use Rattle.validator.specs.Unknown.{IsKnown};
 ghost use Rattle.fault_paths.specs.NamesAt.{IsNameBlame};
-ghost use Rattle.fault_paths.specs.inner.Naming.{AreNames, IsOwnName, IsNameFound};
+ghost use Rattle.fault_paths.specs.inner.Naming.{IsOwnName, IsNameFound};
 
 use grammar_core::{Expr, Literal, Unary};
 use plain::NoMemory;
@@ -24,7 +24,6 @@ pub enum UnknownName<'a> {
 }
 
 /// An undeclared name with its error.
-#[derive(Clone, Copy)]
 pub(crate) struct NameFault<'a> {
     pub(crate) name: UnknownName<'a>,
     pub(crate) fault: TypeFault,
@@ -41,50 +40,31 @@ pub struct NameBlame<'a> {
     pub path: Vec<usize>,
 }
 
-/// Returns the uid of a literal with its error if it is an entity that the schema does not declare, else `None`.
-fn literal_fault<'a>(schema: &Schema, literal: &'a Literal) -> Option<NameFault<'a>>
-    ensures { AreNames (schema_view schema.now) (literal_names literal.entry.now) result }
-{
-    match literal {
-        Literal::Entity(uid) => match unknown_entity(schema, uid) {
-            Some(fault) => Some(NameFault {
-                name: UnknownName::Entity(uid),
-                fault,
-            }),
-            None => None,
-        },
-        Literal::Boolean(_) => None,
-        Literal::Long(_) => None,
-        Literal::Text(_) => None,
-    }
-}
-
-/// Returns the type of an operator with its error if it is an `is` with a type that the schema does not declare, else
-/// `None`.
-fn operator_fault<'a>(schema: &Schema, operator: &'a Unary) -> Option<NameFault<'a>>
-    ensures { AreNames (schema_view schema.now) (operator_names operator.entry.now) result }
-{
-    match operator {
-        Unary::Is(name) => match unknown_tested_type(schema, name) {
-            Some(fault) => Some(NameFault {
-                name: UnknownName::TestedType(name),
-                fault,
-            }),
-            None => None,
-        },
-        Unary::Not => None,
-        Unary::Negate => None,
-        Unary::Like(_) => None,
-    }
-}
-
 /// Returns the name that a form itself has with its error if the schema does not declare it, else `None`.
 fn own_name<'a>(schema: &Schema, expr: &'a Expr) -> Option<NameFault<'a>>
     ensures { IsOwnName (schema_view schema.now) expr.entry.now result }
 {
     match expr {
-        Expr::Literal(literal) => literal_fault(schema, literal),
-        Expr::Unary(operator, _) => operator_fault(schema, operator),
+        Expr::Literal(literal) => match literal {
+            Literal::Entity(uid) => match unknown_entity(schema, uid) {
+                Some(fault) => Some(NameFault {
+                    name: UnknownName::Entity(uid),
+                    fault,
+                }),
+                None => None,
+            },
+            _ => None,
+        },
+        Expr::Unary(operator, _) => match operator {
+            Unary::Is(name) => match unknown_tested_type(schema, name) {
+                Some(fault) => Some(NameFault {
+                    name: UnknownName::TestedType(name),
+                    fault,
+                }),
+                None => None,
+            },
+            _ => None,
+        },
         _ => None,
     }
 }
@@ -103,12 +83,14 @@ fn find<'a>(
         match operand(expr, at) {
             Some(next) => {
                 path.push(at)?;
-                let found = find(schema, next, path)?;
-                if found.is_some() {
-                    return Ok(found);
+                match find(schema, next, path) {
+                    Err(error) => return Err(error),
+                    Ok(Some(found)) => return Ok(Some(found)),
+                    Ok(None) => {
+                        let _ = path.pop();
+                        at += 1;
+                    }
                 }
-                let _ = path.pop();
-                at += 1;
             }
             None => return Ok(own_name(schema, expr)),
         }
@@ -129,12 +111,12 @@ pub fn blame_name<'a>(
         (All (IsKnown s) (names_in whole.entry.now)) (IsNameBlame s whole.entry.now)) }
 {
     let mut path = Vec::new(alloc);
-    match find(schema, whole, &mut path)? {
-        Some(found) => Ok(Some(NameBlame {
-            fault: found.fault,
-            name: found.name,
-            path,
-        })),
-        None => Ok(None),
+    match find(schema, whole, &mut path) {
+        Err(error) => Err(error),
+        Ok(None) => Ok(None),
+        Ok(Some(found)) => {
+            let NameFault { name, fault } = found;
+            Ok(Some(NameBlame { fault, name, path }))
+        }
     }
 }

@@ -39,11 +39,13 @@ pub fn blame<'a>(
     ensures { let s = schema_view schema.entry.now in IfOk result (λ blame. MatchOption blame
         (Passes s policy.now) (IsBlame s policy.now)) }
 {
-    match blame_name(alloc, schema, whole)? {
-        Some(name) => Ok(Some(PolicyBlame::Name(name))),
-        None => match blame_type(alloc, schema, policy, whole)? {
-            Some(error) => Ok(Some(PolicyBlame::Typing(error))),
-            None => Ok(None),
+    match blame_name(alloc, schema, whole) {
+        Err(error) => Err(error),
+        Ok(Some(name)) => Ok(Some(PolicyBlame::Name(name))),
+        Ok(None) => match blame_type(alloc, schema, policy, whole) {
+            Err(error) => Err(error),
+            Ok(Some(error)) => Ok(Some(PolicyBlame::Typing(error))),
+            Ok(None) => Ok(None),
         },
     }
 }

@@ -7,7 +7,7 @@ ghost use Rattle.fault_paths.specs.Words.{type_word, uid_words, name_words, envi
 
 use crate::names::UnknownName;
 use plain::NoMemory;
-use type_checker::{BooleanType, Environment, Leaf, StaticType};
+use type_checker::{Environment, Leaf, StaticType};
 use values::EntityUid;
 
 /// Returns the word for a type without parts.
@@ -15,9 +15,7 @@ fn leaf_word<'r>(leaf: &'r Leaf<'_>) -> &'r str
     ensures { result.now ≡ type_word (leaf_view leaf.now) }
 {
     match leaf {
-        Leaf::Boolean(BooleanType::True) => "Boolean",
-        Leaf::Boolean(BooleanType::False) => "Boolean",
-        Leaf::Boolean(BooleanType::Either) => "Boolean",
+        Leaf::Boolean(_) => "Boolean",
         Leaf::Long => "Long",
         Leaf::Text => "String",
         Leaf::Entity(name) => name.as_str(),

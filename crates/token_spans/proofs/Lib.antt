@@ -17,8 +17,8 @@
 --   Dropping           tokens skipped in several steps
 --   Opening            a form seen by its tree
 --   Peeling            parentheses round a form
---   Items              an item of a list by its place
 --   FormWalking        a step of a path
+--   Finding            the first token that starts at a byte
 --   Turning            a turn or a place that is none of those that a function looks for
 --   LanguageCounts     how many tokens derive a value, one rule a form of language
 --   ExpressionCounts   an expression's tree counts its tokens, one rule a production
@@ -26,8 +26,8 @@ pub mod Counts
 pub mod Dropping
 pub mod Opening
 pub mod Peeling
-pub mod Items
 pub mod FormWalking
+pub mod Finding
 pub mod Turning
 pub mod LanguageCounts
 pub mod ExpressionCounts

@@ -1,23 +1,16 @@
--- A turn, a node or a place that is none of those that a function looks for.
+-- A turn or a place that is none of those that a function looks for.
 use Rattle.std.proofs.Common.{◌≡◌, refl, ℕ, List, Option, None, Bor}
 use Rattle.grammar_trees.specs.grammar_tokens.declared.token.Token.{Token}
 use Rattle.grammar_trees.specs.declared.tree.ExprTree.{ExprTree}
-use Rattle.grammar_trees.specs.grammar_tokens.declared.tree.UidTree.{UidTree}
 use Rattle.grammar_policies.specs.declared.tree.PartTree.{PartTree}
 use Rattle.grammar_policies.specs.declared.tree.ActionTree.{ActionTree}
 use Rattle.grammar_policies.specs.declared.tree.Condition.{Condition}
-use Rattle.token_spans.specs.declared.forms.FormNode.{FormNode}
-use Rattle.token_spans.specs.declared.forms.FormNode.TheVariants as node
 use Rattle.token_spans.specs.declared.turns.Turn.{Turn}
 use Rattle.token_spans.specs.declared.turns.Turn.TheVariants as t
 use Rattle.token_spans.specs.declared.places.NodePlace.{NodePlace}
 use Rattle.token_spans.specs.declared.places.NodePlace.TheVariants as p
 use Rattle.token_spans.specs.Places.{abstract_turn, unless_at, nowhere, place_of}
-use Rattle.token_spans.specs.Names.{in_test, at_end, at_second, in_both, listed_name, named}
-
-pub in_test-other : (x : FormNode) (ts : List Token) → (x ≡ node.Test → ⊥) → None ≡ in_test x ts
-in_test-other node.Test ts other = absurd (other refl)
-in_test-other x ts other = refl
+use Rattle.token_spans.specs.Names.{at_end, at_second, named}
 
 pub end-other : (x : Turn) (o : Option (List Token)) → (x ≡ t.Stop → ⊥) → None ≡ at_end (abstract_turn x) o
 end-other t.Stop o other = absurd (other refl)
@@ -26,15 +19,6 @@ end-other x o other = refl
 pub second-other : (x : Turn) (o : Option (List Token)) → ((rest : Bor (List ℕ)) → x ≡ t.Right rest → ⊥) → None ≡ at_second (abstract_turn x) o
 second-other (t.Right rest) o other = absurd (other rest refl)
 second-other x o other = refl
-
-pub both-other : (x : Turn) (o q : Option (List Token)) → ((rest : Bor (List ℕ)) → x ≡ t.Left rest → ⊥) → ((rest : Bor (List ℕ)) → x ≡ t.Right rest → ⊥) → None ≡ in_both (abstract_turn x) o q
-both-other (t.Left rest) o q l r = absurd (l rest refl)
-both-other (t.Right rest) o q l r = absurd (r rest refl)
-both-other x o q l r = refl
-
-pub listed-other : (x : Turn) (uids : List UidTree) (ts : List Token) → ((rest : Bor (List ℕ)) → x ≡ t.Right rest → ⊥) → None ≡ listed_name (abstract_turn x) uids ts
-listed-other (t.Right rest) uids ts other = absurd (other rest refl)
-listed-other x uids ts other = refl
 
 pub unless-other : (x : Turn) (c : Condition) (ts : List Token) → (x ≡ t.Stop → ⊥) → ((rest : Bor (List ℕ)) → x ≡ t.Left rest → ⊥) → nowhere ≡ unless_at (abstract_turn x) c ts
 unless-other t.Stop c ts s l = absurd (s refl)

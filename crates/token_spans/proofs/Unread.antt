@@ -1,6 +1,5 @@
 -- A text that is not made of tokens is no policy.
-use Rattle.std.proofs.Common.{◌≡◌, ℕ, List, length, Option, Some, None, subst, inl, inr}
-use Rattle.std.specs.Option.{MatchOption}
+use Rattle.std.proofs.Common.{ℕ, List, length, inl, inr}
 use Rattle.std.proofs.lemmas.Bool.{cases_lt}
 use Rattle.grammar_policies.specs.grammar_tokens.Lexing.{IsBadAt}
 use Rattle.policy_grammar.specs.declared.fault.ReadFault.TheVariants as fault
@@ -13,10 +12,3 @@ bad_is_no_policy text b =
       | inl long ↦ (fault.TooLong, long)
       | inr short ↦ (fault.BadToken b.0, (short, b.1))
     ]
-
--- what is known of an Option, where it is None or Some
-pub at_none : {T : Type 0} (A : Type 0) (P : T → Type 0) (o : Option T) → o ≡ None → MatchOption o A P → A
-at_none A P o is m = subst (λ x. MatchOption x A P) is m
-
-pub at_some : {T : Type 0} (A : Type 0) (P : T → Type 0) (o : Option T) (v : T) → o ≡ Some v → MatchOption o A P → P v
-at_some A P o v is m = subst (λ x. MatchOption x A P) is m

@@ -31,7 +31,7 @@ uid_tokens uid ts = up_to ts (drop (uid_count uid) ts)
 
 -- ## In expressions
 
--- `tested a path ts` are the tokens of the type in `a is path`, which the tokens `ts` begin with.
+-- `tested a path ts` are the tokens of the type `path` in `a is path`; the tokens `ts` begin with `a is path`.
 abbrev pub tested : ExprTree → PathTree → List Token → List Token
 tested a path ts = path_tokens path (drop 1 (drop (tree_count a) ts))
 
@@ -62,7 +62,7 @@ name_in x ts path = option_and_then own_name (node_at (unwrapped (whole x ts)) p
 -- ## In the scope
 
 -- `at_end t name` is `name` if the path with the first turn `t` ends at once, and `at_second t name` is `name` if that
--- path leads to the second operand and ends there; else both are `None`.
+-- path leads to the second operand and ends there; each is `None` otherwise.
 abbrev pub at_end : Turn → Option (List Token) → Option (List Token)
 at_end stop name = name
 at_end (left path) name = None

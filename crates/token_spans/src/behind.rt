@@ -3,7 +3,7 @@ ghost use Rattle.std.specs.Prelude.{◌≡◌, ◌+◌, drop, length, map};
 ghost use Rattle.token_spans.specs.TokenCounts.{tree_count, access_tree_count, term_count, entry_count};
 ghost use Rattle.token_spans.specs.TokenCounts.{each_count, total, lone_count};
 
-use crate::leaves::{skip, tokens_after_opened, tokens_after_path};
+use crate::leaves::{skip, tokens_after_opened, tokens_after_path, tokens_after_uid};
 use grammar_trees::{Access, ExprTree, KeyTree, RecordEntry, Term, Token};
 use plain::{Boxed, Items};
 
@@ -15,11 +15,7 @@ pub(crate) fn tokens_after_tree<'t>(tree: &ExprTree, tokens: &'t [Token]) -> &'t
     ensures { result.now ≡ drop (tree_count tree.now) tokens.entry.now }
 {
     match tree {
-        ExprTree::Boolean(_) => skip(tokens, 1),
-        ExprTree::Number(_) => skip(tokens, 1),
-        ExprTree::Text(_) => skip(tokens, 1),
-        ExprTree::Variable(_) => skip(tokens, 1),
-        ExprTree::Uid(uid) => skip(tokens_after_path(&uid.path, tokens), 2),
+        ExprTree::Uid(uid) => tokens_after_uid(uid, tokens),
         ExprTree::Call(path, arguments) => {
             tokens_after_row(arguments, skip(tokens_after_path(path, tokens), 1))
         }
@@ -61,6 +57,7 @@ pub(crate) fn tokens_after_tree<'t>(tree: &ExprTree, tokens: &'t [Token]) -> &'t
             let chosen = tokens_after_piece(consequent, tested);
             tokens_after_operand(alternative, chosen)
         }
+        _ => skip(tokens, 1),
     }
 }
 

@@ -15,23 +15,7 @@ pub(crate) fn tokens_after_condition<'t>(condition: &Condition, tokens: &'t [Tok
     skip(tokens_after_tree(&condition.expression, skip(tokens, 2)), 1)
 }
 
-/// Returns the place at a path of an `unless { .. }`, which means a negation.
-fn at_unless<'t, 'p>(
-    condition: &'t Condition,
-    tokens: &'t [Token],
-    path: &'p [usize],
-) -> NodePlace<'t, 'p>
-    ensures { spec.place_of result
-        ≡ spec.unless_at (spec.turn path.entry.now) condition.entry.now tokens.entry.now }
-{
-    match first_turn(path) {
-        Turn::Stop => NodePlace::Unless(condition, tokens),
-        Turn::Left(rest) => NodePlace::Expression(&condition.expression, skip(tokens, 2), rest),
-        _ => NodePlace::Nowhere,
-    }
-}
-
-/// Returns the place at a path of a condition.
+/// Returns the place at a path of a condition; `unless { .. }` means a negation.
 fn at_condition<'t, 'p>(
     condition: &'t Condition,
     tokens: &'t [Token],
@@ -42,7 +26,11 @@ fn at_condition<'t, 'p>(
 {
     match condition.word {
         ConditionWord::When => NodePlace::Expression(&condition.expression, skip(tokens, 2), path),
-        ConditionWord::Unless => at_unless(condition, tokens, path),
+        ConditionWord::Unless => match first_turn(path) {
+            Turn::Stop => NodePlace::Unless(condition, tokens),
+            Turn::Left(rest) => NodePlace::Expression(&condition.expression, skip(tokens, 2), rest),
+            _ => NodePlace::Nowhere,
+        },
     }
 }
 
@@ -59,9 +47,7 @@ pub(crate) fn at_conditions<'t, 'p>(
     match conditions {
         [] => match first_turn(path) {
             Turn::Stop => NodePlace::Policy(policy),
-            Turn::Left(_) => NodePlace::Nowhere,
-            Turn::Right(_) => NodePlace::Nowhere,
-            Turn::Off => NodePlace::Nowhere,
+            _ => NodePlace::Nowhere,
         },
         [only] => at_condition(only, tokens, path),
         [first, others @ ..] => match first_turn(path) {

@@ -94,6 +94,13 @@ fn kept(part: FormNode, all: usize) -> usize
     }
 }
 
+/// Returns the further pieces of a chain that belong to one of its nodes.
+fn pieces<T>(items: &Items<T>, part: FormNode) -> &[T]
+    ensures { result.now ≡ take (spec.kept part (length items.now)) items.now }
+{
+    front(items.as_slice(), kept(part, items.len()))
+}
+
 /// Returns the left operand of a node of a chain; `before` further pieces are in this operand.
 fn left_operand<'a>(form: &Form<'a>, first: &'a Boxed<ExprTree>, before: usize) -> Form<'a>
     ensures { spec.form_of result ≡ spec.left_at (spec.form_of form.now) first.entry.now before }
@@ -106,27 +113,6 @@ fn left_operand<'a>(form: &Form<'a>, first: &'a Boxed<ExprTree>, before: usize) 
             part: FormNode::First(before),
             tokens: form.tokens,
         }
-    }
-}
-
-/// Returns the operand of a sum's further term at an index.
-fn term_at<'a>(
-    first: &Boxed<ExprTree>,
-    terms: &'a Items<Term<ExprTree>>,
-    tokens: &'a [Token],
-    index: usize,
-) -> Option<Form<'a>>
-    ensures { option_map spec.form_of result
-        ≡ spec.term_at first.now terms.entry.now tokens.entry.now index }
-{
-    let terms = terms.as_slice();
-    match item_at(terms, index) {
-        Some(term) => {
-            let behind = tokens_after_operand(first, tokens);
-            let behind = tokens_after_terms(front(terms, index), behind);
-            Some(whole(&term.operand, skip(behind, 1)))
-        }
-        None => None,
     }
 }
 
@@ -169,7 +155,15 @@ fn sum_operand<'a>(
         return Some(left_operand(form, first, before));
     }
     if index == 1 {
-        return term_at(first, terms, form.tokens, before);
+        let terms = terms.as_slice();
+        return match item_at(terms, before) {
+            Some(term) => {
+                let behind = tokens_after_operand(first, form.tokens);
+                let behind = tokens_after_terms(front(terms, before), behind);
+                Some(whole(&term.operand, skip(behind, 1)))
+            }
+            None => None,
+        };
     }
     None
 }
@@ -207,45 +201,6 @@ fn entry_operand<'a>(
     }
 }
 
-/// Returns an argument of a method's call.
-fn argument<'a>(
-    access: &'a Access<Items<ExprTree>>,
-    tokens: &'a [Token],
-    index: usize,
-) -> Option<Form<'a>>
-    ensures { option_map spec.form_of result ≡ spec.argument_at access.entry.now tokens.entry.now index }
-{
-    match access {
-        Access::Field(_) => None,
-        Access::Method(_, arguments) => row_operand(arguments, skip(tokens, 3), index),
-    }
-}
-
-/// Returns an argument of the access at an index.
-fn access_operand<'a>(
-    first: &Boxed<ExprTree>,
-    accesses: &'a Items<Access<Items<ExprTree>>>,
-    tokens: &'a [Token],
-    place: usize,
-    index: usize,
-) -> Option<Form<'a>>
-    ensures { option_map spec.form_of result
-        ≡ spec.access_at first.now accesses.entry.now tokens.entry.now place index }
-{
-    let accesses = accesses.as_slice();
-    match item_at(accesses, place) {
-        Some(access) => {
-            let before = tokens_after_operand(first, tokens);
-            argument(
-                access,
-                tokens_after_accesses(front(accesses, place), before),
-                index,
-            )
-        }
-        None => None,
-    }
-}
-
 /// Returns an operand of a node of a chain of accesses: the expression before the node's last access, or an argument of
 /// that access.
 fn member_operand<'a>(
@@ -262,7 +217,18 @@ fn member_operand<'a>(
     if index == 0 {
         return Some(left_operand(form, first, before));
     }
-    access_operand(first, accesses, form.tokens, before, index - 1)
+    let accesses = accesses.as_slice();
+    match item_at(accesses, before) {
+        Some(access) => match access {
+            Access::Field(_) => None,
+            Access::Method(_, arguments) => {
+                let behind = tokens_after_operand(first, form.tokens);
+                let behind = tokens_after_accesses(front(accesses, before), behind);
+                row_operand(arguments, skip(behind, 3), index - 1)
+            }
+        },
+        None => None,
+    }
 }
 
 /// Returns the only operand if the index is 0.
@@ -290,17 +256,6 @@ fn negated_operand<'a>(
     }
 }
 
-/// Returns a node of a form.
-fn part_of<'a>(form: &Form<'a>, part: FormNode) -> Form<'a>
-    ensures { spec.form_of result ≡ spec.part_of (spec.form_of form.now) part }
-{
-    Form {
-        tree: form.tree,
-        part,
-        tokens: form.tokens,
-    }
-}
-
 /// Returns the operand at an index of two operands.
 fn two_operands<'a>(first: Form<'a>, second: Form<'a>, index: usize) -> Option<Form<'a>>
     ensures { option_map spec.form_of result
@@ -315,23 +270,17 @@ fn two_operands<'a>(first: Form<'a>, second: Form<'a>, index: usize) -> Option<F
     None
 }
 
-/// Returns whether a comparison means the negation of another one, as `>` that of `<=`.
-fn is_negated(operator: Comparison) -> bool
-    ensures { result ≡ spec.is_negated operator }
-{
-    match operator {
-        Comparison::Greater | Comparison::GreaterOrEqual | Comparison::NotEqual => true,
-        Comparison::Less | Comparison::LessOrEqual | Comparison::Equal | Comparison::In => false,
-    }
-}
-
-/// Returns whether a node of a comparison's form is the negation of another comparison.
+/// Returns whether a node of a comparison's form is the negation of another comparison, as that of `>` is of `<=`.
 fn is_negation(part: FormNode, operator: Comparison) -> bool
     ensures { result ≡ spec.both (spec.is_outer part) (spec.is_negated operator) }
 {
     match part {
         FormNode::Inner => false,
-        _ => is_negated(operator),
+        _ => match operator {
+            Comparison::Greater | Comparison::GreaterOrEqual | Comparison::NotEqual => true,
+            Comparison::Less | Comparison::LessOrEqual | Comparison::Equal | Comparison::In =>
+                false,
+        },
     }
 }
 
@@ -351,7 +300,10 @@ fn compared_operand<'a>(
         return two_operands(whole(left, form.tokens), whole(right, behind), index);
     }
     if index == 0 {
-        return Some(part_of(form, FormNode::Inner));
+        return Some(Form {
+            part: FormNode::Inner,
+            ..*form
+        });
     }
     None
 }
@@ -379,11 +331,17 @@ fn test_operand<'a>(
         ≡ spec.in_test_at form.now.part (spec.form_of form.now) operand.entry.now path.now ancestor.entry.now index }
 {
     match form.part {
-        FormNode::Whole => two_operands(
-            part_of(form, FormNode::Test),
-            part_of(form, FormNode::Inner),
-            index,
-        ),
+        FormNode::Whole => {
+            let test = Form {
+                part: FormNode::Test,
+                ..*form
+            };
+            let inner = Form {
+                part: FormNode::Inner,
+                ..*form
+            };
+            two_operands(test, inner, index)
+        }
         FormNode::First(_) => None,
         FormNode::Test => one_operand(operand, form.tokens, index),
         FormNode::Inner => {
@@ -427,16 +385,10 @@ fn operand<'a>(form: &Form<'a>, index: usize) -> Option<Form<'a>>
 {
     let tokens = form.tokens;
     match form.tree {
-        ExprTree::Boolean(_) => None,
-        ExprTree::Number(_) => None,
-        ExprTree::Text(_) => None,
-        ExprTree::Variable(_) => None,
-        ExprTree::Uid(_) => None,
         ExprTree::Call(path, arguments) => {
             let row = skip(tokens_after_path(path, tokens), 1);
             row_operand(arguments, row, index)
         }
-        ExprTree::Parentheses(_) => None,
         ExprTree::Set(members) => row_operand(members, skip(tokens, 1), index),
         ExprTree::Record(entries) => entry_operand(entries, skip(tokens, 1), index),
         ExprTree::Member(first, accesses) => member_operand(form, first, accesses, index),
@@ -457,14 +409,21 @@ fn operand<'a>(form: &Form<'a>, index: usize) -> Option<Form<'a>>
         ExprTree::If(test, consequent, alternative) => {
             if_operand(test, consequent, alternative, tokens, index)
         }
+        _ => None,
     }
 }
 
-/// Returns the form of the core node to which a path leads from that of `form`, if it leads to one.
-pub(crate) fn node_at<'a>(form: &Form<'a>, path: &[usize]) -> Option<Form<'a>>
-    ensures { option_map spec.form_of result ≡ spec.node_at (spec.form_of form.now) path.now }
+/// Returns the form of the core node to which a path leads from that of an expression, which `tokens` begin with, if it
+/// leads to one.
+pub(crate) fn node_at<'a>(
+    tree: &'a ExprTree,
+    tokens: &'a [Token],
+    path: &[usize],
+) -> Option<Form<'a>>
+    ensures { option_map spec.form_of result
+        ≡ spec.node_at (spec.unwrapped (spec.whole tree.entry.now tokens.entry.now)) path.now }
 {
-    let mut here = *form;
+    let mut here = unwrapped(&whole(tree, tokens));
     for index in path {
         match operand(&here, *index) {
             Some(below) => here = unwrapped(&below),
@@ -483,23 +442,8 @@ fn tokens_after_chain<'a>(
     ensures { let pieces = take (spec.kept form.now.part (length more.now)) more.now in
         result.now ≡ drop (each_count (map tree_count pieces)) (drop (tree_count first.now) form.now.tokens.now) }
 {
-    let pieces = front(more.as_slice(), kept(form.part, more.len()));
+    let pieces = pieces(more, form.part);
     tokens_after_each(pieces, tokens_after_operand(first, form.tokens))
-}
-
-/// Returns the tokens after a node of `operand is path in ancestor`.
-fn tokens_after_in_test<'a>(
-    form: &Form<'a>,
-    operand: &Boxed<ExprTree>,
-    path: &PathTree,
-) -> &'a [Token]
-    ensures { (b : ExprTree) → result.now
-        ≡ spec.tokens_after_test form.now.part (spec.form_of form.now) operand.now path.now b }
-{
-    match form.part {
-        FormNode::Test => tokens_after_test(operand, path, form.tokens),
-        _ => tokens_after_tree(form.tree, form.tokens),
-    }
 }
 
 /// Returns the tokens after a form.
@@ -508,17 +452,20 @@ fn tokens_after_form<'a>(form: &Form<'a>) -> &'a [Token]
 {
     match form.tree {
         ExprTree::Member(first, accesses) => {
-            let pieces = front(accesses.as_slice(), kept(form.part, accesses.len()));
+            let pieces = pieces(accesses, form.part);
             tokens_after_accesses(pieces, tokens_after_operand(first, form.tokens))
         }
         ExprTree::Product(first, more) => tokens_after_chain(form, first, more),
         ExprTree::Sum(first, terms) => {
-            let pieces = front(terms.as_slice(), kept(form.part, terms.len()));
+            let pieces = pieces(terms, form.part);
             tokens_after_terms(pieces, tokens_after_operand(first, form.tokens))
         }
         ExprTree::And(first, more) => tokens_after_chain(form, first, more),
         ExprTree::Or(first, more) => tokens_after_chain(form, first, more),
-        ExprTree::IsIn(inner, path, _) => tokens_after_in_test(form, inner, path),
+        ExprTree::IsIn(inner, path, _) => match form.part {
+            FormNode::Test => tokens_after_test(inner, path, form.tokens),
+            _ => tokens_after_tree(form.tree, form.tokens),
+        },
         _ => tokens_after_tree(form.tree, form.tokens),
     }
 }
@@ -539,7 +486,7 @@ pub(crate) fn tokens_at<'a>(
 ) -> Option<&'a [Token]>
     ensures { option_map (λ ts. ts.now) result ≡ spec.tokens_at tree.entry.now tokens.entry.now path.now }
 {
-    match node_at(&unwrapped(&whole(tree, tokens)), path) {
+    match node_at(tree, tokens, path) {
         Some(form) => Some(up_to(form.tokens, tokens_after_form(&form))),
         None => None,
     }

@@ -1,8 +1,8 @@
 //! The tokens after names and brackets, which contain no expression.
 ghost use Rattle.std.specs.Prelude.{◌≡◌, drop};
-ghost use Rattle.token_spans.specs.TokenCounts.{path_count, lone_count};
+ghost use Rattle.token_spans.specs.TokenCounts.{path_count, uid_count, lone_count};
 
-use grammar_trees::{PathTree, Token};
+use grammar_trees::{PathTree, Token, UidTree};
 
 /// Returns the tokens after the first `count`; the empty slice if there are no more.
 pub(crate) fn skip(tokens: &[Token], count: usize) -> &[Token]
@@ -21,6 +21,13 @@ pub(crate) fn tokens_after_path<'t>(path: &PathTree, tokens: &'t [Token]) -> &'t
 {
     let more = path.more.len();
     skip(skip(skip(tokens, 1), more), more)
+}
+
+/// Returns the tokens after `uid`, which `tokens` begin with.
+pub(crate) fn tokens_after_uid<'t>(uid: &UidTree, tokens: &'t [Token]) -> &'t [Token]
+    ensures { result.now ≡ drop (uid_count uid.now) tokens.entry.now }
+{
+    skip(tokens_after_path(&uid.path, tokens), 2)
 }
 
 /// Returns the tokens after the closing bracket of a list if it has no items (`count` is 0); else all tokens, since the

@@ -4,9 +4,8 @@ ghost use Rattle.token_spans.specs.Forms as forms;
 ghost use Rattle.token_spans.specs.Names as spec;
 
 use crate::behind::tokens_after_piece;
-use crate::forms::{Form, FormNode, node_at, unwrapped, up_to, whole};
-use crate::leaves::tokens_after_path;
-use crate::parts::tokens_after_uid;
+use crate::forms::{Form, FormNode, node_at, up_to};
+use crate::leaves::{tokens_after_path, tokens_after_uid};
 use grammar_trees::{ExprTree, PathTree, Token, UidTree};
 use plain::Boxed;
 
@@ -31,16 +30,6 @@ fn tested<'t>(operand: &Boxed<ExprTree>, path: &PathTree, tokens: &'t [Token]) -
     path_tokens(path, tokens_after_piece(operand, tokens))
 }
 
-/// Returns `tokens`, those of the type in `operand is path in ancestor`, if `part` is the test.
-fn in_test<'t>(part: FormNode, tokens: &'t [Token]) -> Option<&'t [Token]>
-    ensures { option_map (λ ts. ts.now) result ≡ spec.in_test part tokens.entry.now }
-{
-    match part {
-        FormNode::Test => Some(tokens),
-        _ => None,
-    }
-}
-
 /// Returns the tokens of the name that a form's core node itself has, if it has one.
 fn own_name<'a>(form: &Form<'a>) -> Option<&'a [Token]>
     ensures { option_map (λ ts. ts.now) result ≡ spec.own_name (forms.form_of form.now) }
@@ -48,9 +37,10 @@ fn own_name<'a>(form: &Form<'a>) -> Option<&'a [Token]>
     match form.tree {
         ExprTree::Uid(uid) => Some(uid_tokens(uid, form.tokens)),
         ExprTree::Is(operand, path) => Some(tested(operand, path, form.tokens)),
-        ExprTree::IsIn(operand, path, _) => {
-            in_test(form.part, tested(operand, path, form.tokens))
-        }
+        ExprTree::IsIn(operand, path, _) => match form.part {
+            FormNode::Test => Some(tested(operand, path, form.tokens)),
+            _ => None,
+        },
         _ => None,
     }
 }
@@ -64,7 +54,7 @@ pub(crate) fn name_in<'a>(
 ) -> Option<&'a [Token]>
     ensures { option_map (λ ts. ts.now) result ≡ spec.name_in tree.entry.now tokens.entry.now path.now }
 {
-    match node_at(&unwrapped(&whole(tree, tokens)), path) {
+    match node_at(tree, tokens, path) {
         Some(form) => own_name(&form),
         None => None,
     }

@@ -3,15 +3,8 @@ ghost use Rattle.std.specs.Prelude.{◌≡◌, drop, map, length};
 ghost use Rattle.token_spans.specs.Places as spec;
 ghost use Rattle.token_spans.specs.TokenCounts.{uid_count, each_count};
 
-use crate::leaves::{skip, tokens_after_opened, tokens_after_path};
+use crate::leaves::{skip, tokens_after_opened, tokens_after_path, tokens_after_uid};
 use grammar_policies::{ActionTree, PartTree, Token, UidTree};
-
-/// Returns the tokens after `uid`, which `tokens` begin with.
-pub(crate) fn tokens_after_uid<'t>(uid: &UidTree, tokens: &'t [Token]) -> &'t [Token]
-    ensures { result.now ≡ drop (uid_count uid.now) tokens.entry.now }
-{
-    skip(tokens_after_path(&uid.path, tokens), 2)
-}
 
 /// Returns the tokens after uids, each with a comma or bracket after it.
 pub(crate) fn tokens_after_uids<'t>(uids: &[UidTree], tokens: &'t [Token]) -> &'t [Token]

@@ -1,5 +1,5 @@
 //! The place of a core node of a policy's expression.
-ghost use Rattle.std.specs.Prelude.{◌≡◌, ◌==◌, position};
+ghost use Rattle.std.specs.Prelude.{◌≡◌};
 ghost use Rattle.token_spans.specs.Places as spec;
 
 use crate::conditions::at_conditions;
@@ -89,21 +89,18 @@ fn from_effect<'t, 'p>(
     }
 }
 
-/// Returns how many tokens precede the one that starts at a byte; `None` if no token does.
-fn tokens_before(tokens: &[Token], at: usize) -> Option<usize>
-    ensures { result ≡ position (λ t. t.start == at) tokens.now }
-{
-    tokens.iter().position(|token| token.start == at)
-}
-
-/// Returns the tokens from the one that starts at a byte; an empty list if no token does.
-fn from_byte(tokens: &[Token], at: usize) -> &[Token]
+/// Returns the tokens from the one that starts at a byte; an empty slice if no token does.
+pub(crate) fn from_byte(tokens: &[Token], at: usize) -> &[Token]
     ensures { result.now ≡ spec.from_byte at tokens.now }
 {
-    match tokens_before(tokens, at) {
-        Some(before) => skip(tokens, before),
-        None => skip(tokens, tokens.len()),
+    let mut rest = tokens;
+    for token in tokens {
+        if token.start == at {
+            return rest;
+        }
+        rest = skip(rest, 1);
     }
+    rest
 }
 
 /// Returns the place at a path of a policy's expression, from all tokens of its text.

@@ -1,5 +1,5 @@
 //! The names in a policy's scope.
-ghost use Rattle.std.specs.Prelude.{◌≡◌, option_map};
+ghost use Rattle.std.specs.Prelude.{◌≡◌, Some, option_map};
 ghost use Rattle.token_spans.specs.Names as spec;
 ghost use Rattle.token_spans.specs.Places.{turn};
 
@@ -21,30 +21,14 @@ fn at_end<'t>(path: &[usize], name: Option<&'t [Token]>) -> Option<&'t [Token]>
     }
 }
 
-/// Returns `name` if `path` leads to the second operand and ends there, else `None`.
-fn at_second<'t>(path: &[usize], name: Option<&'t [Token]>) -> Option<&'t [Token]>
+/// Returns the tokens of `uid`, which `tokens` begin with, if `path` leads to the second operand and ends there, else
+/// `None`.
+fn second_uid<'t>(path: &[usize], uid: &UidTree, tokens: &'t [Token]) -> Option<&'t [Token]>
     ensures { option_map (λ ts. ts.now) result
-        ≡ spec.at_second (turn path.now) (option_map (λ ts. ts.now) name.entry) }
+        ≡ spec.at_second (turn path.now) (Some (spec.uid_tokens uid.now tokens.entry.now)) }
 {
     match first_turn(path) {
-        Turn::Right(rest) => at_end(rest, name),
-        _ => None,
-    }
-}
-
-/// Returns the type `name` or the `uid` to which a path leads in `x is T in uid`, which means `x is T && x in uid`.
-fn in_both<'t>(
-    path: &[usize],
-    name: Option<&'t [Token]>,
-    uid: Option<&'t [Token]>,
-) -> Option<&'t [Token]>
-    ensures { option_map (λ ts. ts.now) result
-        ≡ spec.in_both (turn path.now) (option_map (λ ts. ts.now) name.entry)
-        (option_map (λ ts. ts.now) uid.entry) }
-{
-    match first_turn(path) {
-        Turn::Left(rest) => at_end(rest, name),
-        Turn::Right(rest) => at_second(rest, uid),
+        Turn::Right(rest) => at_end(rest, Some(uid_tokens(uid, tokens))),
         _ => None,
     }
 }
@@ -52,7 +36,7 @@ fn in_both<'t>(
 /// Returns the tokens of the name at a path of `part`, the scope's constraint on the principal or the resource.
 ///
 /// `tokens` begin with the constraint. A uid or a type comes after two tokens, as `principal ==`; in `is T in uid`, the
-/// uid is one token (`in`) after the type.
+/// uid is one token (`in`) after the type. That test means `x is T && x in uid`.
 pub(crate) fn entity_name<'t>(
     part: &PartTree,
     tokens: &'t [Token],
@@ -62,49 +46,37 @@ pub(crate) fn entity_name<'t>(
 {
     match part {
         PartTree::Any => None,
-        PartTree::Equal(uid) => at_second(path, Some(uid_tokens(uid, skip(tokens, 2)))),
-        PartTree::In(uid) => at_second(path, Some(uid_tokens(uid, skip(tokens, 2)))),
+        PartTree::Equal(uid) => second_uid(path, uid, skip(tokens, 2)),
+        PartTree::In(uid) => second_uid(path, uid, skip(tokens, 2)),
         PartTree::Is(name) => at_end(path, Some(path_tokens(name, skip(tokens, 2)))),
         PartTree::IsIn(name, uid) => {
             let from = skip(tokens, 2);
-            let behind = skip(tokens_after_path(name, from), 1);
-            in_both(
-                path,
-                Some(path_tokens(name, from)),
-                Some(uid_tokens(uid, behind)),
-            )
+            match first_turn(path) {
+                Turn::Left(rest) => at_end(rest, Some(path_tokens(name, from))),
+                Turn::Right(rest) => {
+                    let behind = skip(tokens_after_path(name, from), 1);
+                    second_uid(rest, uid, behind)
+                }
+                _ => None,
+            }
         }
     }
 }
 
-/// Returns the tokens of the uid at `index` in the list `uids`, if there is one. `tokens` begin after the list's `[`.
-fn uid_at<'t>(uids: &[UidTree], tokens: &'t [Token], index: usize) -> Option<&'t [Token]>
-    ensures { option_map (λ ts. ts.now) result ≡ spec.uid_at uids.now tokens.entry.now index }
-{
-    match item_at(uids, index) {
-        Some(uid) => Some(uid_tokens(uid, tokens_after_uids(front(uids, index), tokens))),
-        None => None,
-    }
-}
-
-/// Returns the tokens of the uid of a list that a path leads to.
+/// Returns the tokens of the uid that a path leads to from the list `uids`, if there is one. `tokens` begin after the
+/// list's `[`.
 fn item_name<'t>(uids: &[UidTree], tokens: &'t [Token], path: &[usize]) -> Option<&'t [Token]>
     ensures { option_map (λ ts. ts.now) result ≡ spec.item_name uids.now tokens.entry.now path.now }
 {
     match path {
         [] => None,
-        [index, rest @ ..] => at_end(rest, uid_at(uids, tokens, *index)),
-    }
-}
-
-/// Returns the tokens of the uid of `action in [..]` that a path leads to.
-fn listed_name<'t>(uids: &[UidTree], tokens: &'t [Token], path: &[usize]) -> Option<&'t [Token]>
-    ensures { option_map (λ ts. ts.now) result
-        ≡ spec.listed_name (turn path.now) uids.now tokens.entry.now }
-{
-    match first_turn(path) {
-        Turn::Right(rest) => item_name(uids, tokens, rest),
-        _ => None,
+        [index, rest @ ..] => match item_at(uids, *index) {
+            Some(uid) => {
+                let behind = tokens_after_uids(front(uids, *index), tokens);
+                at_end(rest, Some(uid_tokens(uid, behind)))
+            }
+            None => None,
+        },
     }
 }
 
@@ -121,8 +93,11 @@ pub(crate) fn action_name<'t>(
 {
     match part {
         ActionTree::Any => None,
-        ActionTree::Equal(uid) => at_second(path, Some(uid_tokens(uid, skip(tokens, 2)))),
-        ActionTree::In(uid) => at_second(path, Some(uid_tokens(uid, skip(tokens, 2)))),
-        ActionTree::InList(uids) => listed_name(uids.as_slice(), skip(tokens, 3), path),
+        ActionTree::Equal(uid) => second_uid(path, uid, skip(tokens, 2)),
+        ActionTree::In(uid) => second_uid(path, uid, skip(tokens, 2)),
+        ActionTree::InList(uids) => match first_turn(path) {
+            Turn::Right(rest) => item_name(uids.as_slice(), skip(tokens, 3), rest),
+            _ => None,
+        },
     }
 }

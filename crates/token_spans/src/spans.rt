@@ -1,14 +1,12 @@
 //! Spans of a text, in bytes.
-ghost use Rattle.std.specs.Prelude.{◌≡◌, ◌==◌, if◌then◌else◌, ℕ, IfOk, MatchOption, find, option_map, option_and_then};
-ghost use Rattle.std.specs.Option.{option_copied};
-ghost use Rattle.grammar_policies.specs.Grammar as grammar;
-ghost use Rattle.grammar_policies.specs.grammar_expressions.Expressions.{nesting_limit};
-ghost use Rattle.grammar_policies.specs.grammar_tokens.Lexing.{IsLexed, IsBadAt};
-ghost use Rattle.policy_grammar.specs.Texts.{Derives, most_policy_bytes};
+ghost use Rattle.std.specs.Prelude.{◌≡◌, if◌then◌else◌, IfOk, option_map, option_and_then};
+ghost use Rattle.grammar_policies.specs.grammar_tokens.Lexing.{IsLexed};
 ghost use Rattle.token_spans.specs.Spans as spec;
 ghost use Rattle.token_spans.specs.Names as names;
 ghost use Rattle.token_spans.specs.Places as places;
 
+use crate::forms::front;
+use crate::places::from_byte;
 use crate::policies::{named_at, written_at};
 use grammar_policies::{LexFault, PolicyTree, Token, tokens};
 use plain::NoMemory;
@@ -24,43 +22,28 @@ pub struct Span {
     pub end: usize,
 }
 
-/// Returns the span from the start of one token to the end of another; `None` if one is missing.
-fn between(first: Option<&Token>, last: Option<&Token>) -> Option<Span>
-    ensures { result ≡ spec.between (option_copied first.entry) (option_copied last.entry) }
-{
-    match first {
-        None => None,
-        Some(from) => match last {
-            None => None,
-            Some(to) => Some(Span {
-                start: from.start,
-                end: to.end,
-            }),
-        },
-    }
-}
-
 /// Returns the span from the first of these tokens to the last; `None` if there are no tokens.
 fn covering(tokens: &[Token]) -> Option<Span>
     ensures { result ≡ spec.covering tokens.now }
 {
     let last: usize = tokens.len().saturating_sub(1);
-    between(tokens.get(0), tokens.get(last))
-}
-
-/// Returns the token that starts at a byte, if one does.
-fn token_from(tokens: &[Token], at: usize) -> Option<&Token>
-    ensures { option_copied result ≡ find (λ t. t.start == at) tokens.entry.now }
-{
-    tokens.iter().find(|token| token.start == at)
+    match tokens.get(0) {
+        Some(from) => match tokens.get(last) {
+            Some(to) => Some(Span {
+                start: from.start,
+                end: to.end,
+            }),
+            None => None,
+        },
+        None => None,
+    }
 }
 
 /// Returns the span of the token that starts at a byte, if one does.
 fn starting_at(tokens: &[Token], at: usize) -> Option<Span>
     ensures { result ≡ spec.starting_at at tokens.now }
 {
-    let token = token_from(tokens, at);
-    between(token, token)
+    covering(front(from_byte(tokens, at), 1))
 }
 
 /// Returns the span of tokens, if there are some.
@@ -70,34 +53,6 @@ fn covered(written: Option<&[Token]>) -> Option<Span>
     match written {
         None => None,
         Some(tokens) => covering(tokens),
-    }
-}
-
-/// Returns the tree of a policy, or `None` if the text is not one.
-fn tree_of(alloc: Global, text: &str) -> Result<Option<PolicyTree>, NoMemory>
-    ensures { IfOk result (λ found. MatchOption found (spec.IsNoPolicy text.now)
-        (Derives (grammar.policy nesting_limit) most_policy_bytes text.now)) }
-{
-    match policy_tree(alloc, text) {
-        Ok(tree) => Ok(Some(tree)),
-        Err(fault) => match fault {
-            ReadFault::NoMemory => Err(NoMemory),
-            _ => Ok(None),
-        },
-    }
-}
-
-/// Returns the tokens of a text, or `None` if it does not consist of tokens.
-fn tokens_of(alloc: Global, text: &str) -> Result<Option<Vec<Token>>, NoMemory>
-    ensures { IfOk result (λ found. MatchOption found ((bad : ℕ) × IsBadAt text.now bad)
-        (λ tokens. IsLexed text.now tokens.items)) }
-{
-    match tokens(alloc, text) {
-        Ok(found) => Ok(Some(found)),
-        Err(fault) => match fault {
-            LexFault::NoMemory => Err(NoMemory),
-            LexFault::BadToken(_) => Ok(None),
-        },
     }
 }
 
@@ -112,10 +67,12 @@ fn tokens_of(alloc: Global, text: &str) -> Result<Option<Vec<Token>>, NoMemory>
 pub fn token_at(alloc: Global, text: &str, at: usize) -> Result<Option<Span>, NoMemory>
     ensures { IfOk result (spec.IsTokenAt text.now at) }
 {
-    let lexed = tokens_of(alloc, text)?;
-    match lexed {
-        Some(tokens) => Ok(starting_at(&tokens, at)),
-        None => Ok(None),
+    match tokens(alloc, text) {
+        Ok(found) => Ok(starting_at(&found, at)),
+        Err(fault) => match fault {
+            LexFault::NoMemory => Err(NoMemory),
+            LexFault::BadToken(_) => Ok(None),
+        },
     }
 }
 
@@ -149,14 +106,16 @@ fn span_in(
     ensures { IfOk result (spec.IsSpanBy
         (λ ts tree. if is_name then names.named_at ts tree path.now else places.written_at ts tree path.now) text.now) }
 {
-    let read = tree_of(alloc, text)?;
-    match read {
-        Some(tree) => {
+    match policy_tree(alloc, text) {
+        Ok(tree) => {
             let span = covered(chosen(tokens, &tree, path, is_name));
             drop(tree);
             Ok(span)
         }
-        None => Ok(None),
+        Err(fault) => match fault {
+            ReadFault::NoMemory => Err(NoMemory),
+            _ => Ok(None),
+        },
     }
 }
 
@@ -170,10 +129,12 @@ fn span_by(
     ensures { IfOk result (spec.IsSpanBy
         (λ ts tree. if is_name then names.named_at ts tree path.now else places.written_at ts tree path.now) text.now) }
 {
-    let lexed = tokens_of(alloc, text)?;
-    match lexed {
-        Some(tokens) => span_in(alloc, text, &tokens, path, is_name),
-        None => Ok(None),
+    match tokens(alloc, text) {
+        Ok(found) => span_in(alloc, text, &found, path, is_name),
+        Err(fault) => match fault {
+            LexFault::NoMemory => Err(NoMemory),
+            LexFault::BadToken(_) => Ok(None),
+        },
     }
 }
 

@@ -15,25 +15,20 @@ pub(crate) enum Turn<'p> {
     Off,
 }
 
-/// Returns the turn to an operand.
-fn to(index: usize, rest: &[usize]) -> Turn<'_>
-    ensures { spec.abstract_turn result ≡ spec.to index rest.now }
-{
-    if index == 0 {
-        return Turn::Left(rest);
-    }
-    if index == 1 {
-        return Turn::Right(rest);
-    }
-    Turn::Off
-}
-
 /// Returns the first turn of a path.
 pub(crate) fn first_turn(path: &[usize]) -> Turn<'_>
     ensures { spec.abstract_turn result ≡ spec.turn path.now }
 {
     match path {
         [] => Turn::Stop,
-        [index, rest @ ..] => to(*index, rest),
+        [index, rest @ ..] => {
+            if *index == 0 {
+                return Turn::Left(rest);
+            }
+            if *index == 1 {
+                return Turn::Right(rest);
+            }
+            Turn::Off
+        }
     }
 }

@@ -1,17 +1,46 @@
 -- The search in the rest of a list, behind what was searched before.
-use Rattle.std.proofs.Common.{◌≡◌, ◌∙◌, ℕ, ◌+◌, ◌<◌, ◌≤◌, drop, get_or, length, Option, Some, None, Result, Ok, Err, IfOk, String, Global, string_bytes, List, [], ◌∷◌, refl, sym, ap, subst}
+use Rattle.std.proofs.Common.{◌≡◌, ◌∙◌, ℕ, ◌+◌, ◌<◌, ◌≤◌, drop, get_or, length, Option, Some, None, Result, Ok, Err, IfOk, OnOk, MatchResult, Bool, String, Vec, BTreeMap, Global, string_bytes, List, [], ◌∷◌, refl, sym, ap, subst, rules}
+use Rattle.std.specs.Prelude.{is_some}
 use Rattle.std.proofs.lemmas.List.{drop_more, drop_all}
-use Rattle.serde_json.specs.View.{view, items_view, members_view}
-use Rattle.serde_json.specs.declared.value.Value.{Value}
+use Rattle.serde_json.specs.Data.{Data}
+use Rattle.serde_json.specs.Data as json
+use Rattle.serde_json.specs.View.{view, number_view, items_view, members_view}
+use Rattle.serde_json.specs.declared.value.Value.{Value, out-Value, roll-Value, roll-out-Value, the_lemmas}
+use Rattle.serde_json.specs.declared.value.Value.TheOpen.{Value-F}
+use Rattle.serde_json.specs.declared.value.Value.TheVariants as value
 use Rattle.schema_types.specs.Cedar.{Cedar, CedarFields}
 use Rattle.entities.specs.Parts.{declared_at}
-use Rattle.entities.specs.Typing.{with_or}
+use Rattle.entities.specs.Typing.{with_or, typed_value}
 use Rattle.value_paths.specs.declared.steps.Step.{Step}
 use Rattle.value_paths.specs.declared.steps.Step.TheVariants.{Key, Index}
-use Rattle.value_paths.specs.inner.FoundPaths.{or_else, under, value_path, item_path, member_path}
+use Rattle.value_paths.specs.inner.FoundPaths.{or_else, under, whole_path, value_path, item_path, member_path}
 
 pub cut : {A : Type 0} (vs : List A) (i : ℕ) (v : A) → i < length vs → v ≡ get_or vs i v → drop i vs ≡ v ∷ drop (i + 1) vs
 cut {A = A} vs i v lt at = drop_more vs i v lt ∙ ap (λ (w : A). w ∷ drop (i + 1) vs) (sym at)
+
+-- ---- values without parts
+
+by_whole : (t : Cedar) (v w : Value) (d : Data) → v ≡ w → view w ≡ d → value_path t d ≡ whole_path (typed_value t d) → value_path t (view v) ≡ whole_path (typed_value t (view v))
+by_whole t v w d e f h = subst (λ (x : Data). value_path t x ≡ whole_path (typed_value t x)) (sym (ap view e ∙ f)) h
+
+is_value : (v w : Value) (y : Value-F Value) → out-Value v ≡ y → roll-Value y ≡ w → v ≡ w
+is_value v w y e f = sym (roll-out-Value v) ∙ ap roll-Value e ∙ f
+
+whole_at : (t : Cedar) (v : Value) (y : Value-F Value) → out-Value v ≡ y → ((xs : Vec Value Global) → v ≡ value.Array xs → ⊥)
+    → ((ms : BTreeMap (String Global) Value) → v ≡ value.Object ms → ⊥) → value_path t (view v) ≡ whole_path (typed_value t (view v))
+unfolding value_path
+whole_at t v Value-F.Null e no_array no_object = by_whole t v value.Null json.null (is_value v value.Null Value-F.Null e value.rolls-Null) (search (rules, the_lemmas)) refl
+whole_at t v (Value-F.Bool b) e no_array no_object = by_whole t v (value.Bool b) (json.boolean b) (is_value v (value.Bool b) (Value-F.Bool b) e (value.rolls-Bool b)) (search (rules, the_lemmas)) refl
+whole_at t v (Value-F.Number n) e no_array no_object =
+    by_whole t v (value.Number n) (json.number (number_view n)) (is_value v (value.Number n) (Value-F.Number n) e (value.rolls-Number n)) (search (rules, the_lemmas)) refl
+whole_at t v (Value-F.String s) e no_array no_object =
+    by_whole t v (value.String s) (json.string (string_bytes s)) (is_value v (value.String s) (Value-F.String s) e (value.rolls-String s)) (search (rules, the_lemmas)) refl
+whole_at t v (Value-F.Array xs) e no_array no_object = absurd (no_array xs (is_value v (value.Array xs) (Value-F.Array xs) e (value.rolls-Array xs)))
+whole_at t v (Value-F.Object ms) e no_array no_object = absurd (no_object ms (is_value v (value.Object ms) (Value-F.Object ms) e (value.rolls-Object ms)))
+
+pub whole-other : (t : Cedar) (v : Value) → ((xs : Vec Value Global) → v ≡ value.Array xs → ⊥) → ((ms : BTreeMap (String Global) Value) → v ≡ value.Object ms → ⊥)
+    → whole_path (typed_value t (view v)) ≡ value_path t (view v)
+whole-other t v no_array no_object = sym (whole_at t v (out-Value v) refl no_array no_object)
 
 -- ---- items
 
@@ -91,6 +120,17 @@ rest_done F xs n total le so_far = sym (so_far ∙ ap F (drop_all n xs le))
 pub if_ok : {A E : Type 0} (r : Result A E) (P Q : A → Type 0) → ((x : A) → P x → Q x) → IfOk r P → IfOk r Q
 if_ok (Ok x) P Q f h = f x h
 if_ok (Err e) P Q f h = h
+
+-- whether a search found something, by what it finds
+pub some_in : {A E F : Type 0} (read : Result (Option A) E) (given : Result Bool F) (o : Option A) → IfOk read (λ x. x ≡ o)
+    → IfOk given (λ yes. MatchResult read (λ x. yes ≡ is_some x) (λ _. ⊥)) → IfOk given (λ yes. yes ≡ is_some o)
+some_in (Ok x) (Ok b) o h e = e ∙ ap is_some h
+some_in (Err f) (Ok b) o h e = absurd e
+some_in read (Err f) o h e = tt
+
+pub on_ok : {A E : Type 0} (r : Result A E) (P Q : Type 0) → (P → Q) → OnOk r P → OnOk r Q
+on_ok (Ok x) P Q f h = f h
+on_ok (Err e) P Q f h = h
 
 pub made_so : {A E : Type 0} (r : Result A E) (x : A) (P : A → Type 0) → r ≡ Ok x → IfOk r P → P x
 made_so {A = A} {E = E} r x P e h = subst (λ (q : Result A E). IfOk q P) e h

@@ -8,3 +8,4 @@ mod RequestLaws
 mod Requests
 mod Singles
 mod Telling
+mod Unmet

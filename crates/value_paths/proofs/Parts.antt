@@ -211,6 +211,22 @@ pub entity_placed : (s : StatedSchema) (d : Data) → Placed s d (entity_stated_
 unfolding entity_stated_in
 entity_placed s d = form_placed s d (stated_in d) (first_unmet (form_demands d)) refl refl (form_found d)
 
+-- ---- errors of the attributes
+
+pub path-other : (s : StatedSchema) (d : Data) (f : EntityFault) → (f ≡ BadShape → ⊥) → (f ≡ UnknownType → ⊥) → (f ≡ ActionEntity → ⊥) → (f ≡ TagsLeftOut → ⊥) → (f ≡ BadParent → ⊥) → (f ≡ SelfParent → ⊥)
+    → attributes_path s d ≡ path_of s d f
+path-other s d BadShape shape type action tags parent self = absurd (shape refl)
+path-other s d UnknownType shape type action tags parent self = absurd (type refl)
+path-other s d ActionEntity shape type action tags parent self = absurd (action refl)
+path-other s d TagsLeftOut shape type action tags parent self = absurd (tags refl)
+path-other s d BadParent shape type action tags parent self = absurd (parent refl)
+path-other s d SelfParent shape type action tags parent self = absurd (self refl)
+path-other s d NoMemory shape type action tags parent self = refl
+path-other s d Undeclared shape type action tags parent self = refl
+path-other s d Missing shape type action tags parent self = refl
+path-other s d WrongType shape type action tags parent self = refl
+path-other s d NotApplicable shape type action tags parent self = refl
+
 -- ---- no other path
 
 attributes_only : (s : StatedSchema) (d : Data) (p : List Step) → IsInAttributes s d p → attributes_path s d ≡ Some p

@@ -1,5 +1,5 @@
 -- The part of a request that its error is about is found.
-use Rattle.std.proofs.Common.{◌≡◌, ◌∙◌, List, [], ◌∷◌, Bool, true, false, Option, Some, None, Result, Ok, Err, IfOk, refl, sym, ap, subst, codes}
+use Rattle.std.proofs.Common.{◌≡◌, ◌∙◌, List, [], ◌∷◌, Bool, true, false, Option, Some, None, Result, Ok, Err, IfOk, MatchResult, refl, sym, ap, subst, codes}
 use Rattle.std.specs.Prelude.{is_some}
 use Rattle.serde_json.specs.Data.{Data}
 use Rattle.serde_json.specs.Find.{get, as_object}
@@ -78,9 +78,16 @@ type_read one s d p a r ar dp da dr principal others t gp ga gr hp ha hr first s
 pub context_searched : (s : StatedSchema) (d : Data) (t : Option Cedar) (o : Option (List Step)) → IsContextType s d t → o ≡ path_under (codes "context") t d → IsContextSearched s d o
 context_searched s d t o is e asked asks = e ∙ ap (λ (x : Option Cedar). path_under (codes "context") x d) (is asked asks)
 
-pub named_by : (o : Option Data) (read : Option EntityUid) (given : Bool) → IsRead (Names o) read → given ≡ is_some read → IsNamed o given
+named_by : (o : Option Data) (read : Option EntityUid) (given : Bool) → IsRead (Names o) read → given ≡ is_some read → IsNamed o given
 named_by o None given h e = subst (IsNamed o) (sym e) (λ n. h n.0 n.1)
 named_by o (Some u) given h e = subst (IsNamed o) (sym e) (u, h)
+
+-- the same of the results of reading and of testing
+pub named_in : {E F : Type 0} (o : Option Data) (read : Result (Option EntityUid) E) (given : Result Bool F) → IfOk read (IsRead (Names o))
+    → IfOk given (λ yes. MatchResult read (λ u. yes ≡ is_some u) (λ _. ⊥)) → IfOk given (IsNamed o)
+named_in o (Ok u) (Ok b) h e = named_by o u b h e
+named_in o (Err f) (Ok b) h e = absurd e
+named_in o read (Err f) h e = tt
 
 -- ---- the form
 
@@ -95,9 +102,19 @@ form_searched_by d true false true true true is e hp ha hr = says.no_context hp 
 form_searched_by d true true true true true is e hp ha hr =
     (record { principal = hp.0; action = ha.0; resource = hr.0 }, record { principal = hp.1; action = ha.1; resource = hr.1; context = e })
 
-pub form_searched : (d : Data) (p a r : Bool) → IsNamed (get (codes "principal") d) p → IsNamed (get (codes "action") d) a → IsNamed (get (codes "resource") d) r
+form_searched : (d : Data) (p a r : Bool) → IsNamed (get (codes "principal") d) p → IsNamed (get (codes "action") d) a → IsNamed (get (codes "resource") d) r
     → IsFormSearched d (first_unmet (request_demands d p a r))
 form_searched d p a r hp ha hr = form_searched_by d (is_some (as_object d)) (is_absent_or_object (get (codes "context") d)) p a r refl refl hp ha hr
+
+-- the same of the results of testing, of which two are joined in a pair
+pub form_read : {E : Type 0} (d : Data) (p a r : Result Bool E) (ar : Result (Bool × Bool) E) (dp da dr : Option Data) (principal : Bool) (others : Bool × Bool)
+    → dp ≡ get (codes "principal") d → da ≡ get (codes "action") d → dr ≡ get (codes "resource") d → IfOk p (IsNamed dp) → IfOk a (IsNamed da) → IfOk r (IsNamed dr)
+    → IfOk ar (λ q. a ≡ Ok q.0) → IfOk ar (λ q. r ≡ Ok q.1) → p ≡ Ok principal → ar ≡ Ok others → IsFormSearched d (first_unmet (request_demands d principal others.0 others.1))
+form_read d p a r ar dp da dr principal others gp ga gr hp ha hr first second e f =
+    form_searched d principal others.0 others.1
+    (subst (λ (x : Option Data). IsNamed x principal) gp (made_so p principal (IsNamed dp) e hp))
+    (subst (λ (x : Option Data). IsNamed x others.0) ga (made_so a others.0 (IsNamed da) (made_so ar others (λ q. a ≡ Ok q.0) f first) ha))
+    (subst (λ (x : Option Data). IsNamed x others.1) gr (made_so r others.1 (IsNamed dr) (made_so ar others (λ q. r ≡ Ok q.1) f second) hr))
 
 told_shape : (r : Result (List Field) ValueFault) → with_entity_fault r ≡ Err BadShape → ⊥
 told_shape (Ok x) e = absurd cc
@@ -124,9 +141,6 @@ has_form s d f (request.context other g others e) is asked asks = asked_shape s 
 pub form_part : (s : StatedSchema) (d : Data) (o : Option (List Step)) → IsFormSearched d o → IsPartSearched s d BadShape o
 form_part s d (Some p) h refused = (p, refl, h)
 form_part s d None h refused = absurd (has_form s d BadShape refused refl h.0 h.1)
-
-pub action_part : (s : StatedSchema) (d : Data) (o : Option (List Step)) → o ≡ Some (to_key (codes "action")) → IsPartSearched s d NotApplicable o
-action_part s d o e refused = (to_key (codes "action"), e, refl)
 
 -- ---- the context
 

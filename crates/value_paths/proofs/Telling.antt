@@ -1,6 +1,7 @@
 -- The error with its path, as the whole function returns it.
-use Rattle.std.proofs.Common.{◌≡◌, ◌∙◌, List, Option, Some, None, Result, Ok, Err, MatchResult, IfOk, IfErr, refl, sym, subst}
+use Rattle.std.proofs.Common.{◌≡◌, ◌∙◌, ℕ, List, Option, Some, None, Result, Ok, Err, MatchResult, IfOk, IfErr, refl, sym, subst}
 use Rattle.serde_json.specs.Data.{Data}
+use Rattle.schema_types.specs.Cedar.{Cedar}
 use Rattle.json_words.specs.ReadsAs.{ReadsAs}
 use Rattle.values.specs.declared.request.Request.{Request}
 use Rattle.entities.specs.entity_data.declared.entity.Entity.{Entity}
@@ -14,6 +15,7 @@ use Rattle.value_paths.specs.declared.placed.PlacedFault.{PlacedFault}
 use Rattle.value_paths.specs.EntityPaths.{IsPathOf}
 use Rattle.value_paths.specs.RequestPaths.{IsRequestPathOf}
 use Rattle.value_paths.specs.Outcomes.{IsEntityFault, IsRequestFault}
+use Rattle.value_paths.specs.PartWords.{part_words}
 use Rattle.value_paths.specs.inner.FoundParts.{path_of}
 use Rattle.value_paths.specs.inner.FoundNames.{IsPartSearched}
 use Rattle.value_paths.specs.inner.Placing.{IsFaultOf, IsPlaced}
@@ -53,6 +55,13 @@ request_told s d f found out refused searched h =
     let path = if_ok found (IsPartSearched s d f) (λ q. (p : List Step) × (q ≡ Some p) × P f p) (λ q k. let known = k refused in (known.0, known.1, (refused, known.2))) searched in
     if_ok out (λ o. MatchResult found (λ q. IsPlaced f q o) (λ _. ⊥)) (IsRequestFault s d)
     (λ o k. let x = told_in P f found o k path in subst (IsRequestFault s d) (sym x.1) x.2) h
+
+-- the words of what a search found
+pub words_told : {E F : Type 0} (P : Option PlacedFault → Type 0) (found : Result (Option PlacedFault) E) (out : Result (List ℕ) F) (whole : Option Cedar) → IfOk found P
+    → IfOk out (λ words. MatchResult found (λ o. words ≡ part_words o whole) (λ _. ⊥)) → IfOk out (λ words. (o : Option PlacedFault) × P o × (words ≡ part_words o whole))
+words_told P (Ok o) (Ok words) whole h e = (o, h, e)
+words_told P (Err f) (Ok words) whole h e = absurd e
+words_told P found (Err f) whole h e = tt
 
 -- ---- what reading gave
 

@@ -3,11 +3,10 @@ ghost use Rattle.std.specs.Prelude.{◌≡◌, IfOk, option_map};
 ghost use Rattle.serde_json.specs.View.{view};
 ghost use Rattle.schema_types.specs.CedarViews.{cedar_view};
 ghost use Rattle.entities.specs.schema.Views.{schema_view};
-ghost use Rattle.entities.specs.EntityForms.{or_empty};
 ghost use Rattle.value_paths.specs.Outcomes.{IsEntityFault};
-ghost use Rattle.value_paths.specs.inner.FoundPaths.{record_path, path_under};
+ghost use Rattle.value_paths.specs.inner.FoundPaths.{path_under};
 ghost use Rattle.value_paths.specs.EntityPaths.{shape_at};
-ghost use Rattle.value_paths.specs.inner.FoundParts.{attributes_path, path_of};
+ghost use Rattle.value_paths.specs.inner.FoundParts.{path_of};
 
 use crate::finding::find_in_record;
 use crate::forms::find_in_form;
@@ -17,19 +16,8 @@ use crate::steps::{Trail, at_key, under_key};
 use entities::{EntityFault, Schema, read_entity};
 use plain::NoMemory;
 use schema_types::CedarType;
-use serde_json::{Map, Value};
+use serde_json::Value;
 use std::alloc::Global;
-use values::TypeName;
-
-/// Returns the shape of an entity type; `None` if the type is not declared.
-fn shape_of<'s>(schema: &'s Schema, name: &TypeName) -> Option<&'s CedarType>
-    ensures { option_map (λ t. cedar_view t.now) result ≡ (schema_view schema.now).shape name.now }
-{
-    match schema.entity_type(name) {
-        Some(entity_type) => Some(&entity_type.shape),
-        None => None,
-    }
-}
 
 /// Returns the shape of the type of the entity that a value names, if it names one and the type is declared.
 pub(crate) fn shape_at<'s>(
@@ -40,34 +28,17 @@ pub(crate) fn shape_at<'s>(
     ensures { IfOk result (λ o. option_map (λ t. cedar_view t.now) o
         ≡ shape_at (schema_view schema.now) (option_map (λ v. view v.now) found.entry)) }
 {
-    match uid_at(alloc, found)? {
-        Some(uid) => {
-            let shape = shape_of(schema, &uid.type_name);
+    match uid_at(alloc, found) {
+        Ok(Some(uid)) => {
+            let entity_type = schema.entity_type(&uid.type_name);
             drop(uid);
-            Ok(shape)
+            match entity_type {
+                Some(entity_type) => Ok(Some(&entity_type.shape)),
+                None => Ok(None),
+            }
         }
-        None => Ok(None),
-    }
-}
-
-/// Returns the path to the part of a record that is at fault, if there is one. An absent record counts as an empty
-/// object.
-fn find_in_fields(
-    alloc: Global,
-    found: Option<&Value>,
-    ty: &CedarType,
-) -> Result<Option<Trail>, NoMemory>
-    ensures { IfOk result
-        (λ o. o ≡ record_path (cedar_view ty.now) (or_empty (option_map (λ v. view v.now) found.entry))) }
-{
-    match found {
-        Some(value) => find_in_record(alloc, value, ty),
-        None => {
-            let empty = Value::Object(Map::new(alloc));
-            let found = find_in_record(alloc, &empty, ty);
-            drop(empty);
-            found
-        }
+        Ok(None) => Ok(None),
+        Err(fault) => Err(fault),
     }
 }
 
@@ -82,26 +53,14 @@ pub(crate) fn find_under(
     ensures { IfOk result
         (λ o. o ≡ path_under key.now (option_map (λ t. cedar_view t.now) ty.entry) (view value.now)) }
 {
-    let Some(ty) = ty else {
-        return Ok(None);
-    };
-    match find_in_fields(alloc, value.get(key), ty)? {
-        Some(trail) => under_key(alloc, key, trail),
+    match ty {
+        Some(ty) => match find_in_record(alloc, value.get(key), ty) {
+            Ok(Some(trail)) => under_key(alloc, key, trail),
+            Ok(None) => Ok(None),
+            Err(fault) => Err(fault),
+        },
         None => Ok(None),
     }
-}
-
-/// Returns the path to the part of the attributes that is at fault, if there is one.
-#[tactic(auto, unfolding(crate::specs::inner::FoundParts::attributes_path))]
-fn find_in_attributes(
-    alloc: Global,
-    schema: &Schema,
-    value: &Value,
-) -> Result<Option<Trail>, NoMemory>
-    ensures { IfOk result (λ o. o ≡ attributes_path (schema_view schema.now) (view value.now)) }
-{
-    let shape = shape_at(alloc, schema, value.get("uid"))?;
-    find_under(alloc, value, "attrs", shape)
 }
 
 /// Returns the path to the part that an error is about.
@@ -120,7 +79,10 @@ fn find_part(
         EntityFault::TagsLeftOut => at_key(alloc, "tags"),
         EntityFault::BadParent => find_bad_parent(alloc, schema, value),
         EntityFault::SelfParent => find_bad_parent(alloc, schema, value),
-        _ => find_in_attributes(alloc, schema, value),
+        _ => match shape_at(alloc, schema, value.get("uid")) {
+            Ok(shape) => find_under(alloc, value, "attrs", shape),
+            Err(fault) => Err(fault),
+        },
     }
 }
 
@@ -141,9 +103,11 @@ pub fn entity_fault(
 ) -> Result<Option<PlacedFault>, NoMemory>
     ensures { IfOk result (IsEntityFault (schema_view schema.now) (view value.now)) }
 {
-    let read = read_entity(alloc, schema, value);
-    match fault_of(read)? {
-        Some(fault) => placed(fault, find_part(alloc, schema, value, fault)),
-        None => Ok(None),
+    match fault_of(read_entity(alloc, schema, value)) {
+        Ok(found) => match found {
+            Some(fault) => placed(fault, find_part(alloc, schema, value, fault)),
+            None => Ok(None),
+        },
+        Err(memory) => Err(memory),
     }
 }

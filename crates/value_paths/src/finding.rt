@@ -1,7 +1,9 @@
 //! The search for the part of a value that is at fault.
-ghost use Rattle.std.specs.Prelude.{◌≡◌, IfOk, option_map};
+ghost use Rattle.std.specs.Prelude.{◌≡◌, IfOk, is_some, not, option_map};
+ghost use Rattle.serde_json.specs.Find.{get};
 ghost use Rattle.serde_json.specs.View.{view, items_view, members_view};
 ghost use Rattle.schema_types.specs.CedarViews.{cedar_view, cedar_fields_view};
+ghost use Rattle.entities.specs.EntityForms.{or_empty};
 ghost use Rattle.entities.specs.Parts.{element_of, fields_in, declared_at};
 ghost use Rattle.value_paths.specs.inner.FoundPaths.{or_else, absent_path, value_path, item_path, member_path};
 ghost use Rattle.value_paths.specs.inner.FoundPaths.{record_path};
@@ -52,12 +54,28 @@ pub(crate) fn declared<'t>(fields: &'t Fields, name: &str) -> Option<&'t CedarTy
     None
 }
 
-/// Returns the path to the first required key of `fields` that `value` lacks, if there is one.
-fn find_absent(alloc: Global, fields: &Fields, value: &Value) -> Result<Option<Trail>, NoMemory>
-    ensures { IfOk result (λ o. o ≡ absent_path (cedar_fields_view fields.now) (view value.now)) }
+/// Returns whether `value` has no member at `key`. An absent value counts as an empty object.
+fn lacks(value: Option<&Value>, key: &str) -> bool
+    ensures { result ≡ not (is_some (get key.now (or_empty (option_map (λ v. view v.now) value.entry)))) }
+{
+    match value {
+        Some(value) => value.get(key).is_none(),
+        None => true,
+    }
+}
+
+/// Returns the path to the first required key of `fields` that `value` lacks, if there is one. An absent value counts
+/// as an empty object.
+fn find_absent(
+    alloc: Global,
+    fields: &Fields,
+    value: Option<&Value>,
+) -> Result<Option<Trail>, NoMemory>
+    ensures { IfOk result (λ o. o ≡ absent_path (cedar_fields_view fields.now)
+        (or_empty (option_map (λ v. view v.now) value.entry))) }
 {
     for field in fields.as_slice() {
-        if field.2 && value.get(field.0.as_str()).is_none() {
+        if field.2 && lacks(value, field.0.as_str()) {
             return at_key(alloc, field.0.as_str());
         }
     }
@@ -71,10 +89,6 @@ fn find(alloc: Global, value: &Value, ty: &CedarType) -> Result<Option<Trail>, N
     ensures { IfOk result (λ o. o ≡ value_path (cedar_view ty.now) (view value.now)) }
 {
     match value {
-        Value::Null => find_whole(alloc, value, ty),
-        Value::Bool(_) => find_whole(alloc, value, ty),
-        Value::Number(_) => find_whole(alloc, value, ty),
-        Value::String(_) => find_whole(alloc, value, ty),
         Value::Array(items) => match element(ty) {
             Some(element) => find_item(alloc, items, element),
             None => Ok(Some(Trail::here(alloc))),
@@ -83,18 +97,22 @@ fn find(alloc: Global, value: &Value, ty: &CedarType) -> Result<Option<Trail>, N
             Some(fields) => find_in_members(alloc, members, fields, value),
             None => find_whole(alloc, value, ty),
         },
+        _ => find_whole(alloc, value, ty),
     }
 }
 
-/// Returns the path to the part at fault of the first rejected item of an array, if one is.
+/// Returns the path to the part at fault of the first rejected item of an array, if an item is rejected.
 #[cycle(find)]
 fn find_item(alloc: Global, items: &Vec<Value>, ty: &CedarType) -> Result<Option<Trail>, NoMemory>
     ensures { IfOk result (λ o. o ≡ item_path (cedar_view ty.now) 0 (items_view items.now.items)) }
 {
     for (index, item) in items.iter().enumerate() {
-        match find(alloc, item, ty)? {
-            Some(trail) => return trail.under(Step::Index(index)),
-            None => {}
+        match find(alloc, item, ty) {
+            Ok(found) => match found {
+                Some(trail) => return trail.under(Step::Index(index)),
+                None => {}
+            },
+            Err(fault) => return Err(fault),
         }
     }
     Ok(None)
@@ -121,29 +139,36 @@ fn find_in_members(
             Some(ty) => ty,
             None => return at_key(alloc, name),
         };
-        match find(alloc, member, ty)? {
-            Some(trail) => return under_key(alloc, name, trail),
-            None => {}
+        match find(alloc, member, ty) {
+            Ok(found) => match found {
+                Some(trail) => return under_key(alloc, name, trail),
+                None => {}
+            },
+            Err(fault) => return Err(fault),
         }
     }
-    find_absent(alloc, fields, value)
+    find_absent(alloc, fields, Some(value))
 }
 
-/// Returns the path to the part of a record that is at fault, if one is. A value that is not an object, or a type
-/// that is not a record, is at fault as a whole.
-#[tactic(auto, unfolding(crate::specs::inner::FoundPaths::record_path))]
+/// Returns the path to the part of a record that is at fault, if one is. An absent record counts as an empty object. A
+/// value that is not an object, or a type that is not a record, is at fault as a whole.
+#[tactic(auto, unfolding(crate::specs::inner::FoundPaths::record_path, crate::specs::inner::FoundPaths::value_path))]
 pub(crate) fn find_in_record(
     alloc: Global,
-    value: &Value,
+    found: Option<&Value>,
     ty: &CedarType,
 ) -> Result<Option<Trail>, NoMemory>
-    ensures { IfOk result (λ o. o ≡ record_path (cedar_view ty.now) (view value.now)) }
+    ensures { IfOk result
+        (λ o. o ≡ record_path (cedar_view ty.now) (or_empty (option_map (λ v. view v.now) found.entry))) }
 {
-    let Some(fields) = fields(ty) else {
-        return Ok(Some(Trail::here(alloc)));
-    };
-    let Some(members) = value.as_object() else {
-        return Ok(Some(Trail::here(alloc)));
-    };
-    find_in_members(alloc, members, fields, value)
+    match fields(ty) {
+        Some(fields) => match found {
+            Some(value) => match value.as_object() {
+                Some(members) => find_in_members(alloc, members, fields, value),
+                None => Ok(Some(Trail::here(alloc))),
+            },
+            None => find_absent(alloc, fields, None),
+        },
+        None => Ok(Some(Trail::here(alloc))),
+    }
 }

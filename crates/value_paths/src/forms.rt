@@ -1,10 +1,10 @@
 //! The search for the part of an entity's JSON that does not have the form of an entity.
-ghost use Rattle.std.specs.Prelude.{◌≡◌, ◌∷◌, [], IfOk, Some, codes, is_some, option_map};
-ghost use Rattle.serde_json.specs.Find.{as_object};
+ghost use Rattle.std.specs.Prelude.{◌≡◌, ◌∷◌, [], IfOk, Some, codes, option_map};
 ghost use Rattle.serde_json.specs.View.{view, items_view};
 ghost use Rattle.entities.specs.EntityForms.{is_absent_or_object};
 ghost use Rattle.value_paths.specs.EntityPaths.{is_uid, to_parent, parent_demands, parents_demands, form_demands};
 ghost use Rattle.value_paths.specs.EntityPaths.{first_unmet};
+ghost use Rattle.value_paths.specs.inner.FoundPaths.{or_unmet};
 
 use crate::placed::was_some;
 use crate::steps::{Step, Trail, at_key, under_key};
@@ -29,19 +29,9 @@ fn is_uid(alloc: Global, found: Option<&Value>) -> Result<bool, NoMemory>
     ensures { IfOk result (λ yes. yes ≡ is_uid (option_map (λ v. view v.now) found.entry)) }
 {
     match found {
-        Some(value) => match read_uid(alloc, value) {
-            Ok(uid) => Ok(was_some(uid)),
-            Err(fault) => Err(fault),
-        },
+        Some(value) => was_some(read_uid(alloc, value)),
         None => Ok(false),
     }
-}
-
-/// Returns whether a value is an object.
-pub(crate) fn is_object(value: &Value) -> bool
-    ensures { result ≡ is_some (as_object (view value.now)) }
-{
-    value.as_object().is_some()
 }
 
 /// Returns whether a value is absent or an object.
@@ -50,7 +40,7 @@ pub(crate) fn is_absent_or_object(found: Option<&Value>) -> bool
 {
     match found {
         None => true,
-        Some(value) => is_object(value),
+        Some(value) => value.is_object(),
     }
 }
 
@@ -59,9 +49,13 @@ fn find_nameless(alloc: Global, parents: &[Value]) -> Result<Option<Trail>, NoMe
     ensures { IfOk result (λ o. o ≡ first_unmet (parent_demands 0 (items_view parents.now))) }
 {
     for (index, parent) in parents.iter().enumerate() {
-        let named = is_uid(alloc, Some(parent))?;
-        if !named {
-            return at_parent(alloc, index);
+        match is_uid(alloc, Some(parent)) {
+            Ok(named) => {
+                if !named {
+                    return at_parent(alloc, index);
+                }
+            }
+            Err(fault) => return Err(fault),
         }
     }
     Ok(None)
@@ -81,21 +75,27 @@ fn find_in_parents(alloc: Global, found: Option<&Value>) -> Result<Option<Trail>
     }
 }
 
+/// Returns `key` if the part at `key` does not have its form, else `later`.
+pub(crate) fn or_unmet<'k>(met: bool, key: &'k str, later: Option<&'k str>) -> Option<&'k str>
+    ensures { option_map (λ k. k.now) result ≡ or_unmet met key.now (option_map (λ k. k.now) later.entry) }
+{
+    if met { later } else { Some(key) }
+}
+
 /// Returns the path to the first part without the form of an entity, if there is one.
 pub(crate) fn find_in_form(alloc: Global, value: &Value) -> Result<Option<Trail>, NoMemory>
     ensures { IfOk result (λ o. o ≡ first_unmet (form_demands (view value.now))) }
 {
-    if !is_object(value) {
+    if !value.is_object() {
         return Ok(Some(Trail::here(alloc)));
     }
-    if !is_uid(alloc, value.get("uid"))? {
-        return at_key(alloc, "uid");
+    let from_tags = or_unmet(is_absent_or_object(value.get("tags")), "tags", None);
+    let from_attrs = or_unmet(is_absent_or_object(value.get("attrs")), "attrs", from_tags);
+    match is_uid(alloc, value.get("uid")) {
+        Ok(named) => match or_unmet(named, "uid", from_attrs) {
+            Some(key) => at_key(alloc, key),
+            None => find_in_parents(alloc, value.get("parents")),
+        },
+        Err(fault) => Err(fault),
     }
-    if !is_absent_or_object(value.get("attrs")) {
-        return at_key(alloc, "attrs");
-    }
-    if !is_absent_or_object(value.get("tags")) {
-        return at_key(alloc, "tags");
-    }
-    find_in_parents(alloc, value.get("parents"))
 }

@@ -44,9 +44,12 @@ fn find_unfit(
         (λ o. o ≡ unfit_path (schema_view schema.now) uid.now 0 (items_view parents.now)) }
 {
     for (index, parent) in parents.iter().enumerate() {
-        let parent = match read_uid(alloc, parent)? {
-            Some(parent) => parent,
-            None => return Ok(None),
+        let parent = match read_uid(alloc, parent) {
+            Ok(found) => match found {
+                Some(parent) => parent,
+                None => return Ok(None),
+            },
+            Err(fault) => return Err(fault),
         };
         let fit = fits(schema, uid, &parent);
         drop(parent);
@@ -86,12 +89,13 @@ pub(crate) fn find_bad_parent(
 ) -> Result<Option<Trail>, NoMemory>
     ensures { IfOk result (λ o. o ≡ parents_path (schema_view schema.now) (view value.now)) }
 {
-    match uid_at(alloc, value.get("uid"))? {
-        Some(uid) => {
+    match uid_at(alloc, value.get("uid")) {
+        Ok(Some(uid)) => {
             let found = find_unfit_at(alloc, schema, &uid, value.get("parents"));
             drop(uid);
             found
         }
-        None => Ok(None),
+        Ok(None) => Ok(None),
+        Err(fault) => Err(fault),
     }
 }

@@ -1,17 +1,18 @@
 //! The words in which an explanation names the part at fault.
-ghost use Rattle.std.specs.Prelude.{◌≡◌, ◌++◌, IfOk, OnOk, option_and_then, option_map, string_bytes};
+ghost use Rattle.std.specs.Prelude.{◌≡◌, ◌++◌, IfOk, MatchResult, OnOk, option_and_then, option_map, string_bytes};
 ghost use Rattle.serde_json.specs.Find.{at};
 ghost use Rattle.serde_json.specs.View.{view};
 ghost use Rattle.schema_types.specs.CedarViews.{cedar_view};
 ghost use Rattle.entities.specs.schema.Views.{schema_view};
-ghost use Rattle.value_paths.specs.PartWords.{type_word, is_of_value, type_after_first, type_of_part, declared_words};
+ghost use Rattle.value_paths.specs.PartWords.{type_word, is_of_value, type_of_part, declared_words};
 ghost use Rattle.value_paths.specs.PartWords.{pointer_words, part_words, NamesPartOfEntity, NamesPartOfRequest};
 ghost use Rattle.value_paths.specs.PartWords.{NamesPartOfItem};
+ghost use Rattle.value_paths.specs.Pointers.{pointer_of};
 ghost use Rattle.value_paths.specs.PartWords.{NamesPartOfRequestText};
 
 use crate::entity_paths::{entity_fault, shape_at};
 use crate::placed::PlacedFault;
-use crate::pointers::pointer;
+use crate::pointers::push_steps;
 use crate::request_paths::{asked_type, request_fault};
 use crate::steps::Step;
 use crate::type_paths::type_at;
@@ -50,19 +51,8 @@ fn is_of_value(fault: EntityFault) -> bool
     }
 }
 
-/// Returns the declared type of the part at a path. The first step, `attrs` or `context`, leads to a value of the type
-/// `whole`, and the others from there to the part.
-fn type_after_first<'s>(whole: &'s CedarType, path: &[Step]) -> Option<&'s CedarType>
-    ensures { option_map (λ t. cedar_view t.now) result ≡ type_after_first (cedar_view whole.now) path.now }
-{
-    match path.split_first() {
-        Some((_, path)) => type_at(whole, path),
-        None => None,
-    }
-}
-
-/// Returns the declared type of the part that an error is about, where `whole` is the type of the attributes or of the
-/// context.
+/// Returns the declared type of the part that an error is about. The first step of its path, `attrs` or `context`,
+/// leads to a value of the type `whole`, and the others from there to the part.
 fn type_of_part<'s>(found: &PlacedFault, whole: Option<&'s CedarType>) -> Option<&'s CedarType>
     ensures { option_map (λ t. cedar_view t.now) result
         ≡ type_of_part found.now (option_map (λ t. cedar_view t.now) whole.entry) }
@@ -71,20 +61,26 @@ fn type_of_part<'s>(found: &PlacedFault, whole: Option<&'s CedarType>) -> Option
         return None;
     }
     match whole {
-        Some(whole) => type_after_first(whole, found.path.as_slice()),
+        Some(whole) => match found.path.as_slice().split_first() {
+            Some((_, path)) => type_at(whole, path),
+            None => None,
+        },
         None => None,
     }
 }
 
-/// Appends `at ` and the pointer of the part; nothing for the empty pointer, which is that of the whole value.
-fn push_pointer(out: &mut String, pointer: &str) -> Result<(), NoMemory>
-    ensures { OnOk result (string_bytes out.new ≡ string_bytes out.old ++ pointer_words pointer.now) }
+/// Appends `at ` and the pointer of a path; nothing for the empty path, which leads to the whole value.
+fn push_pointer(out: &mut String, path: &[Step]) -> Result<(), NoMemory>
+    ensures { OnOk result (string_bytes out.new
+        ≡ string_bytes out.old ++ pointer_words (pointer_of path.now)) }
 {
-    if pointer.is_empty() {
+    if path.is_empty() {
         return Ok(());
     }
-    out.push_str("at ")?;
-    out.push_str(pointer)
+    match out.push_str("at ") {
+        Ok(()) => push_steps(out, path),
+        Err(fault) => Err(fault),
+    }
 }
 
 /// Appends `: TYPE is declared` with the word for this type; nothing for `None`.
@@ -93,18 +89,19 @@ fn push_declared(out: &mut String, ty: Option<&CedarType>) -> Result<(), NoMemor
         ≡ string_bytes out.old ++ declared_words (option_map (λ t. cedar_view t.now) ty.entry)) }
 {
     match ty {
-        Some(ty) => {
-            out.push_str(": ")?;
-            out.push_str(type_word(ty))?;
-            out.push_str(" is declared")
-        }
+        Some(ty) => match out.push_str(": ") {
+            Ok(()) => match out.push_str(type_word(ty)) {
+                Ok(()) => out.push_str(" is declared"),
+                Err(fault) => Err(fault),
+            },
+            Err(fault) => Err(fault),
+        },
         None => Ok(()),
     }
 }
 
 /// Appends the words that name the part that an error is about, if there is an error.
 fn push_part(
-    alloc: Global,
     out: &mut String,
     found: &Option<PlacedFault>,
     whole: Option<&CedarType>,
@@ -113,27 +110,36 @@ fn push_part(
         ++ part_words found.now (option_map (λ t. cedar_view t.now) whole.entry)) }
 {
     match found {
-        Some(found) => {
-            let pointer = pointer(alloc, found.path.as_slice())?;
-            push_pointer(out, pointer.as_str())?;
-            push_declared(out, type_of_part(found, whole))
-        }
+        Some(found) => match push_pointer(out, found.path.as_slice()) {
+            Ok(()) => push_declared(out, type_of_part(found, whole)),
+            Err(fault) => Err(fault),
+        },
         None => Ok(()),
     }
 }
 
-/// Returns the words that name the part that an error is about; none if there is no error.
+/// Returns the words that name the part that an error is about; none if a search found no error. The only error is
+/// `NoMemory`, also that of the search.
 fn part_words(
     alloc: Global,
-    found: &Option<PlacedFault>,
+    found: Result<Option<PlacedFault>, NoMemory>,
     whole: Option<&CedarType>,
 ) -> Result<Text, NoMemory>
-    ensures { IfOk result
-        (λ words. words ≡ part_words found.now (option_map (λ t. cedar_view t.now) whole.entry)) }
+    ensures { IfOk result (λ words. MatchResult found
+        (λ o. words ≡ part_words o (option_map (λ t. cedar_view t.now) whole.entry)) (λ _. ⊥)) }
 {
-    let mut out = String::new(alloc);
-    push_part(alloc, &mut out, found, whole)?;
-    Ok(Text::from_string(out))
+    match found {
+        Ok(found) => {
+            let mut out = String::new(alloc);
+            let pushed = push_part(&mut out, &found, whole);
+            drop(found);
+            match pushed {
+                Ok(()) => Ok(Text::from_string(out)),
+                Err(fault) => Err(fault),
+            }
+        }
+        Err(fault) => Err(fault),
+    }
 }
 
 /// Returns the words that name the part at fault when a value is parsed as an entity; none if there is no value.
@@ -146,13 +152,10 @@ fn entity_part_words(
         (NamesPartOfEntity (schema_view schema.now) (option_map (λ v. view v.now) value.entry)) }
 {
     match value {
-        Some(value) => {
-            let shape = shape_at(alloc, schema, value.get("uid"))?;
-            let found = entity_fault(alloc, schema, value)?;
-            let words = part_words(alloc, &found, shape);
-            drop(found);
-            words
-        }
+        Some(value) => match shape_at(alloc, schema, value.get("uid")) {
+            Ok(shape) => part_words(alloc, entity_fault(alloc, schema, value), shape),
+            Err(fault) => Err(fault),
+        },
         None => Ok(Text::from_string(String::new(alloc))),
     }
 }
@@ -167,13 +170,10 @@ fn request_part_words(
         (NamesPartOfRequest (schema_view schema.now) (option_map (λ v. view v.now) value.entry)) }
 {
     match value {
-        Some(value) => {
-            let context = asked_type(alloc, schema, value)?;
-            let found = request_fault(alloc, schema, value)?;
-            let words = part_words(alloc, &found, context);
-            drop(found);
-            words
-        }
+        Some(value) => match asked_type(alloc, schema, value) {
+            Ok(context) => part_words(alloc, request_fault(alloc, schema, value), context),
+            Err(fault) => Err(fault),
+        },
         None => Ok(Text::from_string(String::new(alloc))),
     }
 }
@@ -211,10 +211,14 @@ pub fn entity_part(
 ) -> Result<Text, NoMemory>
     ensures { IfOk result (NamesPartOfItem (schema_view schema.now) text.now index) }
 {
-    let value = read_json(alloc, text)?;
-    let words = entity_part_words(alloc, schema, item_of(value.as_ref(), index));
-    drop(value);
-    words
+    match read_json(alloc, text) {
+        Ok(value) => {
+            let words = entity_part_words(alloc, schema, item_of(value.as_ref(), index));
+            drop(value);
+            words
+        }
+        Err(fault) => Err(fault),
+    }
 }
 
 /// Returns the words that name the part at fault of a request that a schema rejects.
@@ -228,8 +232,12 @@ pub fn entity_part(
 pub fn request_part(alloc: Global, schema: &Schema, text: &[u8]) -> Result<Text, NoMemory>
     ensures { IfOk result (NamesPartOfRequestText (schema_view schema.now) text.now) }
 {
-    let value = read_json(alloc, text)?;
-    let words = request_part_words(alloc, schema, value.as_ref());
-    drop(value);
-    words
+    match read_json(alloc, text) {
+        Ok(value) => {
+            let words = request_part_words(alloc, schema, value.as_ref());
+            drop(value);
+            words
+        }
+        Err(fault) => Err(fault),
+    }
 }

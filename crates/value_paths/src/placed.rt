@@ -51,15 +51,16 @@ pub(crate) fn placed(
     }
 }
 
-/// Returns whether there is a value, and drops it.
-pub(crate) fn was_some<T: Drop>(found: Option<T>) -> bool
-    ensures { result ≡ is_some found }
+/// Returns whether a search found a value, and drops the value. The only error is that of the search.
+pub(crate) fn was_some<T: Drop>(found: Result<Option<T>, NoMemory>) -> Result<bool, NoMemory>
+    ensures { IfOk result (λ yes. MatchResult found (λ o. yes ≡ is_some o) (λ _. ⊥)) }
 {
     match found {
-        Some(value) => {
+        Ok(Some(value)) => {
             drop(value);
-            true
+            Ok(true)
         }
-        None => false,
+        Ok(None) => Ok(false),
+        Err(memory) => Err(memory),
     }
 }

@@ -1,5 +1,5 @@
 //! JSON pointers.
-ghost use Rattle.std.specs.Prelude.{◌≡◌, ◌++◌, ◌∷◌, IfOk, OnOk, string_bytes, encode_utf8_all, decimal};
+ghost use Rattle.std.specs.Prelude.{◌≡◌, ◌++◌, ◌∷◌, IfOk, OnOk, string_bytes, encode_utf8_all};
 ghost use Rattle.value_paths.specs.Pointers.{escaped_char, escaped, token_of, pointer_of};
 
 use crate::steps::Step;
@@ -22,16 +22,11 @@ fn push_key(out: &mut String, key: &str) -> Result<(), NoMemory>
     ensures { OnOk result (string_bytes out.new ≡ string_bytes out.old ++ escaped key.now) }
 {
     for c in key.chars() {
-        push_escaped(out, c)?;
+        match push_escaped(out, c) {
+            Ok(()) => {}
+            Err(fault) => return Err(fault),
+        }
     }
-    Ok(())
-}
-
-/// Appends an index.
-fn push_index(out: &mut String, index: usize) -> Result<(), NoMemory>
-    ensures { OnOk result (string_bytes out.new ≡ string_bytes out.old ++ decimal index) }
-{
-    write!(out, "{index}")?;
     Ok(())
 }
 
@@ -39,11 +34,26 @@ fn push_index(out: &mut String, index: usize) -> Result<(), NoMemory>
 fn push_step(out: &mut String, step: &Step) -> Result<(), NoMemory>
     ensures { OnOk result (string_bytes out.new ≡ string_bytes out.old ++ (47 ∷ token_of step.now)) }
 {
-    out.push('/')?;
-    match step {
-        Step::Key(key) => push_key(out, key.as_str()),
-        Step::Index(index) => push_index(out, *index),
+    match out.push('/') {
+        Ok(()) => match step {
+            Step::Key(key) => push_key(out, key.as_str()),
+            Step::Index(index) => write!(out, "{index}"),
+        },
+        Err(fault) => Err(fault),
     }
+}
+
+/// Appends the JSON pointer of a path.
+pub(crate) fn push_steps(out: &mut String, path: &[Step]) -> Result<(), NoMemory>
+    ensures { OnOk result (string_bytes out.new ≡ string_bytes out.old ++ pointer_of path.now) }
+{
+    for step in path {
+        match push_step(out, step) {
+            Ok(()) => {}
+            Err(fault) => return Err(fault),
+        }
+    }
+    Ok(())
 }
 
 /// Returns the JSON pointer of a path (RFC 6901), such as `/attrs/home/zip`; the empty string for the whole value. The
@@ -54,8 +64,8 @@ pub fn pointer(alloc: Global, path: &[Step]) -> Result<Text, NoMemory>
     ensures { IfOk result (λ text. text ≡ pointer_of path.now) }
 {
     let mut out = String::new(alloc);
-    for step in path {
-        push_step(&mut out, step)?;
+    match push_steps(&mut out, path) {
+        Ok(()) => Ok(Text::from_string(out)),
+        Err(fault) => Err(fault),
     }
-    Ok(Text::from_string(out))
 }

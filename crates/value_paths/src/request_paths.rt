@@ -5,14 +5,13 @@ ghost use Rattle.schema_types.specs.CedarViews.{cedar_view};
 ghost use Rattle.entities.specs.entity_uids.Uids.{IsRead};
 ghost use Rattle.entities.specs.schema.Views.{schema_view};
 ghost use Rattle.entities.specs.Contexts.{context_where, is_place};
-ghost use Rattle.value_paths.specs.EntityPaths.{first_unmet};
 ghost use Rattle.value_paths.specs.Outcomes.{IsRequestFault};
-ghost use Rattle.value_paths.specs.inner.FoundNames.{Names, IsNamed, IsFormSearched, IsContextSearched, IsPartSearched};
-ghost use Rattle.value_paths.specs.inner.FoundNames.{named_type, request_demands};
+ghost use Rattle.value_paths.specs.inner.FoundNames.{Names, IsNamed, IsFormSearched, IsPartSearched};
+ghost use Rattle.value_paths.specs.inner.FoundNames.{named_type};
 ghost use Rattle.value_paths.specs.RequestPaths.{IsContextType};
 
 use crate::entity_paths::find_under;
-use crate::forms::{is_absent_or_object, is_object};
+use crate::forms::{is_absent_or_object, or_unmet};
 use crate::placed::{PlacedFault, fault_of, placed, was_some};
 use crate::steps::{Trail, at_key};
 use entities::{EntityFault, Environment, Schema, names_read_back, read_name, read_request};
@@ -36,47 +35,32 @@ fn name_at(alloc: Global, found: Option<&Value>) -> Result<Option<EntityUid>, No
 fn is_named(alloc: Global, found: Option<&Value>) -> Result<bool, NoMemory>
     ensures { IfOk result (IsNamed (option_map (λ v. view v.now) found.entry)) }
 {
-    let name = name_at(alloc, found)?;
-    Ok(was_some(name))
-}
-
-/// Returns the path to the first part without the form of a request, if there is one. The three booleans say which of
-/// the principal, the action and the resource the request names.
-fn first_unmet(
-    alloc: Global,
-    value: &Value,
-    principal: bool,
-    action: bool,
-    resource: bool,
-) -> Result<Option<Trail>, NoMemory>
-    ensures { IfOk result (λ o. o ≡ first_unmet (request_demands (view value.now) principal action resource)) }
-{
-    if !is_object(value) {
-        return Ok(Some(Trail::here(alloc)));
-    }
-    if !principal {
-        return at_key(alloc, "principal");
-    }
-    if !action {
-        return at_key(alloc, "action");
-    }
-    if !resource {
-        return at_key(alloc, "resource");
-    }
-    if !is_absent_or_object(value.get("context")) {
-        return at_key(alloc, "context");
-    }
-    Ok(None)
+    was_some(name_at(alloc, found))
 }
 
 /// Returns the path to the first part without the form of a request, if there is one.
 fn find_in_request_form(alloc: Global, value: &Value) -> Result<Option<Trail>, NoMemory>
     ensures { IfOk result (IsFormSearched (view value.now)) }
 {
-    let principal = is_named(alloc, value.get("principal"))?;
-    let action = is_named(alloc, value.get("action"))?;
-    let resource = is_named(alloc, value.get("resource"))?;
-    first_unmet(alloc, value, principal, action, resource)
+    if !value.is_object() {
+        return Ok(Some(Trail::here(alloc)));
+    }
+    let from_context = or_unmet(is_absent_or_object(value.get("context")), "context", None);
+    let principal = is_named(alloc, value.get("principal"));
+    let action = is_named(alloc, value.get("action"));
+    let resource = is_named(alloc, value.get("resource"));
+    let others = both(action, resource);
+    match both(principal, others) {
+        Ok((principal, others)) => {
+            let from_resource = or_unmet(others.1, "resource", from_context);
+            let from_action = or_unmet(others.0, "action", from_resource);
+            match or_unmet(principal, "principal", from_action) {
+                Some(key) => at_key(alloc, key),
+                None => Ok(None),
+            }
+        }
+        Err(fault) => Err(fault),
+    }
 }
 
 /// Returns whether an environment is that of this action and the types of these entities.
@@ -151,19 +135,15 @@ pub(crate) fn asked_type<'s>(
     let action = name_at(alloc, value.get("action"));
     let resource = name_at(alloc, value.get("resource"));
     let others = both(action, resource);
-    let (principal, others) = both(principal, others)?;
-    let ty = named_type(schema, &principal, &others.0, &others.1);
-    drop(principal);
-    drop(others);
-    Ok(ty)
-}
-
-/// Returns the path to the part of the context that is at fault, if there is one.
-fn find_in_context(alloc: Global, schema: &Schema, value: &Value) -> Result<Option<Trail>, NoMemory>
-    ensures { IfOk result (IsContextSearched (schema_view schema.now) (view value.now)) }
-{
-    let ty = asked_type(alloc, schema, value)?;
-    find_under(alloc, value, "context", ty)
+    match both(principal, others) {
+        Ok((principal, others)) => {
+            let ty = named_type(schema, &principal, &others.0, &others.1);
+            drop(principal);
+            drop(others);
+            Ok(ty)
+        }
+        Err(fault) => Err(fault),
+    }
 }
 
 /// Returns the path to the part that an error is about.
@@ -178,7 +158,10 @@ fn find_part(
     match fault {
         EntityFault::BadShape => find_in_request_form(alloc, value),
         EntityFault::NotApplicable => at_key(alloc, "action"),
-        _ => find_in_context(alloc, schema, value),
+        _ => match asked_type(alloc, schema, value) {
+            Ok(ty) => find_under(alloc, value, "context", ty),
+            Err(fault) => Err(fault),
+        },
     }
 }
 
@@ -195,9 +178,11 @@ pub fn request_fault(
 ) -> Result<Option<PlacedFault>, NoMemory>
     ensures { IfOk result (IsRequestFault (schema_view schema.now) (view value.now)) }
 {
-    let read = read_request(alloc, schema, value);
-    match fault_of(read)? {
-        Some(fault) => placed(fault, find_part(alloc, schema, value, fault)),
-        None => Ok(None),
+    match fault_of(read_request(alloc, schema, value)) {
+        Ok(found) => match found {
+            Some(fault) => placed(fault, find_part(alloc, schema, value, fault)),
+            None => Ok(None),
+        },
+        Err(memory) => Err(memory),
     }
 }

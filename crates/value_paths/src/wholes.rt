@@ -10,7 +10,7 @@ ghost use Rattle.value_paths.specs.inner.FoundPaths.{whole_path};
 
 use crate::steps::Trail;
 use entities::{ValueFault, read_record};
-use plain::{Items, NoMemory, Shared, Text, both};
+use plain::{Items, NoMemory, Shared, Text, both, pair_with};
 use schema_types::CedarType;
 use serde_json::{Map, Value, put};
 use std::alloc::Global;
@@ -19,30 +19,37 @@ use std::alloc::Global;
 fn object_with(alloc: Global, value: &Value) -> Result<Value, NoMemory>
     ensures { IfOk result (λ v. view v ≡ object (member [] (view value.now) no_members)) }
 {
-    let copy = value.clone()?;
-    let mut members = Map::new(alloc);
-    put(&mut members, alloc, "", copy)?;
-    Ok(Value::Object(members))
+    match value.clone() {
+        Ok(copy) => {
+            let mut members = Map::new(alloc);
+            let stored = put(&mut members, alloc, "", copy);
+            match pair_with(Value::Object(members), stored) {
+                Ok((object, _)) => Ok(object),
+                Err(fault) => Err(fault),
+            }
+        }
+        Err(fault) => Err(fault),
+    }
 }
 
 /// Returns the type of records whose only field has this type. The field is optional, and its name is empty.
 fn record_with(alloc: Global, ty: &CedarType) -> Result<CedarType, NoMemory>
     ensures { IfOk result (λ t. cedar_view t ≡ record_of (field [] (cedar_view ty.now) false no_fields)) }
 {
-    let copy = ty.copy()?;
-    let name = Text::from_string(String::new(alloc));
-    let mut fields = Items::new(alloc);
-    fields.push((name, copy, false))?;
-    Ok(CedarType::Record(Shared::new(alloc, fields)?))
-}
-
-/// Returns `false` for an error other than `NoMemory`: the type rejects the value. The only error is `NoMemory`.
-fn rejected(fault: ValueFault) -> Result<bool, NoMemory>
-    ensures { IfOk result (λ yes. (yes ≡ false) × (fault ≢ ValueFault.NoMemory)) }
-{
-    match fault {
-        ValueFault::NoMemory => Err(NoMemory),
-        _ => Ok(false),
+    match ty.copy() {
+        Ok(copy) => {
+            let name = Text::from_string(String::new(alloc));
+            let mut fields = Items::new(alloc);
+            let pushed = fields.push((name, copy, false));
+            match pair_with(fields, pushed) {
+                Ok((fields, _)) => match Shared::new(alloc, fields) {
+                    Ok(fields) => Ok(CedarType::Record(fields)),
+                    Err(fault) => Err(fault),
+                },
+                Err(fault) => Err(fault),
+            }
+        }
+        Err(fault) => Err(fault),
     }
 }
 
@@ -58,7 +65,10 @@ fn is_value<T: Drop>(read: Result<T, ValueFault>) -> Result<bool, NoMemory>
             drop(value);
             Ok(true)
         }
-        Err(fault) => rejected(fault),
+        Err(fault) => match fault {
+            ValueFault::NoMemory => Err(NoMemory),
+            _ => Ok(false),
+        },
     }
 }
 
@@ -69,11 +79,15 @@ fn is_read(alloc: Global, value: &Value, ty: &CedarType) -> Result<bool, NoMemor
     ensures { IfOk result (λ yes. yes ≡ is_ok (typed_value (cedar_view ty.now) (view value.now))) }
 {
     let object = object_with(alloc, value);
-    let (object, record) = both(object, record_with(alloc, ty))?;
-    let read = read_record(alloc, &object, &record);
-    drop(object);
-    drop(record);
-    is_value(read)
+    match both(object, record_with(alloc, ty)) {
+        Ok((object, record)) => {
+            let read = read_record(alloc, &object, &record);
+            drop(object);
+            drop(record);
+            is_value(read)
+        }
+        Err(fault) => Err(fault),
+    }
 }
 
 /// Returns the path of a value without parts to itself if the type rejects it, else `None`.

@@ -1,23 +1,22 @@
 -- Defines a step down the path to the blamed expression, and the judgement on an operand on the way.
-use Rattle.std.specs.Prelude.{◌≡◌, ℕ, ◌<◌, List, [], ◌∷◌, ◌++◌, map, length, Option, Some, None, MatchOption}
+use Rattle.std.specs.Prelude.{◌≡◌, ℕ, zero, suc, ◌+◌, ◌<◌, List, [], ◌∷◌, ◌++◌, map, Option, Some, None, MatchOption}
 use Rattle.grammar_core.specs.Size.{height}
 use Rattle.grammar_core.specs.declared.expr.Expr.{Expr}
 use Rattle.grammar_core.specs.declared.expr.Expr.TheOpen.{Expr-F}
-use Rattle.grammar_core.specs.declared.expr.Expr.TheViews.{out-Expr}
-use Rattle.validator.specs.typing.Types as types
 use Rattle.validator.specs.typing.Types.{IsBoolean}
 use Rattle.validator.specs.typing.Environment.{Environment, ExpressionFault}
-use Rattle.validator.specs.typing.Typing.{Types, TypesEach}
+use Rattle.validator.specs.typing.Typing.{Types}
 use Rattle.validator.specs.typing.Faults.{Faults}
 use Rattle.type_checker.specs.Views.{static_view, boolean_view}
 use Rattle.type_checker.specs.type_capabilities.CapabilityList.{capabilities}
 use Rattle.type_checker.specs.type_capabilities.declared.capability.Capability.{Capability}
 use Rattle.type_checker.specs.declared.static_type.BooleanType.{BooleanType}
+use Rattle.type_checker.specs.declared.static_type.BooleanType.TheVariants as truth
 use Rattle.type_checker.specs.declared.static_type.StaticType.{StaticType}
+use Rattle.fault_paths.specs.declared.steps.Next.{Next}
+use Rattle.fault_paths.specs.declared.steps.Next.TheVariants as next
 use Rattle.fault_paths.specs.declared.steps.Step.{Step}
-use Rattle.fault_paths.specs.declared.steps.Step.TheVariants as step
 use Rattle.typing.specs.BlamedExpressions.{Blame, under, blamed}
-use Rattle.typing.specs.Places.{operands_of}
 
 -- `IsUntyped env ps x qs` holds if `x` has an error in `env` under the capabilities `ps`, and `qs` is `ps`.
 pub record IsUntyped (env : Environment) (ps : List Capability) (x : Expr) (qs : List Capability) : Type 0 where
@@ -65,28 +64,38 @@ GoesDown env ps x qs i y = (height y < height x)
 abbrev pub StopsAt : Environment → List Capability → Expr → Option ℕ → List StaticType → Type 0
 StopsAt env ps x o ts = (n : ExpressionFault) (h : Faults env (capabilities ps) x n) → blamed h ≡ stopped x o ts
 
--- `IsStep env ps x qs ts step` holds if `step` from the form `x` under the capabilities `ps` either goes down to an
--- operand, under the capabilities `qs`, or stops, with the types `ts`.
-abbrev pub IsStep : Environment → List Capability → Expr → List Capability → List StaticType → Step → Type 0
-IsStep env ps x qs ts (step.Down i y) = GoesDown env ps x qs i y.now
-IsStep env ps x qs ts (step.Stop o) = StopsAt env ps x o ts
+-- `IsStep env ps x qs ts o` holds if `o` is the step from the form `x` under the capabilities `ps`: to an operand that
+-- has the error, under the capabilities `qs`; to an operand that `x` blames for a demand about the types `ts`; or
+-- `None`, and `x` blames itself for such a demand.
+abbrev pub IsStep : Environment → List Capability → Expr → List Capability → List StaticType → Option Step → Type 0
+IsStep env ps x qs ts o = MatchOption o (StopsAt env ps x None ts)
+    (λ s. MatchOption s.faulty (StopsAt env ps x (Some s.at) ts) (λ y. GoesDown env ps x qs s.at y.now))
 
--- `operand_blamed y` is the index of the operand that the form `y` blames for a demand about the types of all its
--- operands: 0 for a unary operator and for `has`; for any other form `None`, that is, the form itself.
-abbrev pub operand_blamed : Expr-F Expr → Option ℕ
-operand_blamed (Expr-F.Unary op a) = Some 0
-operand_blamed (Expr-F.Has a k) = Some 0
-operand_blamed y = None
+-- `after_test t n m` is what follows the test of an `if`, of the boolean type `t`: `else` if `t` is False, else `then`.
+-- The `n` capabilities before the `if` are kept for `else`, all `m` for `then`, and no type.
+abbrev pub after_test : BooleanType → ℕ → ℕ → Next
+after_test truth.False n m = next.Operand 2 n 0
+after_test t n m = next.Operand 1 m 0
 
--- `IsStepAmong env ps x qs ts step` holds if `step` from the form `x` under the capabilities `ps` goes down to the
--- first operand that has an error, and `qs` is `ps`; or if all operands have types, namely `ts`, and `step` stops at
--- the operand that `operand_blamed` gives, or at `x` itself if it gives `None`.
-abbrev pub IsStepAmong : Environment → List Capability → Expr → List Capability → List StaticType → Step → Type 0
-IsStepAmong env ps x qs ts (step.Down i y) = (before : List Expr) × (rest : List Expr)
-    × (us : List types.StaticType) × (n : ExpressionFault) × (operands_of x ≡ before ++ y.now ∷ rest)
-    × (length before ≡ i) × TypesEach env (capabilities ps) before us × Faults env (capabilities ps) y.now n × (qs ≡ ps)
-IsStepAmong env ps x qs ts (step.Stop o) =
-    (o ≡ operand_blamed (out-Expr x)) × TypesEach env (capabilities ps) (operands_of x) (map static_view ts)
+-- `after_left i o n` is what follows the operand `i` of an `&&` or `||`, of the boolean type `o`, or of another type if
+-- `o` is `None`: behind a boolean left operand the right one, with `n` capabilities and no type; else the operand is
+-- blamed.
+abbrev pub after_left : ℕ → Option BooleanType → ℕ → Next
+after_left i None n = next.Blamed
+after_left zero (Some t) n = next.Operand 1 n 0
+after_left (suc i) (Some t) n = next.Blamed
+
+-- `after y i o n m l` is what follows the operand `i` of the form `y`, which has an error: the operand has the boolean
+-- type `o`, or another type if `o` is `None`. Of `m` known capabilities the first `n` are those before `y`, and `l` is
+-- the number of the types so far.
+abbrev pub after : Expr-F Expr → ℕ → Option BooleanType → ℕ → ℕ → ℕ → Next
+after (Expr-F.If a b c) zero None n m l = next.Blamed
+after (Expr-F.If a b c) zero (Some t) n m l = after_test t n m
+after (Expr-F.And a b) i o n m l = after_left i o m
+after (Expr-F.Or a b) i o n m l = after_left i o n
+after (Expr-F.Unary op a) i o n m l = next.Blamed
+after (Expr-F.Has a k) i o n m l = next.Blamed
+after y i o n m l = next.Operand (i + 1) n l
 
 -- `below p b` is the blame `b` with the path `p` in front of its own.
 abbrev pub below : List ℕ → Blame → Blame

@@ -1,5 +1,5 @@
 -- Defines the search for the part of a value that is at fault, as a function on JSON.
-use Rattle.std.specs.Prelude.{ℕ, ◌+◌, List, [], ◌∷◌, not, ◌||◌}
+use Rattle.std.specs.Prelude.{ℕ, ◌+◌, List, [], ◌∷◌, Bool, not, ◌||◌}
 use Rattle.std.specs.Prelude.{is_some, Option, Some, None, Result, Ok, Err, if◌then◌else◌}
 use Rattle.serde_json.specs.Data.{Data, Items, no_items, item, Members, no_members, member}
 use Rattle.serde_json.specs.Data as json
@@ -16,6 +16,11 @@ use Rattle.value_paths.specs.declared.steps.Step.TheVariants.{Key, Index}
 abbrev pub or_else : {A : Type 0} → Option A → Option A → Option A
 or_else (Some a) p = Some a
 or_else None p = p
+
+-- `or_unmet met key later` is `key`, the key of a part, if `met` is false, that is if the part does not have its form;
+-- else `later`.
+abbrev pub or_unmet : Bool → List ℕ → Option (List ℕ) → Option (List ℕ)
+or_unmet met key later = if met then later else Some key
 
 -- `under step o` is the path `o` with `step` in front.
 abbrev pub under : Step → Option (List Step) → Option (List Step)

@@ -1,4 +1,4 @@
--- Defines how the code returns the error that parsing gave, and this error with its path.
+-- Defines the error of a parsing result, and that error with the path to the part at fault.
 use Rattle.std.specs.Prelude.{◌≡◌, ⊤, List, Option, Some, None, Result, Ok, Err}
 use Rattle.entities.specs.declared.fault.EntityFault.{EntityFault}
 use Rattle.entities.specs.declared.fault.EntityFault.TheVariants.{NoMemory}

@@ -9,21 +9,20 @@ down-init c = reaches_itself (typing_environment c.args.env) c.args.whole.now _ 
 
 pub down-preserved : goal.down-preserved
 down-preserved c =
-    let step = rw c.in-Down.is at c.in_ok-at.ensures in
+    let step = rw c.in-Some.is at (rw c.in-Ok-Some.field-0-is at c.in-Ok-Some.ensures) in
     reaches_on (typing_environment c.args.env) c.args.whole.now c.down.path.items c.down.known.items c.down.form.now c.down.invariant
-    c.in-Down.at c.in-Down.operand.now c.step_from.new.known.items _ step c.in_ok-push-in-Down.ensures.items
+    c.in-Ok-Some.step.at c.in-Some.operand.now c.step_from.new.known.items _ step c.in_ok-push-in-Ok-Some.ensures.items
 
 pub down-smaller : goal.down-smaller
-down-smaller c = (rw c.in-Down.is at c.in_ok-at.ensures).0
+down-smaller c = (rw c.in-Some.is at (rw c.in-Ok-Some.field-0-is at c.in-Ok-Some.ensures)).0
 
-pub returns-in-Stop-Some : goal.returns-in-Stop-Some
-returns-in-Stop-Some c =
-    let step = rw (c.in-Stop-Some.is, c.in-Stop-Some.field-0-is) at c.in_ok-at.ensures in
+pub returns-in-None : goal.returns-in-None
+returns-in-None c =
+    let step = rw c.in-None.is at (rw c.in-Ok-Some.field-0-is at c.in-Ok-Some.ensures) in
     reaches_end (typing_environment c.args.env) c.args.whole.now c.down.path.items c.down.known.items c.down.form.now c.down.invariant
-    (Some c.in-Stop-Some.last) _ _ step (rw c.in-Stop-Some.field-0-is at c.in_ok-push-in-Stop-Some.ensures.items)
+    (Some c.in-Ok-Some.step.at) _ _ step c.in_ok-push-in-Ok-Some.ensures.items
 
-pub returns-in-Stop-None : goal.returns-in-Stop-None
-returns-in-Stop-None c =
-    let step = rw (c.in-Stop-None.is, c.in-Stop-None.field-0-is) at c.in_ok-at.ensures in
+pub returns-in-Ok-None : goal.returns-in-Ok-None
+returns-in-Ok-None c =
     reaches_end (typing_environment c.args.env) c.args.whole.now c.down.path.items c.down.known.items c.down.form.now c.down.invariant
-    None _ _ step (sym (append-nil c.down.path.items))
+    None _ _ (rw c.in-Ok-None.field-0-is at c.in-Ok-None.ensures) (sym (append-nil c.down.path.items))

@@ -1,8 +1,9 @@
 use Rattle.std.proofs.Common.{string_bytes, map, ◌∙◌, ◌++◌, ap}
 use Rattle.std.proofs.lemmas.Result.{IfOk-weaker}
 use Rattle.type_checker.specs.schema.Views.{schema_view, environment_view}
+use Rattle.type_checker.specs.FromSchemas.{typing_environment_of}
 use Rattle.type_checker.specs.Views.{static_view}
-use Rattle.fault_paths.specs.Words.{types_words}
+use Rattle.fault_paths.specs.Words.{attribute_of, declared_words, types_words}
 use Rattle.fault_paths.proofs.Reading.{environment_there, environment_past, detail_missing, detail_other, detail_past}
 use Rattle.fault_paths.proofs.details.push_detail.Goals as goal
 
@@ -10,23 +11,29 @@ pub returns-then-is_missing : goal.returns-then-is_missing
 returns-then-is_missing c =
     let s = schema_view c.args.schema.now in
     let b = c.args.blame.now in
+    let e = environment_view c.in-Some.environment.now in
+    let E = typing_environment_of s e in
+    let mid = string_bytes c.push_environment.new.out in
     let found = c.in-Some.ensures.lookup in
     let there = environment_there s c.environments.result.now b.environment c.environments.ensures c.in-Some.environment.now found.3.0 found.1 in
     IfOk-weaker c.push_declared.result _ _
-    (λ _ h. detail_missing s b (string_bytes c.args.out.now) (environment_view c.in-Some.environment.now) (string_bytes c.push_environment.new.out)
-    (string_bytes c.push_declared.new.out) c.is_missing.result there c.in_ok-push_environment-in-Some.ensures c.is_missing.ensures c.if-is_missing.true h)
+    (λ _ h. detail_missing s b (string_bytes c.args.out.now) e mid (string_bytes c.push_declared.new.out) c.is_missing.result there
+    c.in_ok-push_environment-in-Some.ensures c.is_missing.ensures c.if-is_missing.true
+    (h ∙ ap (λ k. mid ++ declared_words E k (map static_view c.as_slice-types.result.now)) c.attribute_of.ensures
+    ∙ ap (λ ts. mid ++ declared_words E (attribute_of b.place.form.now) (map static_view ts)) c.as_slice-types.ensures.value))
     c.push_declared.ensures
 
 pub returns-else-is_missing : goal.returns-else-is_missing
 returns-else-is_missing c =
     let s = schema_view c.args.schema.now in
     let b = c.args.blame.now in
+    let mid = string_bytes c.push_environment.new.out in
     let found = c.in-Some.ensures.lookup in
     let there = environment_there s c.environments.result.now b.environment c.environments.ensures c.in-Some.environment.now found.3.0 found.1 in
     IfOk-weaker c.push_types.result _ _
-    (λ _ h. detail_other s b (string_bytes c.args.out.now) (environment_view c.in-Some.environment.now) (string_bytes c.push_environment.new.out)
-    (string_bytes c.push_types.new.out) c.is_missing.result there c.in_ok-push_environment-in-Some.ensures c.is_missing.ensures c.if-is_missing.false
-    (h ∙ ap (λ ts. string_bytes c.push_environment.new.out ++ types_words (map static_view ts)) c.as_slice.ensures.value))
+    (λ _ h. detail_other s b (string_bytes c.args.out.now) (environment_view c.in-Some.environment.now) mid (string_bytes c.push_types.new.out)
+    c.is_missing.result there c.in_ok-push_environment-in-Some.ensures c.is_missing.ensures c.if-is_missing.false
+    (h ∙ ap (λ ts. mid ++ types_words (map static_view ts)) c.as_slice-types.ensures.value))
     c.push_types.ensures
 
 pub returns-in-None : goal.returns-in-None

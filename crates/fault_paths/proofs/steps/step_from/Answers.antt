@@ -1,31 +1,48 @@
-use Rattle.std.proofs.lemmas.Result.{IfOk-weaker}
+use Rattle.std.proofs.Common.{◌∙◌, refl}
+use Rattle.grammar_core.specs.declared.expr.Expr.TheViews.{out-Expr}
 use Rattle.type_checker.specs.Views.{typing_environment}
-use Rattle.fault_paths.proofs.Stepping.{if_at, and_at, or_at, other_step}
+use Rattle.typing.specs.Places.{operands_of}
+use Rattle.fault_paths.proofs.Stepping.{first, goes, follows_is, stands, ends, fewer}
 use Rattle.fault_paths.proofs.steps.step_from.Goals as goal
 
-pub returns-in-If : goal.returns-in-If
-returns-in-If c =
-    IfOk-weaker c.step_if.result _ _
-    (λ st h. if_at (typing_environment c.args.env) c.args.known.now.items _ _ st c.in-If.is c.deref.ensures c.deref-in-If.ensures
-    c.deref-in-If-2.ensures h)
-    c.step_if.ensures
+pub each-init : goal.each-init
+each-init c =
+    first (typing_environment c.args.env) c.args.known.now.items c.args.expr.now (out-Expr c.args.expr.now) refl c.clear.ensures.items
 
-pub returns-in-And : goal.returns-in-And
-returns-in-And c =
-    IfOk-weaker c.step_and.result _ _
-    (λ st h. and_at (typing_environment c.args.env) c.args.known.now.items _ _ st c.in-And.is c.deref-in-And.ensures c.deref-in-And-2.ensures h)
-    c.step_and.ensures
+pub returns-in-Ok-None : goal.returns-in-Ok-None
+returns-in-Ok-None c =
+    goes (typing_environment c.args.env) c.args.known.now.items c.args.expr.now (out-Expr c.args.expr.now) refl c.each.at c.each.types.items
+    c.each.invariant c.in-Some.ensures.item (rw c.in-Ok-None.field-0-is at c.in-Ok-None.ensures)
 
-pub returns-in-Or : goal.returns-in-Or
-returns-in-Or c =
-    IfOk-weaker c.step_or.result _ _
-    (λ st h. or_at (typing_environment c.args.env) c.args.known.now.items _ _ st c.in-Or.is c.deref-in-Or.ensures
-    c.deref-in-Or-2.ensures h)
-    c.step_or.ensures
+pub returns-in-Blamed : goal.returns-in-Blamed
+returns-in-Blamed c =
+    follows_is (typing_environment c.args.env) c.args.known.now.items c.args.expr.now c.each.at c.len-start.result c.len-count.result
+    c.len-collected.result (c.len-start.ensures ∙ c.args.known.now.ok.0) (c.len-count.ensures ∙ c.judge.new.known.ok.0)
+    (c.len-collected.ensures ∙ c.judge.new.types.ok.0) c.each.invariant c.in-Some.ensures.item
+    (rw c.in-Ok-Some.field-0-is at c.in-Ok-Some.ensures) c.in-Blamed.ensures
 
-pub returns-in_default : goal.returns-in_default
-returns-in_default c =
-    IfOk-weaker c.step_among.result _ _
-    (λ st h. other_step c.expressions_have_one_judgement.ensures (typing_environment c.args.env) c.args.known.now.items c.args.expr.now _ _ st
-    c.in_default.not-If c.in_default.not-And c.in_default.not-Or h)
-    c.step_among.ensures
+pub each-preserved : goal.each-preserved
+each-preserved c =
+    let E = typing_environment c.args.env in
+    let ps = c.args.known.now.items in
+    let x = c.args.expr.now in
+    stands E ps x c.each.at c.in-Operand.behind c.in-Operand.capabilities c.in-Operand.demanded c.judge.new.known.items c.judge.new.types.items
+    (follows_is E ps x c.each.at c.len-start.result c.len-count.result c.len-collected.result (c.len-start.ensures ∙ c.args.known.now.ok.0)
+    (c.len-count.ensures ∙ c.judge.new.known.ok.0) (c.len-collected.ensures ∙ c.judge.new.types.ok.0) c.each.invariant c.in-Some.ensures.item
+    (rw c.in-Ok-Some.field-0-is at c.in-Ok-Some.ensures) c.in-Operand.ensures)
+    c.truncate.ensures.items c.truncate-in-Operand.ensures.items
+
+pub each-smaller : goal.each-smaller
+each-smaller c =
+    let E = typing_environment c.args.env in
+    let ps = c.args.known.now.items in
+    let x = c.args.expr.now in
+    fewer (operands_of x) c.each.at c.in-Operand.behind c.in-Some.next.now c.in-Some.ensures.item
+    (follows_is E ps x c.each.at c.len-start.result c.len-count.result c.len-collected.result (c.len-start.ensures ∙ c.args.known.now.ok.0)
+    (c.len-count.ensures ∙ c.judge.new.known.ok.0) (c.len-collected.ensures ∙ c.judge.new.types.ok.0) c.each.invariant c.in-Some.ensures.item
+    (rw c.in-Ok-Some.field-0-is at c.in-Ok-Some.ensures) c.in-Operand.ensures).0
+
+pub returns-in-None : goal.returns-in-None
+returns-in-None c =
+    ends (typing_environment c.args.env) c.args.known.now.items c.args.expr.now (out-Expr c.args.expr.now) refl c.each.at c.each.known.items
+    c.each.types.items c.each.invariant c.in-None.ensures.item

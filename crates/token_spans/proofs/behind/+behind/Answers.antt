@@ -1,8 +1,10 @@
-use Rattle.std.proofs.Common.{◌≡◌, ℕ, ◌+◌, map, length, refl, sym, ap, ◌∙◌, drop, arith}
+use Rattle.std.proofs.Common.{◌≡◌, ℕ, ◌+◌, map, length, refl, sym, ap, ◌∙◌, drop, arith, rules}
+use Rattle.grammar_trees.specs.declared.tree.ExprTree.{the_lemmas}
 use Rattle.grammar_trees.specs.declared.tree.ExprTree.TheVariants as t
-use Rattle.token_spans.specs.TokenCounts.{tree_count, term_count, entry_count, access_tree_count, each_count, total, lone_count, path_count}
+use Rattle.token_spans.specs.TokenCounts.{tree_count, term_count, entry_count, access_tree_count, each_count, total, lone_count, path_count, uid_count}
 use Rattle.token_spans.proofs.Dropping.{twice, one_more, counted, turned, length-mapped}
-use Rattle.token_spans.proofs.Counts.{count-Boolean, count-Number, count-Text, count-Variable, count-Uid, count-Call, count-Parentheses, count-Set, count-Record, count-Member, count-Not, count-Minus, count-Product, count-Sum, count-Compare, count-Has, count-Like, count-Is, count-IsIn, count-And, count-Or, count-If}
+use Rattle.token_spans.proofs.Counts.{count-Uid, count-Call, count-Parentheses, count-Set, count-Record, count-Member, count-Not, count-Minus, count-Product, count-Sum, count-Compare, count-Has, count-Like, count-Is, count-IsIn, count-And, count-Or, count-If}
+use Rattle.token_spans.proofs.Opening.{IsLeaf, count-leaf}
 use Rattle.token_spans.proofs.behind.+behind.Goals as goal
 
 regroup : (a b : ℕ) → 1 + (a + b) ≡ 1 + a + b
@@ -11,29 +13,35 @@ regroup a b = omega arith
 regroup_if : (a b d : ℕ) → ((1 + (a + 1)) + (b + 1)) + d ≡ ((1 + a + 1) + b + 1) + d
 regroup_if a b d = omega arith
 
-pub tokens_after_tree-returns-in-Boolean : goal.tokens_after_tree-returns-in-Boolean
-tokens_after_tree-returns-in-Boolean t' c =
-    counted c.args.tree.now (t.Boolean c.in-Boolean.field-0) (1) c.args.tokens.now c.skip.result.now (c.skip.ensures) c.in-Boolean.is (count-Boolean c.in-Boolean.field-0)
-
-pub tokens_after_tree-returns-in-Number : goal.tokens_after_tree-returns-in-Number
-tokens_after_tree-returns-in-Number t' c =
-    counted c.args.tree.now (t.Number c.in-Number.field-0) (1) c.args.tokens.now c.skip-in-Number.result.now (c.skip-in-Number.ensures) c.in-Number.is (count-Number c.in-Number.field-0)
-
-pub tokens_after_tree-returns-in-Text : goal.tokens_after_tree-returns-in-Text
-tokens_after_tree-returns-in-Text t' c =
-    counted c.args.tree.now (t.Text c.in-Text.field-0) (1) c.args.tokens.now c.skip-in-Text.result.now (c.skip-in-Text.ensures) c.in-Text.is (count-Text c.in-Text.field-0)
-
-pub tokens_after_tree-returns-in-Variable : goal.tokens_after_tree-returns-in-Variable
-tokens_after_tree-returns-in-Variable t' c =
-    counted c.args.tree.now (t.Variable c.in-Variable.field-0) (1) c.args.tokens.now c.skip-in-Variable.result.now (c.skip-in-Variable.ensures) c.in-Variable.is (count-Variable c.in-Variable.field-0)
+pub tokens_after_tree-returns-in_default : goal.tokens_after_tree-returns-in_default
+tokens_after_tree-returns-in_default t' c =
+    let leaf : IsLeaf c.args.tree.now = record {
+      not-Call = c.in_default.not-Call;
+      not-Set = c.in_default.not-Set;
+      not-Record = c.in_default.not-Record;
+      not-Member = c.in_default.not-Member;
+      not-Not = c.in_default.not-Not;
+      not-Minus = c.in_default.not-Minus;
+      not-Product = c.in_default.not-Product;
+      not-Sum = c.in_default.not-Sum;
+      not-Compare = c.in_default.not-Compare;
+      not-Has = c.in_default.not-Has;
+      not-Like = c.in_default.not-Like;
+      not-Is = c.in_default.not-Is;
+      not-IsIn = c.in_default.not-IsIn;
+      not-And = c.in_default.not-And;
+      not-Or = c.in_default.not-Or;
+      not-If = c.in_default.not-If;
+    } in
+    c.skip-in_default.ensures ∙ ap (λ k. drop k c.args.tokens.now) (sym (count-leaf c.args.tree.now leaf c.in_default.not-Uid c.in_default.not-Parentheses))
 
 pub tokens_after_tree-returns-in-Uid : goal.tokens_after_tree-returns-in-Uid
 tokens_after_tree-returns-in-Uid t' c =
-    counted c.args.tree.now (t.Uid c.in-Uid.uid) ((path_count c.in-Uid.uid.path + 2)) c.args.tokens.now c.skip-in-Uid.result.now (twice c.args.tokens.now c.tokens_after_path.result.now c.skip-in-Uid.result.now (path_count c.in-Uid.uid.path) (2) c.tokens_after_path.ensures c.skip-in-Uid.ensures) c.in-Uid.is (count-Uid c.in-Uid.uid)
+    counted c.args.tree.now (t.Uid c.in-Uid.uid) (uid_count c.in-Uid.uid) c.args.tokens.now c.tokens_after_uid.result.now c.tokens_after_uid.ensures c.in-Uid.is (count-Uid c.in-Uid.uid)
 
 pub tokens_after_tree-returns-in-Call : goal.tokens_after_tree-returns-in-Call
 tokens_after_tree-returns-in-Call t' c =
-    counted c.args.tree.now (t.Call c.in-Call.path c.in-Call.arguments) ((path_count c.in-Call.path + 1) + (lone_count (length c.in-Call.arguments) + each_count (map tree_count c.in-Call.arguments))) c.args.tokens.now c.tokens_after_row.result.now (twice c.args.tokens.now c.skip-in-Call.result.now c.tokens_after_row.result.now (path_count c.in-Call.path + 1) (lone_count (length c.in-Call.arguments) + each_count (map tree_count c.in-Call.arguments)) (twice c.args.tokens.now c.tokens_after_path-in-Call.result.now c.skip-in-Call.result.now (path_count c.in-Call.path) (1) c.tokens_after_path-in-Call.ensures c.skip-in-Call.ensures) c.tokens_after_row.ensures) c.in-Call.is (count-Call c.in-Call.path c.in-Call.arguments ∙ ap (λ n. (path_count c.in-Call.path + 1) + (lone_count n + each_count (map tree_count c.in-Call.arguments))) (length-mapped tree_count c.in-Call.arguments))
+    counted c.args.tree.now (t.Call c.in-Call.path c.in-Call.arguments) ((path_count c.in-Call.path + 1) + (lone_count (length c.in-Call.arguments) + each_count (map tree_count c.in-Call.arguments))) c.args.tokens.now c.tokens_after_row.result.now (twice c.args.tokens.now c.skip.result.now c.tokens_after_row.result.now (path_count c.in-Call.path + 1) (lone_count (length c.in-Call.arguments) + each_count (map tree_count c.in-Call.arguments)) (twice c.args.tokens.now c.tokens_after_path.result.now c.skip.result.now (path_count c.in-Call.path) (1) c.tokens_after_path.ensures c.skip.ensures) c.tokens_after_row.ensures) c.in-Call.is (count-Call c.in-Call.path c.in-Call.arguments ∙ ap (λ n. (path_count c.in-Call.path + 1) + (lone_count n + each_count (map tree_count c.in-Call.arguments))) (length-mapped tree_count c.in-Call.arguments))
 
 pub tokens_after_tree-returns-in-Parentheses : goal.tokens_after_tree-returns-in-Parentheses
 tokens_after_tree-returns-in-Parentheses t' c =
@@ -126,3 +134,105 @@ pub tokens_after_entries-loop-entry-preserved : goal.tokens_after_entries-loop-e
 tokens_after_entries-loop-entry-preserved t' c =
     turned each_count entry_count (λ n. n + 1) (λ n ns. refl) c.args.entries.now c.loop-entry.entry-index c.entry-item.result c.loop-entry.rest.now c.skip-rest.result.now c.entry-item.is c.loop-entry-test.true
     (twice c.loop-entry.rest.now c.tokens_after_tree.result.now c.skip-rest.result.now (entry_count c.entry-item.result) 1 (twice c.loop-entry.rest.now c.skip.result.now c.tokens_after_tree.result.now 2 (tree_count c.entry-item.result.value) c.skip.ensures c.tokens_after_tree.ensures) c.skip-rest.ensures) ∙ c.loop-entry.invariant
+
+pub tokens_after_tree-tokens_after_row-requires : goal.tokens_after_tree-tokens_after_row-requires
+tokens_after_tree-tokens_after_row-requires t' c = (search (rules, the_lemmas), tt)
+
+pub tokens_after_tree-tokens_after_row-requires-in-Set : goal.tokens_after_tree-tokens_after_row-requires-in-Set
+tokens_after_tree-tokens_after_row-requires-in-Set t' c = (search (rules, the_lemmas), tt)
+
+pub tokens_after_tree-tokens_after_piece-requires : goal.tokens_after_tree-tokens_after_piece-requires
+tokens_after_tree-tokens_after_piece-requires t' c = (search (rules, the_lemmas), tt)
+
+pub tokens_after_tree-tokens_after_entries-requires : goal.tokens_after_tree-tokens_after_entries-requires
+tokens_after_tree-tokens_after_entries-requires t' c = (search (rules, the_lemmas), tt)
+
+pub tokens_after_tree-tokens_after_operand-requires : goal.tokens_after_tree-tokens_after_operand-requires
+tokens_after_tree-tokens_after_operand-requires t' c = (search (rules, the_lemmas), tt)
+
+pub tokens_after_tree-tokens_after_accesses-requires : goal.tokens_after_tree-tokens_after_accesses-requires
+tokens_after_tree-tokens_after_accesses-requires t' c = (search (rules, the_lemmas), tt)
+
+pub tokens_after_tree-tokens_after_operand-requires-in-Not : goal.tokens_after_tree-tokens_after_operand-requires-in-Not
+tokens_after_tree-tokens_after_operand-requires-in-Not t' c = (search (rules, the_lemmas), tt)
+
+pub tokens_after_tree-tokens_after_operand-requires-in-Minus : goal.tokens_after_tree-tokens_after_operand-requires-in-Minus
+tokens_after_tree-tokens_after_operand-requires-in-Minus t' c = (search (rules, the_lemmas), tt)
+
+pub tokens_after_tree-tokens_after_each-requires : goal.tokens_after_tree-tokens_after_each-requires
+tokens_after_tree-tokens_after_each-requires t' c = (search (rules, the_lemmas), tt)
+
+pub tokens_after_tree-tokens_after_operand-requires-in-Product : goal.tokens_after_tree-tokens_after_operand-requires-in-Product
+tokens_after_tree-tokens_after_operand-requires-in-Product t' c = (search (rules, the_lemmas), tt)
+
+pub tokens_after_tree-tokens_after_terms-requires : goal.tokens_after_tree-tokens_after_terms-requires
+tokens_after_tree-tokens_after_terms-requires t' c = (search (rules, the_lemmas), tt)
+
+pub tokens_after_tree-tokens_after_operand-requires-in-Sum : goal.tokens_after_tree-tokens_after_operand-requires-in-Sum
+tokens_after_tree-tokens_after_operand-requires-in-Sum t' c = (search (rules, the_lemmas), tt)
+
+pub tokens_after_tree-tokens_after_piece-requires-in-Compare : goal.tokens_after_tree-tokens_after_piece-requires-in-Compare
+tokens_after_tree-tokens_after_piece-requires-in-Compare t' c = (search (rules, the_lemmas), tt)
+
+pub tokens_after_tree-tokens_after_operand-requires-in-Compare : goal.tokens_after_tree-tokens_after_operand-requires-in-Compare
+tokens_after_tree-tokens_after_operand-requires-in-Compare t' c = (search (rules, the_lemmas), tt)
+
+pub tokens_after_tree-tokens_after_operand-requires-in-Has : goal.tokens_after_tree-tokens_after_operand-requires-in-Has
+tokens_after_tree-tokens_after_operand-requires-in-Has t' c = (search (rules, the_lemmas), tt)
+
+pub tokens_after_tree-tokens_after_operand-requires-in-Like : goal.tokens_after_tree-tokens_after_operand-requires-in-Like
+tokens_after_tree-tokens_after_operand-requires-in-Like t' c = (search (rules, the_lemmas), tt)
+
+pub tokens_after_tree-tokens_after_piece-requires-in-Is : goal.tokens_after_tree-tokens_after_piece-requires-in-Is
+tokens_after_tree-tokens_after_piece-requires-in-Is t' c = (search (rules, the_lemmas), tt)
+
+pub tokens_after_tree-tokens_after_piece-requires-in-IsIn : goal.tokens_after_tree-tokens_after_piece-requires-in-IsIn
+tokens_after_tree-tokens_after_piece-requires-in-IsIn t' c = (search (rules, the_lemmas), tt)
+
+pub tokens_after_tree-tokens_after_operand-requires-in-IsIn : goal.tokens_after_tree-tokens_after_operand-requires-in-IsIn
+tokens_after_tree-tokens_after_operand-requires-in-IsIn t' c = (search (rules, the_lemmas), tt)
+
+pub tokens_after_tree-tokens_after_each-requires-in-And : goal.tokens_after_tree-tokens_after_each-requires-in-And
+tokens_after_tree-tokens_after_each-requires-in-And t' c = (search (rules, the_lemmas), tt)
+
+pub tokens_after_tree-tokens_after_operand-requires-in-And : goal.tokens_after_tree-tokens_after_operand-requires-in-And
+tokens_after_tree-tokens_after_operand-requires-in-And t' c = (search (rules, the_lemmas), tt)
+
+pub tokens_after_tree-tokens_after_each-requires-in-Or : goal.tokens_after_tree-tokens_after_each-requires-in-Or
+tokens_after_tree-tokens_after_each-requires-in-Or t' c = (search (rules, the_lemmas), tt)
+
+pub tokens_after_tree-tokens_after_operand-requires-in-Or : goal.tokens_after_tree-tokens_after_operand-requires-in-Or
+tokens_after_tree-tokens_after_operand-requires-in-Or t' c = (search (rules, the_lemmas), tt)
+
+pub tokens_after_tree-tokens_after_piece-tested-requires : goal.tokens_after_tree-tokens_after_piece-tested-requires
+tokens_after_tree-tokens_after_piece-tested-requires t' c = (search (rules, the_lemmas), tt)
+
+pub tokens_after_tree-tokens_after_piece-chosen-requires : goal.tokens_after_tree-tokens_after_piece-chosen-requires
+tokens_after_tree-tokens_after_piece-chosen-requires t' c = (search (rules, the_lemmas), tt)
+
+pub tokens_after_tree-tokens_after_operand-requires-in-If : goal.tokens_after_tree-tokens_after_operand-requires-in-If
+tokens_after_tree-tokens_after_operand-requires-in-If t' c = (search (rules, the_lemmas), tt)
+
+pub tokens_after_operand-tokens_after_tree-requires : goal.tokens_after_operand-tokens_after_tree-requires
+tokens_after_operand-tokens_after_tree-requires t' c = (search (rules, the_lemmas), tt)
+
+pub tokens_after_piece-tokens_after_operand-requires : goal.tokens_after_piece-tokens_after_operand-requires
+tokens_after_piece-tokens_after_operand-requires t' c = (search (rules, the_lemmas), tt)
+
+pub tokens_after_row-tokens_after_each-requires : goal.tokens_after_row-tokens_after_each-requires
+tokens_after_row-tokens_after_each-requires t' c = (search (rules, the_lemmas), tt)
+
+pub tokens_after_each-tokens_after_tree-requires : goal.tokens_after_each-tokens_after_tree-requires
+tokens_after_each-tokens_after_tree-requires t' c = (search (rules, the_lemmas), tt)
+
+pub tokens_after_terms-tokens_after_tree-requires : goal.tokens_after_terms-tokens_after_tree-requires
+tokens_after_terms-tokens_after_tree-requires t' c = (search (rules, the_lemmas), tt)
+
+pub tokens_after_entries-tokens_after_tree-requires : goal.tokens_after_entries-tokens_after_tree-requires
+tokens_after_entries-tokens_after_tree-requires t' c = (search (rules, the_lemmas), tt)
+
+pub tokens_after_accesses-tokens_after_access-rest-requires : goal.tokens_after_accesses-tokens_after_access-rest-requires
+tokens_after_accesses-tokens_after_access-rest-requires t' c = (search (rules, the_lemmas), tt)
+
+pub tokens_after_access-tokens_after_row-requires : goal.tokens_after_access-tokens_after_row-requires
+tokens_after_access-tokens_after_row-requires t' c = (search (rules, the_lemmas), tt)

@@ -3,32 +3,14 @@ use Rattle.grammar_trees.specs.declared.tree.ExprTree.{out-ExprTree}
 use Rattle.grammar_trees.specs.declared.tree.ExprTree.TheVariants as t
 use Rattle.grammar_trees.specs.declared.tree.ExprTree.TheOpen.{ExprTree-F as tree}
 use Rattle.token_spans.specs.Forms.{form_of, row_at, entry_at, one_at, minus_operand, compared_at}
-use Rattle.token_spans.proofs.Opening.{seen}
+use Rattle.token_spans.proofs.Opening.{seen, operand-leaf}
 use Rattle.token_spans.proofs.forms.operand.Goals as goal
-
-pub returns-in-Boolean : goal.returns-in-Boolean
-returns-in-Boolean c = seen c.args.form.now.tree.now (t.Boolean c.in-Boolean.field-0) (tree.Boolean c.in-Boolean.field-0) (form_of c.args.form.now) c.args.index c.in-Boolean.is (t.outs-Boolean c.in-Boolean.field-0)
-
-pub returns-in-Number : goal.returns-in-Number
-returns-in-Number c = seen c.args.form.now.tree.now (t.Number c.in-Number.field-0) (tree.Number c.in-Number.field-0) (form_of c.args.form.now) c.args.index c.in-Number.is (t.outs-Number c.in-Number.field-0)
-
-pub returns-in-Text : goal.returns-in-Text
-returns-in-Text c = seen c.args.form.now.tree.now (t.Text c.in-Text.field-0) (tree.Text c.in-Text.field-0) (form_of c.args.form.now) c.args.index c.in-Text.is (t.outs-Text c.in-Text.field-0)
-
-pub returns-in-Variable : goal.returns-in-Variable
-returns-in-Variable c = seen c.args.form.now.tree.now (t.Variable c.in-Variable.field-0) (tree.Variable c.in-Variable.field-0) (form_of c.args.form.now) c.args.index c.in-Variable.is (t.outs-Variable c.in-Variable.field-0)
-
-pub returns-in-Uid : goal.returns-in-Uid
-returns-in-Uid c = seen c.args.form.now.tree.now (t.Uid c.in-Uid.field-0) (tree.Uid c.in-Uid.field-0) (form_of c.args.form.now) c.args.index c.in-Uid.is (t.outs-Uid c.in-Uid.field-0)
 
 pub returns-in-Call : goal.returns-in-Call
 returns-in-Call c =
     c.row_operand.ensures
     ∙ ap (λ ts. row_at c.in-Call.arguments ts c.args.index) (c.skip-row.ensures ∙ ap (drop 1) c.tokens_after_path.ensures)
     ∙ seen c.args.form.now.tree.now (t.Call c.in-Call.path c.in-Call.arguments) (tree.Call c.in-Call.path c.in-Call.arguments) (form_of c.args.form.now) c.args.index c.in-Call.is (t.outs-Call c.in-Call.path c.in-Call.arguments)
-
-pub returns-in-Parentheses : goal.returns-in-Parentheses
-returns-in-Parentheses c = seen c.args.form.now.tree.now (t.Parentheses c.in-Parentheses.field-0) (tree.Parentheses c.in-Parentheses.field-0) (form_of c.args.form.now) c.args.index c.in-Parentheses.is (t.outs-Parentheses c.in-Parentheses.field-0)
 
 pub returns-in-Set : goal.returns-in-Set
 returns-in-Set c =
@@ -109,3 +91,25 @@ pub returns-in-If : goal.returns-in-If
 returns-in-If c =
     c.if_operand.ensures
     ∙ seen c.args.form.now.tree.now (t.If c.in-If.test c.in-If.consequent c.in-If.alternative) (tree.If c.in-If.test c.in-If.consequent c.in-If.alternative) (form_of c.args.form.now) c.args.index c.in-If.is (t.outs-If c.in-If.test c.in-If.consequent c.in-If.alternative)
+
+pub returns-in_default : goal.returns-in_default
+returns-in_default c =
+    operand-leaf (form_of c.args.form.now) c.args.index
+    (record {
+      not-Call = c.in_default.not-Call;
+      not-Set = c.in_default.not-Set;
+      not-Record = c.in_default.not-Record;
+      not-Member = c.in_default.not-Member;
+      not-Not = c.in_default.not-Not;
+      not-Minus = c.in_default.not-Minus;
+      not-Product = c.in_default.not-Product;
+      not-Sum = c.in_default.not-Sum;
+      not-Compare = c.in_default.not-Compare;
+      not-Has = c.in_default.not-Has;
+      not-Like = c.in_default.not-Like;
+      not-Is = c.in_default.not-Is;
+      not-IsIn = c.in_default.not-IsIn;
+      not-And = c.in_default.not-And;
+      not-Or = c.in_default.not-Or;
+      not-If = c.in_default.not-If;
+    })

@@ -7,6 +7,5 @@ pub returns : goal.returns
 returns c =
     let n = kept c.args.form.now.part (length c.args.more.now) in
     c.tokens_after_each.ensures
-    ∙ ap (λ ys. drop (each_count (map tree_count ys)) c.tokens_after_operand.result.now)
-    (c.front-pieces.ensures ∙ ap (λ m. take m c.as_slice.result.now) (c.kept.ensures ∙ ap (kept c.args.form.now.part) c.len.ensures) ∙ ap (take n) c.as_slice.ensures)
+    ∙ ap (λ ys. drop (each_count (map tree_count ys)) c.tokens_after_operand.result.now) c.pieces-pieces.ensures
     ∙ ap (drop (each_count (map tree_count (take n c.args.more.now)))) c.tokens_after_operand.ensures

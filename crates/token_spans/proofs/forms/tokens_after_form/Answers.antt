@@ -1,15 +1,15 @@
-use Rattle.std.proofs.Common.{ap, ◌∙◌, drop, take, map, length}
+use Rattle.std.proofs.Common.{ap, sym, ◌∙◌, drop, take, map, length}
 use Rattle.grammar_trees.specs.declared.tree.ExprTree.TheVariants as t
 use Rattle.grammar_trees.specs.declared.tree.ExprTree.TheOpen.{ExprTree-F as tree}
 use Rattle.token_spans.specs.TokenCounts.{term_count, access_tree_count, each_count, total}
-use Rattle.token_spans.specs.Forms.{form_of, kept}
-use Rattle.token_spans.proofs.Opening.{seen_behind, behind-other}
+use Rattle.token_spans.specs.Forms.{form_of, kept, tokens_after_test}
+use Rattle.token_spans.proofs.Opening.{seen_behind, behind-other, test-other}
 use Rattle.token_spans.proofs.forms.tokens_after_form.Goals as goal
 
 pub returns-in-Member : goal.returns-in-Member
 returns-in-Member c =
     c.tokens_after_accesses.ensures
-    ∙ ap (λ ys. drop (total (map access_tree_count ys)) c.tokens_after_operand.result.now) (c.front-pieces.ensures ∙ ap (λ n. take n c.as_slice.result.now) (c.kept.ensures ∙ ap (kept c.args.form.now.part) c.len.ensures) ∙ ap (take (kept c.args.form.now.part (length c.in-Member.accesses))) c.as_slice.ensures)
+    ∙ ap (λ ys. drop (total (map access_tree_count ys)) c.tokens_after_operand.result.now) c.pieces-pieces.ensures
     ∙ ap (drop (total (map access_tree_count (take (kept c.args.form.now.part (length c.in-Member.accesses)) c.in-Member.accesses)))) c.tokens_after_operand.ensures
     ∙ seen_behind c.args.form.now.tree.now (t.Member c.in-Member.first c.in-Member.accesses) (tree.Member c.in-Member.first c.in-Member.accesses) (form_of c.args.form.now) c.in-Member.is (t.outs-Member c.in-Member.first c.in-Member.accesses)
 
@@ -31,16 +31,23 @@ returns-in-Or c =
 pub returns-in-Sum : goal.returns-in-Sum
 returns-in-Sum c =
     c.tokens_after_terms.ensures
-    ∙ ap (λ ys. drop (each_count (map term_count ys)) c.tokens_after_operand-in-Sum.result.now) (c.front-pieces-in-Sum.ensures ∙ ap (λ n. take n c.as_slice-in-Sum.result.now) (c.kept-in-Sum.ensures ∙ ap (kept c.args.form.now.part) c.len-in-Sum.ensures) ∙ ap (take (kept c.args.form.now.part (length c.in-Sum.terms))) c.as_slice-in-Sum.ensures)
+    ∙ ap (λ ys. drop (each_count (map term_count ys)) c.tokens_after_operand-in-Sum.result.now) c.pieces-pieces-in-Sum.ensures
     ∙ ap (drop (each_count (map term_count (take (kept c.args.form.now.part (length c.in-Sum.terms)) c.in-Sum.terms)))) c.tokens_after_operand-in-Sum.ensures
     ∙ seen_behind c.args.form.now.tree.now (t.Sum c.in-Sum.first c.in-Sum.terms) (tree.Sum c.in-Sum.first c.in-Sum.terms) (form_of c.args.form.now) c.in-Sum.is (t.outs-Sum c.in-Sum.first c.in-Sum.terms)
 
-pub returns-in-IsIn : goal.returns-in-IsIn
-returns-in-IsIn c =
-    c.tokens_after_in_test.ensures c.in-IsIn.field-2
+pub returns-in-Test : goal.returns-in-Test
+returns-in-Test c =
+    c.tokens_after_test.ensures
+    ∙ ap (λ p. tokens_after_test p (form_of c.args.form.now) c.in-IsIn.inner c.in-IsIn.path c.in-IsIn.field-2) (sym c.in-Test.is)
+    ∙ seen_behind c.args.form.now.tree.now (t.IsIn c.in-IsIn.inner c.in-IsIn.path c.in-IsIn.field-2) (tree.IsIn c.in-IsIn.inner c.in-IsIn.path c.in-IsIn.field-2) (form_of c.args.form.now) c.in-IsIn.is (t.outs-IsIn c.in-IsIn.inner c.in-IsIn.path c.in-IsIn.field-2)
+
+pub returns-in_default-part : goal.returns-in_default-part
+returns-in_default-part c =
+    c.tokens_after_tree.ensures
+    ∙ test-other c.args.form.now.part (form_of c.args.form.now) c.in-IsIn.inner c.in-IsIn.path c.in-IsIn.field-2 c.in_default-part.not-Test
     ∙ seen_behind c.args.form.now.tree.now (t.IsIn c.in-IsIn.inner c.in-IsIn.path c.in-IsIn.field-2) (tree.IsIn c.in-IsIn.inner c.in-IsIn.path c.in-IsIn.field-2) (form_of c.args.form.now) c.in-IsIn.is (t.outs-IsIn c.in-IsIn.inner c.in-IsIn.path c.in-IsIn.field-2)
 
 pub returns-in_default : goal.returns-in_default
 returns-in_default c =
-    c.tokens_after_tree.ensures
+    c.tokens_after_tree-in_default.ensures
     ∙ behind-other (form_of c.args.form.now) c.in_default.not-Member c.in_default.not-Product c.in_default.not-Sum c.in_default.not-And c.in_default.not-Or c.in_default.not-IsIn

@@ -1,13 +1,12 @@
 use Rattle.std.proofs.Common.{Some, ap, ◌∙◌}
 use Rattle.std.specs.Option.{option_map}
-use Rattle.token_spans.specs.Forms.{own_tokens, up_to, node_at, unwrapped}
+use Rattle.token_spans.specs.Forms.{own_tokens, up_to}
 use Rattle.token_spans.proofs.forms.tokens_at.Goals as goal
 
 pub returns-in-None : goal.returns-in-None
-returns-in-None c =
-    ap (option_map own_tokens) (c.in-None.ensures ∙ ap (λ f. node_at f c.args.path.now) (c.unwrapped.ensures ∙ ap unwrapped c.whole.ensures))
+returns-in-None c = ap (option_map own_tokens) c.in-None.ensures
 
 pub returns-in-Some : goal.returns-in-Some
 returns-in-Some c =
     ap (λ ts. Some ts) (c.up_to.ensures ∙ ap (up_to c.in-Some.form.tokens.now) c.tokens_after_form.ensures)
-    ∙ ap (option_map own_tokens) (c.in-Some.ensures ∙ ap (λ f. node_at f c.args.path.now) (c.unwrapped.ensures ∙ ap unwrapped c.whole.ensures))
+    ∙ ap (option_map own_tokens) c.in-Some.ensures

@@ -8,14 +8,14 @@ use Rattle.value_paths.proofs.forms.find_nameless.Goals as goal
 
 pub returns-then-not-named : goal.returns-then-not-named
 returns-then-not-named c =
-    let bad : false ≡ is_some (uid_in (view c.index-parents-index.result)) = sym c.if-not-named.true ∙ c.in_ok-named.ensures in
+    let bad : false ≡ is_some (uid_in (view c.index-parents-index.result)) = sym c.if-not-named.true ∙ c.in-Ok.ensures in
     subst (λ (x : Option (List Step)). IfOk c.at_parent.result (λ o. o ≡ x))
     (nameless_stops c.args.parents.now c.loop-index.index c.index-parents-index.result _ c.loop-index-test.true c.index-parents-index.is bad c.loop-index.invariant)
     c.at_parent.ensures
 
 pub loop-index-preserved : goal.loop-index-preserved
 loop-index-preserved c =
-    let good : true ≡ is_some (uid_in (view c.index-parents-index.result)) = sym c.if-not-named.false ∙ c.in_ok-named.ensures in
+    let good : true ≡ is_some (uid_in (view c.index-parents-index.result)) = sym c.if-not-named.false ∙ c.in-Ok.ensures in
     nameless_goes c.args.parents.now c.loop-index.index c.index-parents-index.result _ c.loop-index-test.true c.index-parents-index.is good c.loop-index.invariant
 
 pub returns : goal.returns

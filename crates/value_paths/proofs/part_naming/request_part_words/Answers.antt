@@ -3,16 +3,19 @@ use Rattle.serde_json.specs.View.{view}
 use Rattle.schema_types.specs.Cedar.{Cedar}
 use Rattle.schema_types.specs.CedarViews.{cedar_view}
 use Rattle.entities.specs.schema.Views.{schema_view}
+use Rattle.value_paths.specs.declared.placed.PlacedFault.{PlacedFault}
+use Rattle.value_paths.specs.Outcomes.{IsRequestFault}
 use Rattle.value_paths.specs.PartWords.{part_words, NamesPartOfRequest}
 use Rattle.value_paths.proofs.Going.{if_ok}
+use Rattle.value_paths.proofs.Telling.{words_told}
 use Rattle.value_paths.proofs.part_naming.request_part_words.Goals as goal
 
-pub returns-in_ok-found-in-Some : goal.returns-in_ok-found-in-Some
-returns-in_ok-found-in-Some c =
+pub returns-in-Ok : goal.returns-in-Ok
+returns-in-Ok c =
     let s = schema_view c.args.schema.now in
     let d = view c.in-Some.value.now in
-    let whole : Option Cedar = option_map (λ t. cedar_view t.now) c.in_ok-context-in-Some.context in
-    let found = c.in_ok-found-in-Some.found in
+    let whole : Option Cedar = option_map (λ t. cedar_view t.now) c.in-Ok.context in
     rw c.in-Some.is (
-    if_ok c.part_words-words.result (λ (words : List ℕ). words ≡ part_words found whole) (NamesPartOfRequest s (Some d))
-    (λ words e. (found, whole, c.in_ok-found-in-Some.ensures, c.in_ok-context-in-Some.ensures, e)) c.part_words-words.ensures)
+    if_ok c.part_words.result (λ (words : List ℕ). (o : Option PlacedFault) × IsRequestFault s d o × (words ≡ part_words o whole)) (NamesPartOfRequest s (Some d))
+    (λ words h. (h.0, whole, h.1, c.in-Ok.ensures, h.2))
+    (words_told (IsRequestFault s d) c.request_fault.result c.part_words.result whole c.request_fault.ensures c.part_words.ensures))

@@ -17,7 +17,7 @@ more cs c =
 
 pub loop-c-preserved : goal.loop-c-preserved
 loop-c-preserved c =
-    c.in_ok-push_escaped.ensures
+    c.in-Ok.ensures
     ∙ ap (λ (l : List ℕ). l ++ encode_utf8_all (escaped_char c.in-Some.c)) c.loop-c.invariant
     ∙ append_assoc (string_bytes c.args.out.now) _ _
     ∙ ap (λ (l : List ℕ). string_bytes c.args.out.now ++ l) (sym (more c.loop-c.yielded c.in-Some.c))

@@ -9,11 +9,11 @@ use Rattle.value_paths.proofs.Going.{made_so}
 use Rattle.value_paths.proofs.Singles.{value_alone}
 use Rattle.value_paths.proofs.wholes.is_read.Goals as goal
 
-pub returns : goal.returns
-returns c =
+pub returns-in-Ok : goal.returns-in-Ok
+returns-in-Ok c =
     let t = cedar_view c.args.ty.now in
     let d = view c.args.value.now in
-    let pair = c.in_ok-object in
+    let pair = c.in-Ok in
     value_alone t d (cedar_view pair.record) (view pair.object) c.read_record-read.result c.is_value.result
     (made_so c.record_with.result pair.record (λ (x : CedarType). cedar_view x ≡ record_of (field [] t false no_fields)) pair.ensures.second c.record_with.ensures)
     (made_so c.object_with-object.result pair.object (λ (v : Value). view v ≡ object (member [] d no_members)) pair.ensures.first c.object_with-object.ensures)

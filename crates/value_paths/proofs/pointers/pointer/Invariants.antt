@@ -1,6 +1,0 @@
-use Rattle.std.proofs.Common.{◌≡◌, ◌∷◌, take, string_bytes}
-use Rattle.value_paths.specs.Pointers.{pointer_of}
-use Rattle.value_paths.proofs.pointers.pointer.Given as goal
-
-abbrev pub invariant-loop-step : goal.invariant-loop-step
-invariant-loop-step l = string_bytes l.out ≡ pointer_of (take l.step-index l.path)
