@@ -36,7 +36,7 @@ WANTED = {
     "cedar_site serve": ["listening "],
     "cedar_site load --schema schema.json --site files --policies policies.cedar \\\n"
     "    --entities entities.json > begun.json\ncedar_site serve": ["listening "],
-    "at=": [r'"count":1,.*"site":"1"', "permit", r'"decision":', r'"kind":"state"', r'\{"taken":0\}'],
+    "at=": [r'"count":1,.*"site":"0"', "permit", r'"decision":', r'"kind":"state"', r'\{"taken":0\}'],
     "tail": [r'"method":"GET","target":"/v1/summary","status":200', r'"target":"/v1/merge","status":200'],
     "cedar_site serve --schema schema.json --site 1 --listen 127.0.0.1:7000 &": [
         "listening ", "listening ", r'\{"taken":1\}', r'\{"taken":0\}', r"(?P<sum>[0-9a-f]{64})", r"(?P=sum)"],

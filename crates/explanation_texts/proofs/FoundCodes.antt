@@ -119,6 +119,10 @@ pub found_clean : (code : ℕ) (table : List Texts) (o : Option (Bor Words)) →
     → IfSome o (λ w. is_clean (texts_of w.now) ≡ true)
 found_clean code table o found clean = has_behind o (subst Has (sym found) (has_found code table clean))
 
+-- the texts on a code are printable
+pub words_clean : (code : ℕ) (o : Option Texts) → words_on code ≡ o → IfSome o (λ t. is_clean t ≡ true)
+words_clean code o e = subst Has e (has_found code (rows_of_group code) (rows_clean code))
+
 -- ---- what is said on a code
 
 pub words_so : (code : ℕ) (o : Option Texts) (says advice : List ℕ) → o ≡ words_on code → AreWordsOf o says advice

@@ -1,5 +1,5 @@
 -- Pieces that are appended one after the other.
-use Rattle.std.proofs.Common.{◌≡◌, ◌∙◌, ◌==◌, ℕ, Bool, true, false, List, [], ◌∷◌, ◌++◌, length, map, append_assoc, append-nil, encode_utf8, encode_utf8_all}
+use Rattle.std.proofs.Common.{◌≡◌, ◌∙◌, ◌==◌, ℕ, true, false, List, [], ◌∷◌, ◌++◌, length, map, append_assoc, append-nil, encode_utf8, encode_utf8_all}
 use Rattle.std.proofs.Common.{refl, sym, ap, Result, Ok, Err, OnOk, is_ok, if◌then◌else◌}
 use Rattle.std.proofs.lemmas.Str.{encodes-append}
 use Rattle.std.proofs.lemmas.List.{map-append}
@@ -37,8 +37,3 @@ part_of before [] after most shown mark out o p q r some is first second third f
     apart e = cc
 part_of before (x ∷ xs) after most shown mark out o p q r some is first second third fourth =
     three out before shown mark after o p q r first second third fourth ∙ ap (λ (l : List ℕ). out ++ ((before ++ l) ++ after)) is
-
--- the four lines on a code
-pub nine : (start a b c d e f g h i new : List ℕ) → start ≡ [] → new ≡ start ++ (a ++ (b ++ (c ++ (d ++ (e ++ (f ++ (g ++ (h ++ (i ++ [])))))))))
-    → new ≡ (((((((a ++ b) ++ c) ++ d) ++ e) ++ f) ++ g) ++ h) ++ i
-nine start a b c d e f g h i new empty is = is ∙ rw empty (simp (append_assoc, append-nil))

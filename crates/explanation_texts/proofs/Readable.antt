@@ -9,8 +9,12 @@ use Rattle.std.proofs.lemmas.Str.{encodes-append, encode_ascii}
 use Rattle.std.proofs.lemmas.List.Folds.{list_all-append}
 use Rattle.std.proofs.lemmas.Bool.{false≢true}
 use Rattle.std.proofs.lemmas.Bool.Decides.{nat_tests}
-use Rattle.explanation_texts.specs.Printable.{is_printable, are_printable}
-use Rattle.explanation_texts.specs.Excerpt.{is_hidden, shown_char, blank_char, repeated, place_in, cut_before, end_of, carets_at}
+use Rattle.std.specs.Str.{all_scalars}
+use lib.Utf8.{scalar}
+use Rattle.explanation_texts.specs.CodeText.{Texts, words_on, code_text}
+use Rattle.explanation_texts.specs.Printable.{is_printable, are_printable, is_clean}
+use Rattle.explanation_texts.proofs.FoundCodes.{words_clean}
+use Rattle.explanation_texts.specs.Excerpt.{is_control, is_bidi_control, is_hidden, shown_char, blank_char, repeated, place_in, cut_before, end_of, carets_at}
 use Rattle.explanation_texts.specs.Excerpt.{mark_if, heading, line_row, caret_row, excerpt}
 use Rattle.explanation_texts.specs.declared.finding.SourceFinding.{SourceFinding}
 use Rattle.explanation_texts.specs.declared.finding.WholeFinding.{WholeFinding}
@@ -34,21 +38,36 @@ right_true false b h = absurd (false≢true h)
 
 -- ---- texts
 
+-- a character that is shown is one
+scalar_when : (scalar_c rest : Bool) (c : ℕ) → scalar c ≡ scalar_c → (not (not scalar_c || rest) || (c == 10)) ≡ true → scalar c ≡ true
+scalar_when true rest c e h = e
+scalar_when false rest c e h = let ten : c ≡ 10 = grind (arith, nat_tests) in rw ten refl
+
+scalar_if_shown : (c : ℕ) → is_shown c ≡ true → scalar c ≡ true
+scalar_if_shown c h = scalar_when (scalar c) (is_control c || is_bidi_control c) c refl h
+
+scalars_if_shown : (cs : List ℕ) → list_all is_shown cs ≡ true → all_scalars cs ≡ true
+scalars_if_shown [] h = refl
+scalars_if_shown (c ∷ cs) h =
+    both_true (scalar c) (all_scalars cs) (scalar_if_shown c (left_true (is_shown c) (list_all is_shown cs) h))
+    (scalars_if_shown cs (right_true (is_shown c) (list_all is_shown cs) h))
+
+shows : (cs bytes : List ℕ) → list_all is_shown cs ≡ true → bytes ≡ encode_utf8_all cs → IsReadable bytes
+shows cs bytes h is = (cs, scalars_if_shown cs h, h, is)
+
 encoded : (cs : List ℕ) → list_all is_shown cs ≡ true → IsReadable (encode_utf8_all cs)
-encoded cs h = (cs, h, refl)
+encoded cs h = shows cs (encode_utf8_all cs) h refl
 
 pub both : (a b : List ℕ) → IsReadable a → IsReadable b → IsReadable (a ++ b)
-both a b (xs, p, e) (ys, q, f) = (
-  xs ++ ys,
-  list_all-append is_shown xs ys ∙ both_true (list_all is_shown xs) (list_all is_shown ys) p q,
-  ap₂ (λ s t. s ++ t) e f ∙ sym (encodes-append xs ys),
-)
+both a b (xs, s, p, e) (ys, t, q, f) =
+    shows (xs ++ ys) (a ++ b) (list_all-append is_shown xs ys ∙ both_true (list_all is_shown xs) (list_all is_shown ys) p q)
+    (ap₂ (λ s t. s ++ t) e f ∙ sym (encodes-append xs ys))
 
 pub nothing : IsReadable []
-nothing = ([], refl, refl)
+nothing = shows [] [] refl refl
 
 feed : IsReadable (10 ∷ [])
-feed = (10 ∷ [], refl, sym (ap (λ e. e ++ []) (encode_ascii 10 (omega arith))))
+feed = shows (10 ∷ []) (10 ∷ []) refl (sym (ap (λ e. e ++ []) (encode_ascii 10 (omega arith))))
 
 shown_if_printable : (c : ℕ) → is_printable c ≡ true → is_shown c ≡ true
 shown_if_printable c h = grind (arith, nat_tests)
@@ -60,11 +79,9 @@ plain : (text : List ℕ) → are_printable text ≡ true → IsReadable text
 plain [] h = nothing
 plain (c ∷ cs) h =
     let this = left_true (is_printable c) (are_printable cs) h in
-    let rest = plain cs (right_true (is_printable c) (are_printable cs) h) in (
-      c ∷ rest.0,
-      both_true (is_shown c) (list_all is_shown rest.0) (shown_if_printable c this) rest.1,
-      ap (λ l. c ∷ l) rest.2 ∙ sym (ap (λ e. e ++ encode_utf8_all rest.0) (encode_ascii c (ascii_if_printable c this))),
-    )
+    let rest = plain cs (right_true (is_printable c) (are_printable cs) h) in
+    shows (c ∷ rest.0) (c ∷ cs) (both_true (is_shown c) (list_all is_shown rest.0) (shown_if_printable c this) rest.2)
+    (ap (λ l. c ∷ l) rest.3 ∙ sym (ap (λ e. e ++ encode_utf8_all rest.0) (encode_ascii c (ascii_if_printable c this))))
 
 -- ---- characters of a file
 
@@ -218,3 +235,26 @@ whole_is_readable file finding bytes h =
     (file_reads file finding.index) in
     let b = both _ (detail_line finding.detail.now) a (detail_reads finding.detail.now) in
     subst IsReadable (sym h.is) (both _ (hint_line h.advice) b (hint_reads h.advice h.clean.1))
+
+-- ---- the text on a code
+
+next_line : (text : List ℕ) → are_printable text ≡ true → IsReadable (10 ∷ text)
+next_line text h = both (10 ∷ []) text feed (plain text h)
+
+code_reads : (texts : Texts) → is_clean texts ≡ true → IsReadable (code_text texts)
+code_reads texts h =
+    let name = left_true (are_printable texts.name) _ h in
+    let h = right_true (are_printable texts.name) _ h in
+    let meaning = left_true (are_printable texts.meaning) _ h in
+    let h = right_true (are_printable texts.meaning) _ h in
+    let example = left_true (are_printable texts.example) _ h in
+    let h = right_true (are_printable texts.example) _ h in
+    let advice = right_true (are_printable texts.says) (are_printable texts.advice) h in
+    let a = both (decimal texts.code) (codes ", ") (number texts.code) (plain (codes ", ") refl) in
+    let b = both _ (codes "\nmeans: ") (both _ texts.name a (plain texts.name name)) (next_line (codes "means: ") refl) in
+    let c = both _ (codes "\nexample: ") (both _ texts.meaning b (plain texts.meaning meaning)) (next_line (codes "example: ") refl) in
+    let d = both _ (codes "\nwhat to do: ") (both _ texts.example c (plain texts.example example)) (next_line (codes "what to do: ") refl) in
+    both _ texts.advice d (plain texts.advice advice)
+
+pub code_is_readable : (code : ℕ) (texts : Texts) → words_on code ≡ Some texts → IsReadable (code_text texts)
+code_is_readable code texts e = code_reads texts (words_clean code (Some texts) e)

@@ -3,9 +3,9 @@
 use Rattle.std.specs.Prelude.{ℕ, Bool, ◌==◌, nat_lt, if◌then◌else◌, List, [], ◌∷◌}
 use Rattle.std.specs.List.{list_any}
 
--- `codes_of_group c` are the codes of the group that would contain `c`. The groups are errors of any call; policies
--- that do not parse; schemas; entities and requests; policies that do not pass validation; messages; commands at a
--- site; and HTTP statuses in place of a code.
+-- `codes_of_group c` are the codes of the group that would contain `c`. The groups are errors of any call, or of
+-- opening a site; policies that do not parse; schemas; entities and requests; policies that do not pass validation;
+-- messages; commands and requests at a site; and HTTP statuses in place of a code.
 abbrev pub codes_of_group : ℕ → List ℕ
 codes_of_group c =
     if nat_lt c 10 then 1 ∷ 2 ∷ []

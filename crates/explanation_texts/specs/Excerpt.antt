@@ -2,15 +2,25 @@
 -- Rules of this product: three rows: the position, the numbered line, and carets under the marked characters.
 -- Characters that a terminal may obey are shown as U+FFFD; of a line of more than 160 characters a part of 160 around
 -- the place is shown, with `..` at a cut end.
-use Rattle.std.specs.Prelude.{ℕ, ◌+◌, ◌-◌, ◌==◌, nat_le, nat_lt, min, max, Bool, ◌||◌, ◌&&◌, if◌then◌else◌}
+use Rattle.std.specs.Prelude.{ℕ, ◌+◌, ◌-◌, ◌==◌, nat_le, nat_lt, min, max, Bool, not, ◌||◌, ◌&&◌, if◌then◌else◌}
 use Rattle.std.specs.Prelude.{List, [], ◌∷◌, ◌++◌, length, take, drop, map, replicate, codes, decimal}
 use Rattle.std.specs.Prelude.{chars, encode_utf8_all}
+use lib.Utf8.{scalar}
 
--- `is_hidden c` tests for control characters except the tab (U+0000 to U+001F, and U+007F, DEL, to U+009F), and for
--- those that change the direction of writing (U+202A to U+202E, U+2066 to U+2069).
+-- `is_control c` tests for control characters except the tab: U+0000 to U+001F, and U+007F (DEL) to U+009F.
+abbrev pub is_control : ℕ → Bool
+is_control c = nat_le c 8 || (nat_le 10 c && nat_le c 31) || (nat_le 127 c && nat_le c 159)
+
+-- `is_bidi_control c` tests for characters that change the direction of writing: those with Unicode's property
+-- Bidi_Control.
+abbrev pub is_bidi_control : ℕ → Bool
+is_bidi_control c = (c == 0x061C) || (nat_le 0x200E c && nat_le c 0x200F) || (nat_le 0x202A c && nat_le c 0x202E)
+    || (nat_le 0x2066 c && nat_le c 0x2069)
+
+-- `is_hidden c` tests for these characters, and for numbers that are not characters (Unicode scalar values), which no
+-- text contains.
 abbrev pub is_hidden : ℕ → Bool
-is_hidden c = nat_le c 8 || (nat_le 10 c && nat_le c 31) || (nat_le 127 c && nat_le c 159)
-    || (nat_le 0x202A c && nat_le c 0x202E) || (nat_le 0x2066 c && nat_le c 0x2069)
+is_hidden c = not (scalar c) || (is_control c || is_bidi_control c)
 
 -- `shown_char c` is the character that is shown for `c`: U+FFFD if `c` is hidden.
 abbrev pub shown_char : ℕ → ℕ

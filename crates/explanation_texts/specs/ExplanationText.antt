@@ -5,11 +5,10 @@
 -- with `..` at the cut; the name of the file is not.
 use Rattle.std.specs.Prelude.{◌≡◌, ℕ, ◌-◌, ◌==◌, if◌then◌else◌, true, List, [], ◌∷◌, ◌++◌}
 use Rattle.std.specs.Prelude.{Option, None, Some}
-use Rattle.std.specs.Prelude.{codes, decimal, take, chars, slice_index_or, length, nat_lt}
-use Rattle.std.specs.Str.Lines.{lines}
+use Rattle.std.specs.Prelude.{codes, decimal, take, chars, length, nat_lt}
 use Rattle.explanation_texts.specs.Printable.{are_printable}
 use Rattle.explanation_texts.specs.CodeText.{Texts, words_on}
-use Rattle.explanation_texts.specs.LineAndColumn.{line_after, column_after, IsStartAt}
+use Rattle.explanation_texts.specs.LineAndColumn.{line_after, column_after, line_of, IsStartAt}
 use Rattle.explanation_texts.specs.Excerpt.{excerpt, shown, mark_if}
 use Rattle.explanation_texts.specs.declared.places.TextPosition.{TextPosition}
 use Rattle.explanation_texts.specs.declared.finding.SourceFinding.{SourceFinding}
@@ -76,8 +75,7 @@ rest_text finding advice = detail_line finding.detail.now ++ detail_line finding
 
 -- `place_text file text place span` is the excerpt of `text` at `place`, with `span` characters marked.
 abbrev pub place_text : List ℕ → List ℕ → TextPosition → ℕ → List ℕ
-place_text file text place span =
-    excerpt file (slice_index_or (lines text) (place.line - 1) []) place.line place.column span
+place_text file text place span = excerpt file (line_of text place.line) place.line place.column span
 
 -- `source_text file text finding says advice place span` is the explanation: what is wrong, the excerpt at `place`, and
 -- the lines after it.

@@ -1,7 +1,6 @@
 //! The excerpt that shows a place in a text.
-ghost use Rattle.std.specs.Prelude.{◌≡◌, ◌-◌, ◌++◌, [], length, chars, IfOk, OnOk, string_bytes};
-ghost use Rattle.std.specs.Prelude.{slice_index_or};
-ghost use Rattle.std.specs.Str.Lines.{lines};
+ghost use Rattle.std.specs.Prelude.{◌≡◌, ◌++◌, length, chars, IfOk, OnOk, string_bytes};
+ghost use Rattle.explanation_texts.specs.LineAndColumn.{line_of};
 ghost use Rattle.explanation_texts.specs.Excerpt.{place_in, cut_before, end_of};
 ghost use Rattle.explanation_texts.specs.Excerpt.{heading, line_row, caret_row, excerpt};
 
@@ -98,7 +97,7 @@ pub(crate) fn push_excerpt(
     span: usize,
 ) -> Result<(), NoMemory>
     ensures { OnOk result (string_bytes out.new ≡ string_bytes out.old
-        ++ excerpt file.now (slice_index_or (lines text.now) (place.line - 1) []) place.line place.column span) }
+        ++ excerpt file.now (line_of text.now place.line) place.line place.column span) }
 {
     let line = line_at(text, place.line);
     let cut = cut_at(line, place.column);
@@ -130,7 +129,7 @@ pub fn excerpt_at(
     span: usize,
 ) -> Result<String, NoMemory>
     ensures { IfOk result (λ rows. string_bytes rows
-        ≡ excerpt file.now (slice_index_or (lines text.now) (place.line - 1) []) place.line place.column span) }
+        ≡ excerpt file.now (line_of text.now place.line) place.line place.column span) }
 {
     let mut rows = String::new(alloc);
     push_excerpt(alloc, &mut rows, file, text, place, span)?;

@@ -1,7 +1,7 @@
 //! Lines and columns.
-ghost use Rattle.std.specs.Prelude.{◌≡◌, ◌-◌, ◌==◌, if◌then◌else◌, take, chars, slice_index_or, []};
-ghost use Rattle.std.specs.Str.Lines.{lines};
-ghost use Rattle.explanation_texts.specs.LineAndColumn.{line_after, column_after, IsStartAt};
+ghost use Rattle.std.specs.Prelude.{◌≡◌, chars};
+ghost use Rattle.explanation_texts.specs.LineAndColumn.{line_after, column_after, line_of};
+ghost use Rattle.explanation_texts.specs.ExplanationText.{IsPlaceOf, span_between};
 
 /// A place in a text, by line and column.
 #[derive(Clone, Copy)]
@@ -21,7 +21,7 @@ impl TextPosition {
     ///
     /// `end` should be a place of the same text and not before this one.
     pub fn span_to(&self, end: &TextPosition) -> usize
-        ensures { result ≡ (if self.now.line == end.now.line then end.now.column - self.now.column else usize.MAX) }
+        ensures { result ≡ span_between self.now end.now }
     {
         if self.line == end.line {
             end.column.saturating_sub(self.column)
@@ -56,9 +56,7 @@ fn line_and_column(before: &str) -> (usize, usize)
 ///
 /// O(`at`). Does not allocate.
 pub fn place_of(text: &str, at: usize) -> TextPosition
-    ensures start { IsStartAt text.now at result.start }
-    ensures line { result.line ≡ line_after (chars (take result.start text.now)) }
-    ensures column { result.column ≡ column_after (chars (take result.start text.now)) }
+    ensures { IsPlaceOf text.now at result }
 {
     let start = text.floor_char_boundary(at);
     let (before, _) = text.split_at(start);
@@ -77,7 +75,7 @@ pub fn place_of(text: &str, at: usize) -> TextPosition
 ///
 /// O(length of `text`). Does not allocate.
 pub fn line_at(text: &str, line: usize) -> &str
-    ensures { result.now ≡ slice_index_or (lines text.now) (line - 1) [] }
+    ensures { result.now ≡ line_of text.now line }
 {
     text.lines().nth(line.saturating_sub(1)).unwrap_or("")
 }

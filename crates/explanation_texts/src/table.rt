@@ -21,7 +21,7 @@ pub struct CodeWords<T> {
     pub advice: T,
 }
 
-// Errors of any call.
+// Errors of any call, or of opening a site.
 static ANY_CALL: [CodeWords<&str>; 2] = [
     CodeWords {
         code: 1,
@@ -73,7 +73,7 @@ static POLICIES: [CodeWords<&str>; 10] = [
         meaning: "no function, or in `x.f()` no method, has this name",
         example: "`.. when { now() == 1 };`",
         says: "no function or method is called",
-        advice: "functions are ip, decimal; methods as contains, containsAll, lessThan, isInRange: docs/language.md",
+        advice: "functions: ip, decimal; methods such as contains, containsAll, lessThan, isInRange: docs/language.md",
     },
     CodeWords {
         code: 14,
@@ -337,7 +337,7 @@ static MESSAGES: [CodeWords<&str>; 8] = [
         meaning: "JSON of another shape than docs/formats.md demands; names of a summary that do not ascend; a site out of range; a number outside unsigned 64 bits",
         example: "`{\"kind\":\"state\"}`",
         says: "JSON, but not of the shape of a message",
-        advice: "take a message as a site writes it: of a state, a delta or a summary",
+        advice: "take a message as a site writes it: a state or a delta, or a summary to get a delta",
     },
     CodeWords {
         code: 52,
@@ -389,7 +389,7 @@ static MESSAGES: [CodeWords<&str>; 8] = [
     },
 ];
 
-// Commands at a site.
+// Commands and requests at a site.
 static COMMANDS: [CodeWords<&str>; 4] = [
     CodeWords {
         code: 60,

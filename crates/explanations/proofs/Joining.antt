@@ -1,7 +1,9 @@
 -- Explanations of the parts, joined to that of the whole.
 use Rattle.std.proofs.Common.{◌≡◌, inl, inr, ℕ, Bool, true, false, List, [], ◌∷◌, ◌++◌, Option, None, Some, unwrap_or, option_map, Result, Err, OnOk, IfErr}
-use Rattle.std.proofs.Common.{refl, sym, ap, ◌∙◌, subst, length}
+use Rattle.std.proofs.Common.{refl, sym, ap, ◌∙◌, subst, length, arith}
 use Rattle.std.specs.Prelude.{⊤, MatchOption}
+use Rattle.std.specs.Str.{IsUtf8, IsValidUpTo}
+use Rattle.std.proofs.lemmas.List.{take_all}
 use Rattle.plain.specs.AllocationErrors.{OrNoMemory}
 use Rattle.grammar_desugaring.specs.grammar_tokens.declared.token.Token.{Token}
 use Rattle.policy_grammar.specs.declared.policy.Policy.{Policy}
@@ -25,10 +27,10 @@ use Rattle.explanations.specs.Files.{File, Files}
 use Rattle.explanations.specs.Parts.{IsPartOf, IsNothing, IsSourceAt, IsWholeAt, IsMessageExplained, AppendsSome}
 use Rattle.explanations.specs.Pieces.{ArePiecesOf}
 use Rattle.explanations.specs.Policies.{is_searched, large_note, IsNameOrExpressionSpan, IsFaultText, IsCheckExplained, passes_so, rejected_so, too_large, ArePoliciesExplained}
-use Rattle.explanations.specs.UnparsedFiles.{byte_in, is_that, IsPieceExplained, is_read, is_unread, ArePiecesExplained, AppendsExplained}
+use Rattle.explanations.specs.UnparsedFiles.{byte_in, is_that, IsReadErrorText, IsPieceExplained, is_read, is_unread, ArePiecesExplained, AppendsExplained}
 use Rattle.explanations.specs.EntitiesAndRequests.{IsCheckedText, IsCheckOutcome, AreEntitiesExplained, IsRequestExplained}
 use Rattle.explanations.specs.FileExplanations as whole
-use Rattle.explanations.specs.FileExplanations.{IsTextOf, AreTokensOf, IsUnreadExplained, IsFileExplained, AreOthersExplained, IsExplainedUnder, IsExplainedAs, IsExplained}
+use Rattle.explanations.specs.FileExplanations.{AreTokensOf, IsUnreadExplained, IsOutcomeExplained, IsTextExplained, IsNoTextExplained, IsFileExplained, AreOthersExplained, IsExplainedUnder, IsExplainedAs, IsExplained}
 use Rattle.explanations.proofs.Appending.{in_turn, nothing_more}
 use Rattle.explanations.proofs.Judging.{judged}
 
@@ -41,13 +43,6 @@ none_so P Q e h = subst (λ p. MatchOption p P Q) e h
 
 pub nothing_given : (old : List ℕ) → AppendsSome (λ bytes. bytes ≡ []) old old
 nothing_given old = ([], refl, nothing_more old)
-
-pub source_is : (file text m n old new : List ℕ) (c d i j : ℕ) → m ≡ n → c ≡ d → i ≡ j → AppendsSome (IsSourceAt file text m c i) old new
-    → AppendsSome (IsSourceAt file text n d j) old new
-source_is file text m n old new c d i j noted e f a =
-    let so = subst (λ (l : List ℕ). IsSourceAt file text l c i a.0) noted a.1 in
-    let moved = subst (λ (k : ℕ). IsSourceAt file text n c k a.0) f so in
-    (a.0, subst (λ (k : ℕ). IsSourceAt file text n k j a.0) e moved, a.2)
 
 -- the text on a message, which is alone
 pub message_alone : (file : List ℕ) (code : ℕ) (old new : List ℕ) → old ≡ [] → AppendsSome (IsMessageExplained file code) old new
@@ -66,75 +61,66 @@ module _ (s : StatedSchema) (file text : List ℕ) (place : Piece) (policy : Pol
   policy_rejected new f e h a = (a.0, rejected_so f a.0 e h a.1, a.2)
 
   pub policy_large : (new : List ℕ) (f : TypeFault) → is_searched place policy ≡ false → IsCheckRefused s policy f
-      → AppendsSome (IsSourceAt file text large_note (code_of f) place.start) old new → AppendsSome (IsCheckExplained s file text place policy) old new
+      → AppendsSome (IsSourceAt file text large_note (code_of f) place.start place.end IsNothing) old new → AppendsSome (IsCheckExplained s file text place policy) old new
   policy_large new f e h a = (a.0, too_large f a.0 e h a.1, a.2)
 
 -- ---- a piece, and a file that does not parse
 
-module _ (o : Option StatedSchema) (file text : List ℕ) (old : List ℕ) where
+module _ (o : Option StatedSchema) (file text : List ℕ) (tokens : List Token) (old : List ℕ) where
   pub piece_parses : (of_file : Refusal) (piece : Piece) (part : List ℕ) (names : List (List ℕ)) (cores : List Policy) (new : List ℕ) → IsPartOf text piece.start piece.end part
       → IsPolicyFile part names cores → AppendsSome (ArePoliciesExplained o file text (piece ∷ []) cores) old new
-      → AppendsExplained (IsPieceExplained o file text of_file piece) old new false
+      → AppendsExplained (IsPieceExplained o file text tokens of_file piece) old new false
   piece_parses of_file piece part names cores new h g a = (a.0, is_read part names cores a.0 h g a.1, a.2)
 
   pub piece_does_not : (of_file : Refusal) (piece : Piece) (part : List ℕ) (f g : ReadFault) (code again at : ℕ) (told : Bool) (new : List ℕ) → told ≡ is_that of_file again at
       → again ≡ reading.code_of g → IsPartOf text piece.start piece.end part
-      → IsFileRefused part f → g ≡ f → code ≡ reading.code_of g → at ≡ byte_in piece g → AppendsSome (IsSourceAt file text [] code at) old new
-      → AppendsExplained (IsPieceExplained o file text of_file piece) old new told
+      → IsFileRefused part f → g ≡ f → code ≡ reading.code_of g → at ≡ byte_in piece g → AppendsSome (IsReadErrorText file text tokens code at) old new
+      → AppendsExplained (IsPieceExplained o file text tokens of_file piece) old new told
   piece_does_not of_file piece part f g code again at told new t d h refused e c i a =
-      let b = source_is file text [] [] old new code (reading.code_of g) at (byte_in piece g) refl c i a in
+      let stated : IsReadErrorText file text tokens (reading.code_of g) (byte_in piece g) a.0 =
+      subst (λ (k : ℕ). IsReadErrorText file text tokens k (byte_in piece g) a.0) c (subst (λ (n : ℕ). IsReadErrorText file text tokens code n a.0) i a.1) in
       let same : told ≡ is_that of_file (reading.code_of g) (byte_in piece g) =
       t ∙ ap (λ (k : ℕ). is_that of_file k at) d ∙ ap (λ (k : ℕ). is_that of_file (reading.code_of g) k) i in
-      let so = is_unread part g b.0 h (subst (IsFileRefused part) (sym e) refused) b.1 in
-      (b.0, subst (λ (k : Bool). IsPieceExplained o file text of_file piece k b.0) (sym same) so, b.2)
+      let so = is_unread part g a.0 h (subst (IsFileRefused part) (sym e) refused) stated in
+      (a.0, subst (λ (k : Bool). IsPieceExplained o file text tokens of_file piece k a.0) (sym same) so, a.2)
 
-  pub pieces_tell : (pieces : List Piece) (r : Refusal) (new : List ℕ) (told : Bool) → told ≡ true → AppendsExplained (ArePiecesExplained o file text r pieces) old new told
-      → AppendsSome (IsUnreadExplained o file text pieces r) old new
-  pieces_tell pieces r new told e a = (a.0, inl (subst (λ (b : Bool). ArePiecesExplained o file text r pieces b a.0) e a.1), a.2)
+  pub pieces_tell : (pieces : List Piece) (r : Refusal) (new : List ℕ) (told : Bool) → told ≡ true → AppendsExplained (ArePiecesExplained o file text tokens r pieces) old new told
+      → AppendsSome (IsUnreadExplained o file text tokens pieces r) old new
+  pieces_tell pieces r new told e a = (a.0, inl (subst (λ (b : Bool). ArePiecesExplained o file text tokens r pieces b a.0) e a.1), a.2)
 
   pub file_tells : (pieces : List Piece) (r : Refusal) (mid new : List ℕ) (told : Bool) (at : ℕ) → told ≡ false → at ≡ unwrap_or r.place 0
-      → AppendsExplained (ArePiecesExplained o file text r pieces) old mid told → AppendsSome (IsSourceAt file text [] r.code at) mid new
-      → AppendsSome (IsUnreadExplained o file text pieces r) old new
+      → AppendsExplained (ArePiecesExplained o file text tokens r pieces) old mid told → AppendsSome (IsReadErrorText file text tokens r.code at) mid new
+      → AppendsSome (IsUnreadExplained o file text tokens pieces r) old new
   file_tells pieces r mid new told at e f a b =
-      let first = subst (λ (t : Bool). ArePiecesExplained o file text r pieces t a.0) e a.1 in
-      let last = subst (λ (n : ℕ). IsSourceAt file text [] r.code n b.0) f b.1 in
+      let first = subst (λ (t : Bool). ArePiecesExplained o file text tokens r pieces t a.0) e a.1 in
+      let last = subst (λ (n : ℕ). IsReadErrorText file text tokens r.code n b.0) f b.1 in
       (a.0 ++ b.0, inr (a.0, b.0, first, last, refl), in_turn old mid new a.0 b.0 a.2 b.2)
 
 -- ---- a file
 
-module _ (o : Option StatedSchema) (file held text : List ℕ) (tokens : List Token) (pieces : List Piece) (is_text : IsTextOf held text)
+module _ (o : Option StatedSchema) (file text : List ℕ) (tokens : List Token) (pieces : List Piece)
     (are_tokens : AreTokensOf text tokens) (are_pieces : ArePiecesOf (length text) tokens pieces) (old new : List ℕ) where
-  pub file_parses : (names : List (List ℕ)) (cores : List Policy) → ArePoliciesOf held names cores
-      → AppendsSome (ArePoliciesExplained o file text pieces cores) old new → AppendsSome (IsFileExplained o file held) old new
-  file_parses names cores h a = (
-    a.0,
-    record {
-      text = text;
-      is_text = is_text;
-      tokens = tokens;
-      are_tokens = are_tokens;
-      pieces = pieces;
-      are_pieces = are_pieces;
-      outcome = whole.read names cores a.0 h a.1;
-    },
-    a.2,
-  )
+  text_parses_so : (bytes : List ℕ) → IsOutcomeExplained o file text tokens pieces bytes → IsTextExplained o file text bytes
+  text_parses_so bytes h = record { tokens = tokens; are_tokens = are_tokens; pieces = pieces; are_pieces = are_pieces; outcome = h }
 
-  pub file_does_not : (r : Refusal) → ArePoliciesRefused held r → AppendsSome (IsUnreadExplained o file text pieces r) old new
-      → AppendsSome (IsFileExplained o file held) old new
-  file_does_not r h a = (
-    a.0,
-    record {
-      text = text;
-      is_text = is_text;
-      tokens = tokens;
-      are_tokens = are_tokens;
-      pieces = pieces;
-      are_pieces = are_pieces;
-      outcome = whole.unread r a.0 h a.1;
-    },
-    a.2,
-  )
+  pub text_parses : (names : List (List ℕ)) (cores : List Policy) → ArePoliciesOf text names cores
+      → AppendsSome (ArePoliciesExplained o file text pieces cores) old new → AppendsSome (IsTextExplained o file text) old new
+  text_parses names cores h a = (a.0, text_parses_so a.0 (whole.read names cores a.0 h a.1), a.2)
+
+  pub text_does_not : (r : Refusal) → ArePoliciesRefused text r → AppendsSome (IsUnreadExplained o file text tokens pieces r) old new
+      → AppendsSome (IsTextExplained o file text) old new
+  text_does_not r h a = (a.0, text_parses_so a.0 (whole.unread r a.0 h a.1), a.2)
+
+-- bytes of which only a front is UTF-8 are not
+pub no_utf8 : (bytes : List ℕ) (at : ℕ) → IsValidUpTo bytes at → IsUtf8 bytes → ⊥
+no_utf8 bytes at valid utf8 = valid.longest (length bytes) valid.short (subst IsUtf8 (sym (take_all (length bytes) bytes (omega arith))) utf8)
+
+module _ (o : Option StatedSchema) (file held old new : List ℕ) where
+  pub held_text : (text : List ℕ) → text ≡ held → IsUtf8 held → AppendsSome (IsTextExplained o file text) old new → AppendsSome (IsFileExplained o file held) old new
+  held_text text same utf8 a = (a.0, inl (utf8, subst (λ (t : List ℕ). IsTextExplained o file t a.0) same a.1), a.2)
+
+  pub held_no_text : AppendsSome (IsNoTextExplained file held) old new → AppendsSome (IsFileExplained o file held) old new
+  held_no_text a = (a.0, inr a.1, a.2)
 
 -- ---- what was checked
 

@@ -78,22 +78,22 @@ module _ (s : Option StatedSchema) (file text : List ℕ) (pieces : List Piece) 
 
 -- ---- pieces
 
-module _ (s : Option StatedSchema) (file text : List ℕ) (r : Refusal) where
-  pub no_piece : (old : List ℕ) → AppendsExplained (ArePiecesExplained s file text r []) old old false
+module _ (s : Option StatedSchema) (file text : List ℕ) (tokens : List Token) (r : Refusal) where
+  pub no_piece : (old : List ℕ) → AppendsExplained (ArePiecesExplained s file text tokens r []) old old false
   no_piece old = ([], unread.none, nothing_more old)
 
   pub piece_more : (ps : List Piece) (i : ℕ) (d : Piece) (old mid new : List ℕ) (some told : Bool) → i < length ps
-      → AppendsExplained (ArePiecesExplained s file text r (take i ps)) old mid some
-      → AppendsExplained (IsPieceExplained s file text r (get_or ps i d)) mid new told
-      → AppendsExplained (ArePiecesExplained s file text r (take (i + 1) ps)) old new (some || told)
+      → AppendsExplained (ArePiecesExplained s file text tokens r (take i ps)) old mid some
+      → AppendsExplained (IsPieceExplained s file text tokens r (get_or ps i d)) mid new told
+      → AppendsExplained (ArePiecesExplained s file text tokens r (take (i + 1) ps)) old new (some || told)
   piece_more ps i d old mid new some told below was comes = (
     was.0 ++ comes.0,
-    subst (λ (l : List Piece). ArePiecesExplained s file text r l (some || told) (was.0 ++ comes.0)) (sym (take_more ps i d below))
+    subst (λ (l : List Piece). ArePiecesExplained s file text tokens r l (some || told) (was.0 ++ comes.0)) (sym (take_more ps i d below))
         (unread.more (take i ps) (get_or ps i d) some told was.0 comes.0 was.1 comes.1),
     in_turn old mid new was.0 comes.0 was.2 comes.2,
   )
 
   pub all_pieces : (ps : List Piece) (i : ℕ) (old new : List ℕ) (some : Bool) → length ps ≤ i
-      → AppendsExplained (ArePiecesExplained s file text r (take i ps)) old new some → AppendsExplained (ArePiecesExplained s file text r ps) old new some
+      → AppendsExplained (ArePiecesExplained s file text tokens r (take i ps)) old new some → AppendsExplained (ArePiecesExplained s file text tokens r ps) old new some
   all_pieces ps i old new some past was =
-      subst (λ (l : List Piece). AppendsExplained (ArePiecesExplained s file text r l) old new some) (all_taken ps i past) was
+      subst (λ (l : List Piece). AppendsExplained (ArePiecesExplained s file text tokens r l) old new some) (all_taken ps i past) was

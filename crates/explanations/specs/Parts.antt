@@ -1,6 +1,6 @@
 -- Defines parts of a text, and the texts of errors by their code and place.
--- Rules of this product: an error is shown at the byte at which it begins. These definitions leave open how many
--- characters are marked, and what is named as the cause.
+-- Rules of this product: an error in a part of a text is shown at that part, with a cause and a note, which may be
+-- empty; another error is shown by its file, and by its index if it is in an array.
 use Rattle.std.specs.Prelude.{◌≡◌, ◌⊎◌, ℕ, List, [], ◌++◌, Option, None, take, drop}
 use Rattle.std.specs.Str.{IsCharBoundary}
 use Rattle.explanation_texts.specs.declared.finding.SourceFinding.{SourceFinding}
@@ -10,18 +10,24 @@ use Rattle.explanation_texts.specs.ExplanationText.{IsSourceText, IsWholeText}
 -- `IsPartOf text from to part` holds if `part` is the text between the bytes `from` and `to`, or empty if they are not
 -- character boundaries of `text` in this order.
 abbrev pub IsPartOf : List ℕ → ℕ → ℕ → List ℕ → Type 0
-IsPartOf text from to part = (part ≡ drop from (take to text))
+IsPartOf text from to part =
+    (IsCharBoundary text to × IsCharBoundary (take to text) from × (part ≡ drop from (take to text)))
     ⊎ ((part ≡ []) × ((IsCharBoundary text to → ⊥) ⊎ (IsCharBoundary (take to text) from → ⊥)))
 
--- `IsSourceAt file text note code start bytes` holds if `bytes` explain an error of this code at the byte `start` of
--- `text`, with the note `note` and without a detail.
-pub record IsSourceAt (file text note : List ℕ) (code start : ℕ) (bytes : List ℕ) : Type 0 where
-  pub finding : SourceFinding
-  pub code_is : finding.code ≡ code
-  pub start_is : finding.start ≡ start
-  pub detail_is : finding.detail.now ≡ []
-  pub note_is : finding.note.now ≡ note
-  pub is_text : IsSourceText file text finding bytes
+-- `IsSourceAt file text note code start end IsCause bytes` holds if `bytes` explain an error of this code in the part
+-- of `text` between the bytes `start` and `end`, with a cause for which `IsCause` holds, with the note `note`, and
+-- without a detail.
+pub record IsSourceAt (file text note : List ℕ) (code start end : ℕ) (IsCause : List ℕ → Type 0) (bytes : List ℕ) :
+    Type 0
+  where
+    pub finding : SourceFinding
+    pub code_is : finding.code ≡ code
+    pub start_is : finding.start ≡ start
+    pub end_is : finding.end ≡ end
+    pub cause_holds : IsCause finding.cause.now
+    pub detail_is : finding.detail.now ≡ []
+    pub note_is : finding.note.now ≡ note
+    pub is_text : IsSourceText file text finding bytes
 
 -- `IsNothing words` holds if `words` are empty.
 abbrev pub IsNothing : List ℕ → Type 0

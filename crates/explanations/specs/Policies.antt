@@ -2,8 +2,8 @@
 -- Rules of this product: each policy that `check` reports as rejected is explained, in the order of the file, once,
 -- with the code that `check` reports, and no other policy is. A policy of at most 10,000 bytes, whose condition has at
 -- most 10,000 nodes, is explained with the cause and the types in the first environment with an error, at the name or
--- the expression at fault; a larger one at its position. A note says so if the whole policy is shown. Without a schema
--- no policy is rejected.
+-- the expression at fault; a larger one without a cause, at the whole policy. A note says so if the whole policy is
+-- shown. Without a schema no policy is rejected.
 use Rattle.std.specs.Prelude.{◌≡◌, ℕ, ◌+◌, ◌-◌, min, nat_le, Bool, true, false, ◌&&◌, List, [], ◌∷◌, ◌++◌, length}
 use Rattle.std.specs.Prelude.{Option, Some, None}
 use Rattle.std.specs.Prelude.{string_bytes, codes}
@@ -22,7 +22,7 @@ use Rattle.explanations.specs.declared.pieces.Piece.{Piece}
 use Rattle.explanations.specs.Pieces.{piece_at}
 use Rattle.token_spans.specs.declared.spans.Span.{Span}
 use Rattle.token_spans.specs.Spans.{IsSpanOf, IsNameSpanOf}
-use Rattle.explanations.specs.Parts.{IsPartOf, IsSourceAt}
+use Rattle.explanations.specs.Parts.{IsNothing, IsPartOf, IsSourceAt}
 
 -- `is_searched place policy` tests whether `policy`, at `place`, is searched for the expression at fault: its text has
 -- at most 10,000 bytes, and its condition at most 10,000 nodes. (A text of 1,000 bytes may have 1,000,000 nodes: nested
@@ -90,7 +90,7 @@ pub data IsCheckExplained (s : StatedSchema) (file text : List ℕ) (place : Pie
     rejected_so : (f : PolicyFault) (bytes : List ℕ) → is_searched place policy ≡ true → IsPolicyFault s policy f
         → IsFaultText file text place f bytes → IsCheckExplained s file text place policy bytes
     too_large : (fault : TypeFault) (bytes : List ℕ) → is_searched place policy ≡ false → IsCheckRefused s policy fault
-        → IsSourceAt file text large_note (code_of fault) place.start bytes
+        → IsSourceAt file text large_note (code_of fault) place.start place.end IsNothing bytes
         → IsCheckExplained s file text place policy bytes
 
 -- `IsPolicyExplained s file text place policy bytes` is the same relation if there is a schema; else `bytes` are empty.

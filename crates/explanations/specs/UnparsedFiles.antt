@@ -2,9 +2,12 @@
 -- Rules of this product: each part of the file that ends with a `;`, or with the file, is parsed as a file of its own,
 -- in order. A part that does not parse is explained by its first error, and a policy that does not pass like one of a
 -- parsed file. The error of a part is that of the file if both have the same code at the same byte, or the same code 18
--- or 19, whose errors have no byte of their own.
-use Rattle.std.specs.Prelude.{◌==◌, ◌&&◌, nat_le}
+-- or 19, whose errors have no byte of their own. An error is shown at the token at its byte; an error of the grammar
+-- has that token as its cause.
+use Rattle.std.specs.Prelude.{◌==◌, ◌&&◌, nat_le, ◌<◌, ◌≤◌, ◌⊎◌, codes, length}
 use Rattle.std.specs.Prelude.{◌≡◌, ℕ, ◌+◌, min, Bool, true, false, ◌||◌, List, [], ◌∷◌, ◌++◌, Option, unwrap_or}
+use Rattle.std.specs.Prelude.{find, option_map}
+use Rattle.grammar_desugaring.specs.grammar_tokens.declared.token.Token.{Token}
 use Rattle.policy_grammar.specs.declared.policy.Policy.{Policy}
 use Rattle.policy_grammar.specs.declared.fault.ReadFault.{ReadFault}
 use Rattle.policy_grammar.specs.Faults.{code_of, place_of}
@@ -28,25 +31,51 @@ is_placeless code = nat_le 18 code && nat_le code 19
 abbrev pub is_that : Refusal → ℕ → ℕ → Bool
 is_that r code at = (code == r.code) && ((at == unwrap_or r.place 0) || is_placeless code)
 
--- `IsPieceExplained s file text r piece told bytes` holds if `bytes` explain a piece of a file that is rejected with
--- `r`; `told` says whether the piece by itself does not parse and has the error `r`.
-pub data IsPieceExplained (s : Option StatedSchema) (file text : List ℕ) (r : Refusal) (piece : Piece)
-    : Bool → List ℕ → Type 0 where
+-- `end_of_token tokens at` is the byte after the first of `tokens` that starts at the byte `at`; `at` itself if none
+-- starts there.
+abbrev pub end_of_token : List Token → ℕ → ℕ
+end_of_token tokens at = unwrap_or (option_map (λ t. t.end) (find (λ t. t.start == at) tokens)) at
+
+-- `names_token code` tests for the errors of the grammar, whose cause is a token: 11 (unexpected) to 16 (slot).
+abbrev pub names_token : ℕ → Bool
+names_token code = nat_le 11 code && nat_le code 16
+
+-- `IsCauseAt text code at end cause` holds if `cause` is the cause of an error of this code at the token between the
+-- bytes `at` and `end` of `text`: that token, or `end of the text` if `at` is the end of `text`; nothing for an error
+-- that names no token.
+abbrev pub IsCauseAt : List ℕ → ℕ → ℕ → ℕ → List ℕ → Type 0
+IsCauseAt text code at end cause =
+    ((names_token code ≡ false) × (cause ≡ []))
+    ⊎ ((names_token code ≡ true) × (at < length text) × IsPartOf text at end cause)
+    ⊎ ((names_token code ≡ true) × (length text ≤ at) × (cause ≡ codes "end of the text"))
+
+-- `IsReadErrorText file text tokens code at bytes` holds if `bytes` explain an error of this code, for which `text`,
+-- with these tokens, does not parse, at the byte `at`.
+abbrev pub IsReadErrorText : List ℕ → List ℕ → List Token → ℕ → ℕ → List ℕ → Type 0
+IsReadErrorText file text tokens code at =
+    IsSourceAt file text [] code at (end_of_token tokens at) (IsCauseAt text code at (end_of_token tokens at))
+
+-- `IsPieceExplained s file text tokens r piece told bytes` holds if `bytes` explain a piece of a file, with the text
+-- `text` and these tokens, that is rejected with `r`; `told` says whether the piece by itself does not parse and has
+-- the error `r`.
+pub data IsPieceExplained (s : Option StatedSchema) (file text : List ℕ) (tokens : List Token) (r : Refusal)
+    (piece : Piece) : Bool → List ℕ → Type 0 where
   is_read : (part : List ℕ) (names : List (List ℕ)) (cores : List Policy) (bytes : List ℕ)
       → IsPartOf text piece.start piece.end part → IsPolicyFile part names cores
-      → ArePoliciesExplained s file text (piece ∷ []) cores bytes → IsPieceExplained s file text r piece false bytes
+      → ArePoliciesExplained s file text (piece ∷ []) cores bytes
+      → IsPieceExplained s file text tokens r piece false bytes
   is_unread : (part : List ℕ) (fault : ReadFault) (bytes : List ℕ) → IsPartOf text piece.start piece.end part
-      → IsFileRefused part fault → IsSourceAt file text [] (code_of fault) (byte_in piece fault) bytes
-      → IsPieceExplained s file text r piece (is_that r (code_of fault) (byte_in piece fault)) bytes
+      → IsFileRefused part fault → IsReadErrorText file text tokens (code_of fault) (byte_in piece fault) bytes
+      → IsPieceExplained s file text tokens r piece (is_that r (code_of fault) (byte_in piece fault)) bytes
 
--- `ArePiecesExplained s file text r pieces told bytes` holds if `bytes` explain each of the pieces, in order; `told`
--- says whether `r` is the error of one of them.
-pub data ArePiecesExplained (s : Option StatedSchema) (file text : List ℕ) (r : Refusal)
+-- `ArePiecesExplained s file text tokens r pieces told bytes` holds if `bytes` explain each of the pieces, in order;
+-- `told` says whether `r` is the error of one of them.
+pub data ArePiecesExplained (s : Option StatedSchema) (file text : List ℕ) (tokens : List Token) (r : Refusal)
     : List Piece → Bool → List ℕ → Type 0 where
-  none : ArePiecesExplained s file text r [] false []
+  none : ArePiecesExplained s file text tokens r [] false []
   more : (ps : List Piece) (p : Piece) (some told : Bool) (before bytes : List ℕ)
-      → ArePiecesExplained s file text r ps some before → IsPieceExplained s file text r p told bytes
-      → ArePiecesExplained s file text r (ps ++ p ∷ []) (some || told) (before ++ bytes)
+      → ArePiecesExplained s file text tokens r ps some before → IsPieceExplained s file text tokens r p told bytes
+      → ArePiecesExplained s file text tokens r (ps ++ p ∷ []) (some || told) (before ++ bytes)
 
 -- `AppendsExplained Is old new told` holds if `new` is `old` followed by bytes for which `Is told` holds.
 abbrev pub AppendsExplained : (Bool → List ℕ → Type 0) → List ℕ → List ℕ → Bool → Type 0

@@ -1,10 +1,12 @@
 //! Explains what is rejected in the texts of a schema, policies, entities and a request.
-ghost use Rattle.std.specs.Prelude.{◌≡◌, OnOk, IfOk, option_map, string_bytes};
+ghost use Rattle.std.specs.Prelude.{◌≡◌, OnOk, IfOk, None, option_map, string_bytes};
+ghost use Rattle.std.specs.Str.{IsValidUpTo};
 ghost use Rattle.schema_decisions.specs.schema.Views.{schema_view};
 ghost use Rattle.schema_decisions.specs.answer_lines.Refusals.{no_memory};
 ghost use Rattle.explanations.specs.Files.{file_of, files_of};
 ghost use Rattle.explanations.specs.Parts.{AppendsSome, IsNothing, IsWholeAt};
-ghost use Rattle.explanations.specs.FileExplanations.{IsTextOf, AreTokensOf, IsFileExplained, AreOthersExplained};
+ghost use Rattle.explanations.specs.FileExplanations.{AreTokensOf, IsTextExplained, not_utf8_words};
+ghost use Rattle.explanations.specs.FileExplanations.{IsNoTextExplained, IsFileExplained, AreOthersExplained};
 ghost use Rattle.explanations.specs.FileExplanations.{IsExplained};
 ghost use Rattle.explanations.specs.FileExplanations.{IsUnreadExplained, IsExplainedUnder};
 
@@ -14,20 +16,11 @@ use crate::parts::{push_refusal, unless_no_memory};
 use crate::pieces::{Piece, pieces_of};
 use crate::policies::explain_policies;
 use crate::unread::{Lexed, explain_pieces, push_read_fault};
+use explanation_texts::{WholeFinding, push_whole};
 use grammar_desugaring::{LexFault, Token, tokens};
 use plain::NoMemory;
 use schema_decisions::{Refusal, Schema, policies_of_file, schema_in};
 use std::alloc::Global;
-
-/// Returns bytes as text; an empty one if they are not UTF-8.
-fn text_of(bytes: &[u8]) -> &str
-    ensures { IsTextOf bytes.now result.now }
-{
-    match str::from_utf8(bytes) {
-        Ok(text) => text,
-        Err(_) => "",
-    }
-}
 
 /// Returns the tokens of a text; an empty list if at some byte no token begins.
 fn tokens_of(alloc: Global, text: &str) -> Result<Vec<Token>, NoMemory>
@@ -53,7 +46,8 @@ fn explain_unread(
 ) -> Result<(), NoMemory>
     ensures { OnOk result ((lexed.entry.refusal ≡ no_memory → ⊥)
         × AppendsSome (IsUnreadExplained (option_map (λ s. schema_view s.now) schema.entry) lexed.entry.file.now
-        lexed.entry.text.now pieces.now lexed.entry.refusal) (string_bytes out.old) (string_bytes out.new)) }
+        lexed.entry.text.now lexed.entry.tokens.now pieces.now lexed.entry.refusal)
+        (string_bytes out.old) (string_bytes out.new)) }
 {
     unless_no_memory(lexed.refusal)?;
     let some = explain_pieces(alloc, out, schema, lexed, pieces)?;
@@ -62,6 +56,89 @@ fn explain_unread(
     }
     let at = lexed.refusal.place.unwrap_or(0);
     push_read_fault(alloc, out, lexed, lexed.refusal.code, at)
+}
+
+/// Appends the explanation of what is rejected in a file of policies with this text.
+fn explain_text(
+    alloc: Global,
+    out: &mut String,
+    schema: Option<&Schema>,
+    file: &str,
+    text: &str,
+) -> Result<(), NoMemory>
+    ensures { OnOk result (AppendsSome
+        (IsTextExplained (option_map (λ s. schema_view s.now) schema.entry) file.now text.now)
+        (string_bytes out.old) (string_bytes out.new)) }
+{
+    let tokens = tokens_of(alloc, text)?;
+    let all = tokens.as_slice();
+    let pieces = pieces_of(alloc, all, text.len())?;
+    let found_pieces = pieces.as_slice();
+    match policies_of_file(alloc, text.as_bytes()) {
+        Ok(policies) => {
+            let named = policies.as_slice();
+            explain_policies(alloc, out, schema, file, text, found_pieces, named)
+        }
+        Err(refusal) => {
+            let lexed = Lexed {
+                file,
+                text,
+                tokens: all,
+                refusal,
+            };
+            explain_unread(alloc, out, schema, lexed, found_pieces)
+        }
+    }
+}
+
+/// Returns the words on a file that is UTF-8 before the byte `at`, but no further.
+fn not_utf8_words(alloc: Global, at: usize) -> Result<String, NoMemory>
+    ensures { IfOk result (λ words. string_bytes words ≡ not_utf8_words at) }
+{
+    let mut words = String::new(alloc);
+    write!(words, "the file is not UTF-8 at byte {at} (from 0)")?;
+    Ok(words)
+}
+
+/// Appends that the file `file`, which is rejected with `refusal`, is not UTF-8 at the byte `at`. Returns `NoMemory` if
+/// `refusal` is out of memory.
+fn push_not_utf8(
+    alloc: Global,
+    out: &mut String,
+    file: &str,
+    refusal: Refusal,
+    at: usize,
+) -> Result<(), NoMemory>
+    ensures { OnOk result ((refusal ≡ no_memory → ⊥)
+        × AppendsSome (IsWholeAt file.now refusal.code None (λ words. words ≡ not_utf8_words at))
+        (string_bytes out.old) (string_bytes out.new)) }
+{
+    let checked = unless_no_memory(refusal)?;
+    let words = not_utf8_words(alloc, at)?;
+    let finding = WholeFinding {
+        code: u16::from(checked.code),
+        index: None,
+        detail: words.as_str(),
+    };
+    push_whole(out, file, &finding)
+}
+
+/// Appends that a file of policies is not UTF-8, where `at` is the length of its longest part from the beginning that
+/// is.
+fn explain_no_text(
+    alloc: Global,
+    out: &mut String,
+    source: NamedText<'_, '_>,
+    at: usize,
+) -> Result<(), NoMemory>
+    ensures { IsValidUpTo source.entry.text.now at → OnOk result (AppendsSome
+        (IsNoTextExplained source.entry.name.now source.entry.text.now)
+        (string_bytes out.old) (string_bytes out.new)) }
+{
+    match policies_of_file(alloc, source.text) {
+        Ok(_policies) => Ok(()),
+        Err(refusal) => push_not_utf8(alloc, out, source.name, refusal, at),
+    }
 }
 
 /// Appends the explanation of what is rejected in a file of policies.
@@ -74,25 +151,9 @@ fn explain_file(
     ensures { OnOk result (AppendsSome (IsFileExplained (option_map (λ s. schema_view s.now) schema.entry)
         source.entry.name.now source.entry.text.now) (string_bytes out.old) (string_bytes out.new)) }
 {
-    let text = text_of(source.text);
-    let tokens = tokens_of(alloc, text)?;
-    let all = tokens.as_slice();
-    let pieces = pieces_of(alloc, all, text.len())?;
-    let found_pieces = pieces.as_slice();
-    match policies_of_file(alloc, source.text) {
-        Ok(policies) => {
-            let named = policies.as_slice();
-            explain_policies(alloc, out, schema, source.name, text, found_pieces, named)
-        }
-        Err(refusal) => {
-            let lexed = Lexed {
-                file: source.name,
-                text,
-                tokens: all,
-                refusal,
-            };
-            explain_unread(alloc, out, schema, lexed, found_pieces)
-        }
+    match str::from_utf8(source.text) {
+        Ok(text) => explain_text(alloc, out, schema, source.name, text),
+        Err(fault) => explain_no_text(alloc, out, source, fault.valid_up_to()),
     }
 }
 
@@ -172,7 +233,8 @@ fn explain_given(alloc: Global, out: &mut String, given: &Given<'_, '_>) -> Resu
 /// A policy that does not pass validation is explained with the code that `check` reports. If the file does not parse,
 /// each piece of it, which ends with a `;` or with the file, is parsed as a file of its own: it is explained by its own
 /// first error or, if it parses, checked as a policy of a file. The file's error comes last, unless a piece has it. A
-/// text that is not UTF-8, or in which no token begins at some byte, has no pieces.
+/// text in which no token begins at some byte has no pieces. Of a file that is not UTF-8, the first byte that is no
+/// part of a character is named, and no line is shown.
 ///
 /// # Errors
 ///

@@ -1,34 +1,36 @@
 //! A limit on the number of nodes of an expression, tested in time that the limit bounds.
-ghost use Rattle.std.specs.Prelude.{◌≡◌, ◌+◌, map, nat_le};
+ghost use Rattle.std.specs.Prelude.{◌≡◌, ◌+◌, ◌-◌, map, nat_le};
 ghost use Rattle.grammar_core.specs.Size.{node_count, total, values_of};
-ghost use Rattle.explanations.specs.inner.NodeLimits.{room_after, named_count};
+ghost use Rattle.explanations.specs.inner.NodeLimits.{named_count};
 
 use grammar_core::{Expr, Named};
+use plain::Shared;
 
 /// Returns whether an expression has at most `most` nodes.
 ///
 /// O(`most`), however many nodes there are. Does not allocate. The stack grows with the height of the expression.
-pub(crate) fn has_at_most(expr: &Expr, most: u64) -> bool
+pub(crate) fn has_at_most(expr: &Expr, most: u32) -> bool
     ensures { result ≡ nat_le (node_count expr.now) most }
 {
-    nodes_left(expr, most).is_some()
+    nodes_left(expr, u64::from(most) + 1) > 0
 }
 
-/// Returns what the nodes of an expression leave of the room for `room` nodes, or `None` if there are more.
+/// Returns what the nodes of an expression leave of the room for `room` nodes; 0 if they need all of it, or more.
 ///
 /// Returns at the first node without room.
 #[cycle(nodes_left)]
-fn nodes_left(expr: &Expr, room: u64) -> Option<u64>
-    ensures { result ≡ room_after (node_count expr.now) room }
+fn nodes_left(expr: &Expr, room: u64) -> u64
+    ensures { result ≡ room - node_count expr.now }
 {
     if room == 0 {
-        return None;
+        return 0;
     }
     let rest = room - 1;
     match expr {
-        Expr::Literal(_) | Expr::Variable(_) => Some(rest),
+        Expr::Literal(_) => rest,
+        Expr::Variable(_) => rest,
         Expr::If(test, consequent, alternative) => {
-            let branches = nodes_left(test, rest)?;
+            let branches = nodes_left(test, rest);
             both_left(consequent, alternative, branches)
         }
         Expr::And(left, right) => both_left(left, right, rest),
@@ -46,33 +48,39 @@ fn nodes_left(expr: &Expr, room: u64) -> Option<u64>
 
 /// Returns what the nodes of two expressions leave of the room for `room` nodes.
 #[cycle(nodes_left)]
-fn both_left(left: &Expr, right: &Expr, room: u64) -> Option<u64>
-    ensures { result ≡ room_after (node_count left.now + node_count right.now) room }
+fn both_left(left: &Shared<Expr>, right: &Shared<Expr>, room: u64) -> u64
+    ensures { result ≡ room - (node_count left.now + node_count right.now) }
 {
-    let rest = nodes_left(left, room)?;
+    let rest = nodes_left(left, room);
     nodes_left(right, rest)
 }
 
 /// Returns what the nodes of several expressions leave of the room for `room` nodes.
 #[cycle(nodes_left)]
-fn members_left(members: &[Expr], room: u64) -> Option<u64>
-    ensures { result ≡ room_after (total (map node_count members.now)) room }
+fn members_left(members: &[Expr], room: u64) -> u64
+    ensures { result ≡ room - total (map node_count members.now) }
 {
     let mut rest = room;
     for member in members {
-        rest = nodes_left(member, rest)?;
+        if rest == 0 {
+            return 0;
+        }
+        rest = nodes_left(member, rest);
     }
-    Some(rest)
+    rest
 }
 
 /// Returns what the nodes of the values of a record's fields leave of the room for `room` nodes.
 #[cycle(nodes_left)]
-fn fields_left(fields: &[Named<Expr>], room: u64) -> Option<u64>
-    ensures { result ≡ room_after (total (values_of (map named_count fields.now))) room }
+fn fields_left(fields: &[Named<Expr>], room: u64) -> u64
+    ensures { result ≡ room - total (values_of (map named_count fields.now)) }
 {
     let mut rest = room;
     for field in fields {
-        rest = nodes_left(&field.value, rest)?;
+        if rest == 0 {
+            return 0;
+        }
+        rest = nodes_left(&field.value, rest);
     }
-    Some(rest)
+    rest
 }

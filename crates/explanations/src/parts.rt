@@ -1,12 +1,11 @@
 //! Parts of a text, and the texts that explain errors.
 ghost use Rattle.std.specs.Prelude.{◌≡◌, OnOk, IfOk, string_bytes};
 ghost use Rattle.schema_decisions.specs.answer_lines.Refusals.{no_memory};
-ghost use Rattle.explanations.specs.Parts.{IsPartOf, IsSourceAt, IsWholeAt, AppendsSome};
+ghost use Rattle.explanations.specs.Parts.{IsPartOf, IsWholeAt, AppendsSome};
 
-use explanation_texts::{SourceFinding, WholeFinding, push_source, push_whole};
+use explanation_texts::{WholeFinding, push_whole};
 use plain::NoMemory;
 use schema_decisions::Refusal;
-use std::alloc::Global;
 
 /// Returns the text between two bytes; nothing if they are not character boundaries in this order.
 pub(crate) fn part_of(text: &str, from: usize, to: usize) -> &str
@@ -19,44 +18,6 @@ pub(crate) fn part_of(text: &str, from: usize, to: usize) -> &str
         },
         None => "",
     }
-}
-
-/// An error at a part of a text, without a detail.
-#[derive(Clone, Copy)]
-pub(crate) struct PlainFinding<'t> {
-    /// The code.
-    pub code: u16,
-    /// The byte of the text at which the part begins.
-    pub start: usize,
-    /// The byte after the part.
-    pub end: usize,
-    /// What is named as the cause; empty if nothing is.
-    pub cause: &'t str,
-    /// What the shown place is, if it is not the place of the error itself; else empty.
-    pub note: &'static str,
-}
-
-/// Appends the text of an error at a part of a text.
-pub(crate) fn push_at(
-    alloc: Global,
-    out: &mut String,
-    file: &str,
-    text: &str,
-    plain: PlainFinding<'_>,
-) -> Result<(), NoMemory>
-    ensures { OnOk result (AppendsSome
-        (IsSourceAt file.now text.now plain.entry.note.now plain.entry.code plain.entry.start)
-        (string_bytes out.old) (string_bytes out.new)) }
-{
-    let finding = SourceFinding {
-        code: plain.code,
-        start: plain.start,
-        end: plain.end,
-        cause: plain.cause,
-        detail: "",
-        note: plain.note,
-    };
-    push_source(alloc, out, file, text, &finding)
 }
 
 /// Appends the text of an error in the file `file`: at the index of an item in its array, if the error has one, with

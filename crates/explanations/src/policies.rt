@@ -9,7 +9,7 @@ ghost use Rattle.explanations.specs.Policies.{IsCheckExplained, IsPolicyExplaine
 ghost use Rattle.explanations.specs.Policies.{ArePoliciesExplained};
 
 use crate::node_limits::has_at_most;
-use crate::parts::{PlainFinding, part_of, push_at};
+use crate::parts::part_of;
 use crate::pieces::{Piece, piece_at};
 use explanation_texts::{SourceFinding, push_source};
 use fault_paths::{PolicyFault, TypeFault, check, explain_fault};
@@ -21,10 +21,10 @@ use token_spans::{Span, name_span, span_of};
 // The greatest length in bytes of a policy that is searched for the expression at fault.
 const MOST_BYTES: usize = 10000;
 
-// The greatest number of nodes of the condition of such a policy. The search types the part at fault, of at most these
-// nodes, again on each of at most 1,000 levels: in an environment at most 10,000,000 nodes, ten times the 1,000,000 of
-// the largest policy.
-const MOST_NODES: u64 = 10000;
+// The greatest number of nodes of the condition of such a policy. The search types the part at fault again on each of
+// at most 1,000 levels. So in an environment it types at most 10,000,000 nodes, ten times the 1,000,000 nodes of the
+// largest policy.
+const MOST_NODES: u32 = 10000;
 
 /// Returns whether a policy is searched for the expression at fault.
 fn is_searched(piece: Piece, policy: &Policy) -> bool
@@ -176,14 +176,15 @@ fn explain_large(
     match rejection_of(alloc, schema, policy)? {
         None => Ok(()),
         Some(fault) => {
-            let finding = PlainFinding {
+            let finding = SourceFinding {
                 code: u16::from(fault.code()),
                 start: piece.start,
                 end: piece.end,
                 cause: "",
+                detail: "",
                 note: "the policy is too large to show the expression at fault",
             };
-            push_at(alloc, out, file, text, finding)
+            push_source(alloc, out, file, text, &finding)
         }
     }
 }

@@ -2,14 +2,16 @@
 ghost use Rattle.std.specs.Prelude.{◌==◌, unwrap_or};
 ghost use Rattle.std.specs.Prelude.{◌≡◌, ◌∷◌, ◌||◌, [], OnOk, IfOk, map, option_map, string_bytes};
 ghost use Rattle.schema_decisions.specs.schema.Views.{schema_view};
-ghost use Rattle.explanations.specs.Parts.{AppendsSome, IsSourceAt};
+ghost use Rattle.explanations.specs.Parts.{AppendsSome};
 ghost use Rattle.explanations.specs.Policies.{ArePoliciesExplained};
 ghost use Rattle.explanations.specs.UnparsedFiles.{IsPieceExplained, ArePiecesExplained, AppendsExplained};
+ghost use Rattle.explanations.specs.UnparsedFiles.{end_of_token, names_token, IsCauseAt, IsReadErrorText};
 ghost use Rattle.explanations.specs.UnparsedFiles.{is_placeless, is_that};
 
-use crate::parts::{PlainFinding, part_of, push_at};
+use crate::parts::part_of;
 use crate::pieces::Piece;
 use crate::policies::explain_policies;
+use explanation_texts::{SourceFinding, push_source};
 use grammar_desugaring::Token;
 use plain::NoMemory;
 use policy_grammar::{ReadFault, parse_policies};
@@ -30,7 +32,9 @@ pub(crate) struct Lexed<'t> {
 }
 
 /// Returns the end of the token that starts at a byte; the byte itself if no token starts there.
-fn end_of_token(tokens: &[Token], at: usize) -> usize {
+fn end_of_token(tokens: &[Token], at: usize) -> usize
+    ensures { result ≡ end_of_token tokens.now at }
+{
     for token in tokens {
         if token.start == at {
             return token.end;
@@ -40,13 +44,17 @@ fn end_of_token(tokens: &[Token], at: usize) -> usize {
 }
 
 /// Returns whether an error of this code names the token at its place: 11 (unexpected) to 16 (slot), of the grammar.
-fn names_token(code: u8) -> bool {
+fn names_token(code: u8) -> bool
+    ensures { result ≡ names_token code }
+{
     matches!(code, 11..=16)
 }
 
 /// Returns the text from `at` to `end`, or `end of the text` if `at` is its end; the empty string for an error that
 /// does not name a token.
-fn cause_at(text: &str, code: u8, at: usize, end: usize) -> &str {
+fn cause_at(text: &str, code: u8, at: usize, end: usize) -> &str
+    ensures { IsCauseAt text.now code at end result.now }
+{
     if !names_token(code) {
         return "";
     }
@@ -56,24 +64,8 @@ fn cause_at(text: &str, code: u8, at: usize, end: usize) -> &str {
     "end of the text"
 }
 
-/// Returns the finding with this code at this byte, and with the cause that [`cause_at`] gives.
-fn finding_at<'t>(lexed: Lexed<'t>, code: u8, at: usize) -> PlainFinding<'t>
-    ensures code { result.code ≡ code }
-    ensures start { result.start ≡ at }
-    ensures note { result.note.now ≡ [] }
-{
-    let end = end_of_token(lexed.tokens, at);
-    let cause = cause_at(lexed.text, code, at, end);
-    PlainFinding {
-        code: u16::from(code),
-        start: at,
-        end,
-        cause,
-        note: "",
-    }
-}
-
-/// Appends the explanation of the error with this code at a byte of the text.
+/// Appends the explanation of the error with this code at a byte of the text: at the token that starts there, with the
+/// cause that [`cause_at`] returns.
 pub(crate) fn push_read_fault(
     alloc: Global,
     out: &mut String,
@@ -81,11 +73,21 @@ pub(crate) fn push_read_fault(
     code: u8,
     at: usize,
 ) -> Result<(), NoMemory>
-    ensures { OnOk result (AppendsSome (IsSourceAt lexed.entry.file.now lexed.entry.text.now [] code at)
+    ensures { OnOk result (AppendsSome
+        (IsReadErrorText lexed.entry.file.now lexed.entry.text.now lexed.entry.tokens.now code at)
         (string_bytes out.old) (string_bytes out.new)) }
 {
-    let finding = finding_at(lexed, code, at);
-    push_at(alloc, out, lexed.file, lexed.text, finding)
+    let end = end_of_token(lexed.tokens, at);
+    let cause = cause_at(lexed.text, code, at, end);
+    let finding = SourceFinding {
+        code: u16::from(code),
+        start: at,
+        end,
+        cause,
+        detail: "",
+        note: "",
+    };
+    push_source(alloc, out, lexed.file, lexed.text, &finding)
 }
 
 /// Appends why the policy of a piece does not pass validation, if it does not.
@@ -153,8 +155,8 @@ fn explain_piece(
     piece: &Piece,
 ) -> Result<bool, NoMemory>
     ensures { IfOk result (AppendsExplained (IsPieceExplained (option_map (λ s. schema_view s.now) schema.entry)
-        lexed.entry.file.now lexed.entry.text.now lexed.entry.refusal piece.now) (string_bytes out.old)
-        (string_bytes out.new)) }
+        lexed.entry.file.now lexed.entry.text.now lexed.entry.tokens.now lexed.entry.refusal piece.now)
+        (string_bytes out.old) (string_bytes out.new)) }
 {
     match parse_policies(alloc, part_of(lexed.text, piece.start, piece.end)) {
         Ok(policies) => {
@@ -187,8 +189,8 @@ pub(crate) fn explain_pieces(
     pieces: &[Piece],
 ) -> Result<bool, NoMemory>
     ensures { IfOk result (AppendsExplained (ArePiecesExplained (option_map (λ s. schema_view s.now) schema.entry)
-        lexed.entry.file.now lexed.entry.text.now lexed.entry.refusal pieces.now) (string_bytes out.old)
-        (string_bytes out.new)) }
+        lexed.entry.file.now lexed.entry.text.now lexed.entry.tokens.now lexed.entry.refusal pieces.now)
+        (string_bytes out.old) (string_bytes out.new)) }
 {
     let mut some = false;
     for piece in pieces {

@@ -1,4 +1,4 @@
-use Rattle.std.proofs.Common.{◌≡◌, ◌++◌, ◌∙◌, ℕ, List, map, rules, refl, sym, ap, append-nil, string_bytes, encode_utf8_all}
+use Rattle.std.proofs.Common.{◌++◌, ◌∙◌, ℕ, List, map, rules, sym, ap, append-nil, string_bytes, encode_utf8_all}
 use Rattle.std.proofs.lemmas.List.{map-id}
 use Rattle.std.proofs.lemmas.Iterator.{YieldsList-from_chars, YieldsList-from_take}
 use Rattle.std.proofs.lemmas.Iterator.Consumers.{YieldsList-at, YieldsList-end}

@@ -23,16 +23,8 @@ returns c =
         clean = c.says_and_advice.ensures.clean;
         place = place;
         end = end;
-        begins = record {
-          start = c.place_of-place.ensures.start;
-          line = c.place_of-place.ensures.line;
-          column = c.place_of-place.ensures.column;
-        };
-        ends = record {
-          start = c.place_of-end.ensures.start;
-          line = c.place_of-end.ensures.line;
-          column = c.place_of-end.ensures.column;
-        };
+        begins = c.place_of-place.ensures;
+        ends = c.place_of-end.ensures;
         is = ap (source_text c.args.file.now c.args.text.now finding says advice place) c.span_to-span.ensures;
       },
       in_one (string_bytes c.args.out.now) (says_line finding.code says finding.cause.now) (place_text c.args.file.now c.args.text.now place span)

@@ -1,19 +1,16 @@
 use Rattle.std.proofs.Common.{option_map, string_bytes}
 use Rattle.schema_decisions.specs.schema.Views.{schema_view}
 use Rattle.explanations.proofs.Appending.{on_ok}
-use Rattle.explanations.proofs.Joining.{file_parses, file_does_not}
+use Rattle.explanations.proofs.Joining.{held_text, held_no_text}
 use Rattle.explanations.proofs.explaining.explain_file.Goals as goal
 
 pub returns-in-Ok : goal.returns-in-Ok
 returns-in-Ok c =
-    on_ok c.explain_policies.result (rw (c.as_slice-found_pieces.ensures.value, c.as_slice-named.ensures.value) at c.explain_policies.ensures) (file_parses (option_map (λ s. schema_view s.now) c.args.schema) c.args.source.name.now c.args.source.text.now c.text_of-text.result.now c.in_ok-tokens.tokens.items c.in_ok-pieces.pieces.items
-    c.text_of-text.ensures c.in_ok-tokens.ensures (rw c.as_slice-all.ensures.value at c.in_ok-pieces.ensures) (string_bytes c.args.out.now)
-    (string_bytes c.explain_policies.new.out) _ _ c.in-Ok.ensures.read)
+    on_ok c.explain_text.result c.explain_text.ensures (held_text (option_map (λ s. schema_view s.now) c.args.schema) c.args.source.name.now c.args.source.text.now
+    (string_bytes c.args.out.now) (string_bytes c.explain_text.new.out) c.in-Ok.text.now c.in-Ok.ensures.cases.0 c.in-Ok.ensures.cases.1)
 
-pub returns : goal.returns
-returns c =
-    on_ok c.explain_unread.result c.explain_unread.ensures (λ told. file_does_not (option_map (λ s. schema_view s.now) c.args.schema) c.args.source.name.now
-    c.args.source.text.now c.text_of-text.result.now c.in_ok-tokens.tokens.items c.in_ok-pieces.pieces.items
-    c.text_of-text.ensures c.in_ok-tokens.ensures (rw c.as_slice-all.ensures.value at c.in_ok-pieces.ensures) (string_bytes c.args.out.now)
-    (string_bytes c.explain_unread.new.out) c.in-Err.refusal (c.in-Err.ensures.refused told.0)
-    (rw c.as_slice-found_pieces.ensures.value at told.1))
+pub returns-in-Err : goal.returns-in-Err
+returns-in-Err c =
+    on_ok c.explain_no_text.result (c.explain_no_text.ensures (rw (← c.valid_up_to.ensures) at c.in-Err.ensures.cases.1))
+    (held_no_text (option_map (λ s. schema_view s.now) c.args.schema) c.args.source.name.now c.args.source.text.now
+    (string_bytes c.args.out.now) (string_bytes c.explain_no_text.new.out))

@@ -1,18 +1,17 @@
-use Rattle.std.proofs.Common.{◌≡◌, ◌+◌, ◌*◌, max, drop, map}
+use Rattle.std.proofs.Common.{◌≡◌, ◌+◌, ◌-◌, ◌*◌, max, drop, map}
 use Rattle.grammar_core.specs.declared.expr.Expr.{size-Expr}
 use Rattle.grammar_core.specs.Size.{node_count, total, values_of}
-use Rattle.explanations.specs.inner.NodeLimits.{room_after, named_count}
+use Rattle.explanations.specs.inner.NodeLimits.{named_count}
 use Rattle.explanations.proofs.node_limits.+nodes_left.Given as goal
 
 abbrev pub invariant-members_left-loop-member : goal.invariant-members_left-loop-member
 invariant-members_left-loop-member l =
-    room_after (total (map node_count l.members)) l.initial.rest
-    ≡ room_after (total (map node_count (drop l.member-index l.members))) l.rest
+    l.initial.rest - total (map node_count l.members) ≡ l.rest - total (map node_count (drop l.member-index l.members))
 
 abbrev pub invariant-fields_left-loop-field : goal.invariant-fields_left-loop-field
 invariant-fields_left-loop-field l =
-    room_after (total (values_of (map named_count l.fields))) l.initial.rest
-    ≡ room_after (total (values_of (map named_count (drop l.field-index l.fields)))) l.rest
+    l.initial.rest - total (values_of (map named_count l.fields))
+    ≡ l.rest - total (values_of (map named_count (drop l.field-index l.fields)))
 
 -- What goes down two operands is as deep as the deeper of them.
 abbrev pub decreases-nodes_left : goal.decreases-nodes_left

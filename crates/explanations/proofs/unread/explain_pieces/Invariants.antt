@@ -6,5 +6,5 @@ use Rattle.explanations.proofs.unread.explain_pieces.Given as goal
 -- the pieces up to here are explained
 abbrev pub invariant-loop-piece : goal.invariant-loop-piece
 invariant-loop-piece l =
-    AppendsExplained (ArePiecesExplained (option_map (λ s. schema_view s.now) l.schema) l.lexed.file.now l.lexed.text.now l.lexed.refusal (take l.piece-index l.pieces))
+    AppendsExplained (ArePiecesExplained (option_map (λ s. schema_view s.now) l.schema) l.lexed.file.now l.lexed.text.now l.lexed.tokens.now l.lexed.refusal (take l.piece-index l.pieces))
     (string_bytes l.initial.out) (string_bytes l.out) l.some

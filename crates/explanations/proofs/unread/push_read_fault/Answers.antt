@@ -1,10 +1,21 @@
-use Rattle.std.proofs.Common.{string_bytes, []}
+use Rattle.std.proofs.Common.{refl}
 use Rattle.explanations.proofs.Appending.{on_ok}
-use Rattle.explanations.proofs.Joining.{source_is}
 use Rattle.explanations.proofs.unread.push_read_fault.Goals as goal
 
 pub returns : goal.returns
 returns c =
-    let finding = c.finding_at-finding.result in
-    on_ok c.push_at.result c.push_at.ensures (source_is c.args.lexed.file.now c.args.lexed.text.now finding.note.now [] (string_bytes c.args.out.now) (string_bytes c.push_at.new.out) finding.code
-    c.args.code finding.start c.args.at c.finding_at-finding.ensures.note c.finding_at-finding.ensures.code c.finding_at-finding.ensures.start)
+    let end = c.end_of_token-end.ensures in
+    on_ok c.push_source.result c.push_source.ensures (λ e. (
+      e.0,
+      record {
+        finding = _;
+        code_is = c.from.ensures;
+        start_is = refl;
+        end_is = end;
+        cause_holds = rw end at c.cause_at-cause.ensures;
+        detail_is = refl;
+        note_is = refl;
+        is_text = e.1;
+      },
+      e.2,
+    ))
