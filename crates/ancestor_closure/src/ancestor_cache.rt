@@ -25,9 +25,9 @@ use values::EntityUid;
 ///
 /// The caller has the edges, and passes them to each call that needs them. In contracts a cache is right for a
 /// hierarchy (`IsCacheOf`) if it has exactly the ancestors and the children of each entity in this hierarchy, and its
-/// cyclic entities. An ancestor takes 8 bytes in each list of ancestors, or up to 16 while the list has spare capacity
-/// (up to 32 in a list of one ancestor). The uid of an ancestor is stored twice (as a key, and shared among the lists),
-/// however many lists contain the ancestor.
+/// cyclic entities. An ancestor takes 8 bytes in each list that contains it, or up to 16 while the list has spare
+/// capacity (up to 32 in a list of one ancestor). The uid of an ancestor is stored twice (as a key, and shared among
+/// the lists), however many lists contain the ancestor.
 #[derive(Drop)]
 pub struct AncestorCache {
     alloc: Global,
@@ -35,7 +35,7 @@ pub struct AncestorCache {
     relatives: BTreeMap<EntityUid, Relatives>,
     // The cyclic entities.
     cyclic: BTreeSet<Shared<EntityUid>>,
-    // How many lists of ancestors the last update rewrote.
+    // How many lists of ancestors the last successful update rewrote.
     touched: usize,
 }
 
@@ -184,8 +184,8 @@ impl AncestorCache {
         least_cycle_among(self.alloc, graph, &cyclic)
     }
 
-    /// Returns whether `uid` would be its own ancestor if it had these parents. For each parent, looks up its entry,
-    /// and `uid` in the entry's list. Does not allocate.
+    /// Returns whether `uid` would be its own ancestor if it had these parents. For each parent, looks up at most one
+    /// entry, and `uid` in the entry's list. Does not allocate.
     pub fn would_cycle(&self, uid: &EntityUid, parents: &[EntityUid]) -> bool
         ensures { (before : Parents) → IsCacheOf before self.now →
             (IsTrue result ↔ IsAncestor (with_parents before uid.now parents.now) uid.now uid.now) }

@@ -40,7 +40,7 @@ fault_of ArithBoundsError = fault.ArithBoundsError
 fault_of ExtensionError = fault.ExtensionError
 
 -- `PolicyEvaluatesTo W q policy outcome` holds if `outcome` is the result of evaluating the whole expression of
--- `policy` under the request `q`, over the entities of `W`.
+-- `policy` under the request `q`, over the entity data `W`.
 abbrev pub PolicyEvaluatesTo : Entities → Request → Policy → Outcome → Type 0
 PolicyEvaluatesTo W q policy Satisfied = EvaluatesTo W q (expression_of policy) (Ok (boolean true))
 PolicyEvaluatesTo W q policy NotSatisfied = EvaluatesTo W q (expression_of policy) (Ok (boolean false))
@@ -53,14 +53,14 @@ pub record PolicyOutcome : Type 0 where
   pub outcome : Outcome
 
 -- `IsPolicyOutcome W q p j` holds if `j` has the id, the effect and the outcome of the policy `p` under the request
--- `q`, over the entities of `W`.
+-- `q`, over the entity data `W`.
 pub record IsPolicyOutcome (W : Entities) (q : Request) (p : NamedPolicy) (j : PolicyOutcome) : Type 0 where
   pub id : j.id ≡ p.id
   pub effect : j.effect ≡ p.policy.effect
   pub outcome : PolicyEvaluatesTo W q p.policy j.outcome
 
 -- `ArePolicyOutcomes W q ps js` holds if `js` are the outcomes of the policies `ps` under the request `q`, over the
--- entities of `W`, in order.
+-- entity data `W`, in order.
 abbrev pub ArePolicyOutcomes : Entities → Request → List NamedPolicy → List PolicyOutcome → Type 0
 ArePolicyOutcomes W q [] [] = Unit {0}
 ArePolicyOutcomes W q [] (j ∷ js) = ⊥
@@ -97,9 +97,9 @@ if_erring j = error_of j.outcome j.id
 abbrev pub erring : List PolicyOutcome → List ErringPolicy
 erring js = flat_map if_erring js
 
--- `decided permits forbids errors` is the answer with the satisfied permits `permits`, the satisfied forbids `forbids`
--- and the errors `errors`: an allow if there is a permit and no forbid, else a denial. The `reason` (Cedar's
--- determining policies) of an allow is the permits, that of a denial the forbids.
+-- `decided permits forbids errors` is the answer that follows from the satisfied permits `permits`, the satisfied
+-- forbids `forbids` and the errors `errors`: an allow if there is a permit and no forbid, else a denial. The `reason`
+-- (Cedar's determining policies) of an allow is the permits, that of a denial the forbids.
 abbrev pub decided : List (List ℕ) → List (List ℕ) → List ErringPolicy → Answer
 decided permits (f ∷ forbids) errors = record { decision = Deny; reason = f ∷ forbids; errors = errors; cycle = [] }
 decided [] [] errors = record { decision = Deny; reason = []; errors = errors; cycle = [] }
@@ -115,7 +115,7 @@ pub record IsCycleDenial (parents : Parents) (a : Answer) : Type 0 where
   pub least : IsLeastCycle parents a.cycle
   pub rest : a ≡ record { decision = Deny; reason = []; errors = []; cycle = a.cycle }
 
--- `IsPolicyAnswer W q ps a` holds if no entity of `W` is cyclic, and `a` is the answer that follows from the outcomes
+-- `IsPolicyAnswer W q ps a` holds if no entity is cyclic, and `a` is the answer that follows from the outcomes
 -- of the policies `ps` under the request `q`.
 pub record IsPolicyAnswer (W : Entities) (q : Request) (ps : List NamedPolicy) (a : Answer) : Type 0 where
   pub acyclic : (uid : EntityUid) → IsAncestor W.parents uid uid → ⊥
@@ -123,7 +123,7 @@ pub record IsPolicyAnswer (W : Entities) (q : Request) (ps : List NamedPolicy) (
   pub outcomes : ArePolicyOutcomes W q ps judged
   pub answer : a ≡ answer_by judged
 
--- `IsAnswer W q ps a` holds if `a` is the answer to the request `q` over the policies `ps` and the entities of `W`. If
--- there is a cycle, this is a denial that names the least cycle; else it follows from the outcomes of the policies.
+-- `IsAnswer W q ps a` holds if `a` is the answer to the request `q` over the policies `ps` and the entity data `W`. If
+-- there is a cycle, `a` is a denial that names the least cycle; else `a` follows from the outcomes of the policies.
 abbrev pub IsAnswer : Entities → Request → List NamedPolicy → Answer → Type 0
 IsAnswer W q ps a = IsCycleDenial W.parents a ⊎ IsPolicyAnswer W q ps a

@@ -82,7 +82,7 @@ fn denial_if_cyclic<L: Lookup>(
 /// Returns the answer to a request, given the ancestors and the attributes of its entities. Otherwise like [`decide`].
 ///
 /// `known` is the request with this data, and has the limit on memoized entities (64 for [`decide`]). The caller may
-/// have used the ancestors before, for example to find candidates in an index. The only error is `NoMemory`.
+/// use `known` before this call, for example to find candidates in an index. The only error is `NoMemory`.
 pub fn decide_known<L: Lookup>(
     alloc: Global,
     policies: &[(&str, &Policy)],

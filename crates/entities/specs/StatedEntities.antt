@@ -66,9 +66,9 @@ pub record MayHaveParent (s : StatedSchema) (uid parent : EntityUid) : Type 0 wh
   pub type_fits : IsTrue (s.may_have_parent uid.type_name parent.type_name)
 
 -- `DescribesEntity s d e` holds if `d` describes the entity `e` under the schema `s`: `d` has the form of an entity,
--- without tags; the type of `e` is declared; and the attributes of `e` are the record that `d` describes by the shape
--- of that type. The parents of `e` are those that `d` lists, in ascending order, without duplicates, and `e` may have
--- each of them.
+-- with the uid of `e` and without tags; the type of `e` is declared, and not an action type; and the attributes of `e`
+-- are the record that the attributes of `d` describe by the shape of that type. The parents of `e` ascend, without
+-- duplicates; `d` lists the same parents, in any order and perhaps repeated; and `e` may have each of them.
 pub record DescribesEntity (s : StatedSchema) (d : Data) (e : Entity) : Type 0 where
   pub listed : List EntityUid
   pub attributes : Members
@@ -93,15 +93,15 @@ pub data RefusesParents (s : StatedSchema) (uid : EntityUid) : List EntityUid �
   later_parent : (parent : EntityUid) (more : List EntityUid) (fault : EntityFault) → MayHaveParent s uid parent
       → RefusesParents s uid more fault → RefusesParents s uid (parent ∷ more) fault
 
--- `IsReportedAs f fault` holds if the error `f` of a record is reported as the error `fault` of an entity, a context or
--- a request.
+-- `IsReportedAs f fault` holds if the error `f` of a record, other than `NoMemory`, is reported as the error `fault` of
+-- an entity, a context or a request.
 pub data IsReportedAs : ValueFault → EntityFault → Type 0 where
   as_undeclared : IsReportedAs value.Undeclared Undeclared
   as_wrong_type : IsReportedAs value.WrongType WrongType
   as_missing : IsReportedAs value.Missing Missing
 
 -- `RefusesEntity s d fault` holds if `d` describes no entity under the schema `s`, and `fault` is the first error, in
--- this order: of the form, of the type (an action type before an undeclared one), of the tags, of the attributes, and
+-- this order: of the form, of the type (`ActionEntity` before `UnknownType`), of the tags, of the attributes, and
 -- of the parents.
 pub data RefusesEntity (s : StatedSchema) (d : Data) : EntityFault → Type 0 where
   bad_shape : ((uid : EntityUid) (listed : List EntityUid) (attributes tags : Members)

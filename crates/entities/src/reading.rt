@@ -1,4 +1,4 @@
-//! Parsing of entities by their types.
+//! Parsing of entities under a schema.
 ghost use Rattle.std.specs.Prelude.{◌≡◌, ◌≢◌, MatchResult, option_map};
 ghost use Rattle.serde_json.specs.View.{view};
 ghost use Rattle.json_words.specs.ReadsAs.{ReadsAs, AlwaysReadsAs};
@@ -65,8 +65,8 @@ pub(crate) fn read_fields(
     }
 }
 
-/// Returns the attributes that a value describes for an entity of this type, or the first error: of the type, then of
-/// the tags, then of the attributes.
+/// Returns the attributes of the entity of the type `name` that `value` describes, or the first error: of the type,
+/// then of the tags, then of the attributes.
 #[tactic(auto, unfolding(crate::specs::Entities::attributes_in))]
 fn read_attributes(
     alloc: Global,
@@ -108,15 +108,15 @@ fn entity_in(alloc: Global, schema: &Schema, value: &Value) -> Result<Entity, En
 ///
 /// In this order:
 ///
-/// - `BadShape` (30): the value does not have this form.
+/// - `BadShape` (30): the value does not have the form of an entity.
 /// - `ActionEntity` (32): the entity's type is an action type.
 /// - `UnknownType` (31): the entity's type is not declared.
 /// - `TagsLeftOut` (38): the entity has tags.
 /// - For the first faulty attribute, ascending by key: `Undeclared` (33), the attribute is not declared; `WrongType`
-///   (35), its value is of another type.
+///   (35), its value is not of its declared type.
 /// - `Missing` (34): a required attribute is missing.
-/// - For the first faulty parent, in order: `SelfParent` (37), the parent is the entity itself; `BadParent` (36), the
-///   entity may not have a parent of this type.
+/// - For the first faulty parent in the array `parents`: `SelfParent` (37), the parent is the entity itself;
+///   `BadParent` (36), the entity may not have a parent of this type.
 /// - `NoMemory` (1): an allocation failed; possible at any point.
 pub fn read_entity(alloc: Global, schema: &Schema, value: &Value) -> Result<Entity, EntityFault>
     ensures read { ReadsAs EntityFault.NoMemory (λ e. e) result

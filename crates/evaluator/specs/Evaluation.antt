@@ -1,8 +1,8 @@
--- Defines the outcome of an expression under a request, over the stored entities: a value, or the first error, by one
--- case for each rule of the language.
+-- Defines the outcome of an expression under a request, over entity data: a value, or the first error. Each case of the
+-- relation `EvaluatesTo` is a rule of evaluation.
 -- Source: Cedar reference guide 4.0, "Operators and functions" and "Syntax: record, set, if"; cedar-spec,
--- cedar-lean/Cedar/Spec/Evaluator.lean (`evaluate`). Operands are evaluated from left to right, and only then
--- checked.
+-- cedar-lean/Cedar/Spec/Evaluator.lean (`evaluate`). Operands are evaluated from left to right before the type
+-- of any is checked; only `if`, `&&` and `||` check the first before they evaluate another.
 -- Rules of this product: the fields of a record are evaluated in the order in which they are written.
 use Rattle.std.specs.Prelude.{◌≡◌, ◌≢◌, ℕ, List, [], ◌∷◌, map, Bool, true, false, None, Result, Ok, Err, MatchResult}
 use Rattle.values.specs.declared.request.Request.{Request}
@@ -53,8 +53,8 @@ pub data HasOperands : Expr → List Expr → Type 0 where
   of_unary_call : (called : UnaryCall) (a : Expr) → HasOperands (form.UnaryCall called a) (a ∷ [])
   of_binary_call : (called : BinaryCall) (a b : Expr) → HasOperands (form.BinaryCall called a b) (a ∷ b ∷ [])
 
--- `put_each xs vs done` are the fields `done`, with each name of `xs` set to the value in `vs` at the same index, in
--- order.
+-- `put_each xs vs done` are the fields `done` with each name of `xs` set, one after another, to its value in `vs`, as
+-- far as both lists go.
 abbrev pub put_each : List (Named Expr) → List PlainValue → List Field → List Field
 put_each (x ∷ xs) (v ∷ vs) done = put_each xs vs (put x.name v done)
 put_each xs vs done = done
@@ -104,7 +104,7 @@ mutual
         → EvaluatesTo W q a (Ok v)
         → EvaluatesTo W q b (Ok w) → BinaryCallGives called v w r → EvaluatesTo W q (form.BinaryCall called a b) r
 
-  -- `TestFails W q x e` holds if `x`, under the request `q` and over the entity data `W`, fails as a condition with the
+  -- `TestFails W q x e` holds if `x`, under the request `q` and over the entity data `W`, fails as a test with the
   -- error `e`. Either the outcome of `x` is `e`, or it is a value that is not a boolean, and `e` is `TypeError`.
   pub data TestFails (W : Entities) (q : Request) : Expr → EvalFault → Type 0 where
     test_errs : {a : Expr} {e : EvalFault} → EvaluatesTo W q a (Err e) → TestFails W q a e
@@ -137,7 +137,7 @@ abbrev pub IsCompleteEvaluation : Entities → Request → Expr → EvaluationRe
 IsCompleteEvaluation W q x answer = (r : EvaluationResult) → EvaluatesTo W q x r → answer ≢ Err NoMemory → answer ≡ r
 
 -- `AnswersTest W q x answer` holds if, under the request `q` and over the entity data `W`, `answer` is the boolean that
--- is the value of `x`, the error with which `x` fails as a condition, or `NoMemory`.
+-- is the value of `x`, the error with which `x` fails as a test, or `NoMemory`.
 abbrev pub AnswersTest : Entities → Request → Expr → Result Bool EvalFault → Type 0
 AnswersTest W q x answer = MatchResult answer (λ t. EvaluatesTo W q x (Ok (boolean t)))
     (λ e. e ≢ NoMemory → TestFails W q x e)

@@ -44,8 +44,8 @@ pub fn evaluate<'a, L: Lookup>(
     owned(alloc, outcome_of(alloc, expr, &asking))
 }
 
-/// Returns whether an expression evaluates to true, as a condition, under a request, over the stored entities. The
-/// errors are those of [`evaluate_condition`].
+/// Returns the boolean value of an expression under a request, over the stored entities. The errors are those of
+/// [`evaluate_condition`].
 pub fn evaluate_test<L: Lookup>(
     alloc: Global,
     expr: &Expr,
@@ -59,16 +59,19 @@ pub fn evaluate_test<L: Lookup>(
 
 /// Evaluates an expression under the environment's request, over its stored entities, to a value or the first error.
 ///
-/// The result is borrowed if it is a value in the expression, the request or the stored entities. Set and record
-/// expressions may allocate. Access to a field may allocate if evaluation built the record, since the field's value is
-/// copied; `in` may allocate, since it queries the hierarchy. Operands are evaluated from left to right, the fields of
-/// a record in the order in which they are written; `&&`, `||` and `if` evaluate only what they need.
+/// Literals, variables, attributes of entities and fields of borrowed records give borrowed results. `if` gives the
+/// result of the branch that its test selects. All other results are owned.
+///
+/// Set and record expressions may allocate. Access to a field may allocate if evaluation built the record, since the
+/// field's value is copied; `in` may allocate, since it queries the hierarchy. Operands are evaluated from left to
+/// right, the fields of a record in the order in which they are written; `&&`, `||` and `if` evaluate only what they
+/// need.
 ///
 /// # Errors
 ///
 /// - `EntityDoesNotExist`, `AttrDoesNotExist`, `TypeError`, `ArithBoundsError`, `ExtensionError`: the first error of
 ///   the evaluation.
-/// - `NoMemory`: an allocation failed; possible at any point.
+/// - `NoMemory`: an allocation failed.
 ///
 /// Recursive: the stack grows with the height of the expression, by less than two kilobytes a level.
 ///
@@ -87,7 +90,7 @@ pub fn evaluate_in<'a, L: EvalEnv>(
     outcome_of(alloc, expr, env)
 }
 
-/// Returns whether an expression evaluates to true, as a condition.
+/// Returns the boolean value of an expression.
 ///
 /// # Errors
 ///
@@ -106,8 +109,8 @@ pub fn evaluate_condition<L: EvalEnv>(
 }
 
 // Evaluates an expression. Each arm is one call, so that a level of the recursion takes little stack: a function
-// reserves its whole frame at entry, with space for the results of all its arms. The code that handles an operand's
-// result is in a function outside the recursion (steps.rt), which borrows that result.
+// reserves its whole frame at entry, with space for the locals of all its arms. Most code that handles an operand's
+// result is in functions outside the recursion (steps.rt), most of which borrow that result.
 #[cycle(evaluate)]
 pub(crate) fn outcome_of<'a, L: EvalEnv>(
     alloc: Global,

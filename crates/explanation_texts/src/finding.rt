@@ -24,6 +24,6 @@ pub struct WholeFinding<'t> {
     pub code: u16,
     /// The index of the item at fault, counted from 0, if the text is an array and one item is at fault.
     pub index: Option<usize>,
-    /// The place of the error in that item or in the text, and what is there; empty if the place is not known.
+    /// What is known of the place of the error in that item or in the text; empty if nothing is.
     pub detail: &'t str,
 }

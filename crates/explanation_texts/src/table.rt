@@ -369,7 +369,7 @@ static MESSAGES: [CodeWords<&str>; 8] = [
         meaning: "a name or a body is rejected; `within`: 10 to 19, 30 to 38, 40 to 46, or 57",
         example: "a body `permit`: within 11",
         says: "an entry's name or body is rejected",
-        advice: "look up the code that `within` gives",
+        advice: "take the message as a site wrote it",
     },
     CodeWords {
         code: 56,

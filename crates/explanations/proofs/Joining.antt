@@ -24,7 +24,7 @@ use Rattle.token_spans.specs.declared.spans.Span.{Span}
 use Rattle.token_spans.specs.Spans.{IsSpanOf, IsNameSpanOf}
 use Rattle.explanations.specs.declared.pieces.Piece.{Piece}
 use Rattle.explanations.specs.Files.{File, Files}
-use Rattle.explanations.specs.Parts.{IsPartOf, IsNothing, IsSourceAt, IsWholeAt, IsMessageExplained, AppendsSome}
+use Rattle.explanations.specs.Parts.{IsPartOf, IsNothing, IsSourceAt, IsWholeAt, entry_words, IsMessageExplained, AppendsSome}
 use Rattle.explanations.specs.Pieces.{ArePiecesOf}
 use Rattle.explanations.specs.Policies.{is_searched, large_note, IsNameOrExpressionSpan, IsFaultText, IsCheckExplained, passes_so, rejected_so, too_large, ArePoliciesExplained}
 use Rattle.explanations.specs.UnparsedFiles.{byte_in, is_that, IsReadErrorText, IsPieceExplained, is_read, is_unread, ArePiecesExplained, AppendsExplained}
@@ -43,12 +43,6 @@ none_so P Q e h = subst (λ p. MatchOption p P Q) e h
 
 pub nothing_given : (old : List ℕ) → AppendsSome (λ bytes. bytes ≡ []) old old
 nothing_given old = ([], refl, nothing_more old)
-
--- the text on a message, which is alone
-pub message_alone : (file : List ℕ) (code : ℕ) (old new : List ℕ) → old ≡ [] → AppendsSome (IsMessageExplained file code) old new
-    → IsMessageExplained file code new
-message_alone file code old new empty a =
-    subst (IsMessageExplained file code) (sym (a.2 ∙ ap (λ (l : List ℕ). l ++ a.0) empty)) a.1
 
 -- ---- a policy
 
@@ -133,6 +127,13 @@ with_words name code index words IsDetail bytes t h = record {
   detail_holds = subst IsDetail (sym h.detail_holds) t;
   is_text = h.is_text;
 }
+
+-- the text on a message, which is alone
+pub message_alone : (file words old new : List ℕ) (r : Refusal) → old ≡ [] → words ≡ entry_words r.place r.within
+    → AppendsSome (IsWholeAt file r.code None (λ w. w ≡ words)) old new → IsMessageExplained file r new
+message_alone file words old new r empty same a =
+    let told : IsMessageExplained file r a.0 = with_words file r.code None words (λ w. w ≡ entry_words r.place r.within) a.0 same a.1 in
+    subst (IsMessageExplained file r) (sym (a.2 ∙ ap (λ (l : List ℕ). l ++ a.0) empty)) told
 
 pub whole_told : (name old new : List ℕ) (code : ℕ) (index : Option ℕ) (words : List ℕ) (IsDetail : List ℕ → Type 0) → IsDetail words
     → AppendsSome (IsWholeAt name code index (λ w. w ≡ words)) old new → AppendsSome (IsWholeAt name code index IsDetail) old new

@@ -9,7 +9,7 @@ use Rattle.explanation_texts.proofs.Readable.{both, nothing, source_is_readable,
 use Rattle.fault_paths.specs.declared.explaining.PolicyFault.{PolicyFault}
 use Rattle.explanations.specs.declared.pieces.Piece.{Piece}
 use Rattle.explanations.specs.Files.{File, Files}
-use Rattle.explanations.specs.Parts.{IsNothing, IsSourceAt, IsWholeAt, IsMessageExplained}
+use Rattle.explanations.specs.Parts.{IsNothing, IsSourceAt, IsWholeAt, entry_words, IsMessageExplained}
 use Rattle.explanations.specs.Policies as of_policies
 use Rattle.explanations.specs.Policies.{IsFaultText, IsCheckExplained, passes_so, rejected_so, too_large, IsPolicyExplained, ArePoliciesExplained}
 use Rattle.explanations.specs.UnparsedFiles as of_pieces
@@ -110,5 +110,5 @@ as_given (Some schema) given bytes h = under_reads schema given bytes h
 pub explained : (given : Files) (bytes : List ℕ) → IsExplained given bytes → IsReadable bytes
 explained given bytes h = as_given given.schema given bytes h
 
-pub message_reads : (file : List ℕ) (code : ℕ) (bytes : List ℕ) → IsMessageExplained file code bytes → IsReadable bytes
-message_reads file code bytes h = at_whole file code None IsNothing bytes h
+pub message_reads : (file : List ℕ) (r : Refusal) (bytes : List ℕ) → IsMessageExplained file r bytes → IsReadable bytes
+message_reads file r bytes h = at_whole file r.code None (λ words. words ≡ entry_words r.place r.within) bytes h

@@ -3,6 +3,7 @@
 -- lines, and none that changes the direction of writing.
 use Rattle.std.specs.Prelude.{ℕ, List}
 use Rattle.explanation_texts.specs.Readable.{IsReadable}
+use Rattle.schema_decisions.specs.answer_lines.declared.refusal.Refusal.{Refusal}
 use Rattle.explanations.specs.Files.{Files}
 use Rattle.explanations.specs.Parts.{IsMessageExplained}
 use Rattle.explanations.specs.FileExplanations.{IsExplained}
@@ -11,4 +12,4 @@ use Rattle.explanations.specs.FileExplanations.{IsExplained}
 -- whatever the files contain and whatever their names are.
 abbrev pub ExplainedTextsAreReadable : Type 0
 ExplainedTextsAreReadable = ((given : Files) (bytes : List ℕ) → IsExplained given bytes → IsReadable bytes)
-    × ((file : List ℕ) (code : ℕ) (bytes : List ℕ) → IsMessageExplained file code bytes → IsReadable bytes)
+    × ((file : List ℕ) (refusal : Refusal) (bytes : List ℕ) → IsMessageExplained file refusal bytes → IsReadable bytes)

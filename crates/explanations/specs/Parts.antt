@@ -1,11 +1,14 @@
 -- Defines parts of a text, and the texts of errors by their code and place.
 -- Rules of this product: an error in a part of a text is shown at that part, with a cause and a note, which may be
--- empty; another error is shown by its file, and by its index if it is in an array.
-use Rattle.std.specs.Prelude.{◌≡◌, ◌⊎◌, ℕ, List, [], ◌++◌, Option, None, take, drop}
+-- empty; another error is shown by its file, and by its index if it is in an array; the error of a message is shown by
+-- its file, with the entry at fault and the inner error if they are known.
+use Rattle.std.specs.Prelude.{◌≡◌, ◌⊎◌, ℕ, List, [], ◌++◌, Option, None, Some, take, drop, codes, decimal}
 use Rattle.std.specs.Str.{IsCharBoundary}
 use Rattle.explanation_texts.specs.declared.finding.SourceFinding.{SourceFinding}
 use Rattle.explanation_texts.specs.declared.finding.WholeFinding.{WholeFinding}
 use Rattle.explanation_texts.specs.ExplanationText.{IsSourceText, IsWholeText}
+use Rattle.explanation_texts.specs.CodeText.{Texts, words_on}
+use Rattle.schema_decisions.specs.answer_lines.declared.refusal.Refusal.{Refusal}
 
 -- `IsPartOf text from to part` holds if `part` is the text between the bytes `from` and `to`, or empty if they are not
 -- character boundaries of `text` in this order.
@@ -45,9 +48,28 @@ pub record IsWholeAt (file : List ℕ) (code : ℕ) (index : Option ℕ) (IsDeta
     pub detail_holds : IsDetail finding.detail.now
     pub is_text : IsWholeText file finding bytes
 
--- `IsMessageExplained file code bytes` holds if `bytes` explain that the message in `file` is rejected with this code.
-abbrev pub IsMessageExplained : List ℕ → ℕ → List ℕ → Type 0
-IsMessageExplained file code bytes = IsWholeAt file code None IsNothing bytes
+-- `name_in texts` is the name of the code in `texts`; empty without texts.
+abbrev pub name_in : Option Texts → List ℕ
+name_in None = []
+name_in (Some texts) = texts.name
+
+-- `inner_words code` are the words on the inner error of this code: the code and its name. Without a code there are no
+-- words.
+abbrev pub inner_words : Option ℕ → List ℕ
+inner_words None = []
+inner_words (Some code) = codes ", error " ++ decimal code ++ codes ": " ++ name_in (words_on code)
+
+-- `entry_words index code` are the words on the entry at fault of a message: its index, and its own error, the inner
+-- error of this code. Without an index there are no words.
+abbrev pub entry_words : Option ℕ → Option ℕ → List ℕ
+entry_words None code = []
+entry_words (Some index) code = codes "entry " ++ decimal index ++ codes " (from 0)" ++ inner_words code
+
+-- `IsMessageExplained file refusal bytes` holds if `bytes` explain that the message in `file` is rejected with
+-- `refusal`.
+abbrev pub IsMessageExplained : List ℕ → Refusal → List ℕ → Type 0
+IsMessageExplained file refusal bytes =
+    IsWholeAt file refusal.code None (λ words. words ≡ entry_words refusal.place refusal.within) bytes
 
 -- `AppendsSome Is old new` holds if `new` is `old` followed by bytes for which `Is` holds.
 abbrev pub AppendsSome : (List ℕ → Type 0) → List ℕ → List ℕ → Type 0

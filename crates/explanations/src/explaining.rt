@@ -91,15 +91,6 @@ fn explain_text(
     }
 }
 
-/// Returns the words on a file that is UTF-8 before the byte `at`, but no further.
-fn not_utf8_words(alloc: Global, at: usize) -> Result<String, NoMemory>
-    ensures { IfOk result (λ words. string_bytes words ≡ not_utf8_words at) }
-{
-    let mut words = String::new(alloc);
-    write!(words, "the file is not UTF-8 at byte {at} (from 0)")?;
-    Ok(words)
-}
-
 /// Appends that the file `file`, which is rejected with `refusal`, is not UTF-8 at the byte `at`. Returns `NoMemory` if
 /// `refusal` is out of memory.
 fn push_not_utf8(
@@ -114,7 +105,7 @@ fn push_not_utf8(
         (string_bytes out.old) (string_bytes out.new)) }
 {
     let checked = unless_no_memory(refusal)?;
-    let words = not_utf8_words(alloc, at)?;
+    let words = format!(in alloc; "the file is not UTF-8 at byte {at} (from 0)")?;
     let finding = WholeFinding {
         code: u16::from(checked.code),
         index: None,

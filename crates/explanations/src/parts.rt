@@ -21,7 +21,7 @@ pub(crate) fn part_of(text: &str, from: usize, to: usize) -> &str
 }
 
 /// Appends the text of an error in the file `file`: at the index of an item in its array, if the error has one, with
-/// the words `detail` on that item.
+/// the words `detail` on the part at fault.
 pub(crate) fn push_refusal(
     out: &mut String,
     file: &str,

@@ -18,7 +18,7 @@ pub record IsUnsignedText (text : List ℕ) (n : ℕ) : Type 0 where
   pub short : length fraction ≤ 4
   pub value : n * 10 ^ length fraction ≡ digits_value 10 (whole ++ fraction) * 10000
 
--- `IsSignedText text z` holds if `text` is an unsigned text (`IsUnsignedText`), alone or after a `-`, and denotes `z`
+-- `IsSignedText text z` holds if `text` is an optional `-` and an unsigned text (`IsUnsignedText`), and denotes `z`
 -- ten-thousandths.
 pub data IsSignedText : List ℕ → ℤ → Type 0 where
   plain : {text : List ℕ} {n : ℕ} → IsUnsignedText text n → IsSignedText text (pos n)
@@ -28,7 +28,7 @@ pub data IsSignedText : List ℕ → ℤ → Type 0 where
 abbrev pub IsDecimalText : List ℕ → ℤ → Type 0
 IsDecimalText text z = IsSignedText text z × FitsSigned w64 z
 
--- `magnitude_text n` is the canonical string of `n` ten-thousandths: the whole number, a point, and four digits.
+-- `magnitude_text n` is the canonical string of `n` ten-thousandths: the whole part, a point, and four digits.
 abbrev pub magnitude_text : ℕ → List ℕ
 magnitude_text n = decimal (n / 10000) ++ codes "." ++ decimal (n / 1000 % 10) ++ decimal (n / 100 % 10)
     ++ decimal (n / 10 % 10) ++ decimal (n % 10)

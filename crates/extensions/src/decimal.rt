@@ -127,8 +127,8 @@ impl Ord for Decimal {
     }
 }
 
-/// Appends `size` ten-thousandths as a decimal without a sign: the whole number, a point and four digits, in at most 20
-/// bytes. `out` must have capacity for 20 more bytes.
+/// Appends `size` ten-thousandths as a decimal without a sign: the whole part, a point and four digits, in at most 20
+/// bytes. `size` must be at most `2^63`, and `out` must have capacity for 20 more bytes.
 fn append_magnitude(size: u64, out: &mut String)
     requires small { size ≤ 2 ^ 63 }
     requires room { string_len out.old + 20 ≤ string_capacity out.old }

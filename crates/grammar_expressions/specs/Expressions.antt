@@ -1,7 +1,7 @@
--- Defines the grammar of expressions: a relation between the lists of tokens that are expressions and their syntax
--- trees. The comment above a definition states the production that the definition writes in the combinators of Lang.
+-- Defines the grammar of expressions: which syntax trees a list of tokens derives.
+-- The comment above a definition of a `Lang`, or of a function from kinds to an `Option`, states its production.
 -- Source: Cedar reference guide 4.0, "Grammar specification for Cedar policy syntax".
--- Rules of this product: a variable's word followed by `::` or `(` is a Path, and the nesting of expressions is
+-- Rules of this product: a variable's word followed by `::` or `(` begins a Path, and the nesting of expressions is
 -- limited.
 use Rattle.std.specs.Prelude.{◌≡◌, ℕ, zero, suc, Bool, true, false, List, [], ◌∷◌, Option, Some, None, is_some}
 use Rattle.grammar_trees.specs.grammar_tokens.declared.token.TokenKind.{TokenKind}
@@ -84,7 +84,7 @@ comparisons = known comparison_of
 
 -- ## Sets of kinds
 
--- `keys` are the kinds of the first token of a Key.
+-- `keys` are the kinds of a Key, which is one token: an Ident or a String.
 abbrev pub keys : Kinds
 keys k.Text = true
 keys kind = identifiers kind
@@ -219,7 +219,7 @@ module _ (may : Bool) (inner : Lang ExprTree) where
   abbrev pub member : Lang ExprTree
   member = chain primary (dotted or indexed) tree.Member
 
-  -- `signed sign make n`: at most `n` tokens of the kind `sign`, and a Member, where `make x` is the tree of a sign
+  -- `signed sign make n`: at most `n` tokens of the kind `sign`, and a Member; `make x` is the tree of one such token
   -- with the operand `x`
   abbrev pub signed : TokenKind → (ExprTree → ExprTree) → ℕ → Lang ExprTree
   signed sign make zero = member
@@ -277,7 +277,7 @@ module _ (may : Bool) (inner : Lang ExprTree) where
     y ← optional inside
     empty (is_in x type_name y)
 
-  -- the optional part of a Relation (the brackets of that production, below), after the Sum `x`
+  -- the optional part of the production Relation (below), after the Sum `x`
   abbrev pub tailed : ExprTree → Lang ExprTree
   tailed x = compared x or has x or like x or type_test x or empty x
 
@@ -313,13 +313,13 @@ is_positive zero = false
 is_positive (suc n) = true
 
 -- `expr levels`: Expr, with at most `levels` levels of nesting. The expression itself is on the first level;
--- parentheses, brackets, braces, call arguments and each part of an `if` add one.
+-- parentheses (also those of a call, as in `f()`), the brackets of a set, braces and an `if` each open one more.
 unfoldable pub expr : ℕ → Lang ExprTree
 expr zero = never
 expr (suc levels) = level (is_positive levels) (expr levels)
 
--- `nesting_limit` is the greatest number of levels: `1` has one and `(1)` two, so an expression may be in at most 63
--- pairs of parentheses.
+-- `nesting_limit` is the greatest number of levels. The expression `1` has one level and `(1)` has two, so an
+-- expression may be in at most 63 pairs of parentheses.
 abbrev pub nesting_limit : ℕ
 nesting_limit = 64
 

@@ -14,8 +14,8 @@ use grammar_trees::{Cursor, ExprTree, StopCause, TokenKind};
 use plain::{Boxed, pair_with};
 use std::alloc::Global;
 
-/// The greatest number of levels of nesting of an expression. The expression itself is on the first level; parentheses,
-/// brackets, braces, call arguments and each part of an `if` add one.
+/// The greatest number of levels of nesting of an expression. The expression itself is on the first level; parentheses
+/// (also those of a call, as in `f()`), the brackets of a set, braces and each part of an `if` add one.
 pub const NESTING_LIMIT: usize = 64;
 
 impl<F: Fn(Global, &mut Cursor<'_>, usize) -> Result<ExprTree, StopCause>> Reader<F> {

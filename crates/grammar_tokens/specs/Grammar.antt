@@ -1,5 +1,5 @@
 -- Defines the grammar of names: which trees of Paths and Uids a list of tokens derives. The comment above a definition
--- states the production that the definition writes in the combinators of Lang.
+-- of a `Lang` states the production that the definition writes in Lang's combinators.
 -- Source: Cedar reference guide 4.0, "Grammar specification for Cedar policy syntax".
 -- Rules of this product: `__cedar` is reserved too, and so is not an Ident.
 use Rattle.grammar_tokens.specs.declared.token.TokenKind.TheVariants as k

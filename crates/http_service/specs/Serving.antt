@@ -1,4 +1,4 @@
--- Defines one call that serves a site over a stream: what it reads, what it writes, and the run of the site.
+-- Defines one call of `serve` or `serve_logged`: what it reads, what it writes, and the run of the site.
 -- Source: RFC 9112, section 9.3 (replies in the order of the requests).
 -- Rules of this product: each request is at most one step of the site.
 use Rattle.std.specs.Prelude.{◌≡◌, ℕ, List, [], ◌∷◌, ◌++◌, Option, Result}
@@ -26,43 +26,43 @@ pub record Served : Type 0 where
 abbrev pub before_requests : SiteView → Served
 before_requests site = record { site = site; inputs = []; replies = [] }
 
--- `Continues old a status line new` holds if the site of `old` may reply with `status` and the body `line` to a request
--- that asks for `a`, and `new` is the next `Served`. If `a` gives an input, the site makes one step, and the input
--- and its reply are added. For `rejects` and `unserved` the site is not called, and nothing is added.
+-- `Continues old a status text new` holds if a request that asks for `a` may get the reply `status` with the body
+-- `text`, and `new` is the next `Served` after `old`. If `a` gives an input, the site makes one step, and the input
+-- and the `Reply` are added. For `rejects` and `unserved` the site is not called, and nothing is added.
 abbrev pub Continues : Served → SiteRequest → StatusCode → List ℕ → Served → Type 0
-Continues old (gives i) status line new =
+Continues old (gives i) status text new =
     (r : Reply) × Step (schema_of old.site) old.site.name (store_in old.site) i r (store_in new.site)
-    × IsSameSite old.site new.site × ((status, line) ≡ reported r)
+    × IsSameSite old.site new.site × ((status, text) ≡ reported r)
     × (new.inputs ≡ old.inputs ++ i ∷ []) × (new.replies ≡ old.replies ++ r ∷ [])
-Continues old (rejects f) status line new =
-    Replies old.site (rejects f) status line new.site × (new.inputs ≡ old.inputs) × (new.replies ≡ old.replies)
-Continues old (unserved s) status line new =
-    Replies old.site (unserved s) status line new.site × (new.inputs ≡ old.inputs) × (new.replies ≡ old.replies)
+Continues old (rejects f) status text new =
+    Replies old.site (rejects f) status text new.site × (new.inputs ≡ old.inputs) × (new.replies ≡ old.replies)
+Continues old (unserved s) status text new =
+    Replies old.site (unserved s) status text new.site × (new.inputs ≡ old.inputs) × (new.replies ≡ old.replies)
 
--- `ContinuesRequest old method target body status line new` is the same relation for a request with this method, target
+-- `ContinuesRequest old method target body status text new` is the same relation for a request with this method, target
 -- and body.
 abbrev pub ContinuesRequest : Served → List ℕ → List ℕ → List ℕ → StatusCode → List ℕ → Served → Type 0
-ContinuesRequest old method target body status line new =
-    Continues old (request_of (route_stated method target) body) status line new
+ContinuesRequest old method target body status text new =
+    Continues old (request_of (route_stated method target) body) status text new
 
 -- The parameters from `left` to `write_fails` describe the states of a reader and a writer, as in `Serving` of
 -- http_streams.
 module _ {R W : Type 0} (left : R → Option (List ℕ)) (read_failures : R → ℕ) (reads : R → ℕ → List ℕ → R → Type 0)
     (read_fails : R → R → Type 0) (holds : W → Option (List ℕ)) (write_failures : W → ℕ)
     (write_fails : W → W → Type 0) where
-  -- `IsServed first last before after old new result` holds if one call served the site `old` and left `new`, the
-  -- reader went from the state `first` to `last`, and the writer from `before` to `after`. The call read requests and
-  -- wrote their replies, the last perhaps cut off. `inputs` are the inputs of these requests in order, `replies` the
-  -- site's replies to them, and the run of `inputs` with `replies` leads from `old` to `new`. If `result` is `Ok`, no
-  -- bytes were left to read, or a reply ended the stream; else it is the call's error (`EndsAs` of http_streams).
+  -- `IsServed first last before after old new result` holds if in one call the site went from the state `old` to
+  -- `new`, the reader from `first` to `last`, and the writer from `before` to `after`. The call answered
+  -- requests, the last reply perhaps cut off. `inputs` are the inputs of these requests in order, `replies` the site's
+  -- replies to these inputs, and the run of `inputs` with `replies` leads from `old` to `new`. If `result` is `Ok`, no
+  -- bytes were left to read, or a reply ended the stream; else `result` is the call's error (`EndsAs` of http_streams).
   -- An example: the call reads `PUT /v1/policies/a` and `GET /nowhere`, and then the stream ends. The one input is the
   -- put of the first request's body under `a`, and the reply to it has a stamp. The call writes the reply 200 with the
-  -- stamp, then the reply 404. The new store is the join of the updates that the site had and this put.
+  -- stamp, then the reply 404. The new store is the join of this put and the updates that the site had.
   pub record IsServed (first last : R) (before after : W) (old new : SiteView) (result : Result (Unit {0}) StreamFault)
       : Type 0 where
     pub inputs : List Input
     pub replies : List Reply
-    -- request by request, from the first byte read to the last byte written
+    -- the bytes that the call read and wrote, request by request, and how it ended
     pub answered :
         IsAnswered ContinuesRequest left read_failures reads read_fails holds write_failures write_fails first last
         before after (before_requests old) (record { site = new; inputs = inputs; replies = replies }) result

@@ -1,4 +1,4 @@
-//! The handler of each route: the call of the site, and its reply.
+//! Replies to requests by their routes, each by at most one call of the site.
 ghost use Rattle.std.specs.Prelude.{◌≡◌, ◌≢◌, ◌≤◌, ◌+◌, ℕ, List, [], option_map, vec_len};
 ghost use Rattle.std.specs.Vec.{vec_capacity};
 ghost use Rattle.serde_json.specs.View.{view};
@@ -142,8 +142,9 @@ fn report_undecided(text: &mut Vec<u8>, line: &mut Vec<u8>) -> StatusCode
     status
 }
 
-/// Decides the request whose body was parsed as `json`, and appends the rest of its log line to `line`. If that rest
-/// cannot be allocated, the reply is the error 1 (out of memory, status 503) instead of the decision.
+/// Decides the request whose body was parsed as `json`, and appends the rest of its log line to `line`. If the rest of
+/// a decision's line cannot be allocated, the reply is the error 1 (out of memory, status 503) instead of the decision,
+/// and `line` gets only this status.
 fn decide_parsed(
     alloc: Global,
     site: &Site,
@@ -240,9 +241,9 @@ fn answer_logged(
     }
 }
 
-/// Answers a request like [`answer`], and puts the request's log line into `line`. If an allocation fails for the
-/// route, or for the beginning of the log line (method and target), the site makes no step, and the log line has
-/// neither method nor target.
+/// Gives a reply that [`answer`] may give, and puts the request's log line into `line`. If an allocation fails for the
+/// route, or for the beginning of the log line (method and target), the site makes no step, and method and target are
+/// null in the log line.
 pub(crate) fn answer_with_line(
     alloc: Global,
     scratch: &mut Scratch,

@@ -1,9 +1,10 @@
 -- Defines states and deltas as messages, written and read.
--- Rules of this product: a message is {"entries":[{"body":text or null,"count":n,"name":N,"site":text},
+-- Rules of this product: the form is {"entries":[{"body":text or null,"count":n,"name":N,"site":text},
 -- ..],"kind":K,"schema":label,"version":2}, with "state" or "delta" for K, and {"entity":{"id":..,"type":..}} or
 -- {"policy":id} for N. Each key is required, no others are allowed, and the `body` of a tombstone is null. Messages
--- are written compact, keys and names ascending. They are read in any spelling of JSON; their entries may be in any
--- order, and several entries may have one name. Version 1, where a site is a number, is read and never written.
+-- are written compact, keys ascending, entries by name. They are read from any JSON whose numbers are written as
+-- integers; their entries may be in any order, and names may repeat. Version 1, where a site is a number, is read and
+-- never written.
 use Rattle.std.specs.Prelude.{◌||◌, Bool, ℕ, List, [], ◌∷◌, map, codes, is_some, Option, Some, None}
 use Rattle.std.specs.Prelude.{Result, Ok, if◌then◌else◌}
 use Rattle.std.specs.Str.{bytes_eq}
@@ -84,21 +85,21 @@ entry_by stamped_of entry_of d = do
   u ← stamped_of d
   Ok (u.0, entry_of u.1 body)
 
--- `entry_in version d` is the update that the object `d` describes in the form of `version`, or its error.
+-- `entry_in version d` is the update that the object `d` describes in the form of `version`, or the error of `d`.
 unfoldable pub entry_in : MessageVersion → Data → Result Update MessageFault
 entry_in version d = entry_by (stamped_in version) issued d
 
--- `entries_of entry_of ds` is the list of the updates that the objects `ds` describe, each read by `entry_of`, or the
+-- `entries_of update_of ds` is the list of the updates that the objects `ds` describe, each read by `update_of`, or the
 -- first error.
 unfoldable pub entries_of : {U : Type 0} → (Data → Result U MessageFault) → Items → Result (List U) MessageFault
-entries_of entry_of ds = each (λ i d. entry_of d) 0 (list_of ds)
+entries_of update_of ds = each (λ i d. update_of d) 0 (list_of ds)
 
--- `entries_by entry_of d` is the list of the updates of the message `d`, each read by `entry_of`, or the first error.
+-- `entries_by update_of d` is the list of the updates of the message `d`, each read by `update_of`, or the first error.
 unfoldable pub entries_by : {U : Type 0} → (Data → Result U MessageFault) → Data → Result (List U) MessageFault
-entries_by entry_of d = do
+entries_by update_of d = do
   found ← or_fault BadShape (get (codes "entries") d)
   ds ← or_fault BadShape (as_array found)
-  entries_of entry_of ds
+  entries_of update_of ds
 
 -- `entries_in version d` is the list of the updates of the message `d` in the form of `version`, or the first error.
 unfoldable pub entries_in : MessageVersion → Data → Result (List Update) MessageFault

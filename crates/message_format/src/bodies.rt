@@ -14,7 +14,7 @@ use values::EntityUid;
 /// The error of a body's text.
 #[derive(Clone, Copy, Debug, Error)]
 pub enum BodyFault {
-    /// Code 1: an allocation failed.
+    /// Code 1: an allocation failed, or a count of references would overflow.
     #[error("message 1: out of memory")]
     NoMemory,
     /// Code 55: the text is rejected; holds the code of the inner error.

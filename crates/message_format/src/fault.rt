@@ -9,7 +9,7 @@ use thiserror::Error;
 /// The first error of a message. An index is that of an entry, or of a summary's stamp, from 0.
 #[derive(Clone, Copy, PartialEq, Eq, Debug, Error)]
 pub enum MessageFault {
-    /// Code 1: an allocation failed.
+    /// Code 1: an allocation failed, or a count of references would overflow.
     #[error("message 1: out of memory")]
     NoMemory,
     /// Code 50: the bytes are not JSON.

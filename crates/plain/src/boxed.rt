@@ -67,7 +67,7 @@ impl<T: Drop> Boxed<T> {
     }
 }
 
-/// Boxes are equal if their values are. Does not allocate.
+/// Boxes are equal if their values are. Allocates only if comparing values does.
 impl<T: PartialEq> PartialEq for Boxed<T> {
     ghost eq = { λ a b. T.eq a b };
 
@@ -82,7 +82,7 @@ impl<T: Eq> Eq for Boxed<T> {
     ghost laws = { T.Eq.laws };
 }
 
-/// Boxes are ordered by their values. Does not allocate.
+/// Boxes are ordered by their values. Allocates only if comparing values does.
 impl<T: PartialOrd> PartialOrd for Boxed<T> {
     ghost partial_cmp = { λ a b. T.partial_cmp a b };
 

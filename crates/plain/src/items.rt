@@ -119,7 +119,7 @@ impl<T: Drop> Items<T> {
     }
 }
 
-/// Lists are equal if they have the same length and equal items at each index. Does not allocate.
+/// Lists are equal if they have the same length and equal items at each index. Allocates only if comparing items does.
 impl<T: PartialEq> PartialEq for Items<T> {
     ghost eq = { λ xs ys. pointwise T.eq xs ys };
 
@@ -134,7 +134,7 @@ impl<T: Eq> Eq for Items<T> {
     ghost laws = { lists_equiv T.Eq.laws };
 }
 
-/// Lists are ordered item by item; a proper prefix of a list is less than the list. Does not allocate.
+/// Lists are ordered lexicographically. Allocates only if comparing items does.
 impl<T: PartialOrd> PartialOrd for Items<T> {
     ghost partial_cmp = { λ xs ys. slice_partial_cmp T.partial_cmp xs ys };
 

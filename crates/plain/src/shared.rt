@@ -57,7 +57,7 @@ impl<T: Drop> Shared<T> {
     }
 }
 
-/// References are equal if their values are. Does not allocate.
+/// References are equal if their values are. Allocates only if comparing values does.
 impl<T: PartialEq> PartialEq for Shared<T> {
     ghost eq = { λ a b. T.eq a b };
 
@@ -72,7 +72,7 @@ impl<T: Eq> Eq for Shared<T> {
     ghost laws = { T.Eq.laws };
 }
 
-/// References are ordered by their values. Does not allocate.
+/// References are ordered by their values. Allocates only if comparing values does.
 impl<T: PartialOrd> PartialOrd for Shared<T> {
     ghost partial_cmp = { λ a b. T.partial_cmp a b };
 

@@ -1,12 +1,11 @@
--- Want of memory among the refusals.
+-- Out of memory among the errors.
 use Rattle.std.proofs.Common.{◌≡◌, ◌⊎◌, inl, inr, ℕ, zero, suc, Bool, true, false, List, Option, None, Some, refl}
-use Rattle.explanations.specs.Files.{Files}
 use Rattle.program_drills.specs.http_service.answer_lines.declared.refusal.Refusal.{Refusal}
 use Rattle.program_drills.specs.http_service.answer_lines.Refusals.{no_memory}
 use Rattle.program.specs.Events.{Event}
 use Rattle.program.specs.Reports.{IsRefusalReported, IsMemoryReported}
 use Rattle.program.specs.Courses.{IsRefusedFor, IsLineOrRefusal}
-use Rattle.program.specs.ExplainOption.{IsRefusalText, IsErrorReported, Explains, IsErrorThenText, IsLineOrErrorThenText, IsErrorExplained, IsLineOrErrorExplained}
+use Rattle.program.specs.ExplainOption.{IsErrorReported, Explains, IsErrorThenText, IsLineOrErrorThenText}
 
 one_or : (n : ℕ) → (n ≡ 1) ⊎ (n ≡ 1 → ⊥)
 one_or zero = inr (λ e. absurd cc)
@@ -27,7 +26,7 @@ by_parts r (inl c) (inr p) w = inr (λ e. p (λ i. (e i).place))
 by_parts r (inl c) (inl p) (inr w) = inr (λ e. w (λ i. (e i).within))
 by_parts r (inl c) (inl p) (inl w) = inl (made_of r c p w)
 
--- a refusal is want of memory, or another
+-- an error is out of memory, or another
 is_no_memory : (r : Refusal) → (r ≡ no_memory) ⊎ (r ≡ no_memory → ⊥)
 is_no_memory r = by_parts r (one_or r.code) (none_or r.place) (none_or r.within)
 
@@ -56,25 +55,14 @@ module _ {L : Type 0} (Refused : Refusal → Type 0) where
   line_refused Decided refusal end due events told = inr (refused_for refusal end due events told)
 
   -- and explained behind that, if that is asked for
-  refused_and : (wanted : Bool) (Is : ℕ → List ℕ → Type 0) (refusal : Refusal) (end : ℕ) → ((refusal ≡ no_memory → ⊥) → Refused refusal)
-      → (events : List (Event L)) → Explains wanted (Is refusal.code) (IsErrorReported refusal) events end
+  pub refused_and : (wanted : Bool) (Is : Refusal → List ℕ → Type 0) (refusal : Refusal) (end : ℕ) → ((refusal ≡ no_memory → ⊥) → Refused refusal)
+      → (events : List (Event L)) → Explains wanted (Is refusal) (IsErrorReported refusal) events end
       → IsErrorThenText wanted Is Refused events end
   refused_and false Is refusal end due events told = refused_for refusal end due events told
   refused_and true Is refusal end due events told = (refusal, due_or Refused refusal (is_no_memory refusal) due, told)
 
-  pub line_refused_and : (Decided : List ℕ → Type 0) (wanted : Bool) (Is : ℕ → List ℕ → Type 0) (refusal : Refusal) (end : ℕ)
+  pub line_refused_and : (Decided : List ℕ → Type 0) (wanted : Bool) (Is : Refusal → List ℕ → Type 0) (refusal : Refusal) (end : ℕ)
       → ((refusal ≡ no_memory → ⊥) → Refused refusal)
-      → (events : List (Event L)) → Explains wanted (Is refusal.code) (IsErrorReported refusal) events end
+      → (events : List (Event L)) → Explains wanted (Is refusal) (IsErrorReported refusal) events end
       → IsLineOrErrorThenText wanted Is Decided Refused events end
   line_refused_and Decided wanted Is refusal end due events told = inr (refused_and wanted Is refusal end due events told)
-
-  pub refused_with : (wanted : Bool) (files : Files) (refusal : Refusal) (end : ℕ) → ((refusal ≡ no_memory → ⊥) → Refused refusal)
-      → (events : List (Event L)) → Explains wanted (IsRefusalText files refusal.code) (IsErrorReported refusal) events end
-      → IsErrorExplained wanted files Refused events end
-  refused_with wanted files refusal end due events told = refused_and wanted (IsRefusalText files) refusal end due events told
-
-  pub line_refused_with : (Decided : List ℕ → Type 0) (wanted : Bool) (files : Files) (refusal : Refusal) (end : ℕ)
-      → ((refusal ≡ no_memory → ⊥) → Refused refusal)
-      → (events : List (Event L)) → Explains wanted (IsRefusalText files refusal.code) (IsErrorReported refusal) events end
-      → IsLineOrErrorExplained wanted files Decided Refused events end
-  line_refused_with Decided wanted files refusal end due events told = line_refused_and Decided wanted (IsRefusalText files) refusal end due events told

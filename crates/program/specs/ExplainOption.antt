@@ -2,13 +2,15 @@
 -- rejected, explains them on standard error.
 -- Source: docs/operating.md, "Find out why a text is rejected".
 -- Rules of this product: the command's own report comes first, and its status is unchanged; then come the lines that
--- `explain` prints for the same files or, if `explain` rejects nothing in them, the text on the reported code. If
--- nothing is rejected, the option changes nothing. If an explanation cannot be allocated, a line says so in its place.
-use Rattle.std.specs.Prelude.{◌≡◌, ◌⊎◌, ℕ, Bool, true, false, List, [], ◌∷◌, ◌++◌, codes}
+-- `explain` prints for the same files. If `explain` rejects nothing in them, the rejected message is explained, with
+-- the name of its file; if no message is rejected, the reported code is. If nothing is rejected, the option changes
+-- nothing. If an explanation cannot be allocated, a line says so in its place.
+use Rattle.std.specs.Prelude.{◌≡◌, ◌⊎◌, ℕ, ◌==◌, if◌then◌else◌, Bool, true, false, List, [], ◌∷◌, ◌++◌, codes}
 use Rattle.std.specs.Prelude.{Option, None, Some, unwrap_or}
 use Rattle.explanations.specs.explanation_texts.CodeText.{Texts, code_text, words_on}
 use Rattle.explanations.specs.explanation_texts.Codes.{is_code}
 use Rattle.explanations.specs.Files.{File, Files}
+use Rattle.explanations.specs.Parts.{IsMessageExplained}
 use Rattle.explanations.specs.FileExplanations.{IsExplained}
 use Rattle.program_drills.specs.http_service.answer_lines.declared.refusal.Refusal.{Refusal}
 use Rattle.program_drills.specs.http_service.answer_lines.Refusals.{no_memory}
@@ -26,8 +28,8 @@ file_with_content name text = record { name = name; text = text }
 abbrev pub policies_of : Option File → File
 policies_of file = unwrap_or file (file_with_content [] [])
 
--- `schema_files name schema` are the files that a command over messages explains: the schema alone, with the file name
--- `name` and the content `schema`. An error of a message is explained by the reported code.
+-- `schema_files name schema` are the files that a command over messages explains as `explain` does: the schema alone,
+-- with the file name `name` and the content `schema`.
 abbrev pub schema_files : List ℕ → List ℕ → Files
 schema_files name schema = record {
   schema = Some (file_with_content name schema);
@@ -49,9 +51,27 @@ abbrev pub IsThatOr : (List ℕ → Type 0) → List ℕ → List ℕ → Type 0
 IsThatOr Other [] text = Other text
 IsThatOr Other (byte ∷ bytes) text = text ≡ byte ∷ bytes
 
--- `IsRefusalText files code text` holds if `text` explains what is rejected in `files`, or `code` if nothing is.
-abbrev pub IsRefusalText : Files → ℕ → List ℕ → Type 0
-IsRefusalText files code text = (first : List ℕ) × IsExplained files first × IsThatOr (IsCodeText code) first text
+-- `rejected_in message code` is the file `message` of a message that was given, unless the error with this code is out
+-- of memory (1), which is no error of the message.
+abbrev pub rejected_in : Option (List ℕ) → ℕ → Option (List ℕ)
+rejected_in message code = if code == 1 then None else message
+
+-- `IsTextIn file refusal text` holds if `text` explains `refusal` as the error of the message in `file` or, without a
+-- file, by the text on its code.
+abbrev pub IsTextIn : Option (List ℕ) → Refusal → List ℕ → Type 0
+IsTextIn None refusal text = IsCodeText refusal.code text
+IsTextIn (Some file) refusal text = IsMessageExplained file refusal text
+
+-- `IsErrorText message refusal text` holds if `text` explains `refusal`, where the file `message`, if there is one, has
+-- the message that may be rejected.
+abbrev pub IsErrorText : Option (List ℕ) → Refusal → List ℕ → Type 0
+IsErrorText message refusal text = IsTextIn (rejected_in message refusal.code) refusal text
+
+-- `IsRefusalText files message refusal text` holds if `text` explains what is rejected in `files` or, if nothing is,
+-- `refusal` (`IsErrorText message refusal`).
+abbrev pub IsRefusalText : Files → Option (List ℕ) → Refusal → List ℕ → Type 0
+IsRefusalText files message refusal text =
+    (first : List ℕ) × IsExplained files first × IsThatOr (IsErrorText message refusal) first text
 
 -- ---- what a run does
 
@@ -90,15 +110,16 @@ module _ {L : Type 0} where
   IsErrorReported refusal events end = IsRefusalReported refusal events end ⊎ IsMemoryReported events end
 
   -- `IsErrorThenText wanted Is Refused`: an error for which `Refused` holds, or out of memory, is reported. If
-  -- `wanted`, a text for which `Is` holds with the error's code is then written to standard error.
-  abbrev pub IsErrorThenText : Bool → (ℕ → List ℕ → Type 0) → (Refusal → Type 0) → Course L
+  -- `wanted`, a text for which `Is` holds with the error is then written to standard error.
+  abbrev pub IsErrorThenText : Bool → (Refusal → List ℕ → Type 0) → (Refusal → Type 0) → Course L
   IsErrorThenText false Is Refused events end = IsRefusedFor Refused events end
   IsErrorThenText true Is Refused events end = (refusal : Refusal) × ((refusal ≡ no_memory) ⊎ Refused refusal)
-      × Explains true (Is refusal.code) (IsErrorReported refusal) events end
+      × Explains true (Is refusal) (IsErrorReported refusal) events end
 
   -- `IsLineOrErrorThenText wanted Is Decided Refused`: a line for which `Decided` holds is printed, or an error is
   -- reported as by `IsErrorThenText wanted Is Refused`.
-  abbrev pub IsLineOrErrorThenText : Bool → (ℕ → List ℕ → Type 0) → (List ℕ → Type 0) → (Refusal → Type 0) → Course L
+  abbrev pub IsLineOrErrorThenText : Bool → (Refusal → List ℕ → Type 0) → (List ℕ → Type 0) → (Refusal → Type 0)
+      → Course L
   IsLineOrErrorThenText wanted Is Decided Refused events end =
       ((line : List ℕ) × Decided line × IsAnswerReported line events end)
       ⊎ IsErrorThenText wanted Is Refused events end
@@ -106,10 +127,10 @@ module _ {L : Type 0} where
   -- `IsErrorExplained wanted files Refused`: an error for which `Refused` holds, or out of memory, is reported. If
   -- `wanted`, what is rejected in `files` is then explained or, if nothing is, the code of the error.
   abbrev pub IsErrorExplained : Bool → Files → (Refusal → Type 0) → Course L
-  IsErrorExplained wanted files Refused = IsErrorThenText wanted (IsRefusalText files) Refused
+  IsErrorExplained wanted files Refused = IsErrorThenText wanted (IsRefusalText files None) Refused
 
   -- `IsLineOrErrorExplained wanted files Decided Refused`: a line for which `Decided` holds is printed, or an error is
   -- reported as by `IsErrorExplained wanted files Refused`.
   abbrev pub IsLineOrErrorExplained : Bool → Files → (List ℕ → Type 0) → (Refusal → Type 0) → Course L
   IsLineOrErrorExplained wanted files Decided Refused =
-      IsLineOrErrorThenText wanted (IsRefusalText files) Decided Refused
+      IsLineOrErrorThenText wanted (IsRefusalText files None) Decided Refused

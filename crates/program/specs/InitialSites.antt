@@ -1,8 +1,9 @@
 -- Defines the initial site of a run.
 -- Source: docs/operating.md.
 -- Rules of this product: the schema is checked first; then a message (a state or a delta) is rejected as a whole, or
--- the site applies all of its updates.
-use Rattle.std.specs.Prelude.{◌≡◌, ◌⊎◌, ℕ, List, [], Option, None, Some}
+-- the site applies all of its updates. With `--explain`, what is rejected in the schema is explained or, if nothing is,
+-- the error of the message, with the name of its file.
+use Rattle.std.specs.Prelude.{◌≡◌, ◌⊎◌, ℕ, Bool, List, [], Option, None, Some}
 use Rattle.program_drills.specs.http_service.policy_grammar.declared.policy.Policy.{Policy}
 use Rattle.site_loading.specs.schema.Schemas.{StatedSchema, IsSchemaOf}
 use Rattle.program_drills.specs.http_service.entity_data.declared.entity.Entity.{Entity}
@@ -18,6 +19,8 @@ use Rattle.site_loading.specs.site_steps.declared.fault.SiteFault.{SiteFault}
 use Rattle.site_loading.specs.site_steps.declared.fault.SiteFault.TheVariants.{Message}
 use Rattle.program_drills.specs.http_service.site_steps.Runs.{IsNoMessageOf}
 use Rattle.program_drills.specs.http_service.site_steps.sync_messages.Messages.{IsMessageOf}
+use Rattle.program.specs.Courses.{Course}
+use Rattle.program.specs.ExplainOption.{schema_files, IsRefusalText, IsErrorThenText}
 
 -- `site_refusal f` is the error `f` of a site as it is reported.
 abbrev pub site_refusal : SiteFault → Refusal
@@ -48,3 +51,10 @@ IsStateRefused s (Some bytes) r =
 abbrev pub IsInitialSiteRefused : List ℕ → Option (List ℕ) → Refusal → Type 0
 IsInitialSiteRefused schema state r = IsSchemaRefused schema r
     ⊎ ((s : StatedSchema) × IsSchemaOf schema s × IsStateRefused s state r)
+
+-- `IsNotCreated wanted schema_file state_file schema state`: the error of `schema`, the content of `schema_file`, or of
+-- `state`, the content of `state_file`, or out of memory, is reported. If `wanted`, what is rejected in the schema is
+-- then explained or, if nothing is, the error of the state; out of memory by its code.
+abbrev pub IsNotCreated : {L : Type 0} → Bool → List ℕ → Option (List ℕ) → List ℕ → Option (List ℕ) → Course L
+IsNotCreated wanted schema_file state_file schema state = IsErrorThenText wanted
+    (IsRefusalText (schema_files schema_file schema) state_file) (IsInitialSiteRefused schema state)

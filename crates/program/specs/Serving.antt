@@ -21,8 +21,7 @@ use Rattle.program.specs.declared.device.Stream.TheVariants.{Faults}
 use Rattle.program.specs.Events.{Event, accepted, closed, paused, served, wrote}
 use Rattle.program.specs.Reports.{ended, IsFailureReported}
 use Rattle.program.specs.Courses.{Course, Reads, ReadsIfNamed, Listens, Announces, OpensIfNamed, WarnsIf}
-use Rattle.program.specs.ExplainOption.{schema_files, IsErrorExplained}
-use Rattle.program.specs.InitialSites.{IsInitialSite, IsInitialSiteRefused}
+use Rattle.program.specs.InitialSites.{IsInitialSite, IsNotCreated}
 
 -- `most_of o` is the number of connections in `o`; if `o` is `None`, more than any run can reach.
 abbrev pub most_of : Option ℕ → ℕ
@@ -132,8 +131,7 @@ module _ {R W G : Type 0} (reader : Source R) (writer : Sink W) (log : Sink G) w
   abbrev pub IsServedFrom : ServeOptions → List ℕ → Option (List ℕ) → Course (Link R W)
   IsServedFrom options schema state events end =
       ((site : SiteView) × IsInitialSite schema options.site state site × IsServedAt options site events end)
-      ⊎ IsErrorExplained options.explain (schema_files options.schema.now schema) (IsInitialSiteRefused schema state)
-      events end
+      ⊎ IsNotCreated options.explain options.schema.now (option_map (λ s. s.now) options.state) schema state events end
 
   -- `IsServeRun options`: of the files that `options` name, the schema is read, then the state, if one is named; then
   -- the site is served.

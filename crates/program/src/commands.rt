@@ -84,7 +84,7 @@ fn decide_contents<H: Host>(
         Ok(line) => report_answer(host, &line),
         Err(refusal) => {
             let given = decide_given(options, schema, policies, entities, request);
-            report_rejected(alloc, host, refusal, options.explain, &given)
+            report_rejected(alloc, host, refusal, options.explain, &given, None)
         }
     }
 }
@@ -163,7 +163,7 @@ fn check_contents<H: Host>(
         Ok((lines, some_refused)) => {
             report_checked(alloc, host, &lines, some_refused, options.explain, &given)
         }
-        Err(refusal) => report_rejected(alloc, host, refusal, options.explain, &given),
+        Err(refusal) => report_rejected(alloc, host, refusal, options.explain, &given, None),
     }
 }
 

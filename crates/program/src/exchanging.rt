@@ -28,7 +28,7 @@ use std::process::ExitCode;
 pub(crate) struct RoundCall<'a> {
     /// The number of the call in the round, 1 to 6.
     pub(crate) number: u8,
-    /// The method and the path of the request.
+    /// The kind of the request.
     pub(crate) call: ExchangeCall,
     /// The address of the called site.
     pub(crate) address: &'a str,
@@ -41,7 +41,7 @@ pub(crate) enum CallFault {
     NotReached,
     /// No reply of status 200 was received.
     Network(NetworkFault),
-    /// The reply to a merge is not a count of updates.
+    /// The reply to a merge has no count of updates.
     NoCount,
 }
 
@@ -66,7 +66,7 @@ fn owned(alloc: Global, text: &str) -> Result<String, NoMemory>
     format!(in alloc; "{text}")
 }
 
-/// Returns the report on a status other than 200.
+/// Returns the text that reports a status other than 200 as the cause of a failed call.
 #[tactic(auto, unfolding(crate::specs::Exchanging::status_text))]
 fn status_text(alloc: Global, status: u16) -> Result<String, NoMemory>
     ensures { IfOk result (λ line. string_bytes line ≡ status_text status) }
@@ -80,7 +80,7 @@ fn status_text(alloc: Global, status: u16) -> Result<String, NoMemory>
     format!(in alloc; "status {status}")
 }
 
-/// Returns the report on the error of a call.
+/// Returns the text that reports the cause of a failed call.
 fn fault_text(alloc: Global, fault: CallFault) -> Result<String, NoMemory>
     ensures { IfOk result (λ line. string_bytes line ≡ fault_text fault) }
 {
@@ -110,7 +110,8 @@ fn call_report(alloc: Global, at: &RoundCall<'_>, why: &str) -> Result<String, N
     format!(in alloc; "{address}: call {number} of 6, {asked}: {why}")
 }
 
-/// Writes the address, number and request of a failed call, and the cause.
+/// Writes the address, number and request of a failed call, and the cause; or, if that line cannot be allocated, the
+/// error line of out of memory. Returns the status of the run.
 fn report_call<H: Host>(
     alloc: Global,
     host: &mut H,
@@ -198,7 +199,7 @@ fn call_at<H: Host>(
     }
 }
 
-/// Writes `line`, the reply to a merge, to standard output. If `line` is not a count, reports that instead. In this
+/// Writes `line`, the reply to a merge, to standard output. If `line` has no count, reports that instead. In this
 /// case, and if writing fails, returns the status of the run as the error.
 fn write_taken<H: Host>(
     alloc: Global,
@@ -220,8 +221,8 @@ fn write_taken<H: Host>(
     }
 }
 
-/// Brings the site at `to` up to date from the one at `from` by three calls, numbered from `first`. Writes the reply to
-/// the last call, a count of updates, to standard output. If a call fails, reports why. In this case, and if writing
+/// Brings the site at `to` up to date from the one at `from` by three calls, numbered from `first`. Writes the last
+/// reply, with its count of updates, to standard output. If a call fails, reports why. In this case, and if writing
 /// fails, returns the status of the run as the error.
 fn exchange<H: Host>(
     alloc: Global,

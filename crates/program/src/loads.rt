@@ -57,7 +57,7 @@ fn put_contents<H: Host>(
         Ok(line) => report_answer(host, &line),
         Err(refusal) => {
             let given = load_given(options, schema, policies, entities);
-            report_rejected(alloc, host, refusal, options.explain, &given)
+            report_rejected(alloc, host, refusal, options.explain, &given, None)
         }
     }
 }
@@ -81,7 +81,7 @@ fn load_contents<H: Host>(
         Ok(site) => put_contents(alloc, host, options, site, schema, policies, entities),
         Err(refusal) => {
             let given = schema_given(options.schema, schema);
-            report_rejected(alloc, host, refusal, options.explain, &given)
+            report_rejected(alloc, host, refusal, options.explain, &given, options.state)
         }
     }
 }

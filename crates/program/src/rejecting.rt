@@ -4,7 +4,8 @@ ghost use Rattle.std.specs.Process.{exit_status};
 ghost use Rattle.explanations.specs.FileExplanations.{IsExplained};
 ghost use Rattle.explanations.specs.Files.{file_of, files_of};
 ghost use Rattle.program.specs.Events.{Runs};
-ghost use Rattle.program.specs.ExplainOption.{IsCodeText, IsRefusalText, IsTextWritten, IsErrorReported, Explains};
+ghost use Rattle.program.specs.ExplainOption.{IsCodeText, rejected_in, IsErrorText, IsRefusalText, IsTextWritten};
+ghost use Rattle.program.specs.ExplainOption.{IsErrorReported, Explains};
 ghost use Rattle.program.specs.ExplainOption.{IsExplanationWritten, policies_of, schema_files};
 ghost use Rattle.program.specs.inner.WrittenTexts.{IsMadeWritten};
 ghost use Rattle.program.specs.Reports.{AreLinesReported};
@@ -13,7 +14,7 @@ use crate::device::Stream;
 use crate::explaining::is_some_text;
 use crate::host::Host;
 use crate::report::{report_lines, report_refusal, without_end};
-use explanations::{Given, NamedText, code_text, explain_texts, words_of};
+use explanations::{Given, NamedText, code_text, explain_message, explain_texts, words_of};
 use plain::NoMemory;
 use program_drills::Refusal;
 use std::alloc::Global;
@@ -80,24 +81,56 @@ fn text_on(alloc: Global, code: u8) -> Result<String, NoMemory>
     }
 }
 
-/// Returns the text that explains what is rejected in the given files; if nothing is, the text on the code of the
-/// error.
-fn refusal_text(alloc: Global, given: &Given<'_, '_>, code: u8) -> Result<String, NoMemory>
-    ensures { IfOk result (λ text. IsRefusalText (files_of given.now) code (string_bytes text)) }
+/// Returns the file of the message that may be rejected, unless the error with this code is out of memory.
+fn rejected_in(message: Option<&str>, code: u8) -> Option<&str>
+    ensures { option_map (λ m. m.now) result ≡ rejected_in (option_map (λ m. m.now) message.entry) code }
+{
+    if code == 1 { None } else { message }
+}
+
+/// Returns the text that explains an error: as that of the message in the file `message`, if there is one and the error
+/// is not out of memory, else the text on its code.
+fn error_text(alloc: Global, message: Option<&str>, refusal: Refusal) -> Result<String, NoMemory>
+    ensures { IfOk result
+        (λ text. IsErrorText (option_map (λ m. m.now) message.entry) refusal (string_bytes text)) }
+{
+    match rejected_in(message, refusal.code) {
+        Some(file) => explain_message(alloc, file, refusal),
+        None => text_on(alloc, refusal.code),
+    }
+}
+
+/// Returns the text that explains what is rejected in the given files; if nothing is, the text that explains `refusal`,
+/// the error of the message in the file `message`, if there is one.
+pub(crate) fn refusal_text(
+    alloc: Global,
+    given: &Given<'_, '_>,
+    message: Option<&str>,
+    refusal: Refusal,
+) -> Result<String, NoMemory>
+    ensures { IfOk result (λ text.
+        IsRefusalText (files_of given.now) (option_map (λ m. m.now) message.entry) refusal (string_bytes text)) }
 {
     let text = explain_texts(alloc, given)?;
     if is_some_text(text.as_str()) {
         return Ok(text);
     }
-    text_on(alloc, code)
+    error_text(alloc, message, refusal)
 }
 
-/// Explains on standard error what is rejected in the given files or, if nothing is, the error with this code.
-fn explain_refusal<H: Host>(alloc: Global, host: &mut H, given: &Given<'_, '_>, code: u8)
-    ensures { Runs H.does host.old host.new
-        (λ events. IsExplanationWritten (IsRefusalText (files_of given.now) code) events) }
+/// Explains on standard error what is rejected in the given files or, if nothing is, `refusal`, the error of the
+/// message in the file `message`, if there is one.
+fn explain_refusal<H: Host>(
+    alloc: Global,
+    host: &mut H,
+    given: &Given<'_, '_>,
+    message: Option<&str>,
+    refusal: Refusal,
+)
+    ensures { Runs H.does host.old host.new (λ events. IsExplanationWritten
+        (IsRefusalText (files_of given.now) (option_map (λ m. m.now) message.entry) refusal) events) }
 {
-    write_explanation(host, refusal_text(alloc, given, code))
+    write_explanation(host, refusal_text(alloc, given, message, refusal))
 }
 
 /// Explains on standard error what is rejected in the given files.
@@ -109,23 +142,24 @@ fn explain_given<H: Host>(alloc: Global, host: &mut H, given: &Given<'_, '_>)
 }
 
 /// Reports an error and then, if that is requested, explains it: what is rejected in the given files or, if nothing is,
-/// the code.
+/// the error of the message in the file `message`, if there is one, else the code.
 pub(crate) fn report_rejected<H: Host>(
     alloc: Global,
     host: &mut H,
     refusal: Refusal,
     explain: bool,
     given: &Given<'_, '_>,
+    message: Option<&str>,
 ) -> ExitCode
     ensures { Runs H.does host.old host.new (λ events.
-        Explains explain (IsRefusalText (files_of given.now) refusal.code) (IsErrorReported refusal) events
-        (exit_status result)) }
+        Explains explain (IsRefusalText (files_of given.now) (option_map (λ m. m.now) message.entry) refusal)
+        (IsErrorReported refusal) events (exit_status result)) }
 {
     let end = report_refusal(alloc, host, refusal);
     if !explain {
         return end;
     }
-    explain_refusal(alloc, host, given, refusal.code);
+    explain_refusal(alloc, host, given, message, refusal);
     end
 }
 

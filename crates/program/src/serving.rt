@@ -246,7 +246,7 @@ fn serve_contents<H: Host>(
         Ok(site) => serve_initial_site(alloc, host, options, site),
         Err(refusal) => {
             let given = schema_given(options.schema, schema);
-            report_rejected(alloc, host, refusal, options.explain, &given)
+            report_rejected(alloc, host, refusal, options.explain, &given, options.state)
         }
     }
 }

@@ -5,19 +5,18 @@ ghost use Rattle.explanations.specs.Files.{files_of};
 ghost use Rattle.program_drills.specs.http_service.answer_lines.Refusals.{no_memory};
 ghost use Rattle.program.specs.Events.{Runs};
 ghost use Rattle.program.specs.ExplainOption.{IsErrorReported, Explains, IsExplanationWritten};
-ghost use Rattle.program.specs.Merging.{IsAtFault, IsMessageText, IsMergeText};
+ghost use Rattle.program.specs.Merging.{IsAtFault, IsMergeText};
 ghost use Rattle.program.specs.Reports.{taken_report_line, IsAnswerReported, IsMemoryReported};
 ghost use Rattle.program.specs.Runs.{AreMerged, IsMergeRun};
 ghost use Rattle.program.specs.Courses.{Stores};
 ghost use Rattle.program.specs.Pulling.{IsPulledOver, IsPullRun, IsPullReported};
 
 use crate::device::{Link, NetworkFailed};
-use crate::explaining::is_some_text;
 use crate::host::Host;
 use crate::reading::{lent, read_file, read_if_there};
-use crate::rejecting::{schema_given, write_explanation};
+use crate::rejecting::{refusal_text, schema_given, write_explanation};
 use crate::report::{report_answer, report_failure, report_file, report_memory, report_refusal};
-use explanations::{Given, explain_message, explain_texts};
+use explanations::Given;
 use plain::NoMemory;
 use program_drills::Refusal;
 use program_lines::{MergeOptions, PullOptions};
@@ -59,24 +58,6 @@ fn message_at_fault<'n>(
     }
 }
 
-/// Returns the text that explains what is rejected in the given files; if nothing is, the text that explains the error
-/// with this code of the message in the file `name`.
-fn message_text(
-    alloc: Global,
-    given: &Given<'_, '_>,
-    name: &str,
-    code: u8,
-) -> Result<String, NoMemory>
-    ensures { IfOk result
-        (λ text. IsMessageText (files_of given.now) name.now code (string_bytes text)) }
-{
-    let text = explain_texts(alloc, given)?;
-    if is_some_text(text.as_str()) {
-        return Ok(text);
-    }
-    explain_message(alloc, name, code)
-}
-
 /// Returns the text that explains a rejected merge: what is rejected in the given files or, if nothing is, the error of
 /// the message at fault.
 fn merge_text(
@@ -85,13 +66,13 @@ fn merge_text(
     options: &MergeOptions<'_>,
     schema: &[u8],
     first: &[u8],
-    code: u8,
+    refusal: Refusal,
 ) -> Result<String, NoMemory>
     ensures { IfOk result (λ text.
-        IsMergeText (files_of given.now) options.now schema.now first.now code (string_bytes text)) }
+        IsMergeText (files_of given.now) options.now schema.now first.now refusal (string_bytes text)) }
 {
     let name = message_at_fault(alloc, options, schema, first)?;
-    message_text(alloc, given, name, code)
+    refusal_text(alloc, given, Some(name), refusal)
 }
 
 /// Explains on standard error why a merge was rejected.
@@ -102,12 +83,15 @@ fn explain_merge<H: Host>(
     options: &MergeOptions<'_>,
     schema: &[u8],
     first: &[u8],
-    code: u8,
+    refusal: Refusal,
 )
     ensures { Runs H.does host.old host.new (λ events. IsExplanationWritten
-        (IsMergeText (files_of given.now) options.now schema.now first.now code) events) }
+        (IsMergeText (files_of given.now) options.now schema.now first.now refusal) events) }
 {
-    write_explanation(host, merge_text(alloc, given, options, schema, first, code))
+    write_explanation(
+        host,
+        merge_text(alloc, given, options, schema, first, refusal),
+    )
 }
 
 /// Reports the error of a merge and then, if that is requested, explains it.
@@ -121,14 +105,14 @@ fn report_unmerged<H: Host>(
     refusal: Refusal,
 ) -> ExitCode
     ensures { Runs H.does host.old host.new (λ events. Explains options.now.explain
-        (IsMergeText (files_of given.now) options.now schema.now first.now refusal.code) (IsErrorReported refusal)
+        (IsMergeText (files_of given.now) options.now schema.now first.now refusal) (IsErrorReported refusal)
         events (exit_status result)) }
 {
     let end = report_refusal(alloc, host, refusal);
     if !options.explain {
         return end;
     }
-    explain_merge(alloc, host, given, options, schema, first, refusal.code);
+    explain_merge(alloc, host, given, options, schema, first, refusal);
     end
 }
 

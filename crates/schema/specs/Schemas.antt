@@ -1,9 +1,9 @@
 -- Defines the schema that bytes describe, and the first error of bytes that describe none.
 -- Source: Cedar reference guide 4.0, "Schema JSON format": `shape`, `memberOfTypes`, `memberOf`, `appliesTo`.
 -- Rules of this product: the limits on types (10,000 nodes, 64 deep); no action is its own ancestor; the order of the
--- errors: not JSON (20), then the form of the whole file (21), unknown names (22), cycles of common types (23), cycles
--- of actions (24), types that are too large (25); the label of a schema is SHA-256 (FIPS 180-4) of its bytes, in lower
--- case hexadecimal digits.
+-- errors, with their codes: not JSON (20), then the form of the whole file (21), unknown names (22), cycles of common
+-- types (23), cycles of actions (24), types that are too large (25); the label of a schema is SHA-256 (FIPS 180-4) of
+-- its bytes, in lower case hexadecimal digits.
 use Rattle.std.specs.Prelude.{◌≡◌, ◌↔◌, ℕ, List, [], ◌∷◌, map, Contains, IsTrue, IsSome, Bool, Option, Some, None}
 use Rattle.std.specs.List.Sorted.{IsStrictlySortedBy}
 use Rattle.sha2.specs.Sha256.{sha256}
@@ -38,7 +38,7 @@ pub record EnvironmentOf : Type 0 where
   pub place : EnvironmentKey
   pub context : Cedar
 
--- A `StatedSchema` has the label and the look-ups of a schema.
+-- A `StatedSchema` has the label, the lists and the look-ups of a schema.
 pub record StatedSchema : Type 0 where
   pub label : List ℕ
   pub environments : List EnvironmentOf
@@ -49,7 +49,7 @@ pub record StatedSchema : Type 0 where
   pub member_of : EntityUid → Option (List EntityUid)
   -- the ancestors of a declared action
   pub ancestors : EntityUid → Option (List EntityUid)
-  -- whether one or more steps by `memberOfTypes` lead from the first type, the child's, to the second
+  -- whether the second type is an ancestor of the first by `memberOfTypes`
   pub may_have_parent : List ℕ → List ℕ → Bool
 
 -- `ActionHasAncestor v u above` holds if the action `u` is declared in the schema `v`, and `above` is its ancestor.
@@ -142,9 +142,9 @@ IsEnvironment s e = (applied : ResolvedAppliesTo) × Applies s e.place applied
 abbrev pub IsEnvironmentKey : ResolvedSchema → EnvironmentKey → Type 0
 IsEnvironmentKey s p = (applied : ResolvedAppliesTo) × Applies s p applied
 
--- `MatchesDeclarations s v` holds if each look-up of `v` finds exactly what `s` declares. The actions, the ancestors of
--- each action and the environments ascend, without duplicates; the parents of an action are in the order of its
--- `memberOf`.
+-- `MatchesDeclarations s v` holds if each list and each look-up of `v` has exactly what `s` declares. The actions, the
+-- ancestors of each action and the environments ascend, without duplicates; the parents of an action are in the order
+-- of its `memberOf`.
 pub record MatchesDeclarations (s : ResolvedSchema) (v : StatedSchema) : Type 0 where
   pub shapes : (n : List ℕ) (t : Cedar) → v.shape n ≡ Some t → IsShape s n t
   pub all_shapes : (e : ResolvedEntityType) → Contains s.entity_types e → IsSome (v.shape e.name)
@@ -175,8 +175,8 @@ pub record HasContent (bytes : List ℕ) (ns : List NamespaceOf) : Type 0 where
   pub json : json_of bytes ≡ Some value
   pub states : DescribesNamespaces value ns
 
--- `HasDeclarations bytes s` holds if `bytes` are a schema file whose shapes and contexts are records, and `s` are its
--- declarations with their names resolved.
+-- `HasDeclarations bytes s` holds if `bytes` are a schema file, `s` are its declarations with their names resolved, and
+-- no shape or context is, directly or by name, a type other than a record.
 pub record HasDeclarations (bytes : List ℕ) (s : ResolvedSchema) : Type 0 where
   pub namespaces : List NamespaceOf
   pub content : HasContent bytes namespaces
@@ -185,8 +185,8 @@ pub record HasDeclarations (bytes : List ℕ) (s : ResolvedSchema) : Type 0 wher
 
 -- `IsSchemaOf bytes v` holds if `bytes` describe the schema `v`. The bytes are a schema file (`HasDeclarations`) where
 -- no action is its own ancestor and each type has an expansion within the limits. `v` has the label of `bytes`, and
--- each look-up of `v` finds what the file declares. No common type, entity type or action is declared twice: this is
--- a theorem of `schema_names` (`files_are_in_order`).
+-- its lists and look-ups have what the file declares. No common type, entity type or action is declared twice, by the
+-- theorems `declarations_are_read_as_stated` and, of `schema_names`, `files_are_in_order`.
 pub record IsSchemaOf (bytes : List ℕ) (v : StatedSchema) : Type 0 where
   pub named : ResolvedSchema
   pub states : HasDeclarations bytes named
@@ -206,7 +206,7 @@ pub data RefusedFor (bytes : List ℕ) : SchemaFault → Type 0 where
   -- 21: the JSON does not have the form of a schema file, or some shape or context is not a record
   no_file : (d : Data) → json_of bytes ≡ Some d → IsNoFile d → RefusedFor bytes BadShape
   no_record : (ns : List NamespaceOf) → HasContent bytes ns → SomeIsNotRecord ns → RefusedFor bytes BadShape
-  -- 22: some name denotes no declaration
+  -- 22: some name does not resolve
   unknown_name : (ns : List NamespaceOf) → HasContent bytes ns → (SomeIsNotRecord ns → ⊥) → FileHasUnknown ns
       → RefusedFor bytes UnknownName
   -- 23: the declaration of some common type leads back to that type

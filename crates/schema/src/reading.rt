@@ -62,8 +62,9 @@ fn demand_edges(alloc: Global, found: &ResolvedFile) -> Result<Searched, SchemaF
     Ok(edges)
 }
 
-/// Returns the shapes and the environments of a file, where `table` has the file's expanded common types. The only
-/// errors are `TypeTooLarge` (25), and `NoMemory`.
+/// Returns the shapes and the environments of a file. `commons` declares each common type named in a shape or a context
+/// of the file. `table` has the expansion of each common type, unless it is too large. The only errors are
+/// `TypeTooLarge` (25), and `NoMemory`.
 fn make_types(alloc: Global, found: &ResolvedFile, table: &Table) -> Result<Types, SchemaFault>
     ghost commons: { Declarations }
     requires written { AreWritten commons (type_table table.now) }
@@ -106,8 +107,8 @@ fn make_hierarchies(
     })
 }
 
-/// Returns the schema of `bytes`, whose declarations, with resolved names, are `found`. The hierarchy of the actions
-/// (`edges`) and the sizes of the expanded common types (`table`) are already checked. The only errors are
+/// Returns the schema of `bytes`, whose declarations, with resolved names, are `found`. `edges` is the hierarchy of the
+/// actions, and has no cycle; `table` has the expanded common types, none of which is too large. The only errors are
 /// `TypeTooLarge` (25), for a shape or a context, and `NoMemory`.
 fn make_schema(
     alloc: Global,

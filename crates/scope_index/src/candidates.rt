@@ -19,12 +19,12 @@ use std::alloc::Global;
 use std::collections::BTreeMap;
 use values::{EntityUid, Request};
 
-// If at least this many policies are candidates of every request, they are listed in the order of their bucket, and the
-// other candidates are added to them. Only the time depends on this number, not the result.
+// If at least this many policies are candidates of every request, they are listed in their bucket's order, by id, and
+// then the other candidates are added. No result depends on this number.
 const MANY: usize = 64;
 
-// The greatest number of candidates, other than the candidates of every request, that are inserted one by one. Only the
-// time depends on this number, not the result.
+// The greatest number of candidates, other than the candidates of every request, that are inserted one by one. No
+// result depends on this number.
 const FEW: usize = 128;
 
 // Appends the policies of a bucket to the candidates.
@@ -111,7 +111,8 @@ fn add_with_ancestors<'a, A: Ancestry>(
     Ok(())
 }
 
-// Appends the policies in the buckets of the request's principal and resource and of each of their ancestors.
+// Appends the policies in the principal buckets of the request's principal and its ancestors, and those in the resource
+// buckets of the request's resource and its ancestors.
 fn add_bound<'a, A: Ancestry>(
     buckets: &'a Buckets,
     request: &Request,
@@ -126,7 +127,7 @@ fn add_bound<'a, A: Ancestry>(
     Ok(())
 }
 
-// Returns the candidate policies of a request, in any order.
+// Returns the candidate policies of a request, in any order, possibly with duplicates.
 fn found_by<'a, A: Ancestry>(
     alloc: Global,
     buckets: &'a Buckets,
@@ -142,8 +143,8 @@ fn found_by<'a, A: Ancestry>(
     Ok(found)
 }
 
-// Sorts candidates by their ids. Those of a bucket are in this order already, so the stable sort merges whole buckets.
-// If it cannot allocate, the candidates are sorted in place.
+// Sorts candidates by their ids. Those of a bucket are a sorted run already; the stable sort merges long sorted runs as
+// they are. If it cannot allocate, the candidates are sorted in place.
 fn sort_by_id<'a>(policies: &mut Vec<(&'a str, &'a Policy)>)
     ensures permutation { IsPermutation policies.old.items policies.new.items }
     ensures sorted { IsSortedByKey (λ p. p.0.now) text_cmp policies.new.items }

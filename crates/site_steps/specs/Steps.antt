@@ -1,7 +1,7 @@
--- Defines the steps of a site, each of which leads from a store `s` to a store `t`, with a result.
--- Rules of this product: a local command is checked for its own errors first, and last for `ClockFull`; its stamp's
--- count is one more than the greatest in the whole store; updates of another site are applied in their order;
--- rejected inputs and queries leave the store unchanged.
+-- Defines the steps of a site, each from a store `s` to a store `t` with a result, and the results of its queries.
+-- Rules of this product: `ClockFull` is the last error that a local command is checked for; the count of a command's
+-- stamp is one more than the greatest in the whole store; updates from another site are applied in their order; queries
+-- and rejected inputs leave the store unchanged.
 use Rattle.std.specs.Prelude.{◌≡◌, ◌↔◌, ◌<◌, ℕ, List, [], ◌∷◌, ◌++◌, length, take, Option, Some, None, IsSome}
 use Rattle.std.specs.Prelude.{IsTrue, Result, Ok, Err, option_and_then, option_map}
 use Rattle.std.specs.FinMap.{get}
@@ -49,8 +49,8 @@ pub record Records (n : List ℕ) (s : Store) (name : Name) (body : Option (List
 abbrev pub IsClockFull : Store → Store → Type 0
 IsClockFull s t = (greatest_count s ≡ most_count) × (t ≡ s)
 
--- `PutsPolicy schema n s id text r t` holds if, at the site of `schema` named `n`, a put of the policy text `text`
--- under `id` may lead from `s` to `t` with the result `r`.
+-- `PutsPolicy schema n s id text r t` holds if, at the site `n` of `schema`, a put of the policy text `text` under
+-- `id` may lead from `s` to `t` with the result `r`.
 abbrev pub PutsPolicy : StatedSchema → List ℕ → Store → List ℕ → List ℕ → Result Put SiteFault → Store → Type 0
 PutsPolicy schema n s id text (Ok put) t =
     (p : Policy) × IsAdmitted schema id text p × (IsTrue put.impossible ↔ IsImpossible schema p)
@@ -60,7 +60,7 @@ PutsPolicy schema n s id text (Err fault.ClockFull) t =
     ((p : Policy) × IsAdmitted schema id text p) × IsClockFull s t
 PutsPolicy schema n s id text (Err f) t = IsNotAdmitted schema id text f × (t ≡ s)
 
--- `PutsEntity schema n s json r t` holds if, at the site of `schema` named `n`, a put of the entity that `json`
+-- `PutsEntity schema n s json r t` holds if, at the site `n` of `schema`, a put of the entity that `json`
 -- describes may lead from `s` to `t` with the result `r`. The entity's canonical text is stored. A cycle is reported
 -- before a full clock. `None` stands for bytes that are not JSON.
 abbrev pub PutsEntity : StatedSchema → List ℕ → Store → Option Data → Result Stamp SiteFault → Store → Type 0
@@ -89,7 +89,7 @@ Deletes n s name (Err _) t = ⊥
 
 -- `TakesUpdates s us taken t` holds if `taken` reports that all of the updates `us`, or exactly the first `k` of them
 -- (`Short k`), were applied, and `t` is the store of the updates of `s` and the applied ones. At each name `t` has the
--- greatest entry among them (`IsStoreOf` of stamped_store).
+-- greatest entry among them (`store_of` of stamped_store).
 abbrev pub TakesUpdates : Store → List Update → taking.Taken → Store → Type 0
 TakesUpdates s us (All k) t = (k ≡ length us) × (t ≡ store_of (updates s ++ us))
 TakesUpdates s us (Short k) t = (k < length us) × (t ≡ store_of (updates s ++ take k us))

@@ -12,7 +12,7 @@ use thiserror::Error;
 /// The error of a rejected input. The site is then unchanged.
 #[derive(Clone, Copy, Debug, Error)]
 pub enum SiteFault {
-    /// Code 1: an allocation failed.
+    /// Code 1: an allocation failed, or a count of references would overflow.
     #[error("site 1: out of memory")]
     NoMemory,
     /// Codes 10 to 19: the id of a policy does not have 1 to 256 bytes (19), or its text is not that of a policy.

@@ -27,8 +27,8 @@ use std::marker::Model;
 
 /// A site: a schema, a name, and a store of stamped texts with their parsed forms.
 ///
-/// Contracts see these three as a `SiteView`, and describe the store abstractly, as at most one stamped body for each
-/// name.
+/// Contracts see these three as a `SiteView`. Its abstract store has at most one stamped body for each policy id and
+/// each uid of an entity.
 #[derive(Drop)]
 pub struct Site {
     pub(crate) alloc: Global,
@@ -81,8 +81,8 @@ impl Site {
         self.store.schema()
     }
 
-    /// Proves the site's invariant: some bytes describe its schema, the names and stamps of its store are in their
-    /// ranges, and each text can be parsed under the schema. No-op.
+    /// Proves that some bytes describe the site's schema, that the names and stamps of its store are in their ranges,
+    /// and that each text can be parsed under the schema; also that `most_count` is `COUNT_MAX`. No-op.
     pub fn holds_valid_updates(&self)
         ensures stated { IsStated self.now.schema }
         ensures held { IsValidStore (schema_of self.now) (store_in self.now) }
@@ -173,8 +173,8 @@ impl Site {
     ///
     /// Evaluates only the candidates that the policy index has for the request, and looks up ancestors in the ancestor
     /// cache. If the index is absent, or there is no memory for its candidates, every policy is a candidate. If the
-    /// cache is absent, the hierarchy is searched for ancestors, and all of it for cycles. In either case the time
-    /// grows with the store.
+    /// cache is absent, the hierarchy is searched for ancestors, and all of it is searched for a cycle. In
+    /// each of these cases the time grows with the store.
     ///
     /// # Errors
     ///
@@ -193,8 +193,8 @@ impl Site {
         Ok(answered?)
     }
 
-    /// Rebuilds the absent caches, if there is memory; the ancestor cache only if it would not be too large. Each
-    /// applied put, deletion or message does so too. No entry changes.
+    /// Rebuilds the index and the ancestor cache if absent and if there is memory; the ancestor cache only if it would
+    /// not be too large. No entry changes. Each applied put, deletion or message rebuilds them in the same way.
     ///
     /// If the last build of the ancestor cache found too many ancestors, the cache stays absent during many further
     /// updates of entities (`RebuildRule` of site_store counts them).
@@ -211,12 +211,14 @@ impl Site {
         self.store.caches_present()
     }
 
-    /// Returns how many policies the last answer evaluated, or would have without a cycle; for tests alone.
+    /// Returns how many policies the last answer evaluated; if it reports a cycle, how many it would have evaluated
+    /// without one. For tests alone.
     pub fn evaluated(&self) -> usize {
         self.store.evaluated()
     }
 
-    /// Drops the caches, so that the next answers search and evaluate everything; for tests and measurements alone.
+    /// Drops the caches, so that the next answers evaluate all policies and search the hierarchy; for tests and
+    /// measurements alone.
     pub fn drop_caches(&mut self)
         ensures { self.new ≡ self.old }
     {

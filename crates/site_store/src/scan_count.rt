@@ -54,7 +54,7 @@ impl ScanCount {
         self.evaluated.set(evaluated);
     }
 
-    /// Returns how many policies the last answer evaluated, or would have without a cycle.
+    /// Returns how many policies the last answer evaluated; if it reports a cycle, how many it would have evaluated.
     pub(crate) fn evaluated(&self) -> usize {
         self.evaluated.get()
     }

@@ -339,7 +339,8 @@ impl IndexedStore {
         (self.ancestors.is_some(), self.index.is_some())
     }
 
-    /// Returns how many policies the last answer evaluated, or would have without a cycle; for tests alone.
+    /// Returns how many policies the last answer evaluated; if it reports a cycle, how many it would have evaluated
+    /// without one. For tests alone.
     pub fn evaluated(&self) -> usize {
         self.scan_count.evaluated()
     }

@@ -25,8 +25,8 @@ module _ {N V : Type 0} (cmp : V → V → Ordering) where
   IsGreatestAt us q None = (e : V) → ¬ (Contains us (q, e))
   IsGreatestAt us q (Some e) = Contains us (q, e) × ((f : V) → Contains us (q, f) → is_le (cmp f e) ≡ true)
 
-  -- `IsStoreOf us s` holds if the entry of each name in `s` is the greatest one that the updates `us` have for the
-  -- name; a name without an update has no entry.
+  -- `IsStoreOf us s` holds if `s` has, for each name, the greatest entry that the updates `us` have for the name, and
+  -- no entry for a name without an update.
   abbrev pub IsStoreOf : {R : N → N → Ordering} → List (N × V) → FinMap R V → Type 0
   IsStoreOf us s = (q : N) → IsGreatestAt us q (get s q)
 

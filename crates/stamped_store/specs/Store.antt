@@ -18,11 +18,12 @@ use Rattle.stamped_store.specs.Greatest as updates_of
 use Rattle.stamped_store.specs.JoinMaps.{all_joined}
 use Rattle.stamped_store.specs.Abstraction.{abstract_entries}
 
--- `StoreAt Site` is the type of stores whose entries have sites of the type `Site`.
+-- `StoreAt Site` is the type of stores whose entries have sites of the type `Site`: site names, or numbers
+-- (Raised.antt).
 abbrev pub StoreAt : Type 0 → Type 0
 StoreAt Site = map.FinMap name_cmp (EntryAt Site)
 
--- A `Store` is a store whose entries have named sites.
+-- A `Store` is a store whose entries have site names.
 abbrev pub Store : Type 0
 Store = StoreAt (List ℕ)
 
@@ -30,11 +31,11 @@ Store = StoreAt (List ℕ)
 abbrev pub UpdateAt : Type 0 → Type 0
 UpdateAt Site = Name × EntryAt Site
 
--- An `Update` is an update whose entry has a named site.
+-- An `Update` is an update whose entry has a site name.
 abbrev pub Update : Type 0
 Update = UpdateAt (List ℕ)
 
--- `updates s` are the updates of the store `s`, in the order of the names.
+-- `updates s` are the entries of the store `s` as updates, sorted by name.
 abbrev pub updates : Store → List Update
 updates s = map.entries s
 
@@ -45,8 +46,8 @@ updates s = map.entries s
 abbrev pub store_of : List Update → Store
 store_of us = updates_of.store_of entry_cmp name_cmp us
 
--- `IsStoreOf us s` holds if the entry of each name in `s` is the greatest one that the updates `us` have for the name;
--- a name without an update has no entry.
+-- `IsStoreOf us s` holds if `s` has, for each name, the greatest entry that the updates `us` have for the name, and no
+-- entry for a name without an update.
 abbrev pub IsStoreOf : List Update → Store → Type 0
 IsStoreOf us s = updates_of.IsStoreOf entry_cmp us s
 
@@ -86,7 +87,7 @@ issued stamp body = record { count = stamp.count; site = stamp.site; body = body
 -- ---- the concrete store, and the abstract store that it represents
 
 -- `StoreEntries P E` are the concrete entries: policies by id, with parsed forms of the type `P`, and entities by uid,
--- with parsed forms of the type `E`. In a store both lists ascend.
+-- with parsed forms of the type `E`. In a concrete store both lists ascend (`IsCounted`).
 pub record StoreEntries (P E : Type 0) : Type 0 where
   pub policies : List (String Global × Entry P)
   pub entities : List (EntityUid × Entry E)
@@ -125,7 +126,8 @@ abbrev pub first_entries : {P E : Type 0} → ℕ → StoreEntries P E → Store
 first_entries n k = kept (take n k.policies) (take (n - length k.policies) k.entities)
 
 -- `IsCounted k greatest` is the invariant of the concrete store. It holds if `greatest` is the greatest count of the
--- entries `k`, and the updates of `k` are those of the abstract store, in order.
+-- entries `k`, and the updates of `k` are those of its abstract store in the same order; so the policies and the
+-- entities of `k` each ascend.
 pub record IsCounted {P E : Type 0} (k : StoreEntries P E) (greatest : ℕ) : Type 0 where
   pub counted : greatest ≡ updates_of.greatest_count (abstract_store k)
   pub in_order : updates (abstract_store k) ≡ abstract_updates k

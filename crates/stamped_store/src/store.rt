@@ -27,11 +27,11 @@ use values::EntityUid;
 /// The greatest count that a stamp may have in a message or from a local command: 10^18.
 pub const COUNT_MAX: u64 = 1_000_000_000_000_000_000;
 
-/// The store of a site: the entries of policies by id, with parsed forms of type `P`, and those of entities by uid,
-/// with parsed forms of type `E`.
+/// The store of a site: the entries of policies by id, and those of entities by uid. The texts of policies have parsed
+/// forms of type `P`, and those of entities have parsed forms of type `E`.
 ///
-/// Contracts see these entries, and the abstract store that they represent, with at most one entry at each name. In the
-/// order of names, policies come before entities.
+/// Contracts see these entries. The entries represent an abstract store, which has at most one entry at each name. In
+/// the order of names, policies come before entities.
 #[derive(Drop)]
 pub struct StampedStore<P: Drop, E: Drop> {
     policies: Stamped<String, Entry<P>>,
@@ -202,7 +202,7 @@ impl<P: Drop, E: Drop> StampedStore<P, E> {
     }
 }
 
-// The steps of the store's methods, on one of its two maps or both.
+// The steps of the store's methods.
 
 // Joins an entry at a key, and returns the greater of `greatest` and the entry's count.
 fn take_counted<K: Ord + Drop, P: Drop>(
@@ -249,7 +249,7 @@ fn greater_count(a: u64, b: u64) -> u64
     a.max(b)
 }
 
-// Returns the greatest count in both maps, 0 if they are empty.
+// Returns the greatest count of the two maps, 0 if they are empty.
 fn greatest_of_both<P: Drop, E: Drop>(
     policies: &Stamped<String, Entry<P>>,
     entities: &Stamped<EntityUid, Entry<E>>,
@@ -259,7 +259,7 @@ fn greatest_of_both<P: Drop, E: Drop>(
     greatest_of(policies).max(greatest_of(entities))
 }
 
-// Returns the greatest count in one of the two maps, 0 if it is empty.
+// Returns the greatest count in the map, 0 if it is empty.
 fn greatest_of<K: Ord + Drop, P: Drop>(entries: &Stamped<K, Entry<P>>) -> u64
     ensures { result ≡ greatest_kept entries.now }
 {

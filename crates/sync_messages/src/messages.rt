@@ -1,4 +1,4 @@
-//! The parsing of messages under a schema: states, deltas and summaries.
+//! The parsing of states and deltas under a schema, and of summaries.
 ghost use Rattle.std.specs.Prelude.{IfOk, IfErr, MatchResult};
 ghost use Rattle.json_words.specs.ReadsAs.{ReadsAs};
 ghost use Rattle.plain.specs.AllocationErrors.{OrNoMemory};
@@ -22,7 +22,7 @@ use validator::{Entity, Schema};
 /// # Errors
 ///
 /// - 50 to 56: the first error of the message, in the order of [`read_message`].
-/// - `NoMemory` (1): an allocation failed; possible at any point.
+/// - `NoMemory` (1): an allocation failed, or a count of references would overflow; possible at any point.
 pub fn read_updates(
     alloc: Global,
     schema: &Schema,

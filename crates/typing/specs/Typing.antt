@@ -1,8 +1,9 @@
--- Defines the type of an expression, and the capabilities that it gains, by one case for each rule.
+-- Defines the type of an expression, and the capabilities that an expression gains: the fields that it shows to be
+-- present if it is true. There is one case for each rule.
 -- Source: Cedar reference guide 4.0, "Policy validation"; cedar-spec, cedar-lean/Cedar/Validation/Typechecker.lean
 -- (`typeOf`).
--- Rules of this product: those of Literals.antt on actions, and that `&&` whose right side is False gains the
--- capabilities of both sides.
+-- Rules of this product: those of Literals.antt and Rows.antt; also, `a && b` gains the capabilities of both sides if
+-- only `b` has the type False.
 use Rattle.std.specs.Prelude.{◌≡◌, ℕ, List, [], ◌∷◌, ◌++◌, map, Contains, Bool, Some, Ok}
 use Rattle.std.specs.Bool.{Decides}
 use Rattle.evaluator.specs.grammar_core.declared.leaf.Literal.{Literal}
@@ -24,19 +25,19 @@ use Rattle.typing.specs.Rows.{literal_type, variable_type, unary_type, binary_ty
 use Rattle.typing.specs.Rows.{field_type_of, has_type, set_literal_type, address_test_type, call_type}
 
 mutual
-  -- `Types env K x t L` holds if, in the environment `env`, `x` has the type `t` and gains the capabilities `L`, where
+  -- `Types env K x t L` holds if `x` has the type `t` and gains the capabilities `L`, in the environment `env`, where
   -- the capabilities `K` are known.
   pub data Types (env : Environment) : CapabilityList → Expr → StaticType → CapabilityList → Type 0 where
     types_literal : {K : CapabilityList} (l : Literal) → Types env K (form.Literal l) (literal_type l) []
     types_variable : {K : CapabilityList} (x : Variable) → Types env K (form.Variable x) (variable_type env x) []
     types_unary : {K L : CapabilityList} (op : Unary) (a : Expr) {s t : StaticType} → Types env K a s L
         → unary_type op s ≡ Ok t → Types env K (form.Unary op a) t []
-    -- the left side is False: the right side is not checked
+    -- the left side has the type False: the right side is not checked
     and_of_false : {K L : CapabilityList} (a b : Expr) → Types env K a false_type L
         → Types env K (form.And a b) false_type []
     and_of_both : {K L M : CapabilityList} (a b : Expr) {s t : StaticType} → Types env K a s L → MayBeTrue s
         → Types env (K ++ L) b t M → IsBoolean t → Types env K (form.And a b) (and_type s t) (L ++ M)
-    -- the left side is True: the right side is not checked
+    -- the left side has the type True: the right side is not checked
     or_of_true : {K L : CapabilityList} (a b : Expr) → Types env K a true_type L
         → Types env K (form.Or a b) true_type []
     or_of_false : {K L M : CapabilityList} (a b : Expr) {t : StaticType} → Types env K a false_type L
@@ -44,7 +45,7 @@ mutual
         → IsBoolean t → Types env K (form.Or a b) t M
     or_of_both : {K L M N : CapabilityList} (a b : Expr) {t : StaticType} → Types env K a boolean_type L
         → Types env K b t M → IsBoolean t → OrGains t L M N → Types env K (form.Or a b) (or_type t) N
-    -- the test is True or False: the other branch is not checked
+    -- the test has the type True or False: the branch that is not taken is not checked
     if_of_true : {K L M : CapabilityList} (a b c : Expr) {t : StaticType} → Types env K a true_type L
         → Types env (K ++ L) b t M → Types env K (form.If a b c) t (L ++ M)
     if_of_false : {K L M : CapabilityList} (a b c : Expr) {t : StaticType} → Types env K a false_type L
@@ -69,7 +70,7 @@ mutual
         → Types env K (form.Has a k) t (has_gains t (a, k))
     types_set : {K : CapabilityList} (xs : List Expr) {ts : List StaticType} {t : StaticType} → TypesEach env K xs ts
         → set_literal_type ts ≡ Ok t → Types env K (form.Set xs) t []
-    -- all fields are required
+    -- each field is required in the record's type
     types_record : {K : CapabilityList} (xs : List (Named Expr)) {ts : List StaticType}
         → TypesEach env K (map (λ x. x.value) xs) ts
         → Types env K (form.Record xs) (record_type (put_each (map (λ x. x.name) xs) ts no_field_types)) []

@@ -25,8 +25,8 @@ pub struct Verdict {
     pub impossible: bool,
 }
 
-/// Checks that each name of a policy is declared, first those of `parts` (the expressions of the policy's scope), then
-/// those of its conditions. Returns the error of the first undeclared name.
+/// Checks that the entity types and actions that a policy names are declared: those in `parts` (the expressions of its
+/// scope), then those in its conditions. Returns the error of the first that is not.
 fn check_names(schema: &Schema, parts: &[Expr], policy: &Policy) -> Result<(), TypeFault>
     ensures { result ≡ parts_check (schema_view schema.now) parts.now policy.now.condition }
 {
@@ -86,8 +86,8 @@ fn is_false_everywhere(
 /// Validates a policy under a schema, in strict mode.
 ///
 /// Returns whether the policy is impossible: its type is False in each environment of the schema. An impossible
-/// policy passes validation if its names are all declared. If the schema has no environments, each policy whose names
-/// are all declared is impossible.
+/// policy passes validation if its names are all declared. If the schema has no environments, every policy is
+/// impossible.
 ///
 /// # Errors
 ///

@@ -6,9 +6,9 @@ use Rattle.std.proofs.Common.{ap}
 use Rattle.extensions.specs.Network.{Network}
 use Rattle.values.specs.declared.entity_uid.EntityUid.{EntityUid}
 
--- A `PlainValue` is an abstract value. It represents a string by its bytes, a set by its members, a record by its keys
--- with their values, and a decimal by its number of ten-thousandths. The lists of members and of fields are types of
--- their own, since a data type cannot contain lists of itself.
+-- A `PlainValue` is an abstract value: what contracts see of a value in the code. It represents a string by its bytes,
+-- a set by a list of its members, a record by a list of its fields (keys with values), and a decimal by its number of
+-- ten-thousandths. The two kinds of list are types of their own, since a data type cannot contain lists of itself.
 mutual
   pub data PlainValue : Type 0 where
     boolean : Bool → PlainValue
@@ -65,9 +65,9 @@ pub pairs_of-fields_of : (fs : List (List ℕ × PlainValue)) → pairs_of (fiel
 pairs_of-fields_of [] = refl
 pairs_of-fields_of (f ∷ fs) = ap (λ w. f ∷ w) (pairs_of-fields_of fs)
 
--- `height v` measures how deeply sets and records nest in `v`. It is greater than the height of each member of a set
--- and of each value in a record, and 0 for all other kinds. `heights vs` and `field_heights fs` are 1 more than the
--- greatest height of the members `vs` or of the values of the fields `fs`, or 0 for an empty list.
+-- `height v` measures how deeply sets and records nest in `v`: 1 more than `heights` of a set's members or
+-- `field_heights` of a record's fields, and 0 for all other kinds. `heights vs` and `field_heights fs` are 1 more than
+-- the greatest height of the members `vs` or of the values of the fields `fs`, and 0 for an empty list.
 abbrev mutual
   pub height : PlainValue → ℕ
   height (boolean b) = 0

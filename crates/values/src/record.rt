@@ -16,7 +16,7 @@ use std::cmp::Ordering;
 use std::collections::BTreeMap;
 use std::marker::Model;
 
-/// A record: values by keys. Contracts see the list of its keys with their values. The keys ascend strictly by bytes.
+/// A record: values by keys. Contracts see the list of its keys with their values. Keys ascend strictly, by bytes.
 #[cycle(value)]
 #[derive(Drop)]
 pub struct Record {

@@ -1,4 +1,4 @@
--- Defines one call of a site that keeps the body of its last reply.
+-- Defines one call of an embedded site, which keeps the body of its last reply.
 -- Source: docs/embedding.md.
 -- Rules of this product: the body stays until the next call.
 use Rattle.std.specs.Prelude.{[]}

@@ -13,7 +13,7 @@ returns c =
           finding = _;
           code_is = c.from.ensures ∙ ap (λ (r : Refusal). r.code) c.in_ok-checked.ensures.same;
           index_is = refl;
-          detail_holds = c.as_str.ensures.value ∙ c.in_ok-words.ensures;
+          detail_holds = c.as_str.ensures.value ∙ c.in_ok-words.ensures.ok;
           is_text = e.1;
         },
         e.2,

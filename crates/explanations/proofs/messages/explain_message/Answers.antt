@@ -1,8 +1,10 @@
-use Rattle.std.proofs.Common.{rules, string_bytes}
+use Rattle.std.proofs.Common.{◌∙◌, refl, rules, string_bytes}
 use Rattle.explanations.proofs.Joining.{message_alone}
 use Rattle.explanations.proofs.messages.explain_message.Goals as goal
 
 pub returns : goal.returns
 returns c =
-    message_alone c.args.name.now c.args.code (string_bytes c.new-out.result) (string_bytes c.push_refusal.new.out) (search rules)
-    c.in_ok-push_refusal.ensures
+    let e = c.in_ok-push_whole.ensures in
+    message_alone c.args.name.now c.as_str.result.now (string_bytes c.new-out.result) (string_bytes c.push_whole.new.out) c.args.refusal
+    (search rules) (c.as_str.ensures.value ∙ c.in_ok-words.ensures)
+    (e.0, record { finding = _; code_is = c.from.ensures; index_is = refl; detail_holds = refl; is_text = e.1 }, e.2)

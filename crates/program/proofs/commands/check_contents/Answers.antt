@@ -1,4 +1,4 @@
-use Rattle.std.proofs.Common.{◌&&◌, ℕ, List, inl, inr, subst}
+use Rattle.std.proofs.Common.{◌&&◌, None, inl, inr, subst}
 use Rattle.std.specs.Process.{exit_status}
 use Rattle.explanations.specs.Files.{Files}
 use Rattle.explanations.specs.FileExplanations.{IsExplained}
@@ -8,7 +8,7 @@ use Rattle.program.specs.Reports.{AreLinesReported}
 use Rattle.program.specs.ExplainOption.{IsRefusalText, IsErrorReported, Explains}
 use Rattle.program.specs.Runs.{check_files}
 use Rattle.program.proofs.EventLemmas.{runs_as}
-use Rattle.program.proofs.RefusalLemmas.{refused_with}
+use Rattle.program.proofs.RefusalLemmas.{refused_and}
 use Rattle.program.proofs.commands.check_contents.Goals as goal
 
 pub returns-in-Ok : goal.returns-in-Ok
@@ -28,6 +28,6 @@ returns-in-Err g c =
     let files = check_files options schema policies in
     let end = exit_status c.report_rejected.result in
     let refusal = c.in-Err.refusal in
-    let told = subst (λ (f : Files). Runs g.H.Host.does c.args.host.now c.report_rejected.new.host (λ events. Explains options.explain (IsRefusalText f refusal.code) (IsErrorReported refusal) events end))
+    let told = subst (λ (f : Files). Runs g.H.Host.does c.args.host.now c.report_rejected.new.host (λ events. Explains options.explain (IsRefusalText f None refusal) (IsErrorReported refusal) events end))
     c.check_given-given.ensures c.report_rejected.ensures in
-    runs_as g.H.Host.does _ _ _ _ (λ events told. inr (refused_with (AreChecksRefused schema policies) options.explain files refusal end c.in-Err.ensures.refused events told)) told
+    runs_as g.H.Host.does _ _ _ _ (λ events told. inr (refused_and (AreChecksRefused schema policies) options.explain (IsRefusalText files None) refusal end c.in-Err.ensures.refused events told)) told

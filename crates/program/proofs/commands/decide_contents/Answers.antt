@@ -1,11 +1,11 @@
-use Rattle.std.proofs.Common.{ℕ, List, Option, option_map, inl, subst}
+use Rattle.std.proofs.Common.{None, option_map, inl, subst}
 use Rattle.std.specs.Process.{exit_status}
 use Rattle.explanations.specs.Files.{Files}
 use Rattle.program.specs.Events.{Runs}
 use Rattle.program.specs.ExplainOption.{IsRefusalText, IsErrorReported, Explains}
 use Rattle.program.specs.Runs.{IsDecided, IsNotDecided, decide_files}
 use Rattle.program.proofs.EventLemmas.{runs_as}
-use Rattle.program.proofs.RefusalLemmas.{line_refused_with}
+use Rattle.program.proofs.RefusalLemmas.{line_refused_and}
 use Rattle.program.proofs.commands.decide_contents.Goals as goal
 
 pub returns-in-Ok : goal.returns-in-Ok
@@ -23,8 +23,8 @@ returns-in-Err g c =
     let files = decide_files options schema policies entities request in
     let end = exit_status c.report_rejected.result in
     let refusal = c.in-Err.refusal in
-    let told = subst (λ (f : Files). Runs g.H.Host.does c.args.host.now c.report_rejected.new.host (λ events. Explains options.explain (IsRefusalText f refusal.code) (IsErrorReported refusal) events end))
+    let told = subst (λ (f : Files). Runs g.H.Host.does c.args.host.now c.report_rejected.new.host (λ events. Explains options.explain (IsRefusalText f None refusal) (IsErrorReported refusal) events end))
     c.decide_given-given.ensures c.report_rejected.ensures in
     runs_as g.H.Host.does _ _ _ _ (
-    line_refused_with (IsNotDecided schema policies entities request) (IsDecided schema policies entities request) options.explain files refusal end c.in-Err.ensures.refused)
+    line_refused_and (IsNotDecided schema policies entities request) (IsDecided schema policies entities request) options.explain (IsRefusalText files None) refusal end c.in-Err.ensures.refused)
     told

@@ -1,4 +1,4 @@
-use Rattle.std.proofs.Common.{ℕ, List, Option, option_map, inl, subst}
+use Rattle.std.proofs.Common.{None, option_map, inl, subst}
 use Rattle.std.specs.Process.{exit_status}
 use Rattle.explanations.specs.Files.{Files}
 use Rattle.site_loading.specs.site_steps.SiteViews.{schema_of, store_in}
@@ -7,7 +7,7 @@ use Rattle.program.specs.Events.{Runs}
 use Rattle.program.specs.ExplainOption.{IsRefusalText, IsErrorReported, Explains}
 use Rattle.program.specs.Loading.{load_files}
 use Rattle.program.proofs.EventLemmas.{runs_as}
-use Rattle.program.proofs.RefusalLemmas.{line_refused_with}
+use Rattle.program.proofs.RefusalLemmas.{line_refused_and}
 use Rattle.program.proofs.loads.put_contents.Goals as goal
 
 pub returns-in-Ok : goal.returns-in-Ok
@@ -24,8 +24,8 @@ returns-in-Err g c =
     let files = load_files options c.args.schema.now policies entities in
     let end = exit_status c.report_rejected.result in
     let refusal = c.in-Err.refusal in
-    let told = subst (λ (f : Files). Runs g.H.Host.does c.args.host.now c.report_rejected.new.host (λ events. Explains options.explain (IsRefusalText f refusal.code) (IsErrorReported refusal) events end))
+    let told = subst (λ (f : Files). Runs g.H.Host.does c.args.host.now c.report_rejected.new.host (λ events. Explains options.explain (IsRefusalText f None refusal) (IsErrorReported refusal) events end))
     c.load_given-given.ensures c.report_rejected.ensures in
     runs_as g.H.Host.does _ _ _ _ (
-    line_refused_with (loads.IsRefused (schema_of site) site.name (store_in site) policies entities)
-    (loads.IsLoadedState (schema_of site) site.name (store_in site) policies entities) options.explain files refusal end c.in-Err.ensures.refused) told
+    line_refused_and (loads.IsRefused (schema_of site) site.name (store_in site) policies entities)
+    (loads.IsLoadedState (schema_of site) site.name (store_in site) policies entities) options.explain (IsRefusalText files None) refusal end c.in-Err.ensures.refused) told

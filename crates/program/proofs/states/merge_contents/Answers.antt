@@ -1,4 +1,4 @@
-use Rattle.std.proofs.Common.{ℕ, List, inl, subst}
+use Rattle.std.proofs.Common.{inl, subst}
 use Rattle.std.specs.Process.{exit_status}
 use Rattle.explanations.specs.Files.{Files}
 use Rattle.state_exchanges.specs.Merges.{IsMerged, AreRefused}
@@ -22,7 +22,7 @@ returns-in-Err g c =
     let second = c.args.second.now in
     let end = exit_status c.report_unmerged.result in
     let refusal = c.in-Err.refusal in
-    let told = subst (λ (f : Files). Runs g.H.Host.does c.args.host.now c.report_unmerged.new.host (λ events. Explains options.explain (IsMergeText f options schema first refusal.code) (IsErrorReported refusal) events end))
+    let told = subst (λ (f : Files). Runs g.H.Host.does c.args.host.now c.report_unmerged.new.host (λ events. Explains options.explain (IsMergeText f options schema first refusal) (IsErrorReported refusal) events end))
     c.schema_given-given.ensures c.report_unmerged.ensures in
     runs_as g.H.Host.does _ _ _ _ (
     line_refused_and (AreRefused schema first second) (IsMerged schema first second) options.explain (IsMergeText (schema_files options.schema.now schema) options schema first) refusal end c.in-Err.ensures.refused)
