@@ -19,7 +19,7 @@
 --   Peeling            parentheses round a form
 --   FormWalking        a step of a path
 --   Finding            the first token that starts at a byte
---   Turning            a `Turn` or a `NodePlace` that is none of those that a function looks for
+--   Turning            a `Turn` or a `NodePlace` that a function does not look for
 --   LanguageCounts     how many tokens derive a value, one rule a form of language
 --   ExpressionCounts   an expression's tree counts its tokens, one rule a production
 pub mod Counts

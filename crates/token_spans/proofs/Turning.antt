@@ -1,4 +1,4 @@
--- A `Turn` or a `NodePlace` that is none of those that a function looks for.
+-- A `Turn` or a `NodePlace` that a function does not look for.
 use Rattle.std.proofs.Common.{◌≡◌, refl, ℕ, List, Option, None, Bor}
 use Rattle.grammar_trees.specs.grammar_tokens.declared.token.Token.{Token}
 use Rattle.grammar_trees.specs.declared.tree.ExprTree.{ExprTree}
