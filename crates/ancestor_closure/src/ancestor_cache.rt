@@ -40,7 +40,11 @@ pub struct AncestorCache {
 }
 
 // Returns whether `parent` is `uid`, or a descendant of `uid`.
-fn leads_to(relatives: &BTreeMap<EntityUid, Relatives>, uid: &EntityUid, parent: &EntityUid) -> bool
+fn is_self_or_ancestor(
+    relatives: &BTreeMap<EntityUid, Relatives>,
+    uid: &EntityUid,
+    parent: &EntityUid,
+) -> bool
     ensures { (before : Parents) → ((b : PlainUid) → IsListOf before b (ancestors_in relatives.now b)) →
         (IsTrue result ↔ ((parent.now ≡ uid.now) ⊎ IsAncestor before uid.now parent.now)) }
 {
@@ -61,7 +65,7 @@ fn leads_back(
         (IsTrue result ↔ IsAncestor (with_parents before uid.now parents.now) uid.now uid.now) }
 {
     for parent in parents {
-        if leads_to(relatives, uid, parent) {
+        if is_self_or_ancestor(relatives, uid, parent) {
             return true;
         }
     }

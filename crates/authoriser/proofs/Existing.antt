@@ -143,7 +143,7 @@ module _ (W : Entities) (q : Request) (ps : List NamedPolicy) where
   by_cycle cycle = (record { decision = Deny; reason = []; errors = []; cycle = cycle.0 }, inl (record { least = cycle.1; rest = refl }))
 
   by_policies : HasNoCycle W.parents → ((js : List PolicyOutcome) × ArePolicyOutcomes W q ps js) → (a : Answer) × IsAnswer W q ps a
-  by_policies none judged = (answer_by judged.0, inr (record { acyclic = none; judged = judged.0; outcomes = judged.1; answer = refl }))
+  by_policies none judged = (answer_by judged.0, inr (record { acyclic = none; policy_outcomes = judged.0; outcomes = judged.1; answer = refl }))
 
   by_either : CyclesHaveALeast → (stored : List EntityUid) → HaveAllParents W.parents stored → ((x : EntityUid) × IsOnCycle W.parents x) ⊎ HasNoCycle W.parents
       → ((js : List PolicyOutcome) × ArePolicyOutcomes W q ps js) → (a : Answer) × IsAnswer W q ps a

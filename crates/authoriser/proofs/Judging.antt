@@ -207,7 +207,7 @@ above_other parents others o uid have there same =
 -- ---- no cycle, or a cycle
 pub by_policies : (W : Entities) (q : Request) (ps : List NamedPolicy) (a : Answer) → HasNoCycle W.parents →
     ((js : List PolicyOutcome) × ArePolicyOutcomes W q ps js × (a ≡ answer_by js)) → IsAnswer W q ps a
-by_policies W q ps a none h = inr (record { acyclic = none; judged = h.0; outcomes = h.1; answer = h.2 })
+by_policies W q ps a none h = inr (record { acyclic = none; policy_outcomes = h.0; outcomes = h.1; answer = h.2 })
 
 pub denial : (parents : Parents) (cycle : List EntityUid) (a : Answer) → IsLeastCycle parents cycle →
     a ≡ record { decision = Deny; reason = []; errors = []; cycle = cycle } → IsCycleDenial parents a

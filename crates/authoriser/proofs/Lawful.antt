@@ -119,7 +119,7 @@ has_one_answer one W given q ps a b (inl d) (inl e) = one_denial one W.parents a
 has_one_answer one W given q ps a b (inl d) (inr p) = absurd (not_both W q ps a b d p)
 has_one_answer one W given q ps a b (inr p) (inl d) = absurd (not_both W q ps b a d p)
 has_one_answer one W given q ps a b (inr p) (inr r) =
-    p.answer ∙ ap answer_by (one_list_judged W q (given q) ps p.judged r.judged p.outcomes r.outcomes) ∙ sym r.answer
+    p.answer ∙ ap answer_by (one_list_judged W q (given q) ps p.policy_outcomes r.policy_outcomes p.outcomes r.outcomes) ∙ sym r.answer
 
 pub one_answer_at_most : LeastCyclesAreOne → HaveOneOutcome → OneAnswerAtMost
 one_answer_at_most one law W above D = has_one_answer one W (law W above D)
@@ -287,4 +287,4 @@ denial_ascends parents a d = subst Ascends (sym d.rest) (tt, tt)
 pub lists_ascend : ListsAscend
 lists_ascend W q ps a h (inl d) = denial_ascends W.parents a d
 lists_ascend W q ps a h (inr p) =
-    subst Ascends (sym p.answer) (answer_ascends p.judged (subst AreIdsAscending (same_ids W q ps p.judged p.outcomes) h))
+    subst Ascends (sym p.answer) (answer_ascends p.policy_outcomes (subst AreIdsAscending (same_ids W q ps p.policy_outcomes p.outcomes) h))

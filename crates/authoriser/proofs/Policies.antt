@@ -130,13 +130,13 @@ module _ (W : Entities) (q : Request) where
   -- without an idle policy the answer is as before,
   idle_out : (front back : List NamedPolicy) (p : NamedPolicy) (a : Answer) → IsIdle W q p → IsPolicyAnswer W q (front ++ p ∷ back) a → IsPolicyAnswer W q (front ++ back) a
   idle_out front back p a idle r =
-      let cut = front_judged front (p ∷ back) r.judged r.outcomes in
+      let cut = front_judged front (p ∷ back) r.policy_outcomes r.outcomes in
       let one = first_judged p back cut.1 cut.4 in
       let is = one.3 in
-      let whole : r.judged ≡ cut.0 ++ one.0 ∷ one.1 = cut.2 ∙ ap (λ bs. cut.0 ++ bs) one.2 in
+      let whole : r.policy_outcomes ≡ cut.0 ++ one.0 ∷ one.1 = cut.2 ∙ ap (λ bs. cut.0 ++ bs) one.2 in
       record {
         acyclic = r.acyclic;
-        judged = cut.0 ++ one.1;
+        policy_outcomes = cut.0 ++ one.1;
         outcomes = join_judged front back cut.0 one.1 cut.3 one.4;
         answer = r.answer ∙ ap answer_by whole ∙ idle_left_out cut.0 one.1 one.0 (idle_judged p one.0.outcome idle is.outcome);
       }
@@ -144,12 +144,12 @@ module _ (W : Entities) (q : Request) where
   -- and so it is with one
   idle_in : (front back : List NamedPolicy) (p : NamedPolicy) (a : Answer) → PolicyEvaluatesTo W q p.policy NotSatisfied → IsPolicyAnswer W q (front ++ back) a → IsPolicyAnswer W q (front ++ p ∷ back) a
   idle_in front back p a comes r =
-      let cut = front_judged front back r.judged r.outcomes in
+      let cut = front_judged front back r.policy_outcomes r.outcomes in
       let j : PolicyOutcome = record { id = p.id; effect = p.policy.effect; outcome = NotSatisfied } in
       let is : IsPolicyOutcome W q p j = record { id = refl; effect = refl; outcome = comes } in
       record {
         acyclic = r.acyclic;
-        judged = cut.0 ++ j ∷ cut.1;
+        policy_outcomes = cut.0 ++ j ∷ cut.1;
         outcomes = join_judged front (p ∷ back) cut.0 (j ∷ cut.1) cut.3 (is, cut.4);
         answer = r.answer ∙ ap answer_by cut.2 ∙ sym (idle_left_out cut.0 cut.1 j refl);
       }
@@ -158,7 +158,7 @@ module _ (W : Entities) (q : Request) where
 pub default_deny : DefaultDeny
 default_deny W q ps a (inl d) none = ap (λ b. b.decision) d.rest
 default_deny W q ps a (inr r) none =
-    let js = r.judged in
+    let js = r.policy_outcomes in
     let no_permit : satisfied Permit js ≡ [] = none_of (satisfied Permit js) (λ id c. let p = satisfied_from W q ps js r.outcomes Permit id c in none p.0 p.1 p.3) in
     ap (λ b. b.decision) r.answer ∙ denied (satisfied Permit js) (satisfied Forbid js) (erring js) no_permit
 
@@ -211,7 +211,7 @@ order_does_not_matter one law W above D q ps others a b same (inl d) (inr r) = a
 order_does_not_matter one law W above D q ps others a b same (inr r) (inl e) = absurd (not_both W q ps b a e r)
 order_does_not_matter one law W above D q ps others a b same (inr r) (inr s) =
     let given = law W above D q in
-    let to = same_judged W q given ps others r.judged s.judged r.outcomes s.outcomes (λ p. (same p).0) in
-    let back = same_judged W q given others ps s.judged r.judged s.outcomes r.outcomes (λ p. (same p).1) in
-    let alike = alike_judged r.judged s.judged (λ j. (to j, back j)) in
-    subst (λ x. AreAlike x b) (sym r.answer) (subst (AreAlike (answer_by r.judged)) (sym s.answer) alike)
+    let to = same_judged W q given ps others r.policy_outcomes s.policy_outcomes r.outcomes s.outcomes (λ p. (same p).0) in
+    let back = same_judged W q given others ps s.policy_outcomes r.policy_outcomes s.outcomes r.outcomes (λ p. (same p).1) in
+    let alike = alike_judged r.policy_outcomes s.policy_outcomes (λ j. (to j, back j)) in
+    subst (λ x. AreAlike x b) (sym r.answer) (subst (AreAlike (answer_by r.policy_outcomes)) (sym s.answer) alike)

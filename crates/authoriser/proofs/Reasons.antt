@@ -99,7 +99,7 @@ no_denial W a d acyclic = let on = begins_on_cycle W.parents a.cycle d.least in 
 pub forbid_decides : HaveOneOutcome → ForbidDecides
 forbid_decides law W above D q ps a p (inl d) c s = (ap (λ b. b.decision) d.rest, λ acyclic. no_denial W a d acyclic)
 forbid_decides law W above D q ps a p (inr r) c s =
-    let js = r.judged in
+    let js = r.policy_outcomes in
     let given = law W above D q in
     let some : satisfied Forbid js ≢ [] = λ e. Contains-none p.id (subst (λ xs. Contains xs p.id) e (satisfied_to W q given ps js r.outcomes Forbid p c s)) in
     let decides = forbidden (satisfied Permit js) (satisfied Forbid js) (erring js) some in (
@@ -117,7 +117,7 @@ not_forbidden (p ∷ permits) [] errors e = (((λ d none. cc), (λ n. refl)), re
 pub permits_decide : HaveOneOutcome → PermitsDecide
 permits_decide law W above D q ps a (inl d) acyclic none = no_denial W a d acyclic
 permits_decide law W above D q ps a (inr r) acyclic none =
-    let js = r.judged in
+    let js = r.policy_outcomes in
     let given = law W above D q in
     let no_forbid : satisfied Forbid js ≡ [] = none_of (satisfied Forbid js) (λ id c. let p = satisfied_from W q ps js r.outcomes Forbid id c in none p.0 p.1 p.3) in
     let decides = not_forbidden (satisfied Permit js) (satisfied Forbid js) (erring js) no_forbid in
@@ -140,6 +140,6 @@ errors_stay (p ∷ permits) [] errors = refl
 pub errors_are_told : HaveOneOutcome → ErrorsAreReported
 errors_are_told law W above D q ps a (inl d) acyclic = no_denial W a d acyclic
 errors_are_told law W above D q ps a (inr r) acyclic =
-    let js = r.judged in
+    let js = r.policy_outcomes in
     subst (AreErrorsOf W q ps) (sym (ap (λ b. b.errors) r.answer ∙ errors_stay (satisfied Permit js) (satisfied Forbid js) (erring js)))
     (errors_of W q (law W above D q) ps js r.outcomes)

@@ -119,9 +119,9 @@ pub record IsCycleDenial (parents : Parents) (a : Answer) : Type 0 where
 -- of the policies `ps` under the request `q`.
 pub record IsPolicyAnswer (W : Entities) (q : Request) (ps : List NamedPolicy) (a : Answer) : Type 0 where
   pub acyclic : (uid : EntityUid) → IsAncestor W.parents uid uid → ⊥
-  pub judged : List PolicyOutcome
-  pub outcomes : ArePolicyOutcomes W q ps judged
-  pub answer : a ≡ answer_by judged
+  pub policy_outcomes : List PolicyOutcome
+  pub outcomes : ArePolicyOutcomes W q ps policy_outcomes
+  pub answer : a ≡ answer_by policy_outcomes
 
 -- `IsAnswer W q ps a` holds if `a` is the answer to the request `q` over the policies `ps` and the entity data `W`. If
 -- there is a cycle, `a` is a denial that names the least cycle; else `a` follows from the outcomes of the policies.

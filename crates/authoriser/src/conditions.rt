@@ -50,14 +50,15 @@ fn outcome_of_condition<L: EvalEnv>(
 pub(crate) fn outcome_of<L: Lookup>(
     alloc: Global,
     policy: &Policy,
-    known: &PreparedRequest<'_, L>,
+    prepared: &PreparedRequest<'_, L>,
 ) -> Result<Outcome, NoMemory>
     ensures { IfOk result
-        (PolicyEvaluatesTo (entities_with (L.stored known.now.0) (L.parents known.now.0)) known.now.1 policy.now) }
+        (PolicyEvaluatesTo (entities_with (L.stored prepared.now.0) (L.parents prepared.now.0)) prepared.now.1
+        policy.now) }
 {
     scopes_do_not_err();
-    if is_scope_true(&policy.scope, known.request_entities()) {
-        outcome_of_condition(alloc, &policy.condition, known)
+    if is_scope_true(&policy.scope, prepared.request_entities()) {
+        outcome_of_condition(alloc, &policy.condition, prepared)
     } else {
         Ok(Outcome::NotSatisfied)
     }

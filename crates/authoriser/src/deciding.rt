@@ -36,16 +36,16 @@ fn copy_uids(alloc: Global, uids: &[&EntityUid]) -> Result<Items<EntityUid>, NoM
 fn answer_by_policies<L: Lookup>(
     alloc: Global,
     policies: &[(&str, &Policy)],
-    known: &mut PreparedRequest<'_, L>,
+    prepared: &mut PreparedRequest<'_, L>,
 ) -> Result<Answer, NoMemory>
-    requires { HasNoCycle (L.parents known.old.0) }
-    ensures { IfOk result (λ a. IsAnswer (entities_with (L.stored known.old.0) (L.parents known.old.0)) known.old.1
-        (named policies.now) a) }
+    requires { HasNoCycle (L.parents prepared.old.0) }
+    ensures { IfOk result (λ a. IsAnswer (entities_with (L.stored prepared.old.0) (L.parents prepared.old.0))
+        prepared.old.1 (named policies.now) a) }
 {
     let mut tally = Tally::new(alloc);
     for (id, policy) in policies {
-        known.memoize_next();
-        let outcome = outcome_of(alloc, policy, known)?;
+        prepared.memoize_next();
+        let outcome = outcome_of(alloc, policy, prepared)?;
         tally.note(id, policy.effect, outcome)?;
     }
     tally.into_answer(alloc)
@@ -68,12 +68,12 @@ fn denial_by_cycle(alloc: Global, cycle: &[&EntityUid]) -> Result<Answer, NoMemo
 /// Returns the denial that names the least cycle; `None` if no entity is cyclic.
 fn denial_if_cyclic<L: Lookup>(
     alloc: Global,
-    known: &PreparedRequest<'_, L>,
+    prepared: &PreparedRequest<'_, L>,
 ) -> Result<Option<Answer>, NoMemory>
-    ensures { let parents = L.parents known.now.0 in
+    ensures { let parents = L.parents prepared.now.0 in
         IfOk result (λ o. MatchOption o (HasNoCycle parents) (IsCycleDenial parents)) }
 {
-    match known.least_cycle()? {
+    match prepared.least_cycle()? {
         None => Ok(None),
         Some(cycle) => Ok(Some(denial_by_cycle(alloc, &cycle)?)),
     }
@@ -81,19 +81,19 @@ fn denial_if_cyclic<L: Lookup>(
 
 /// Returns the answer to a request, given the ancestors and the attributes of its entities. Otherwise like [`decide`].
 ///
-/// `known` is the request with this data, and has the limit on memoized entities (64 for [`decide`]). The caller may
-/// use `known` before this call, for example to find candidates in an index. The only error is `NoMemory`.
-pub fn decide_known<L: Lookup>(
+/// `prepared` is the request with this data, and has the limit on memoized entities (64 for [`decide`]). The caller may
+/// use `prepared` before this call, for example to find candidates in an index. The only error is `NoMemory`.
+pub fn decide_prepared<L: Lookup>(
     alloc: Global,
     policies: &[(&str, &Policy)],
-    known: &mut PreparedRequest<'_, L>,
+    prepared: &mut PreparedRequest<'_, L>,
 ) -> Result<Answer, NoMemory>
-    ensures { IfOk result (λ a. IsAnswer (entities_with (L.stored known.old.0) (L.parents known.old.0)) known.old.1
-        (named policies.now) a) }
+    ensures { IfOk result (λ a. IsAnswer (entities_with (L.stored prepared.old.0) (L.parents prepared.old.0))
+        prepared.old.1 (named policies.now) a) }
 {
-    match denial_if_cyclic(alloc, known)? {
+    match denial_if_cyclic(alloc, prepared)? {
         Some(denial) => Ok(denial),
-        None => answer_by_policies(alloc, policies, known),
+        None => answer_by_policies(alloc, policies, prepared),
     }
 }
 
@@ -118,6 +118,6 @@ pub fn decide<L: Lookup>(
     ensures { IfOk result (λ a. IsAnswer (entities_with (L.stored store.now) (L.parents store.now)) request.now
         (named policies.now) a) }
 {
-    let mut known = PreparedRequest::of(alloc, store, request, OTHERS_MAX)?;
-    decide_known(alloc, policies, &mut known)
+    let mut prepared = PreparedRequest::of(alloc, store, request, OTHERS_MAX)?;
+    decide_prepared(alloc, policies, &mut prepared)
 }

@@ -18,7 +18,7 @@ mod scopes;
 mod tally;
 
 pub use answer::{Answer, Decision, ErringPolicy};
-pub use deciding::{decide, decide_known};
+pub use deciding::{decide, decide_prepared};
 pub use evaluator::{Lookup, expressions_have_one_outcome, paths_are_decided};
 pub use laws::{answers_are_lawful, scopes_do_not_err};
 pub use outcome::{Outcome, PolicyError};

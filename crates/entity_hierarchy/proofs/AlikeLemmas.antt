@@ -149,8 +149,8 @@ module _ (stored : EntityUid → Option (List Field)) (P Q : Parents) (alike : L
     answered same ps a (inl d) = inl (denied same a d)
     answered same ps a (inr p) = inr (record {
       acyclic = λ u h. p.acyclic u ((alike u u).1 h);
-      judged = p.judged;
-      outcomes = judged ps p.judged p.outcomes;
+      policy_outcomes = p.policy_outcomes;
+      outcomes = judged ps p.policy_outcomes p.outcomes;
       answer = p.answer;
     })
 

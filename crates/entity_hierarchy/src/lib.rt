@@ -10,7 +10,7 @@ mod world;
 
 pub use actions::SchemaActions;
 pub use authoriser::{
-    Answer, Lookup, Policy, PreparedRequest, answers_are_lawful, decide, decide_known,
+    Answer, Lookup, Policy, PreparedRequest, answers_are_lawful, decide, decide_prepared,
     expressions_have_one_outcome, file_names_differ, paths_are_decided, scopes_do_not_err,
     texts_have_one_reading,
 };

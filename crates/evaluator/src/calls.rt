@@ -11,13 +11,13 @@ use crate::borrowed_or_owned::BorrowedOrOwned;
 use crate::fault::EvalFault;
 use crate::operands::{decimals_of, network_of, text_of};
 use grammar_core::{BinaryCall, UnaryCall};
-use values::{Decimal, IpNet, Value, one_decimal_a_text, one_network_a_text};
+use values::{Decimal, IpNet, Value, decimal_is_unique, network_is_unique};
 
 /// Returns the decimal that a string denotes, or `ExtensionError` if the string denotes none.
 fn read_decimal(text: &str) -> Result<Value, EvalFault>
     ensures { result ≡ decimal_read (decimal_text_decided text.now) }
 {
-    one_decimal_a_text();
+    decimal_is_unique();
     match Decimal::parse(text) {
         Some(number) => Ok(Value::decimal(number)),
         None => Err(EvalFault::ExtensionError),
@@ -28,7 +28,7 @@ fn read_decimal(text: &str) -> Result<Value, EvalFault>
 fn read_network(text: &str) -> Result<Value, EvalFault>
     ensures { result ≡ network_read (network_text_decided text.now) }
 {
-    one_network_a_text();
+    network_is_unique();
     match IpNet::parse(text) {
         Some(network) => Ok(Value::ipaddr(network)),
         None => Err(EvalFault::ExtensionError),

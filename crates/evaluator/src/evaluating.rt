@@ -34,10 +34,10 @@ pub fn evaluate<'a, L: Lookup>(
     request: &'a Request,
     store: &'a L,
 ) -> Result<BorrowedOrOwned<'a>, EvalFault>
-    ensures given { IsSoundEvaluation (entities_with (L.stored store.now) (L.parents store.now)) request.now expr.now
+    ensures sound { IsSoundEvaluation (entities_with (L.stored store.now) (L.parents store.now)) request.now expr.now
         result }
-    ensures all { IsCompleteEvaluation (entities_with (L.stored store.now) (L.parents store.now)) request.now expr.now
-        result }
+    ensures complete { IsCompleteEvaluation (entities_with (L.stored store.now) (L.parents store.now)) request.now
+        expr.now result }
 {
     meanings_are_given();
     let asking = RequestEnv { request, store };
@@ -81,10 +81,10 @@ pub fn evaluate_in<'a, L: EvalEnv>(
     expr: &'a Expr,
     env: &'a L,
 ) -> Result<BorrowedOrOwned<'a>, EvalFault>
-    ensures given { IsSoundEvaluation (entities_with (L.stored env.now) (L.parents env.now)) (L.request_of env.now)
+    ensures sound { IsSoundEvaluation (entities_with (L.stored env.now) (L.parents env.now)) (L.request_of env.now)
         expr.now result }
-    ensures all { IsCompleteEvaluation (entities_with (L.stored env.now) (L.parents env.now)) (L.request_of env.now)
-        expr.now result }
+    ensures complete { IsCompleteEvaluation (entities_with (L.stored env.now) (L.parents env.now))
+        (L.request_of env.now) expr.now result }
 {
     meanings_are_given();
     outcome_of(alloc, expr, env)

@@ -3,14 +3,14 @@ ghost use Rattle.evaluator.specs.Laws.{HaveOneOutcome, HaveOneOutcomeInFiniteHie
 ghost use Rattle.evaluator.specs.inner.Meanings.{MeaningsAreGiven};
 
 use ancestor_search::laws::paths_are_decided;
-use values::{one_decimal_a_text, one_network_a_text, sets_hold_their_members};
+use values::{decimal_is_unique, network_is_unique, sets_hold_their_members};
 
 /// Proves that `meaning` computes the only outcome of an expression, if a test decides the ancestor relation. No-op.
 pub(crate) fn meanings_are_given()
     ensures { MeaningsAreGiven }
 {
-    one_decimal_a_text();
-    one_network_a_text();
+    decimal_is_unique();
+    network_is_unique();
     sets_hold_their_members();
 }
 

@@ -46,8 +46,8 @@ impl Decimal {
         ensures none { IsNone result → (n : ℤ) → ¬ (IsDecimalText text.now n) }
     {
         let ten_thousandths = match text.strip_prefix('-') {
-            Some(size) => negated(magnitude_of_text(size)?)?,
-            None => positive(magnitude_of_text(text)?)?,
+            Some(unsigned) => negated(magnitude_of_text(unsigned)?)?,
+            None => non_negative(magnitude_of_text(text)?)?,
         };
         Some(Decimal { ten_thousandths })
     }
@@ -127,19 +127,19 @@ impl Ord for Decimal {
     }
 }
 
-/// Appends `size` ten-thousandths as a decimal without a sign: the whole part, a point and four digits, in at most 20
-/// bytes. `size` must be at most `2^63`, and `out` must have capacity for 20 more bytes.
-fn append_magnitude(size: u64, out: &mut String)
-    requires small { size ≤ 2 ^ 63 }
+/// Appends `magnitude` ten-thousandths as a decimal without a sign: the whole part, a point and four digits, in at most
+/// 20 bytes. `magnitude` must be at most `2^63`, and `out` must have capacity for 20 more bytes.
+fn append_magnitude(magnitude: u64, out: &mut String)
+    requires small { magnitude ≤ 2 ^ 63 }
     requires room { string_len out.old + 20 ≤ string_capacity out.old }
-    ensures { string_bytes out.new ≡ string_bytes out.old ++ magnitude_text size }
+    ensures { string_bytes out.new ≡ string_bytes out.old ++ magnitude_text magnitude }
 {
-    append_whole(out, size / 10_000);
+    append_whole(out, magnitude / 10_000);
     append(out, ".");
-    append_digit(out, (size / 1_000 % 10) as u32);
-    append_digit(out, (size / 100 % 10) as u32);
-    append_digit(out, (size / 10 % 10) as u32);
-    append_digit(out, (size % 10) as u32)
+    append_digit(out, (magnitude / 1_000 % 10) as u32);
+    append_digit(out, (magnitude / 100 % 10) as u32);
+    append_digit(out, (magnitude / 10 % 10) as u32);
+    append_digit(out, (magnitude % 10) as u32)
 }
 
 /// Returns the number of ten-thousandths of a decimal without a sign; `None` for any other string, and for `2^64`
@@ -162,18 +162,18 @@ fn joined(whole: u64, fraction: u64) -> Option<u64>
     u64::try_from(u128::from(whole) * 10_000 + u128::from(fraction)).ok()
 }
 
-/// Returns `-size`, or `None` if it is outside signed 64 bits.
-fn negated(size: u64) -> Option<i64>
-    ensures { SomeIff result (FitsSigned w64 (neg_ℤ (pos size))) (neg_ℤ (pos size)) }
+/// Returns `-magnitude`, or `None` if it is outside signed 64 bits.
+fn negated(magnitude: u64) -> Option<i64>
+    ensures { SomeIff result (FitsSigned w64 (neg_ℤ (pos magnitude))) (neg_ℤ (pos magnitude)) }
 {
-    i64::try_from(-i128::from(size)).ok()
+    i64::try_from(-i128::from(magnitude)).ok()
 }
 
-/// Returns `size`, or `None` if it is outside signed 64 bits.
-fn positive(size: u64) -> Option<i64>
-    ensures { SomeIff result (FitsSigned w64 (pos size)) (pos size) }
+/// Returns `magnitude`, or `None` if it is outside signed 64 bits.
+fn non_negative(magnitude: u64) -> Option<i64>
+    ensures { SomeIff result (FitsSigned w64 (pos magnitude)) (pos magnitude) }
 {
-    i64::try_from(size).ok()
+    i64::try_from(magnitude).ok()
 }
 
 /// Returns the number of ten-thousandths that one to four digits after the point denote; `None` for any other string.
@@ -214,7 +214,7 @@ fn number(text: &str) -> Option<u64>
 }
 
 /// Proves that a string denotes at most one decimal. No-op.
-pub fn one_decimal_a_text()
+pub fn decimal_is_unique()
     ensures { (text : List ℕ) (y z : ℤ) → IsDecimalText text y → IsDecimalText text z → y ≡ z }
 {}
 

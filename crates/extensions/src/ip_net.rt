@@ -300,7 +300,7 @@ pub fn canonical_network_reads_back()
 {}
 
 /// Proves that a string denotes at most one network. No-op.
-pub fn one_network_a_text()
+pub fn network_is_unique()
     ensures { (text : List ℕ) (m n : Network) → IsNetworkText text m → IsNetworkText text n → m ≡ n }
 {}
 

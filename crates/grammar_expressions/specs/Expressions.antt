@@ -132,9 +132,9 @@ indexed = do
   one k.RBracket
   empty (access.Field (Quoted name))
 
--- In this module `may` is whether one more level of nesting may be opened, and `inner` is the language of the
+-- In this module `may_nest` is whether one more level of nesting may be opened, and `inner` is the language of the
 -- expressions of that level.
-module _ (may : Bool) (inner : Lang ExprTree) where
+module _ (may_nest : Bool) (inner : Lang ExprTree) where
   -- Arguments = [ Expr { "," Expr } ]
   abbrev pub arguments : Lang (List ExprTree)
   arguments = (do first ← inner; more ← many (one k.Comma >> inner); empty (first ∷ more)) or empty []
@@ -156,7 +156,7 @@ module _ (may : Bool) (inner : Lang ExprTree) where
 
   -- Named = Variable | Uid | Call
   abbrev pub named : Lang ExprTree
-  named = (symbol variable_of giving tree.Variable) or (uid giving tree.Uid) or gate may call
+  named = (symbol variable_of giving tree.Variable) or (uid giving tree.Uid) or gate may_nest call
 
   -- "(" Expr ")"
   abbrev pub parenthesized : Lang ExprTree
@@ -201,11 +201,11 @@ module _ (may : Bool) (inner : Lang ExprTree) where
   -- Primary = Variable | Uid | Call | "(" Expr ")" | "[" Arguments "]"
   --     | "{" [ Key ":" Expr { "," Key ":" Expr } ] "}" | Literal
   abbrev pub primary : Lang ExprTree
-  primary = named or gate may nested or literal
+  primary = named or gate may_nest nested or literal
 
   -- [ "(" Arguments ")" ]
   abbrev pub maybe_called : Lang (Option (List ExprTree))
-  maybe_called = gate may (called giving Some) or empty None
+  maybe_called = gate may_nest (called giving Some) or empty None
 
   -- "." Ident [ "(" Arguments ")" ]
   abbrev pub dotted : Lang (Access (List ExprTree))
@@ -305,7 +305,7 @@ module _ (may : Bool) (inner : Lang ExprTree) where
 
   -- Expr = "if" Expr "then" Expr "else" Expr | Or
   abbrev pub level : Lang ExprTree
-  level = gate may conditional or disjunction
+  level = gate may_nest conditional or disjunction
 
 -- `is_positive n` tests whether `n`, the number of levels of nesting that may still be opened, is not 0.
 abbrev pub is_positive : ℕ → Bool

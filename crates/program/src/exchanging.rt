@@ -101,12 +101,12 @@ fn fault_text(alloc: Global, fault: CallFault) -> Result<String, NoMemory>
 
 /// Returns the address, number and request of a failed call, and the cause.
 #[tactic(auto, unfolding(crate::specs::Exchanging::call_report))]
-fn call_report(alloc: Global, at: &RoundCall<'_>, why: &str) -> Result<String, NoMemory>
-    ensures { IfOk result (λ line. string_bytes line ≡ call_report at.now why.now) }
+fn call_report(alloc: Global, round_call: &RoundCall<'_>, why: &str) -> Result<String, NoMemory>
+    ensures { IfOk result (λ line. string_bytes line ≡ call_report round_call.now why.now) }
 {
-    let address = at.address;
-    let number = at.number;
-    let asked = call_text(at.call);
+    let address = round_call.address;
+    let number = round_call.number;
+    let asked = call_text(round_call.call);
     format!(in alloc; "{address}: call {number} of 6, {asked}: {why}")
 }
 
@@ -115,15 +115,16 @@ fn call_report(alloc: Global, at: &RoundCall<'_>, why: &str) -> Result<String, N
 fn report_call<H: Host>(
     alloc: Global,
     host: &mut H,
-    at: &RoundCall<'_>,
+    round_call: &RoundCall<'_>,
     fault: CallFault,
 ) -> ExitCode
-    ensures { Runs H.does host.old host.new (λ events. IsCallReported at.now fault events (exit_status result)) }
+    ensures { Runs H.does host.old host.new (λ events.
+        IsCallReported round_call.now fault events (exit_status result)) }
 {
     let Ok(why) = fault_text(alloc, fault) else {
         return report_memory(host);
     };
-    match call_report(alloc, at, why.as_str()) {
+    match call_report(alloc, round_call, why.as_str()) {
         Ok(line) => report_failure(host, line.as_str()),
         Err(_) => report_memory(host),
     }
@@ -134,18 +135,18 @@ fn report_call<H: Host>(
 fn reply_or_end<H: Host>(
     alloc: Global,
     host: &mut H,
-    at: &RoundCall<'_>,
-    came: Result<Vec<u8>, PullFault>,
+    round_call: &RoundCall<'_>,
+    outcome: Result<Vec<u8>, PullFault>,
 ) -> Result<Vec<u8>, ExitCode>
-    ensures reply { IfOk result (λ reply. came ≡ Ok reply) }
+    ensures reply { IfOk result (λ reply. outcome ≡ Ok reply) }
     ensures same { OnOk result (host.new ≡ host.old) }
-    ensures told { IfErr result (λ end. (fault : PullFault) × (came ≡ Err fault)
-        × Runs H.does host.old host.new (λ events. IsCallErrorReported at.now fault events (exit_status end))) }
+    ensures told { IfErr result (λ end. (fault : PullFault) × (outcome ≡ Err fault)
+        × Runs H.does host.old host.new (λ events. IsCallErrorReported round_call.now fault events (exit_status end))) }
 {
-    match came {
+    match outcome {
         Ok(reply) => Ok(reply),
         Err(PullFault::Network(fault)) => {
-            Err(report_call(alloc, host, at, CallFault::Network(fault)))
+            Err(report_call(alloc, host, round_call, CallFault::Network(fault)))
         }
         Err(PullFault::Refused(_)) => Err(report_memory(host)),
     }
@@ -156,27 +157,27 @@ fn reply_or_end<H: Host>(
 fn call_over<H: Host>(
     alloc: Global,
     host: &mut H,
-    at: &RoundCall<'_>,
+    round_call: &RoundCall<'_>,
     body: &[u8],
     mut link: Link<H::Reader, H::Writer>,
 ) -> Result<Vec<u8>, ExitCode>
     ensures { MatchResult result
         (λ reply. Runs H.does host.old host.new
-        (IsRepliedOver H.Reader.Source H.Writer.Sink at.now body.now link reply.items))
+        (IsRepliedOver H.Reader.Source H.Writer.Sink round_call.now body.now link reply.items))
         (λ end. Runs H.does host.old host.new (λ events.
-        CallsOver H.Reader.Source H.Writer.Sink at.now body.now Never link events (exit_status end))) }
+        CallsOver H.Reader.Source H.Writer.Sink round_call.now body.now Never link events (exit_status end))) }
 {
-    let address = at.address.as_bytes();
-    let came = ask(
+    let address = round_call.address.as_bytes();
+    let outcome = ask(
         alloc,
-        at.call,
+        round_call.call,
         address,
         body,
         &mut link.reader,
         &mut link.writer,
     );
     host.close(link);
-    reply_or_end(alloc, host, at, came)
+    reply_or_end(alloc, host, round_call, outcome)
 }
 
 /// Makes a call over a new connection, and returns the body of the reply. If there is no reply of status 200, reports
@@ -184,18 +185,18 @@ fn call_over<H: Host>(
 fn call_at<H: Host>(
     alloc: Global,
     host: &mut H,
-    at: &RoundCall<'_>,
+    round_call: &RoundCall<'_>,
     body: &[u8],
 ) -> Result<Vec<u8>, ExitCode>
     ensures { MatchResult result
         (λ reply. Runs H.does host.old host.new
-        (IsReplied H.Reader.Source H.Writer.Sink at.now body.now reply.items))
+        (IsReplied H.Reader.Source H.Writer.Sink round_call.now body.now reply.items))
         (λ end. Runs H.does host.old host.new (λ events.
-        Calls H.Reader.Source H.Writer.Sink at.now body.now Never events (exit_status end))) }
+        Calls H.Reader.Source H.Writer.Sink round_call.now body.now Never events (exit_status end))) }
 {
-    match host.connect(at.address) {
-        Ok(link) => call_over(alloc, host, at, body, link),
-        Err(NetworkFailed) => Err(report_call(alloc, host, at, CallFault::NotReached)),
+    match host.connect(round_call.address) {
+        Ok(link) => call_over(alloc, host, round_call, body, link),
+        Err(NetworkFailed) => Err(report_call(alloc, host, round_call, CallFault::NotReached)),
     }
 }
 
@@ -204,16 +205,16 @@ fn call_at<H: Host>(
 fn write_taken<H: Host>(
     alloc: Global,
     host: &mut H,
-    at: &RoundCall<'_>,
+    round_call: &RoundCall<'_>,
     line: &[u8],
 ) -> Result<(), ExitCode>
     ensures { MatchResult result
         (λ _. IsTakenLine line.now × H.does host.old (wrote Answers (ended line.now) true) host.new)
         (λ end. Runs H.does host.old host.new (λ events.
-        WritesTaken at.now line.now NoCourse events (exit_status end))) }
+        WritesTaken round_call.now line.now NoCourse events (exit_status end))) }
 {
     if !is_taken_line(line) {
-        return Err(report_call(alloc, host, at, CallFault::NoCount));
+        return Err(report_call(alloc, host, round_call, CallFault::NoCount));
     }
     match host.write_line(Stream::Answers, "", line) {
         Ok(()) => Ok(()),
@@ -269,14 +270,14 @@ fn exchange<H: Host>(
 }
 
 /// Brings each of two sites up to date from the other.
-fn exchange_both<H: Host>(alloc: Global, host: &mut H, between: &str, and: &str) -> ExitCode
+fn exchange_both<H: Host>(alloc: Global, host: &mut H, one: &str, other: &str) -> ExitCode
     ensures { Runs H.does host.old host.new (λ events.
-        IsRound H.Reader.Source H.Writer.Sink between.entry and.entry events (exit_status result)) }
+        IsRound H.Reader.Source H.Writer.Sink one.entry other.entry events (exit_status result)) }
 {
-    if let Err(end) = exchange(alloc, host, 1, between, and) {
+    if let Err(end) = exchange(alloc, host, 1, one, other) {
         return end;
     }
-    match exchange(alloc, host, 4, and, between) {
+    match exchange(alloc, host, 4, other, one) {
         Ok(()) => ExitCode::from(ANSWERED),
         Err(end) => end,
     }

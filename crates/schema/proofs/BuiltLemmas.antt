@@ -83,7 +83,7 @@ grid_to action context (q ∷ ps) rs p r h i = by (Contains-cases q ps p h) (λ 
 module _ (s : ResolvedSchema) (sound : IsSound s) where
   record_made : (o : Option Qualified) → ((r : Qualified) → o ≡ Some r → names.IsShapeOrContext s r) → (t : Cedar) × IsRecordOf s.commons o t
   record_made None is = (record_of no_fields, refl)
-  record_made (Some r) is = let w = sound.is_written r (schemas.shape_or_context r (is r refl)) in (w.0, w.1)
+  record_made (Some r) is = let w = sound.has_small_expansions r (schemas.shape_or_context r (is r refl)) in (w.0, w.1)
 
   -- environments of these actions, and each of their places
   abbrev Environments : List ResolvedAction → Type 0

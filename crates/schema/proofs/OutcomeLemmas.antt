@@ -14,11 +14,11 @@ use Rattle.schema.specs.inner.ByNaming as parsed
 
 sound_or_not : OneWritten → (s : ResolvedSchema) → DeclaresOnce s → IsSound s → (f : SchemaFault) → IsUnsound s f → ⊥
 sound_or_not one s once sound _ (parsed.type_cycle endless) =
-    let at = sound.is_written (common endless.name) (schemas.common endless.name endless.type endless.declared) in
+    let at = sound.has_small_expansions (common endless.name) (schemas.common endless.name endless.type endless.declared) in
     endless.has_no_expansion at.0 at.1
 sound_or_not one s once sound _ (parsed.action_cycle ends cycle) = sound.no_cycle cycle
 sound_or_not one s once sound _ (parsed.too_large ends no_cycle large) =
-    let at = sound.is_written large.type large.is_type in
+    let at = sound.has_small_expansions large.type large.is_type in
     at.2 (subst (λ (t : Cedar). IsTooLarge t) (one s.commons once.commons large.type large.whole at.0 large.is_expansion at.1) large.too_large)
 
 schema_or_not : OneWritten → names.FilesDeclareOnce → names.OneFile → names.NotBoth → (bytes : List ℕ) (v : StatedSchema) (f : SchemaFault) → IsParsedAs bytes v → IsNotParsed bytes f → ⊥

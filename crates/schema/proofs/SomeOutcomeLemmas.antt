@@ -315,7 +315,7 @@ module _ (s : ResolvedSchema) (ends : TypesExpandOrSomeCommonDoesNot) (once : De
     where
       sized : (SomeHasNoExpansion s.commons → ⊥) → (SomeActionIsOnCycle s → ⊥) → SomeTypeIsTooLarge s ⊎ ((r : Qualified) → IsSchemaType s r → HasSmallExpansion s.commons r) → IsSound s ⊎ ((f : SchemaFault) × IsUnsound s f)
       sized endless cycle (inl large) = inr (TypeTooLarge, parsed.too_large endless cycle large)
-      sized endless cycle (inr all) = inl (record { no_cycle = cycle; is_written = all })
+      sized endless cycle (inr all) = inl (record { no_cycle = cycle; has_small_expansions = all })
 
       acyclic : (SomeHasNoExpansion s.commons → ⊥) → SomeActionIsOnCycle s ⊎ (SomeActionIsOnCycle s → ⊥) → IsSound s ⊎ ((f : SchemaFault) × IsUnsound s f)
       acyclic endless (inl cycle) = inr (ActionCycle, parsed.action_cycle endless cycle)

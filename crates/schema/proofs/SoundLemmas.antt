@@ -82,4 +82,4 @@ module _ (s : ResolvedSchema) (known : TypeTable) (are : AreWritten s.commons kn
   stands_written _ (schemas.shape_or_context r is) = records r is
 
   pub is_sound : (SomeActionIsOnCycle s → ⊥) → IsSound s
-  is_sound no_cycle = record { no_cycle = no_cycle; is_written = stands_written }
+  is_sound no_cycle = record { no_cycle = no_cycle; has_small_expansions = stands_written }

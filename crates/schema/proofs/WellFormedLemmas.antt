@@ -69,7 +69,7 @@ module _ (one : OneWritten) (written : WrittenTypesAscend) (s : ResolvedSchema) 
   attributes (Some r) here t w =
       let is = here r refl in
       let f = records r is t w in
-      let small = sound.is_written r (shape_or_context r is) in
+      let small = sound.has_small_expansions r (shape_or_context r is) in
       record {
         fields = f.0;
         is_record = f.1;

@@ -167,7 +167,7 @@ pub record MatchesDeclarations (s : ResolvedSchema) (v : StatedSchema) : Type 0 
 -- `IsSound s` holds if no action of `s` is its own ancestor, and each type of `s` has an expansion within the limits.
 pub record IsSound (s : ResolvedSchema) : Type 0 where
   pub no_cycle : SomeActionIsOnCycle s → ⊥
-  pub is_written : (r : Qualified) → IsSchemaType s r → HasSmallExpansion s.commons r
+  pub has_small_expansions : (r : Qualified) → IsSchemaType s r → HasSmallExpansion s.commons r
 
 -- `HasContent bytes ns` holds if `bytes` are JSON that describes the namespaces `ns`.
 pub record HasContent (bytes : List ℕ) (ns : List NamespaceOf) : Type 0 where

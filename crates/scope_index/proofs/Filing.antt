@@ -17,7 +17,7 @@ use Rattle.std.specs.declared.string.String.{String}
 use Rattle.policy_grammar.specs.declared.policy.Policy.{Policy}
 use Rattle.scope_index.specs.declared.buckets.Buckets.{Buckets}
 use Rattle.scope_index.specs.Keys.{IndexKey, Always, Principal, Resource, index_key, Kept, kept_at}
-use Rattle.scope_index.specs.Buckets.{Bucket, TypeBuckets, EntityBuckets, policy_in_bucket, policy_of_entity_id, policy_of_uid, bucket_of, is_same_text, is_same_key, in_bucket}
+use Rattle.scope_index.specs.Buckets.{Bucket, TypeBuckets, EntityBuckets, policy_in_bucket, policy_of_entity_id, policy_of_uid, bucket_of, is_same_text, is_same_key, policy_of_key}
 use Rattle.scope_index.specs.Buckets.{IsSetAtUid, IsSetAtId, IsSetAtKey, AreSameEntityBuckets, AreSameTypeBuckets, AreSameBuckets, AreEmpty, policy_with_key, AreFiled}
 
 -- ---- the policies under one entity of a type
@@ -147,21 +147,21 @@ key_same (Resource a) (Resource b) h = ap Resource (same_uid a b h)
 
 -- at the id of the change
 here : (b b' : Buckets) (key k : IndexKey) (there : Option Policy) (q : List ℕ) (t : Bool) → t ≡ true
-    → in_bucket b' k q ≡ cond (is_same_key key k && t) there (in_bucket b k q)
-    → in_bucket b' k q ≡ cond (is_same_key key k) there (in_bucket b k q)
+    → policy_of_key b' k q ≡ cond (is_same_key key k && t) there (policy_of_key b k q)
+    → policy_of_key b' k q ≡ cond (is_same_key key k) there (policy_of_key b k q)
 here b b' key k there q t is e =
-    elim (is_same_key key k) as (λ x. in_bucket b' k q ≡ cond (x && t) there (in_bucket b k q)
-    → in_bucket b' k q ≡ cond x there (in_bucket b k q)) [
-      | true ↦ λ h. subst (λ y. in_bucket b' k q ≡ cond y there (in_bucket b k q)) is h
+    elim (is_same_key key k) as (λ x. policy_of_key b' k q ≡ cond (x && t) there (policy_of_key b k q)
+    → policy_of_key b' k q ≡ cond x there (policy_of_key b k q)) [
+      | true ↦ λ h. subst (λ y. policy_of_key b' k q ≡ cond y there (policy_of_key b k q)) is h
       | false ↦ λ h. h
     ] e
 
 -- at another id
 elsewhere : (b b' : Buckets) (key k : IndexKey) (there : Option Policy) (q : List ℕ) (t : Bool) → t ≡ false
-    → in_bucket b' k q ≡ cond (is_same_key key k && t) there (in_bucket b k q) → in_bucket b' k q ≡ in_bucket b k q
+    → policy_of_key b' k q ≡ cond (is_same_key key k && t) there (policy_of_key b k q) → policy_of_key b' k q ≡ policy_of_key b k q
 elsewhere b b' key k there q t is e =
-    elim (is_same_key key k) as (λ x. in_bucket b' k q ≡ cond (x && t) there (in_bucket b k q) → in_bucket b' k q ≡ in_bucket b k q) [
-      | true ↦ λ h. subst (λ y. in_bucket b' k q ≡ cond y there (in_bucket b k q)) is h
+    elim (is_same_key key k) as (λ x. policy_of_key b' k q ≡ cond (x && t) there (policy_of_key b k q) → policy_of_key b' k q ≡ policy_of_key b k q) [
+      | true ↦ λ h. subst (λ y. policy_of_key b' k q ≡ cond y there (policy_of_key b k q)) is h
       | false ↦ λ h. h
     ] e
 
@@ -171,8 +171,8 @@ struck false p = refl
 
 -- one id's policy is now another or none, and the buckets say so; nothing else changed
 module _ (kept kept' : Kept) (b b' : Buckets) (id : List ℕ) (filed : AreFiled kept b) where
-  carried : (k : IndexKey) (q : List ℕ) → in_bucket b' k q ≡ in_bucket b k q → kept_at kept' q ≡ kept_at kept q
-      → in_bucket b' k q ≡ policy_with_key k (kept_at kept' q)
+  carried : (k : IndexKey) (q : List ℕ) → policy_of_key b' k q ≡ policy_of_key b k q → kept_at kept' q ≡ kept_at kept q
+      → policy_of_key b' k q ≡ policy_with_key k (kept_at kept' q)
   carried k q bucket same = bucket ∙ filed k q ∙ ap (policy_with_key k) (sym same)
 
   pub forgotten : (p : Policy) → kept_at kept id ≡ Some p
@@ -180,11 +180,11 @@ module _ (kept kept' : Kept) (b b' : Buckets) (id : List ℕ) (filed : AreFiled 
       → IsSetAtKey (index_key p.scope) id None b b' → AreFiled kept' b'
   forgotten p was at turns k q =
       elim (bytes_eq id q) as (λ t. bytes_eq id q ≡ t → kept_at kept' q ≡ cond t None (kept_at kept q)
-      → in_bucket b' k q ≡ policy_with_key k (kept_at kept' q)) [
+      → policy_of_key b' k q ≡ policy_with_key k (kept_at kept' q)) [
         | true ↦ λ is e.
             let key = index_key p.scope in
             let there : kept_at kept q ≡ Some p = subst (λ i. kept_at kept i ≡ Some p) ((bytes_eq-Decides id q).0 is) was in
-            let before : in_bucket b k q ≡ cond (is_same_key key k) (Some p) None = filed k q ∙ ap (policy_with_key k) there in
+            let before : policy_of_key b k q ≡ cond (is_same_key key k) (Some p) None = filed k q ∙ ap (policy_with_key k) there in
             here b b' key k None q (bytes_eq id q) is (turns k q)
             ∙ ap (λ o. cond (is_same_key key k) None o) before ∙ struck (is_same_key key k) p ∙ sym (ap (policy_with_key k) e)
         | false ↦ λ is e. carried k q (elsewhere b b' (index_key p.scope) k None q (bytes_eq id q) is (turns k q)) e
@@ -195,11 +195,11 @@ module _ (kept kept' : Kept) (b b' : Buckets) (id : List ℕ) (filed : AreFiled 
       → IsSetAtKey (index_key p.scope) id (Some p) b b' → AreFiled kept' b'
   entered p was at turns k q =
       elim (bytes_eq id q) as (λ t. bytes_eq id q ≡ t → kept_at kept' q ≡ cond t (Some p) (kept_at kept q)
-      → in_bucket b' k q ≡ policy_with_key k (kept_at kept' q)) [
+      → policy_of_key b' k q ≡ policy_with_key k (kept_at kept' q)) [
         | true ↦ λ is e.
             let key = index_key p.scope in
             let there : kept_at kept q ≡ None = subst (λ i. kept_at kept i ≡ None) ((bytes_eq-Decides id q).0 is) was in
-            let before : in_bucket b k q ≡ None = filed k q ∙ ap (policy_with_key k) there in
+            let before : policy_of_key b k q ≡ None = filed k q ∙ ap (policy_with_key k) there in
             here b b' key k (Some p) q (bytes_eq id q) is (turns k q)
             ∙ ap (λ o. cond (is_same_key key k) (Some p) o) before ∙ sym (ap (policy_with_key k) e)
         | false ↦ λ is e. carried k q (elsewhere b b' (index_key p.scope) k (Some p) q (bytes_eq id q) is (turns k q)) e

@@ -1,4 +1,4 @@
--- What is offered, as lists of policies with their ids.
+-- Candidates, as lists of policies with their ids.
 use Rattle.std.proofs.Common.{◌≡◌, ◌∙◌, refl, sym, ap, subst, true, false, cond, List, [], ◌∷◌, ◌++◌, map, inl, inr}
 use Rattle.std.specs.Prelude.{ℕ, ◌↔◌, ◌⊎◌, Contains, string_bytes, Option, Some, None, Result, Ok, Err, OnOk, IfOk, Vec}
 use Rattle.std.specs.List.{All, AllByRecursion}
@@ -24,7 +24,7 @@ use Rattle.policy_grammar.specs.declared.policy.Policy.{Policy}
 use Rattle.scope_index.specs.declared.buckets.Buckets.{Buckets}
 use Rattle.scope_index.specs.Keys.{IndexKey, Always, Principal, Resource, index_key, IsMet, Kept, kept_at, Candidate, ids, lent, IsCandidate}
 use Rattle.scope_index.specs.Scopes.{IsScopeTrue}
-use Rattle.scope_index.specs.Buckets.{Bucket, policy_in_bucket, is_same_key, in_bucket, policy_with_key, AreFiled, BucketsHaveOnePolicyPerId, HaveOnePolicyPerIdTogether, HaveOnePolicyPerId, IsUnder}
+use Rattle.scope_index.specs.Buckets.{Bucket, policy_in_bucket, is_same_key, policy_of_key, policy_with_key, AreFiled, BucketsHaveOnePolicyPerId, HaveOnePolicyPerIdTogether, HaveOnePolicyPerId, IsCandidateByEntity}
 use Rattle.scope_index.proofs.Filing.{key_self, key_same}
 use Rattle.scope_index.proofs.Meeting.{scope_meets}
 
@@ -228,9 +228,9 @@ none_under held none before = nothing_more (λ o. policy_in_bucket held o.0 ≡ 
 
 -- what is under the keys that a request finds
 abbrev pub IsFound : Parents → Request → Buckets → Candidate → Type 0
-IsFound parents q b o = (k : IndexKey) × IsMet parents q k × (in_bucket b k o.0 ≡ Some o.1)
+IsFound parents q b o = (k : IndexKey) × IsMet parents q k × (policy_of_key b k o.0 ≡ Some o.1)
 
-found_under : (parents : Parents) (q : Request) (b : Buckets) (o : Candidate) → ((kept_at b.always.entries o.0 ≡ Some o.1) ⊎ IsUnder parents q b o) ↔ IsFound parents q b o
+found_under : (parents : Parents) (q : Request) (b : Buckets) (o : Candidate) → ((kept_at b.always.entries o.0 ≡ Some o.1) ⊎ IsCandidateByEntity parents q b o) ↔ IsFound parents q b o
 found_under parents q b o = (
   (λ s. elim s [
     | inl t ↦ (Always, tt, t)
@@ -239,14 +239,14 @@ found_under parents q b o = (
   (λ f. by_kind f.0 f.1 f.2),
 )
   where
-    by_kind : (k : IndexKey) → IsMet parents q k → in_bucket b k o.0 ≡ Some o.1 → (kept_at b.always.entries o.0 ≡ Some o.1) ⊎ IsUnder parents q b o
+    by_kind : (k : IndexKey) → IsMet parents q k → policy_of_key b k o.0 ≡ Some o.1 → (kept_at b.always.entries o.0 ≡ Some o.1) ⊎ IsCandidateByEntity parents q b o
     by_kind Always met t = inl t
     by_kind (Principal e) met t = inr (inl (e, met, t))
     by_kind (Resource e) met t = inr (inr (e, met, t))
 
 pub offered_in_all : (parents : Parents) (q : Request) (b : Buckets) (none always all : List Candidate) → none ≡ []
     → Offers (λ o. kept_at b.always.entries o.0 ≡ Some o.1) none always
-    → Offers (λ o. IsUnder parents q b o) always all
+    → Offers (λ o. IsCandidateByEntity parents q b o) always all
     → (o : Candidate) → Contains all o ↔ IsFound parents q b o
 offered_in_all parents q b none always all is a u o =
     let found = found_under parents q b o in (
@@ -262,7 +262,7 @@ offered_in_all parents q b none always all is a u o =
 
 -- those of every request in one list, the others in another
 module _ (parents : Parents) (q : Request) (b : Buckets) (none others always : List Candidate) (is : none ≡ [])
-    (u : Offers (λ o. IsUnder parents q b o) none others)
+    (u : Offers (λ o. IsCandidateByEntity parents q b o) none others)
     (a : (o : Candidate) → Contains always o ↔ (kept_at b.always.entries o.0 ≡ Some o.1)) where
   in_either : (o : Candidate) → (Contains always o ⊎ Contains others o) ↔ IsFound parents q b o
   in_either o =

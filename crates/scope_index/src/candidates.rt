@@ -8,8 +8,8 @@ ghost use Rattle.ancestor_search.specs.Hierarchy.{IsIn, names};
 ghost use Rattle.policy_grammar.specs.declared.policy.Policy.{Policy as PlainPolicy};
 ghost use Rattle.scope_index.specs.Keys.{IndexKey, IsMet, Candidate, ids, kept_at, lent};
 ghost use Rattle.scope_index.specs.Buckets.{BucketsHaveOnePolicyPerId, HaveOnePolicyPerIdTogether, HaveOnePolicyPerId};
-ghost use Rattle.scope_index.specs.Buckets.{IsUnder};
-ghost use Rattle.scope_index.specs.Buckets.{bucket_at, policy_of_uid, in_bucket};
+ghost use Rattle.scope_index.specs.Buckets.{IsCandidateByEntity};
+ghost use Rattle.scope_index.specs.Buckets.{bucket_at, policy_of_uid, policy_of_key};
 
 use crate::buckets::{Buckets, EntityBuckets};
 use ancestor_search::Ancestry;
@@ -28,7 +28,7 @@ const MANY: usize = 64;
 const FEW: usize = 128;
 
 // Appends the policies of a bucket to the candidates.
-fn offer<'a>(
+fn add_policies<'a>(
     bucket: &'a BTreeMap<String, Policy>,
     found: &mut Vec<(&'a str, &'a Policy)>,
 ) -> Result<(), NoMemory>
@@ -62,20 +62,20 @@ fn add_bucket<'a>(
         ↔ Contains (lent found.old.items) o ⊎ (policy_of_uid under.now uid.now o.0 ≡ Some o.1)) }
 {
     match bucket_at(under, uid) {
-        Some(bucket) => offer(bucket, found),
+        Some(bucket) => add_policies(bucket, found),
         None => Ok(()),
     }
 }
 
 // Appends the policies that are candidates of every request.
-fn add_unbound<'a>(
+fn add_always<'a>(
     buckets: &'a Buckets,
     found: &mut Vec<(&'a str, &'a Policy)>,
 ) -> Result<(), NoMemory>
     ensures { OnOk result ((o : Candidate) → Contains (lent found.new.items) o
         ↔ Contains (lent found.old.items) o ⊎ (kept_at buckets.now.always.entries o.0 ≡ Some o.1)) }
 {
-    offer(&buckets.always, found)
+    add_policies(&buckets.always, found)
 }
 
 // Appends the policies in the bucket of each of these entities.
@@ -113,14 +113,14 @@ fn add_with_ancestors<'a, A: Ancestry>(
 
 // Appends the policies in the principal buckets of the request's principal and its ancestors, and those in the resource
 // buckets of the request's resource and its ancestors.
-fn add_bound<'a, A: Ancestry>(
+fn add_by_entities<'a, A: Ancestry>(
     buckets: &'a Buckets,
     request: &Request,
     ancestry: &A,
     found: &mut Vec<(&'a str, &'a Policy)>,
 ) -> Result<(), NoMemory>
     ensures { OnOk result ((o : Candidate) → Contains (lent found.new.items) o
-        ↔ Contains (lent found.old.items) o ⊎ IsUnder (A.parents ancestry.now) request.now buckets.now o) }
+        ↔ Contains (lent found.old.items) o ⊎ IsCandidateByEntity (A.parents ancestry.now) request.now buckets.now o) }
 {
     add_with_ancestors(&buckets.principals, ancestry, &request.principal, found)?;
     add_with_ancestors(&buckets.resources, ancestry, &request.resource, found)?;
@@ -128,18 +128,19 @@ fn add_bound<'a, A: Ancestry>(
 }
 
 // Returns the candidate policies of a request, in any order, possibly with duplicates.
-fn found_by<'a, A: Ancestry>(
+fn unsorted_candidates<'a, A: Ancestry>(
     alloc: Global,
     buckets: &'a Buckets,
     request: &Request,
     ancestry: &A,
 ) -> Result<Vec<(&'a str, &'a Policy)>, NoMemory>
     ensures { IfOk result (λ found. (o : Candidate) → Contains (lent found.items) o
-        ↔ ((k : IndexKey) × IsMet (A.parents ancestry.now) request.now k × (in_bucket buckets.now k o.0 ≡ Some o.1))) }
+        ↔ ((k : IndexKey) × IsMet (A.parents ancestry.now) request.now k
+        × (policy_of_key buckets.now k o.0 ≡ Some o.1))) }
 {
     let mut found = Vec::new(alloc);
-    add_unbound(buckets, &mut found)?;
-    add_bound(buckets, request, ancestry, &mut found)?;
+    add_always(buckets, &mut found)?;
+    add_by_entities(buckets, request, ancestry, &mut found)?;
     Ok(found)
 }
 
@@ -250,7 +251,7 @@ fn joined<'a>(
 
 // Returns the candidate policies of a request, ascending by id. It is meant for the case that many policies are
 // candidates of every request.
-fn offered_among<'a, A: Ancestry>(
+fn merged_candidates<'a, A: Ancestry>(
     alloc: Global,
     buckets: &'a Buckets,
     request: &Request,
@@ -258,17 +259,18 @@ fn offered_among<'a, A: Ancestry>(
 ) -> Result<Vec<(&'a str, &'a Policy)>, NoMemory>
     requires { BucketsHaveOnePolicyPerId buckets.now }
     ensures found { IfOk result (λ ps. (o : Candidate) → Contains (lent ps.items) o
-        ↔ ((k : IndexKey) × IsMet (A.parents ancestry.now) request.now k × (in_bucket buckets.now k o.0 ≡ Some o.1))) }
+        ↔ ((k : IndexKey) × IsMet (A.parents ancestry.now) request.now k
+        × (policy_of_key buckets.now k o.0 ≡ Some o.1))) }
     ensures ascending { IfOk result (λ ps. IsStrictlySortedBy text_cmp (ids (lent ps.items))) }
 {
     let mut others = Vec::new(alloc);
-    add_bound(buckets, request, ancestry, &mut others)?;
+    add_by_entities(buckets, request, ancestry, &mut others)?;
     let all = all_of(alloc, &buckets.always)?;
     Ok(joined(all, &others)?)
 }
 
 /// Returns the candidate policies of a request, ascending by id.
-pub(crate) fn offered<'a, A: Ancestry>(
+pub(crate) fn candidates_of<'a, A: Ancestry>(
     alloc: Global,
     buckets: &'a Buckets,
     request: &Request,
@@ -276,11 +278,12 @@ pub(crate) fn offered<'a, A: Ancestry>(
 ) -> Result<Vec<(&'a str, &'a Policy)>, NoMemory>
     requires { BucketsHaveOnePolicyPerId buckets.now }
     ensures found { IfOk result (λ ps. (o : Candidate) → Contains (lent ps.items) o
-        ↔ ((k : IndexKey) × IsMet (A.parents ancestry.now) request.now k × (in_bucket buckets.now k o.0 ≡ Some o.1))) }
+        ↔ ((k : IndexKey) × IsMet (A.parents ancestry.now) request.now k
+        × (policy_of_key buckets.now k o.0 ≡ Some o.1))) }
     ensures ascending { IfOk result (λ ps. IsStrictlySortedBy text_cmp (ids (lent ps.items))) }
 {
     if buckets.always.len() >= MANY {
-        return offered_among(alloc, buckets, request, ancestry);
+        return merged_candidates(alloc, buckets, request, ancestry);
     }
-    Ok(in_order(found_by(alloc, buckets, request, ancestry)?))
+    Ok(in_order(unsorted_candidates(alloc, buckets, request, ancestry)?))
 }

@@ -10,7 +10,7 @@ mod stored_entities;
 
 pub use entity_hierarchy::{
     Answer, Entities, Entity, EntityFault, Lookup, PreparedRequest, Schema, actions_may_be_closed,
-    answers_are_lawful, canonical_text, decide_known, declarations_are_read_as_stated,
+    answers_are_lawful, canonical_text, decide_prepared, declarations_are_read_as_stated,
     entities_read_back, entity_data_under, expressions_have_one_outcome, paths_are_decided,
     read_entity, read_request, requests_have_one_outcome, scopes_do_not_err,
     stated_schemas_are_well_formed,

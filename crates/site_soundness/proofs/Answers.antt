@@ -172,7 +172,7 @@ answer_errs : (W : Entities) (q : Request) (ps : List NamedPolicy) (a : Answer) 
 answer_errs W q ps a (inl denial) right e m =
     Contains-none e (subst (λ (x : Answer). Contains x.errors e) denial.rest m)
 answer_errs W q ps a (inr is) right e m =
-    let js = is.judged in
+    let js = is.policy_outcomes in
     erring_are W q ps js is.outcomes right e
     (subst (λ (es : List ErringPolicy). Contains es e) (errors_are (satisfied Permit js) (satisfied Forbid js) (erring js))
     (subst (λ (x : Answer). Contains x.errors e) is.answer m))

@@ -144,13 +144,13 @@ is_the_shape r (inr (a, c, used_by)) =
     let used : the_use ≡ used_by.0 = some_same (subst (λ (x : ResolvedAction). x.applies_to ≡ Some used_by.0) (sym (only c)) used_by.1) in
     some_none (subst (λ (x : ResolvedAppliesTo). x.context ≡ Some r) (sym used) used_by.2)
 
-is_written : (r : Qualified) → IsSchemaType named r → HasSmallExpansion [] r
-is_written r (IsSchemaType.common q s d) = absurd d
-is_written r (IsSchemaType.shape_or_context s h) =
+has_small_expansions : (r : Qualified) → IsSchemaType named r → HasSmallExpansion [] r
+has_small_expansions r (IsSchemaType.common q s d) = absurd d
+has_small_expansions r (IsSchemaType.shape_or_context s h) =
     subst (λ (x : Qualified). HasSmallExpansion [] x) (sym (is_the_shape r h)) (user_shape, shape_written, small)
 
 pub sound : IsSound named
-sound = record { no_cycle = λ h. no_path (action_parents named) no_parent h.0 h.0 h.1; is_written = is_written }
+sound = record { no_cycle = λ h. no_path (action_parents named) no_parent h.0 h.0 h.1; has_small_expansions = has_small_expansions }
 
 -- ---- what is answered
 

@@ -105,11 +105,11 @@ Answers schema s json (Err fault.NoMemory) = Unit {0}
 Answers schema s json (Err (fault.Request f)) = IsNoRequest schema json f
 Answers schema s json (Err _) = ⊥
 
--- `text_of e` is the text and the stamp of the entry `e`, if it has a text.
-abbrev pub text_of : PlainEntry → Option (List ℕ × Stamp)
-text_of e = option_map (λ text. (text, stamp_of e)) e.body
+-- `stamped_text e` is the text and the stamp of the entry `e`, if it has a text.
+abbrev pub stamped_text : PlainEntry → Option (List ℕ × Stamp)
+stamped_text e = option_map (λ text. (text, stamp_of e)) e.body
 
 -- `policy_found s id` is the text and the stamp of the policy `id` in the store `s`, or `None` if `id` has no text in
 -- `s`.
 abbrev pub policy_found : Store → List ℕ → Option (List ℕ × Stamp)
-policy_found s id = option_and_then text_of (get s (policy_name id))
+policy_found s id = option_and_then stamped_text (get s (policy_name id))

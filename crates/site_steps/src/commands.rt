@@ -219,7 +219,7 @@ impl Site {
         }
         stamps_are_issued();
         ranges_stay();
-        self.holds_valid_updates();
+        self.invariant_holds();
         self.remove_policy(id)
     }
 
@@ -257,7 +257,7 @@ impl Site {
         }
         stamps_are_issued();
         ranges_stay();
-        self.holds_valid_updates();
+        self.invariant_holds();
         self.remove_entity(uid)
     }
 

@@ -83,7 +83,7 @@ impl Site {
 
     /// Proves that some bytes describe the site's schema, that the names and stamps of its store are in their ranges,
     /// and that each text can be parsed under the schema; also that `most_count` is `COUNT_MAX`. No-op.
-    pub fn holds_valid_updates(&self)
+    pub fn invariant_holds(&self)
         ensures stated { IsStated self.now.schema }
         ensures held { IsValidStore (schema_of self.now) (store_in self.now) }
         ensures most { most_count ≡ COUNT_MAX }

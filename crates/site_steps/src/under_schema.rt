@@ -11,7 +11,7 @@ ghost use Rattle.site_store.specs.entity_data.declared.entity.Entity.{Entity};
 ghost use Rattle.site_store.specs.stamped_store.declared.entry.Entry.{Entry};
 ghost use Rattle.site_store.specs.stamped_store.EntryOrder.{greater};
 ghost use Rattle.site_store.specs.stamped_store.Reading.{IsEntryRead};
-ghost use Rattle.site_store.specs.stamped_store.Store.{StoreEntries, kept};
+ghost use Rattle.site_store.specs.stamped_store.Store.{StoreEntries, concrete_entries};
 ghost use Rattle.site_store.specs.stamped_store.JoinMaps.{taken};
 ghost use Rattle.site_steps.specs.Admitted.{IsPolicyUnder, IsEntityUnder};
 ghost use Rattle.site_steps.specs.SiteViews.{IsHeld};
@@ -24,13 +24,13 @@ use site_store::{Entity, Policy, readings_are_preserved};
 /// The empty store has the invariant. The join of an entry preserves it, if the text of the entry is parsed as the
 /// entry's parsed value.
 pub(crate) fn readings_stay()
-    ensures empty { (schema : SchemaKept) → IsHeld (schema_view schema) (kept [] []) }
+    ensures empty { (schema : SchemaKept) → IsHeld (schema_view schema) (concrete_entries [] []) }
     ensures policy { (schema : SchemaKept) (k : StoreEntries Policy Entity) (id : String Global) (entry : Entry Policy)
         → IsHeld (schema_view schema) k → IsEntryRead (IsPolicyUnder (schema_view schema) (string_bytes id)) entry
-        → IsHeld (schema_view schema) (kept (taken string_cmp greater k.policies id entry) k.entities) }
+        → IsHeld (schema_view schema) (concrete_entries (taken string_cmp greater k.policies id entry) k.entities) }
     ensures entity { (schema : SchemaKept) (k : StoreEntries Policy Entity) (uid : EntityUid) (entry : Entry Entity)
         → IsHeld (schema_view schema) k → IsEntryRead (IsEntityUnder (schema_view schema) uid) entry
-        → IsHeld (schema_view schema) (kept k.policies (taken uid_cmp greater k.entities uid entry)) }
+        → IsHeld (schema_view schema) (concrete_entries k.policies (taken uid_cmp greater k.entities uid entry)) }
 {
     readings_are_preserved::<Policy, Entity, SchemaTexts<'static>>()
 }

@@ -9,7 +9,7 @@ use Rattle.site_meaning.specs.schema.SchemaEntries.{SchemaEntries}
 use Rattle.site_meaning.specs.schema.Views.{schema_view}
 use Rattle.scope_index.specs.Keys.{Kept}
 use Rattle.site_meaning.specs.entity_data.declared.entity.Entity.{Entity}
-use Rattle.stamped_store.specs.Store.{StoreEntries, kept}
+use Rattle.stamped_store.specs.Store.{StoreEntries, concrete_entries}
 use Rattle.site_store.specs.Indexed.{PolicyEntries, AreIndexed}
 use Rattle.site_store.specs.CacheValidity.{EntityEntries, AreAncestorsOf}
 use Rattle.site_store.specs.StoreViews.{AreValidCaches}
@@ -18,12 +18,12 @@ abbrev pub Entries : Type 0
 Entries = StoreEntries Policy Entity
 
 pub entities_stay : {T E : Type 0} (r : Result T E) (new old : Entries) (ps : PolicyEntries)
-    → OnOk r (new ≡ kept ps old.entities) → OnErr r (new ≡ old) → new.entities ≡ old.entities
+    → OnOk r (new ≡ concrete_entries ps old.entities) → OnErr r (new ≡ old) → new.entities ≡ old.entities
 entities_stay (Ok t) new old ps is none = ap (λ k. k.entities) is
 entities_stay (Err e) new old ps none is = ap (λ k. k.entities) is
 
 pub policies_stay : {T E : Type 0} (r : Result T E) (new old : Entries) (es : EntityEntries)
-    → OnOk r (new ≡ kept old.policies es) → OnErr r (new ≡ old) → new.policies ≡ old.policies
+    → OnOk r (new ≡ concrete_entries old.policies es) → OnErr r (new ≡ old) → new.policies ≡ old.policies
 policies_stay (Ok t) new old es is none = ap (λ k. k.policies) is
 policies_stay (Err e) new old es none is = ap (λ k. k.policies) is
 
@@ -47,7 +47,7 @@ module _ (schema lent : SchemaEntries) (is_lent : lent ≡ schema) where
 
   -- after a change of an entity
   pub beside_entity : {T E : Type 0} (r : Result T E) (new old : Entries) (es : EntityEntries)
-      → OnOk r (new ≡ kept old.policies es) → OnErr r (new ≡ old)
+      → OnOk r (new ≡ concrete_entries old.policies es) → OnErr r (new ≡ old)
       → (index : Option Kept) → IfSome index (AreIndexed old.policies)
       → (ancestors : Option AncestorCache) → IfSome ancestors (AreAncestorsOf (schema_view lent) new.entities)
       → AreValidCaches (schema_view schema) new index ancestors
@@ -59,7 +59,7 @@ module _ (schema lent : SchemaEntries) (is_lent : lent ≡ schema) where
 
 -- after a change of a policy
 pub beside_policy : {T E : Type 0} (schema : SchemaEntries) (r : Result T E) (new old : Entries) (ps : PolicyEntries)
-    → OnOk r (new ≡ kept ps old.entities) → OnErr r (new ≡ old)
+    → OnOk r (new ≡ concrete_entries ps old.entities) → OnErr r (new ≡ old)
     → (index : Option Kept) → IfSome index (AreIndexed new.policies)
     → (ancestors : Option AncestorCache) → IfSome ancestors (AreAncestorsOf (schema_view schema) old.entities)
     → AreValidCaches (schema_view schema) new index ancestors

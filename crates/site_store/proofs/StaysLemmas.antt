@@ -12,7 +12,7 @@ use Rattle.site_meaning.specs.schema.Schemas.{StatedSchema}
 use Rattle.site_meaning.specs.entity_data.declared.entity.Entity.{Entity}
 use Rattle.stamped_store.specs.declared.entry.Entry.{Entry}
 use Rattle.stamped_store.specs.EntryOrder.{greater}
-use Rattle.stamped_store.specs.Store.{StoreEntries, kept}
+use Rattle.stamped_store.specs.Store.{StoreEntries, concrete_entries}
 use Rattle.stamped_store.specs.JoinMaps.{value_at, taken}
 use Rattle.site_meaning.specs.StoreMeaning.{entity_data_under}
 use Rattle.site_meaning.specs.TextsRead.{entity_at, entity_read}
@@ -32,14 +32,14 @@ same_edges schema es uid entry stays =
     ap (λ (f : EntityUid → Option Entity). (entity_data_under schema f).parents) one
 
 edges_after : {T E : Type 0} (schema : StatedSchema) (r : Result T E) (new old : StoreEntries Policy Entity) (uid : EntityUid) (entry : Entry Entity)
-    → OnOk r (new ≡ kept old.policies (taken uid_cmp greater old.entities uid entry)) → OnErr r (new ≡ old)
+    → OnOk r (new ≡ concrete_entries old.policies (taken uid_cmp greater old.entities uid entry)) → OnErr r (new ≡ old)
     → StoredWins (value_at uid_cmp old.entities uid) entry → edges_under schema new.entities ≡ edges_under schema old.entities
 edges_after schema (Ok t) new old uid entry is none stays =
     ap (λ k. edges_under schema k.entities) is ∙ same_edges schema old.entities uid entry stays
 edges_after schema (Err e) new old uid entry none is stays = ap (λ k. edges_under schema k.entities) is
 
 pub ancestors_stay : {T E : Type 0} (schema : StatedSchema) (r : Result T E) (new old : StoreEntries Policy Entity) (uid : EntityUid) (entry : Entry Entity)
-    → OnOk r (new ≡ kept old.policies (taken uid_cmp greater old.entities uid entry)) → OnErr r (new ≡ old)
+    → OnOk r (new ≡ concrete_entries old.policies (taken uid_cmp greater old.entities uid entry)) → OnErr r (new ≡ old)
     → (o : Option AncestorCache) → (o ≡ None) ⊎ StoredWins (value_at uid_cmp old.entities uid) entry
     → IfSome o (AreAncestorsOf schema old.entities) → IfSome o (AreAncestorsOf schema new.entities)
 ancestors_stay schema r new old uid entry ok err None why h = tt

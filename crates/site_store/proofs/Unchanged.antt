@@ -17,7 +17,7 @@ use Rattle.scope_index.specs.Keys.{Kept}
 use Rattle.stamped_store.specs.declared.entry.Entry.{Entry}
 use Rattle.stamped_store.specs.EntryOrder.{greater}
 use Rattle.stamped_store.specs.Joins.{option_joined}
-use Rattle.stamped_store.specs.Store.{StoreEntries, kept}
+use Rattle.stamped_store.specs.Store.{StoreEntries, concrete_entries}
 use Rattle.stamped_store.specs.JoinMaps.{value_at, value_at_text, taken}
 use Rattle.stamped_store.proofs.Points.{value_at-taken, value_at-tied}
 use Rattle.site_store.specs.Indexed.{PolicyEntries, policy_in, AreIndexed}
@@ -60,7 +60,7 @@ same_texts es id entry (e, there, same) q =
     ] refl
 
 texts_after : {T F E : Type 0} (r : Result T F) (new old : StoreEntries Policy E) (id : String Global) (entry : Entry Policy)
-    → OnOk r (new ≡ kept (taken string_cmp greater old.policies id entry) old.entities) → OnErr r (new ≡ old)
+    → OnOk r (new ≡ concrete_entries (taken string_cmp greater old.policies id entry) old.entities) → OnErr r (new ≡ old)
     → StoredWins (value_at_text old.policies (string_bytes id)) entry
     → (q : List ℕ) → value_at_text new.policies q ≡ value_at_text old.policies q
 texts_after (Ok t) new old id entry is none stays q =
@@ -68,7 +68,7 @@ texts_after (Ok t) new old id entry is none stays q =
 texts_after (Err e) new old id entry none is stays q = ap (λ k. value_at_text k.policies q) is
 
 pub index_stays : {T F E : Type 0} (r : Result T F) (new old : StoreEntries Policy E) (id : String Global) (entry : Entry Policy)
-    → OnOk r (new ≡ kept (taken string_cmp greater old.policies id entry) old.entities) → OnErr r (new ≡ old)
+    → OnOk r (new ≡ concrete_entries (taken string_cmp greater old.policies id entry) old.entities) → OnErr r (new ≡ old)
     → (o : Option Kept) → (o ≡ None) ⊎ StoredWins (value_at_text old.policies (string_bytes id)) entry
     → IfSome o (AreIndexed old.policies) → IfSome o (AreIndexed new.policies)
 index_stays r new old id entry ok err None why h = tt

@@ -3,7 +3,8 @@ ghost use Rattle.std.specs.Prelude.{◌≡◌, ◌⊎◌, ◌++◌, ◌∷◌, [
 ghost use Rattle.values.specs.Names.{uid_cmp};
 ghost use Rattle.site_meaning.specs.schema.Views.{schema_view};
 ghost use Rattle.stamped_store.specs.EntryOrder.{plain_entry, greater};
-ghost use Rattle.stamped_store.specs.Store.{abstract_store, store_of, updates, kept, entity_name, KeepsOtherNames};
+ghost use Rattle.stamped_store.specs.Store.{abstract_store, store_of, updates, concrete_entries, entity_name};
+ghost use Rattle.stamped_store.specs.Store.{KeepsOtherNames};
 ghost use Rattle.stamped_store.specs.JoinMaps.{taken, value_at};
 ghost use Rattle.site_store.specs.CacheValidity.{AreAncestorsOf};
 ghost use Rattle.site_store.specs.inner.Updating.{AreAncestorsBut};
@@ -115,7 +116,7 @@ fn join_and_update_cache(
     ensures others { OnOk result
         (KeepsOtherNames (entity_name uid) (abstract_store store.old) (abstract_store store.new)) }
     ensures kept { OnOk result
-        (store.new ≡ kept store.old.policies (taken uid_cmp greater store.old.entities uid entry)) }
+        (store.new ≡ concrete_entries store.old.policies (taken uid_cmp greater store.old.entities uid entry)) }
     ensures refused { IfErr result (λ pair. pair ≡ (uid, entry)) }
     ensures err { OnErr result (store.new ≡ store.old) }
 {
@@ -153,7 +154,7 @@ pub(crate) fn take_entity(
     ensures others { OnOk result
         (KeepsOtherNames (entity_name uid) (abstract_store store.old) (abstract_store store.new)) }
     ensures kept { OnOk result
-        (store.new ≡ kept store.old.policies (taken uid_cmp greater store.old.entities uid entry)) }
+        (store.new ≡ concrete_entries store.old.policies (taken uid_cmp greater store.old.entities uid entry)) }
     ensures refused { IfErr result (λ pair. pair ≡ (uid, entry)) }
     ensures err { OnErr result (store.new ≡ store.old) }
 {
@@ -183,7 +184,7 @@ pub(crate) fn record_entity(
     ensures others { OnOk result
         (KeepsOtherNames (entity_name uid) (abstract_store store.old) (abstract_store store.new)) }
     ensures kept { OnOk result
-        (store.new ≡ kept store.old.policies (taken uid_cmp greater store.old.entities uid entry)) }
+        (store.new ≡ concrete_entries store.old.policies (taken uid_cmp greater store.old.entities uid entry)) }
     ensures refused { IfErr result (λ pair. pair ≡ (uid, entry)) }
     ensures err { OnErr result (store.new ≡ store.old) }
 {

@@ -14,7 +14,7 @@ use crate::stored_world::StoredWorld;
 use ancestor_closure::Ancestry;
 use plain::NoMemory;
 use scope_index::Policy;
-use site_meaning::{Answer, Entity, PreparedRequest, decide_known, policies_in};
+use site_meaning::{Answer, Entity, PreparedRequest, decide_prepared, policies_in};
 use stamped_store::StampedStore;
 use values::Request;
 
@@ -75,6 +75,6 @@ impl StoredWorld<'_, '_> {
         let mut known = PreparedRequest::of(self.alloc, self, request, 0)?;
         let policies = self.policies_for(request, &known, scan_count)?;
         scan_count.begin(policies.len());
-        decide_known(self.alloc, &policies, &mut known)
+        decide_prepared(self.alloc, &policies, &mut known)
     }
 }

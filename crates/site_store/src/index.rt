@@ -6,7 +6,8 @@ ghost use Rattle.std.specs.String.{string_cmp};
 ghost use Rattle.std.specs.Str.{bytes_eq};
 ghost use Rattle.scope_index.specs.Keys.{kept_at};
 ghost use Rattle.stamped_store.specs.EntryOrder.{plain_entry, greater};
-ghost use Rattle.stamped_store.specs.Store.{abstract_store, store_of, updates, kept, policy_name, KeepsOtherNames};
+ghost use Rattle.stamped_store.specs.Store.{abstract_store, store_of, updates, concrete_entries, policy_name};
+ghost use Rattle.stamped_store.specs.Store.{KeepsOtherNames};
 ghost use Rattle.stamped_store.specs.JoinMaps.{taken, value_at_text};
 ghost use Rattle.site_store.specs.Indexed.{policy_at, policy_in, AreIndexed};
 ghost use Rattle.site_store.specs.inner.IndexUpdating.{AreIndexedBut, noted};
@@ -129,7 +130,7 @@ pub(crate) fn record_policy<E: Drop>(
     ensures others { OnOk result
         (KeepsOtherNames (policy_name (string_bytes id)) (abstract_store store.old) (abstract_store store.new)) }
     ensures kept { OnOk result
-        (store.new ≡ kept (taken string_cmp greater store.old.policies id entry) store.old.entities) }
+        (store.new ≡ concrete_entries (taken string_cmp greater store.old.policies id entry) store.old.entities) }
     ensures refused { IfErr result (λ pair. pair ≡ (id, entry)) }
     ensures err { OnErr result (store.new ≡ store.old) }
     ensures left { OnErr result (index.new ≡ index.old) }
@@ -166,7 +167,7 @@ pub fn take_policy<E: Drop>(
     ensures others { OnOk result
         (KeepsOtherNames (policy_name (string_bytes id)) (abstract_store store.old) (abstract_store store.new)) }
     ensures kept { OnOk result
-        (store.new ≡ kept (taken string_cmp greater store.old.policies id entry) store.old.entities) }
+        (store.new ≡ concrete_entries (taken string_cmp greater store.old.policies id entry) store.old.entities) }
     ensures refused { IfErr result (λ pair. pair ≡ (id, entry)) }
     ensures err { OnErr result (store.new ≡ store.old) }
     ensures left { OnErr result (index.new ≡ index.old) }

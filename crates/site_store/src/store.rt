@@ -6,7 +6,7 @@ ghost use Rattle.values.specs.Names.{uid_cmp};
 ghost use Rattle.site_meaning.specs.schema.Views.{schema_view};
 ghost use Rattle.stamped_store.specs.EntryOrder.{plain_entry, greater};
 ghost use Rattle.stamped_store.specs.Reading.{AreEntriesRead};
-ghost use Rattle.stamped_store.specs.Store.{abstract_store, store_of, updates, kept};
+ghost use Rattle.stamped_store.specs.Store.{abstract_store, store_of, updates, concrete_entries};
 ghost use Rattle.stamped_store.specs.Store.{policy_name, entity_name, KeepsOtherNames};
 ghost use Rattle.stamped_store.specs.JoinMaps.{taken};
 ghost use Rattle.site_meaning.specs.StoreMeaning.{IsAnswerOver, MakesCycle, MakesNoCycle};
@@ -83,7 +83,7 @@ impl IndexedStore {
     /// The ancestor cache includes the schema's actions, so building it allocates. The first [`Self::record_policy`],
     /// [`Self::record_entity`] or [`Self::rebuild`] builds it, if there is memory and it would not be too large.
     pub fn new(alloc: Global, schema: Shared<Schema>) -> Self
-        ensures { result ≡ record { schema = schema; kept = kept [] [] } }
+        ensures { result ≡ record { schema = schema; kept = concrete_entries [] [] } }
     {
         IndexedStore {
             alloc,
@@ -128,7 +128,7 @@ impl IndexedStore {
         ensures others { OnOk result (KeepsOtherNames (policy_name (string_bytes id)) (abstract_store self.old.kept)
             (abstract_store self.new.kept)) }
         ensures kept { OnOk result (self.new.kept
-            ≡ kept (taken string_cmp greater self.old.kept.policies id entry) self.old.kept.entities) }
+            ≡ concrete_entries (taken string_cmp greater self.old.kept.policies id entry) self.old.kept.entities) }
         ensures refused { IfErr result (λ pair. pair ≡ (id, entry)) }
         ensures err { OnErr result (self.new.kept ≡ self.old.kept) }
         ensures same { self.new.schema ≡ self.old.schema }
@@ -157,7 +157,7 @@ impl IndexedStore {
         ensures others { OnOk result (KeepsOtherNames (entity_name uid) (abstract_store self.old.kept)
             (abstract_store self.new.kept)) }
         ensures kept { OnOk result (self.new.kept
-            ≡ kept self.old.kept.policies (taken uid_cmp greater self.old.kept.entities uid entry)) }
+            ≡ concrete_entries self.old.kept.policies (taken uid_cmp greater self.old.kept.entities uid entry)) }
         ensures refused { IfErr result (λ pair. pair ≡ (uid, entry)) }
         ensures err { OnErr result (self.new.kept ≡ self.old.kept) }
         ensures same { self.new.schema ≡ self.old.schema }
@@ -187,7 +187,7 @@ impl IndexedStore {
         ensures others { OnOk result (KeepsOtherNames (policy_name (string_bytes id)) (abstract_store self.old.kept)
             (abstract_store self.new.kept)) }
         ensures kept { OnOk result (self.new.kept
-            ≡ kept (taken string_cmp greater self.old.kept.policies id entry) self.old.kept.entities) }
+            ≡ concrete_entries (taken string_cmp greater self.old.kept.policies id entry) self.old.kept.entities) }
         ensures refused { IfErr result (λ pair. pair ≡ (id, entry)) }
         ensures err { OnErr result (self.new.kept ≡ self.old.kept) }
         ensures same { self.new.schema ≡ self.old.schema }
@@ -218,7 +218,7 @@ impl IndexedStore {
         ensures others { OnOk result (KeepsOtherNames (entity_name uid) (abstract_store self.old.kept)
             (abstract_store self.new.kept)) }
         ensures kept { OnOk result (self.new.kept
-            ≡ kept self.old.kept.policies (taken uid_cmp greater self.old.kept.entities uid entry)) }
+            ≡ concrete_entries self.old.kept.policies (taken uid_cmp greater self.old.kept.entities uid entry)) }
         ensures refused { IfErr result (λ pair. pair ≡ (uid, entry)) }
         ensures err { OnErr result (self.new.kept ≡ self.old.kept) }
         ensures same { self.new.schema ≡ self.old.schema }

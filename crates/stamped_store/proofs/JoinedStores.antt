@@ -25,7 +25,7 @@ use Rattle.stamped_store.specs.EntryOrder.{PlainEntry, plain_entry, entry_cmp, e
 use Rattle.stamped_store.specs.JoinMaps.{value_at, value_at_text, all_joined, joined_onto, IsBelow}
 use Rattle.stamped_store.specs.Greatest.{greatest_count, max_count}
 use Rattle.stamped_store.specs.Abstraction.{abstract_entry, abstract_entries}
-use Rattle.stamped_store.specs.Store.{Store, Update, StoreEntries, kept, joined_entries, first_entries, updates, store_of, first_names, plain_below, IsStoreBelow, IsStoreJoin, joined_stores, id_name, entity_name, abstract_updates, abstract_store, KeepsOtherNames, issue, issued}
+use Rattle.stamped_store.specs.Store.{Store, Update, StoreEntries, concrete_entries, joined_entries, first_entries, updates, store_of, first_names, plain_below, IsStoreBelow, IsStoreJoin, joined_stores, id_name, entity_name, abstract_updates, abstract_store, KeepsOtherNames, issue, issued}
 use Rattle.plain.proofs.Members.{Contains-none, Contains-here, Contains-there}
 use Rattle.stamped_store.proofs.Greatests.{count_le, count_of_find, greater_assoc, greater_commutes, greater_itself, greatest_count-store_of, max_count-append, entry_order}
 use Rattle.stamped_store.proofs.GreatestsBy.{by_place, get-joined, joined_is_least, one_if_below, one_least, store_of-append, store_of-append_right, store_of-push}
@@ -121,18 +121,18 @@ module _ {P E : Type 0} where
       subst (IsStoreJoin (abstract_store s) (first_names n (abstract_store o))) (sym path) (joined_is_join (abstract_store s) (first_names n (abstract_store o)))
 
   -- memory was refused among the policies
-  pub kept_first_policies : (s o : StoreEntries P E) (n : List (String Global × Entry P)) (k : ℕ) → n ≡ all_joined string_cmp greater s.policies (take k o.policies) → k < length o.policies → kept n s.entities ≡ joined_entries s (first_entries k o)
+  pub kept_first_policies : (s o : StoreEntries P E) (n : List (String Global × Entry P)) (k : ℕ) → n ≡ all_joined string_cmp greater s.policies (take k o.policies) → k < length o.policies → concrete_entries n s.entities ≡ joined_entries s (first_entries k o)
   kept_first_policies s o n k e short =
       let none : 0 ≡ k - length o.policies = omega arith in
-      ap (λ ps. kept ps s.entities) e ∙ ap (λ m. kept (all_joined string_cmp greater s.policies (take k o.policies)) (all_joined uid_cmp greater s.entities (take m o.entities))) none
+      ap (λ ps. concrete_entries ps s.entities) e ∙ ap (λ m. concrete_entries (all_joined string_cmp greater s.policies (take k o.policies)) (all_joined uid_cmp greater s.entities (take m o.entities))) none
 
   -- memory was refused among the entities
-  pub kept_first_entities : (s o : StoreEntries P E) (n : List (String Global × Entry P)) (m : List (EntityUid × Entry E)) (j k : ℕ) → n ≡ all_joined string_cmp greater s.policies o.policies → m ≡ all_joined uid_cmp greater s.entities (take j o.entities) → k ≡ length o.policies + j → kept n m ≡ joined_entries s (first_entries k o)
+  pub kept_first_entities : (s o : StoreEntries P E) (n : List (String Global × Entry P)) (m : List (EntityUid × Entry E)) (j k : ℕ) → n ≡ all_joined string_cmp greater s.policies o.policies → m ≡ all_joined uid_cmp greater s.entities (take j o.entities) → k ≡ length o.policies + j → concrete_entries n m ≡ joined_entries s (first_entries k o)
   kept_first_entities s o n m j k e f is =
       let some : j ≡ k - length o.policies = omega arith in
       let all : o.policies ≡ take k o.policies = sym (take_all k o.policies (omega arith)) in
-      ap (λ ps. kept ps m) (e ∙ ap (all_joined string_cmp greater s.policies) all)
-      ∙ ap (kept (all_joined string_cmp greater s.policies (take k o.policies))) (f ∙ ap (λ i. all_joined uid_cmp greater s.entities (take i o.entities)) some)
+      ap (λ ps. concrete_entries ps m) (e ∙ ap (all_joined string_cmp greater s.policies) all)
+      ∙ ap (concrete_entries (all_joined string_cmp greater s.policies (take k o.policies))) (f ∙ ap (λ i. all_joined uid_cmp greater s.entities (take i o.entities)) some)
 
   store_below : (s o : StoreEntries P E) → IsBelow string_cmp entry_at_most s.policies o.policies → IsBelow uid_cmp entry_at_most s.entities o.entities → IsStoreBelow (abstract_store s) (abstract_store o)
   store_below s o h k (Policy bytes) =

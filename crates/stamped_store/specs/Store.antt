@@ -87,14 +87,15 @@ issued stamp body = record { count = stamp.count; site = stamp.site; body = body
 -- ---- the concrete store, and the abstract store that it represents
 
 -- `StoreEntries P E` are the concrete entries: policies by id, with parsed forms of the type `P`, and entities by uid,
--- with parsed forms of the type `E`. In a concrete store both lists ascend (`IsCounted`).
+-- with parsed forms of the type `E`. In a concrete store both lists ascend (`IsOrderedAndCounted`).
 pub record StoreEntries (P E : Type 0) : Type 0 where
   pub policies : List (String Global × Entry P)
   pub entities : List (EntityUid × Entry E)
 
--- `kept ps es` are the concrete entries with the policies `ps` and the entities `es`.
-abbrev pub kept : {P E : Type 0} → List (String Global × Entry P) → List (EntityUid × Entry E) → StoreEntries P E
-kept ps es = record { policies = ps; entities = es }
+-- `concrete_entries ps es` are the concrete entries with the policies `ps` and the entities `es`.
+abbrev pub concrete_entries : {P E : Type 0} → List (String Global × Entry P) → List (EntityUid × Entry E)
+    → StoreEntries P E
+concrete_entries ps es = record { policies = ps; entities = es }
 
 -- `policy_name bytes` is the name of the policy whose id has the bytes `bytes`.
 abbrev pub policy_name : List ℕ → Name
@@ -118,16 +119,16 @@ abstract_store k = map.from_entries (abstract_updates k)
 
 -- `joined_entries k l` are the concrete entries `k`, with each entry of `l` joined in turn.
 abbrev pub joined_entries : {P E : Type 0} → StoreEntries P E → StoreEntries P E → StoreEntries P E
-joined_entries k l = kept (all_joined string_cmp greater k.policies l.policies)
+joined_entries k l = concrete_entries (all_joined string_cmp greater k.policies l.policies)
     (all_joined uid_cmp greater k.entities l.entities)
 
 -- `first_entries n k` are the entries of the first `n` names of `k`; policies come before entities.
 abbrev pub first_entries : {P E : Type 0} → ℕ → StoreEntries P E → StoreEntries P E
-first_entries n k = kept (take n k.policies) (take (n - length k.policies) k.entities)
+first_entries n k = concrete_entries (take n k.policies) (take (n - length k.policies) k.entities)
 
--- `IsCounted k greatest` is the invariant of the concrete store. It holds if `greatest` is the greatest count of the
--- entries `k`, and the updates of `k` are those of its abstract store in the same order; so the policies and the
+-- `IsOrderedAndCounted k greatest` is the invariant of the concrete store. It holds if `greatest` is the greatest count
+-- of the entries `k`, and the updates of `k` are those of its abstract store in the same order; so the policies and the
 -- entities of `k` each ascend.
-pub record IsCounted {P E : Type 0} (k : StoreEntries P E) (greatest : ℕ) : Type 0 where
+pub record IsOrderedAndCounted {P E : Type 0} (k : StoreEntries P E) (greatest : ℕ) : Type 0 where
   pub counted : greatest ≡ updates_of.greatest_count (abstract_store k)
   pub in_order : updates (abstract_store k) ≡ abstract_updates k

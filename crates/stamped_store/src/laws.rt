@@ -20,7 +20,7 @@ ghost use Rattle.stamped_store.specs.JoinMaps.{IsBelowAt, joined_at, value_at, t
 ghost use Rattle.stamped_store.specs.Greatest.{greatest_count};
 ghost use Rattle.stamped_store.specs.Store.{Store, Update, updates, store_of, plain_below, IsStoreBelow, IsStoreJoin};
 ghost use Rattle.stamped_store.specs.Store.{joined_stores, issue, issued, policy_name, entity_name};
-ghost use Rattle.stamped_store.specs.Store.{StoreEntries, IsStoreOf, kept, joined_entries, first_entries};
+ghost use Rattle.stamped_store.specs.Store.{StoreEntries, IsStoreOf, concrete_entries, joined_entries, first_entries};
 ghost use Rattle.stamped_store.specs.Reading.{IsEntryRead, AreEntriesRead};
 ghost use Rattle.stamped_store.specs.Contents.{text_under, policies_of, entities_of};
 ghost use Rattle.stamped_store.specs.Deltas.{Summary, stamp_of, summary_of, is_unseen, delta, HaveOneEntryForAStamp};
@@ -137,16 +137,17 @@ pub fn deltas_are_joined()
 /// form or is a tombstone. The merge of two stores with the property has it too, even if only the first entries of the
 /// second are merged.
 pub fn readings_are_preserved<P: Drop, E: Drop, R: Readings<P, E>>()
-    ensures empty { (r : R) → AreEntriesRead {P = P} {E = E} (R.reads_policy r) (R.reads_entity r) (kept [] []) }
+    ensures empty { (r : R) → AreEntriesRead {P = P} {E = E} (R.reads_policy r) (R.reads_entity r)
+        (concrete_entries [] []) }
     ensures policy { (r : R) (k : StoreEntries P E) (id : String Global) (entry : Entry P)
         → AreEntriesRead (R.reads_policy r) (R.reads_entity r) k
         → IsEntryRead (R.reads_policy r (string_bytes id)) entry
         → AreEntriesRead (R.reads_policy r) (R.reads_entity r)
-        (kept (taken string_cmp greater k.policies id entry) k.entities) }
+        (concrete_entries (taken string_cmp greater k.policies id entry) k.entities) }
     ensures entity { (r : R) (k : StoreEntries P E) (uid : EntityUid) (entry : Entry E)
         → AreEntriesRead (R.reads_policy r) (R.reads_entity r) k → IsEntryRead (R.reads_entity r uid) entry
         → AreEntriesRead (R.reads_policy r) (R.reads_entity r)
-        (kept k.policies (taken uid_cmp greater k.entities uid entry)) }
+        (concrete_entries k.policies (taken uid_cmp greater k.entities uid entry)) }
     ensures merged { (r : R) (k l : StoreEntries P E) → AreEntriesRead (R.reads_policy r) (R.reads_entity r) k
         → AreEntriesRead (R.reads_policy r) (R.reads_entity r) l
         → AreEntriesRead (R.reads_policy r) (R.reads_entity r) (joined_entries k l) }

@@ -13,7 +13,8 @@ ghost use Rattle.stamped_store.specs.EntryOrder.{plain_entry, greater, entry_at_
 ghost use Rattle.stamped_store.specs.Greatest.{greatest_count};
 ghost use Rattle.stamped_store.specs.Abstraction.{greatest_kept};
 ghost use Rattle.stamped_store.specs.JoinMaps.{value_at, value_at_text, taken, IsBelow};
-ghost use Rattle.stamped_store.specs.Store.{abstract_store, abstract_updates, store_of, updates, kept, joined_entries};
+ghost use Rattle.stamped_store.specs.Store.{abstract_store, abstract_updates, store_of, updates, concrete_entries};
+ghost use Rattle.stamped_store.specs.Store.{joined_entries};
 ghost use Rattle.stamped_store.specs.Store.{first_entries};
 ghost use Rattle.stamped_store.specs.Store.{policy_name, entity_name, KeepsOtherNames, IsStoreBelow, IsStoreJoin};
 ghost use Rattle.stamped_store.specs.Store.{first_names, issue};
@@ -41,19 +42,19 @@ pub struct StampedStore<P: Drop, E: Drop> {
 }
 
 impl<P: Drop, E: Drop> Model for StampedStore<P, E> {
-    ghost use Rattle.stamped_store.specs.Store.{StoreEntries, IsCounted, kept};
+    ghost use Rattle.stamped_store.specs.Store.{StoreEntries, IsOrderedAndCounted, concrete_entries};
 
     ghost Value = { StoreEntries P E };
 
-    ghost view = { λ s. kept s.policies s.entities };
+    ghost view = { λ s. concrete_entries s.policies s.entities };
 
-    ghost invariant = { λ s. IsCounted (kept s.policies s.entities) s.greatest };
+    ghost invariant = { λ s. IsOrderedAndCounted (concrete_entries s.policies s.entities) s.greatest };
 }
 
 impl<P: Drop, E: Drop> StampedStore<P, E> {
     /// Creates an empty store. Does not allocate.
     pub fn new(alloc: Global) -> Self
-        ensures kept { result ≡ kept [] [] }
+        ensures kept { result ≡ concrete_entries [] [] }
         ensures empty { abstract_store result ≡ store_of [] }
     {
         StampedStore {
@@ -130,7 +131,7 @@ impl<P: Drop, E: Drop> StampedStore<P, E> {
         ensures others { OnOk result
             (KeepsOtherNames (policy_name (string_bytes id)) (abstract_store self.old) (abstract_store self.new)) }
         ensures kept { OnOk result
-            (self.new ≡ kept (taken string_cmp greater self.old.policies id entry) self.old.entities) }
+            (self.new ≡ concrete_entries (taken string_cmp greater self.old.policies id entry) self.old.entities) }
         ensures refused { IfErr result (λ pair. pair ≡ (id, entry)) }
         ensures err { OnErr result (self.new ≡ self.old) }
     {
@@ -152,7 +153,7 @@ impl<P: Drop, E: Drop> StampedStore<P, E> {
         ensures others { OnOk result
             (KeepsOtherNames (entity_name uid) (abstract_store self.old) (abstract_store self.new)) }
         ensures kept { OnOk result
-            (self.new ≡ kept self.old.policies (taken uid_cmp greater self.old.entities uid entry)) }
+            (self.new ≡ concrete_entries self.old.policies (taken uid_cmp greater self.old.entities uid entry)) }
         ensures refused { IfErr result (λ pair. pair ≡ (uid, entry)) }
         ensures err { OnErr result (self.new ≡ self.old) }
     {

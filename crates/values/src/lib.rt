@@ -16,8 +16,8 @@ mod value;
 mod value_ref;
 
 pub use entity_uid::EntityUid;
-pub use extensions::decimal::one_decimal_a_text;
-pub use extensions::ip_net::one_network_a_text;
+pub use extensions::decimal::decimal_is_unique;
+pub use extensions::ip_net::network_is_unique;
 pub use extensions::{Decimal, IpNet};
 pub use laws::{
     path_tests_are_exact, records_are_maps, sets_hold_their_members, values_stay_well_formed,

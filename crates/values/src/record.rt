@@ -66,7 +66,7 @@ impl Record {
         ensures ok { OnOk result (self.new ≡ put key value self.old) }
         ensures err { OnErr result (self.new ≡ self.old) }
     {
-        value.stays_well_formed();
+        value.is_well_formed();
         drop(self.fields.insert(key.into_string(), value)?);
         Ok(())
     }
@@ -79,7 +79,7 @@ impl Record {
     }
 
     /// Proves that the record is well formed at every depth. No-op.
-    pub fn stays_well_formed(&self)
+    pub fn is_well_formed(&self)
         ensures { IsWellFormed (record_of (fields_of self.now)) }
     {
         let _fields = &self.fields;

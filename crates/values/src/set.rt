@@ -64,7 +64,7 @@ impl Set {
     }
 
     /// Proves that the set is well formed at every depth. No-op.
-    pub fn stays_well_formed(&self)
+    pub fn is_well_formed(&self)
         ensures { IsWellFormed (set (values_of self.now)) }
     {
         let _members = &self.members;
@@ -121,7 +121,7 @@ fn all_well_formed(values: &[Value])
     ensures { AreMembersWellFormed (values_of values.now) }
 {
     for value in values {
-        value.stays_well_formed();
+        value.is_well_formed();
     }
 }
 

@@ -22,7 +22,7 @@ use std::marker::Model;
 /// A value of the policy language. Contracts see a value as a `PlainValue`, an algebraic data type: two values are
 /// equal if and only if their `PlainValue`s are.
 ///
-/// A value is well formed at every depth, as [`Value::stays_well_formed`] describes and proves.
+/// A value is well formed at every depth, as [`Value::is_well_formed`] describes and proves.
 #[cycle(value)]
 #[derive(Drop)]
 pub struct Value {
@@ -122,7 +122,7 @@ impl Value {
     pub fn from_set(members: Set) -> Value
         ensures { result ≡ set (values_of members) }
     {
-        members.stays_well_formed();
+        members.is_well_formed();
         Value {
             kind: Kind::Set(members),
         }
@@ -132,7 +132,7 @@ impl Value {
     pub fn from_record(fields: Record) -> Value
         ensures { result ≡ record_of (fields_of fields) }
     {
-        fields.stays_well_formed();
+        fields.is_well_formed();
         Value {
             kind: Kind::Record(fields),
         }
@@ -158,7 +158,7 @@ impl Value {
 
     /// Proves that the value is well formed at every depth: the members of each set ascend strictly, and so do the keys
     /// of each record. No-op.
-    pub fn stays_well_formed(&self)
+    pub fn is_well_formed(&self)
         ensures { IsWellFormed self.now }
     {
         let _kind = &self.kind;

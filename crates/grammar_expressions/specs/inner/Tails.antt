@@ -38,14 +38,14 @@ like = do
   text ← take patterns
   pure (Some (Like text))
 
--- In this module `may` is whether one more level of nesting may be opened, and `inner` parses an expression of that
--- level.
-module _ (may : Bool) (inner : Parser ExprTree) where
+-- In this module `may_nest` is whether one more level of nesting may be opened, and `inner` parses an expression of
+-- that level.
+module _ (may_nest : Bool) (inner : Parser ExprTree) where
   -- `compared` parses a comparison operator, of which "in" is one, and a Sum.
   unfoldable pub compared : Parser (Option Tail)
   compared = do
     operator ← symbol comparison_of
-    y ← sum may inner
+    y ← sum may_nest inner
     pure (Some (Compared operator y))
 
   -- `type_test` parses "is" Path [ "in" Sum ].
@@ -53,7 +53,7 @@ module _ (may : Bool) (inner : Parser ExprTree) where
   type_test = do
     token k.Is
     type_name ← path
-    y ← maybe_inside may inner
+    y ← maybe_inside may_nest inner
     pure (Some (Is type_name y))
 
   -- `test_tail` parses a tail that begins with "has", "like" or "is", or nothing.

@@ -17,14 +17,14 @@ loop-parent-preserved c = λ before kept x h.
     elim (Contains-push_cases ps p x (subst (λ l. Contains l x) more h)) [
       | inl t ↦ c.loop-parent.invariant before kept x t
       | inr same ↦ λ leads.
-          let yes = (c.leads_to.ensures before kept).1 (subst (λ z. Leads before c.args.uid.now z) (sym same) leads) in
-          cc (yes, c.if-leads_to.false)
+          let yes = (c.is_self_or_ancestor.ensures before kept).1 (subst (λ z. Leads before c.args.uid.now z) (sym same) leads) in
+          cc (yes, c.if-is_self_or_ancestor.false)
     ]
 
-pub returns-then-leads_to : goal.returns-then-leads_to
-returns-then-leads_to c = λ before kept. (
+pub returns-then-is_self_or_ancestor : goal.returns-then-is_self_or_ancestor
+returns-then-is_self_or_ancestor c = λ before kept. (
   λ _. leads_cycle before c.args.uid.now c.args.parents.now c.parent-item.result (c.loop-parent.parent-index, c.loop-parent-test.true, sym c.parent-item.is)
-      ((c.leads_to.ensures before kept).0 c.if-leads_to.true),
+      ((c.is_self_or_ancestor.ensures before kept).0 c.if-is_self_or_ancestor.true),
   λ _. refl,
 )
 

@@ -11,7 +11,7 @@ use Rattle.authoriser.proofs.conditions.outcome_of.Goals as goal
 
 pub returns-then-is_scope_true : goal.returns-then-is_scope_true
 returns-then-is_scope_true g c =
-    let k = c.args.known.now in
+    let k = c.args.prepared.now in
     let W = entities_with (g.L.Lookup.stored k.0) (g.L.Ancestry.parents k.0) in
     let s = c.request_entities.result.now in
     let policy = c.args.policy.now in
@@ -21,7 +21,7 @@ returns-then-is_scope_true g c =
 
 pub returns-else-is_scope_true : goal.returns-else-is_scope_true
 returns-else-is_scope_true g c =
-    let k = c.args.known.now in
+    let k = c.args.prepared.now in
     let W = entities_with (g.L.Lookup.stored k.0) (g.L.Ancestry.parents k.0) in
     let s = c.request_entities.result.now in
     other_scope c.scopes_do_not_err.ensures.idle W (g.L.Ancestry.ancestor_test k.0) (g.met.L.Ancestry.ancestor_test_decides k.0) k.1 s c.args.policy.now c.request_entities.ensures

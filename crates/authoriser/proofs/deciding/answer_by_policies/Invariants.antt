@@ -8,6 +8,6 @@ use Rattle.authoriser.proofs.deciding.answer_by_policies.Given as goal
 
 abbrev pub invariant-loop-id : goal.invariant-loop-id
 invariant-loop-id g l = record {
-  same : l.known ≡ l.fn.known;
-  judged : (js : List PolicyOutcome) × ArePolicyOutcomes (entities_with (g.L.Lookup.stored l.fn.known.0) (g.L.Ancestry.parents l.fn.known.0)) l.fn.known.1 (named (take l.id-index l.policies)) js × Counts l.tally js;
+  same : l.prepared ≡ l.fn.prepared;
+  policy_outcomes : (js : List PolicyOutcome) × ArePolicyOutcomes (entities_with (g.L.Lookup.stored l.fn.prepared.0) (g.L.Ancestry.parents l.fn.prepared.0)) l.fn.prepared.1 (named (take l.id-index l.policies)) js × Counts l.tally js;
 }

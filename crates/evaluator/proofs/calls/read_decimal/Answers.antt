@@ -6,4 +6,4 @@ use Rattle.evaluator.proofs.calls.read_decimal.Goals as goal
 pub returns-in-Some : goal.returns-in-Some
 returns-in-Some c =
     let text = c.args.text.now in
-    ap Ok c.decimal.ensures ∙ sym (decimal_is c.one_decimal_a_text.ensures text (decimal_text_decided text) c.in-Some.number c.in-Some.ensures.some)
+    ap Ok c.decimal.ensures ∙ sym (decimal_is c.decimal_is_unique.ensures text (decimal_text_decided text) c.in-Some.number c.in-Some.ensures.some)

@@ -6,7 +6,7 @@ use Rattle.evaluator.proofs.calls.read_network.Goals as goal
 pub returns-in-Some : goal.returns-in-Some
 returns-in-Some c =
     let text = c.args.text.now in
-    ap Ok c.ipaddr.ensures ∙ sym (network_is c.one_network_a_text.ensures text (network_text_decided text) c.in-Some.network c.in-Some.ensures.some)
+    ap Ok c.ipaddr.ensures ∙ sym (network_is c.network_is_unique.ensures text (network_text_decided text) c.in-Some.network c.in-Some.ensures.some)
 
 pub returns-in-None : goal.returns-in-None
 returns-in-None c =

@@ -3,8 +3,8 @@ use Rattle.evaluator.specs.Operators.{entities_with}
 use Rattle.evaluator.proofs.Agreeing.{answers_what_is_given, answers_all_that_is_given}
 use Rattle.evaluator.proofs.evaluating.evaluate_in.Goals as goal
 
-pub returns-clause-given : goal.returns-clause-given
-returns-clause-given g c =
+pub returns-clause-sound : goal.returns-clause-sound
+returns-clause-sound g c =
     let env = c.args.env.now in
     let W = entities_with (g.L.Lookup.stored env) (g.L.Ancestry.parents env) in
     let ancestor_test = g.L.Ancestry.ancestor_test env in
@@ -13,8 +13,8 @@ returns-clause-given g c =
     let given = c.meanings_are_given.ensures W ancestor_test (g.met.L.Ancestry.ancestor_test_decides env) q x in
     answers_what_is_given W q x (meaning q (decided_entities W.stored ancestor_test) x) given c.outcome_of.result c.outcome_of.ensures
 
-pub returns-clause-all : goal.returns-clause-all
-returns-clause-all g c =
+pub returns-clause-complete : goal.returns-clause-complete
+returns-clause-complete g c =
     let env = c.args.env.now in
     let W = entities_with (g.L.Lookup.stored env) (g.L.Ancestry.parents env) in
     let ancestor_test = g.L.Ancestry.ancestor_test env in

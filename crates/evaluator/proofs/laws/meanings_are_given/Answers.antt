@@ -3,8 +3,8 @@ use Rattle.evaluator.proofs.laws.meanings_are_given.Goals as goal
 
 pub returns : goal.returns
 returns c = lemmas.meanings_are_given (record {
-  decimals = c.one_decimal_a_text.ensures;
-  networks = c.one_network_a_text.ensures;
+  decimals = c.decimal_is_unique.ensures;
+  networks = c.network_is_unique.ensures;
   made = c.sets_hold_their_members.ensures.made;
   one = c.sets_hold_their_members.ensures.one;
   told = c.sets_hold_their_members.ensures.told;

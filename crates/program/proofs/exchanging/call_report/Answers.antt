@@ -14,5 +14,5 @@ pub returns : goal.returns
 unfolding call_report
 returns c =
     IfOk-weaker c.format.result _ _ (λ line is.
-    is ∙ grouped c.args.at.now.address.now (decimal c.args.at.now.number) (call_text c.args.at.now.call) c.args.why.now)
+    is ∙ grouped c.args.round_call.now.address.now (decimal c.args.round_call.now.number) (call_text c.args.round_call.now.call) c.args.why.now)
     (rw (c.call_text-asked.ensures) at c.format.ensures.ok)

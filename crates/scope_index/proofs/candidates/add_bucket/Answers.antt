@@ -9,8 +9,8 @@ pub returns-in-Some : goal.returns-in-Some
 returns-in-Some c =
     let held : bucket_at c.args.under.now c.args.uid.now ≡ Some c.in-Some.bucket.now =
     sym c.bucket_at.ensures ∙ ap option_copied c.in-Some.is in
-    offered_under c.offer.result (bucket_at c.args.under.now c.args.uid.now) c.in-Some.bucket.now held
-    (lent c.args.found.now.items) (lent c.offer.new.found.items) c.offer.ensures
+    offered_under c.add_policies.result (bucket_at c.args.under.now c.args.uid.now) c.in-Some.bucket.now held
+    (lent c.args.found.now.items) (lent c.add_policies.new.found.items) c.add_policies.ensures
 
 pub returns-in-None : goal.returns-in-None
 returns-in-None c =

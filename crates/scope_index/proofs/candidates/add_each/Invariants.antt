@@ -7,7 +7,7 @@ use Rattle.scope_index.specs.Buckets.{policy_of_uid}
 use Rattle.scope_index.proofs.Offering.{Offers}
 use Rattle.scope_index.proofs.candidates.add_each.Given as goal
 
--- those under the entities so far are offered
+-- the policies in the buckets of the entities so far are in the list
 abbrev pub invariant-loop-entity : goal.invariant-loop-entity
 invariant-loop-entity l = Offers (λ o. (e : EntityUid) × Contains (names (take l.entity-index l.entities)) e × (policy_of_uid l.under e o.0 ≡ Some o.1))
     (lent l.fn.found.items) (lent l.found.items)

@@ -10,4 +10,4 @@ loop-value-preserved c h =
     let vs = c.args.values.now in
     let v = c.value-item.result in
     let first = drop_more vs i v c.loop-value-test.true ∙ ap (λ (w : PlainValue). w ∷ drop (i + 1) vs) (sym c.value-item.is) in
-    c.loop-value.invariant (subst (λ (xs : List PlainValue). AreMembersWellFormed (values_of xs)) (sym first) (c.stays_well_formed.ensures, h))
+    c.loop-value.invariant (subst (λ (xs : List PlainValue). AreMembersWellFormed (values_of xs)) (sym first) (c.is_well_formed.ensures, h))

@@ -8,7 +8,7 @@ use Rattle.site_store.specs.stamped_store.declared.entry.Entry.{Entry}
 use Rattle.site_store.specs.stamped_store.declared.entry.Stamp.{Stamp}
 use Rattle.site_store.specs.stamped_store.EntryOrder.{greater, plain_entry}
 use Rattle.site_store.specs.stamped_store.Reading.{IsBodyRead}
-use Rattle.site_store.specs.stamped_store.Store.{StoreEntries, kept, policy_name, abstract_store}
+use Rattle.site_store.specs.stamped_store.Store.{StoreEntries, concrete_entries, policy_name, abstract_store}
 use Rattle.site_store.specs.stamped_store.JoinMaps.{taken}
 use Rattle.site_soundness.specs.message_format.Summaries.{IsStamped}
 use Rattle.site_steps.specs.Admitted.{IsPolicyUnder}
@@ -27,7 +27,7 @@ invariant_of-self c =
     let next = subst (λ (l : StoreEntries Policy Entity). IsNext c.self.inside.name (abstract_store l) (Some c.in-Some.stamp))
     c.store.ensures c.in-Some.ensures in
     subst (λ (x : SchemaEntries). IsSite (schema_view x) c.self.inside.name c.record_policy-taken.new.self.kept) (sym c.record_policy-taken.ensures.same)
-    (site_after (schema_view schema) c.self.inside.name k (kept (taken string_cmp greater k.policies c.args.id entry) k.entities)
+    (site_after (schema_view schema) c.self.inside.name k (concrete_entries (taken string_cmp greater k.policies c.args.id entry) k.entities)
     c.record_policy-taken.new.self.kept (name, plain_entry entry) c.record_policy-taken.result c.record_policy-taken.ensures.kept
     c.record_policy-taken.ensures.ok c.record_policy-taken.ensures.err c.self.invariant
     (c.readings_stay.ensures.policy schema k c.args.id entry c.self.invariant.held

@@ -4,7 +4,7 @@ use Rattle.site_store.specs.schema.SchemaEntries.{SchemaEntries}
 use Rattle.site_store.specs.schema.Views.{schema_view}
 use Rattle.site_store.specs.stamped_store.EntryOrder.{greater, plain_entry}
 use Rattle.site_store.specs.stamped_store.Reading.{IsEntryRead}
-use Rattle.site_store.specs.stamped_store.Store.{kept, policy_name}
+use Rattle.site_store.specs.stamped_store.Store.{concrete_entries, policy_name}
 use Rattle.site_store.specs.stamped_store.JoinMaps.{taken}
 use Rattle.site_steps.specs.Admitted.{IsPolicyUnder}
 use Rattle.site_steps.specs.SiteViews.{IsSite}
@@ -17,7 +17,7 @@ invariant_of-self c =
     let k = c.self.inside.store.kept in
     let entry = c.args.entry in
     subst (λ (x : SchemaEntries). IsSite (schema_view x) c.self.inside.name c.take_policy-taken.new.self.kept) (sym c.take_policy-taken.ensures.same)
-    (site_after (schema_view schema) c.self.inside.name k (kept (taken string_cmp greater k.policies c.args.id entry) k.entities)
+    (site_after (schema_view schema) c.self.inside.name k (concrete_entries (taken string_cmp greater k.policies c.args.id entry) k.entities)
     c.take_policy-taken.new.self.kept (policy_name (string_bytes c.args.id), plain_entry entry) c.take_policy-taken.result c.take_policy-taken.ensures.kept
     c.take_policy-taken.ensures.ok c.take_policy-taken.ensures.err c.self.invariant
     (c.readings_stay.ensures.policy schema k c.args.id entry c.self.invariant.held

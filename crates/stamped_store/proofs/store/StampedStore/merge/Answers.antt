@@ -2,7 +2,7 @@ use Rattle.std.proofs.Common.{◌≡◌, ◌∙◌, ap, subst, refl, take, ◌+�
 use Rattle.std.specs.String.{string_cmp}
 use Rattle.stamped_store.specs.EntryOrder.{greater}
 use Rattle.stamped_store.specs.JoinMaps.{all_joined}
-use Rattle.stamped_store.specs.Store.{kept, joined_entries, first_entries, abstract_store, abstract_updates, updates}
+use Rattle.stamped_store.specs.Store.{concrete_entries, joined_entries, first_entries, abstract_store, abstract_updates, updates}
 use Rattle.stamped_store.proofs.Stores.{counted_all, counted_anew}
 use Rattle.stamped_store.proofs.JoinedStores.{joined_whole, joined_first, kept_first_policies, kept_first_entities}
 use Rattle.stamped_store.proofs.store.StampedStore.merge.Goals as goal
@@ -15,8 +15,8 @@ invariant_of-self g c =
 
 pub returns-in-Err-clause-short_kept : goal.returns-in-Err-clause-short_kept
 returns-in-Err-clause-short_kept g c =
-    let self = kept c.self.inside.policies c.self.inside.entities in
-    let other = kept c.other.inside.policies c.other.inside.entities in
+    let self = concrete_entries c.self.inside.policies c.self.inside.entities in
+    let other = concrete_entries c.other.inside.policies c.other.inside.entities in
     kept_first_policies self other c.merge.new.self c.in-Err.short.taken c.in-Err.ensures.short_entries c.in-Err.ensures.cut
     ∙ ap (λ s. joined_entries s (first_entries c.in-Err.short.taken other)) c.self.view_is
     ∙ ap (λ o. joined_entries c.args.self.now (first_entries c.in-Err.short.taken o)) c.other.view_is
@@ -33,8 +33,8 @@ invariant_of-self-in-Err-merge g c =
 
 pub returns-in-Err-merge-clause-short_kept : goal.returns-in-Err-merge-clause-short_kept
 returns-in-Err-merge-clause-short_kept g c =
-    let self = kept c.self.inside.policies c.self.inside.entities in
-    let other = kept c.other.inside.policies c.other.inside.entities in
+    let self = concrete_entries c.self.inside.policies c.self.inside.entities in
+    let other = concrete_entries c.other.inside.policies c.other.inside.entities in
     let k = c.short_behind.result.taken in
     kept_first_entities self other c.merge.new.self c.merge-2.new.self c.in-Err-merge.short.taken k c.in_default.ensures.ok_entries c.in-Err-merge.ensures.short_entries (c.short_behind.ensures ∙ ap (λ n. n + c.in-Err-merge.short.taken) c.len-before.ensures.len)
     ∙ ap (λ s. joined_entries s (first_entries k other)) c.self.view_is
@@ -53,9 +53,9 @@ invariant_of-self-2 g c =
 
 pub returns-clause-ok_kept : goal.returns-clause-ok_kept
 returns-clause-ok_kept g c =
-    ap (λ ps. kept ps c.merge-2.new.self) c.in_default.ensures.ok_entries
-    ∙ ap (kept (all_joined string_cmp greater c.self.inside.policies c.other.inside.policies)) c.in_default-merge.ensures.ok_entries
-    ∙ ap (λ s. joined_entries s (kept c.other.inside.policies c.other.inside.entities)) c.self.view_is
+    ap (λ ps. concrete_entries ps c.merge-2.new.self) c.in_default.ensures.ok_entries
+    ∙ ap (concrete_entries (all_joined string_cmp greater c.self.inside.policies c.other.inside.policies)) c.in_default-merge.ensures.ok_entries
+    ∙ ap (λ s. joined_entries s (concrete_entries c.other.inside.policies c.other.inside.entities)) c.self.view_is
     ∙ ap (joined_entries c.args.self.now) c.other.view_is
 
 pub returns-clause-ok : goal.returns-clause-ok

@@ -23,4 +23,4 @@ invariant_of-self-2 c =
     let is = ap of_entries c.in_ok-insert.ensures.entries
     ∙ (insertion entries c.into_string.result c.args.value ∙ ap (λ k. put k c.args.value (of_entries entries)) c.into_string.ensures) in
     subst (λ (fs : List Field). IsWellFormed (record_of (fields_of fs))) (sym is)
-    (put_well_formed c.args.key c.args.value (of_entries entries) c.self.invariant c.stays_well_formed.ensures)
+    (put_well_formed c.args.key c.args.value (of_entries entries) c.self.invariant c.is_well_formed.ensures)

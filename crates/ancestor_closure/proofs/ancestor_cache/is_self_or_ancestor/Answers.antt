@@ -4,7 +4,7 @@ use Rattle.ancestor_search.specs.Hierarchy.{IsAscending}
 use Rattle.ancestor_search.specs.Decided.{is_same}
 use Rattle.ancestor_search.specs.Deciding.{same_uid, same_self}
 use Rattle.ancestor_search.proofs.Cycles.{uid_ties}
-use Rattle.ancestor_closure.proofs.ancestor_cache.leads_to.Goals as goal
+use Rattle.ancestor_closure.proofs.ancestor_cache.is_self_or_ancestor.Goals as goal
 
 pub returns-then-eq : goal.returns-then-eq
 returns-then-eq c = λ before kept.

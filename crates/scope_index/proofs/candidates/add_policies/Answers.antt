@@ -5,7 +5,7 @@ use Rattle.std.proofs.lemmas.Map.Iter.{iter_end}
 use Rattle.scope_index.specs.Keys.{lent, kept_at}
 use Rattle.scope_index.proofs.Offering.{Lent, Pair, behind, offers_lent, one_more, said_as, nothing_yet, pushed_pair, all_lent}
 use Rattle.ancestor_search.specs.Deciding.{Contains-none}
-use Rattle.scope_index.proofs.candidates.offer.Goals as goal
+use Rattle.scope_index.proofs.candidates.add_policies.Goals as goal
 
 pub loop-id-init : goal.loop-id-init
 loop-id-init c =

@@ -1,5 +1,5 @@
 use Rattle.std.proofs.Common.{rules}
-use Rattle.scope_index.proofs.candidates.add_unbound.Goals as goal
+use Rattle.scope_index.proofs.candidates.add_always.Goals as goal
 
 pub returns : goal.returns
 returns c = search rules

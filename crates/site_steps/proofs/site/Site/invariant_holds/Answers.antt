@@ -5,7 +5,7 @@ use Rattle.site_store.specs.stamped_store.Store.{StoreEntries, abstract_store, u
 use Rattle.site_store.specs.schema.Views.{schema_view}
 use Rattle.site_steps.specs.SiteViews.{SiteView, schema_of, store_in, IsValidStore}
 use Rattle.site_steps.proofs.Taking.{may_be_held}
-use Rattle.site_steps.proofs.site.Site.holds_valid_updates.Goals as goal
+use Rattle.site_steps.proofs.site.Site.invariant_holds.Goals as goal
 
 pub returns-clause-held : goal.returns-clause-held
 returns-clause-held c =

@@ -4,7 +4,7 @@ use Rattle.ancestor_search.specs.Hierarchy.{IsIn}
 use Rattle.scope_index.specs.Keys.{Candidate, lent}
 use Rattle.scope_index.specs.Buckets.{policy_of_uid}
 use Rattle.scope_index.proofs.Offering.{in_turn}
-use Rattle.scope_index.proofs.candidates.add_bound.Goals as goal
+use Rattle.scope_index.proofs.candidates.add_by_entities.Goals as goal
 
 pub returns : goal.returns
 returns g c =
