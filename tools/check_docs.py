@@ -139,7 +139,6 @@ def about_numbers():
         ("README.md", f"`bare_decide`: {bare} crates"),
         ("README.md", f"the whole program: {whole} crates"),
         ("docs/proving.md", f"All {len(libraries)} crates and programs"),
-        ("docs/proving.md", f"(`bare_decide`) needs {bare} crates, the whole program {whole}"),
     )
     for name, words in wanted:
         if words not in " ".join(text_of(name).split()):

@@ -24,8 +24,8 @@ use values::EntityUid;
 /// entity, and the cyclic entities.
 ///
 /// The caller has the edges, and passes them to each call that needs them. In contracts a cache is right for a
-/// hierarchy (`IsCacheOf`) if it has exactly the ancestors and the children of each entity in this hierarchy, and its
-/// cyclic entities. An ancestor takes 8 bytes in each list that contains it, or up to 16 while the list has spare
+/// hierarchy (`IsCacheOf`) if it has exactly the ancestors and the children of each entity, and the cyclic entities, of
+/// this hierarchy. An ancestor takes 8 bytes in each list that contains it, or up to 16 while the list has spare
 /// capacity (up to 32 in a list of one ancestor). The uid of an ancestor is stored twice (as a key, and shared among
 /// the lists), however many lists contain the ancestor.
 #[derive(Drop)]
@@ -39,7 +39,7 @@ pub struct AncestorCache {
     touched: usize,
 }
 
-// Returns whether `parent` is `uid`, or a descendant of `uid`.
+// Returns whether `uid` is `parent` or an ancestor of `parent`.
 fn is_self_or_ancestor(
     relatives: &BTreeMap<EntityUid, Relatives>,
     uid: &EntityUid,
@@ -146,7 +146,8 @@ impl AncestorCache {
         is_in(ancestors_at(&self.relatives, b), a)
     }
 
-    /// Returns the ancestors of `uid`, stored or not, in ascending order. The only error is `NoMemory`.
+    /// Returns all ancestors of `uid`, also those that are not stored, in ascending order. The only error is
+    /// `NoMemory`.
     pub fn ancestors(&self, uid: &EntityUid) -> Result<Vec<&EntityUid>, NoMemory>
         ensures all { IfOk result (λ found.
             (parents : Parents) → IsCacheOf parents self.now → AreAllAncestorsOf parents uid.now (names found.items)) }

@@ -24,7 +24,7 @@ pub trait Ancestry {
     fn is_ancestor(&self, a: &EntityUid, b: &EntityUid) -> Result<bool, NoMemory>
         ensures { IfOk result (λ yes. IsTrue yes ↔ IsAncestor (parents self.now) a.now b.now) };
 
-    /// Returns the ancestors of `uid`, stored or not, in ascending order.
+    /// Returns all ancestors of `uid`, also those that are not stored, in ascending order.
     fn ancestors(&self, uid: &EntityUid) -> Result<Vec<&EntityUid>, NoMemory>
         ensures all { IfOk result (λ found. AreAllAncestorsOf (parents self.now) uid.now (names found.items)) }
         ensures ascending { IfOk result (λ found. IsAscending (names found.items)) };

@@ -81,7 +81,7 @@ pub fn is_ancestor<'a, G: ParentsOf>(
     Ok(seen.contains(&a))
 }
 
-/// Returns the ancestors of `uid`, stored or not, in ascending order. The only error is `NoMemory`.
+/// Returns all ancestors of `uid`, also those that are not stored, in ascending order. The only error is `NoMemory`.
 pub fn ancestors_of<'a, G: ParentsOf>(
     alloc: Global,
     graph: &'a G,

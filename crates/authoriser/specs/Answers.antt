@@ -74,14 +74,15 @@ id_if Permit Permit Satisfied id = id ∷ []
 id_if Forbid Forbid Satisfied id = id ∷ []
 id_if wanted effect outcome id = []
 
--- `error_of outcome id` is the list of one item, the error in `outcome` with the id `id` of its policy, or `[]` if
--- `outcome` has no error.
+-- `error_of outcome id` is the list of one item, the id `id` with the error in `outcome`; or `[]` if `outcome` has no
+-- error.
 abbrev error_of : Outcome → List ℕ → List ErringPolicy
 error_of (Errs error) id = record { policy = id; error = error } ∷ []
 error_of Satisfied id = []
 error_of NotSatisfied id = []
 
--- `if_satisfied wanted j` is the id of `j`, as a list, if `j` is satisfied and has the effect `wanted`; else `[]`.
+-- `if_satisfied wanted j` is the list of the id of `j` alone if `j` is satisfied and has the effect `wanted`; else
+-- `[]`.
 abbrev pub if_satisfied : Effect → PolicyOutcome → List (List ℕ)
 if_satisfied wanted j = id_if wanted j.effect j.outcome j.id
 
@@ -89,7 +90,7 @@ if_satisfied wanted j = id_if wanted j.effect j.outcome j.id
 abbrev pub satisfied : Effect → List PolicyOutcome → List (List ℕ)
 satisfied wanted js = flat_map (if_satisfied wanted) js
 
--- `if_erring j` is the id of `j` with its error, as a list, if `j` is erroring; else `[]`.
+-- `if_erring j` is the list of one item, the id of `j` with its error, if `j` is erroring; else `[]`.
 abbrev pub if_erring : PolicyOutcome → List ErringPolicy
 if_erring j = error_of j.outcome j.id
 
@@ -115,8 +116,8 @@ pub record IsCycleDenial (parents : Parents) (a : Answer) : Type 0 where
   pub least : IsLeastCycle parents a.cycle
   pub rest : a ≡ record { decision = Deny; reason = []; errors = []; cycle = a.cycle }
 
--- `IsPolicyAnswer W q ps a` holds if no entity is cyclic, and `a` is the answer that follows from the outcomes
--- of the policies `ps` under the request `q`.
+-- `IsPolicyAnswer W q ps a` holds if no entity of `W` is cyclic, and `a` is the answer that follows from the outcomes
+-- of the policies `ps` under the request `q`, over `W`.
 pub record IsPolicyAnswer (W : Entities) (q : Request) (ps : List NamedPolicy) (a : Answer) : Type 0 where
   pub acyclic : (uid : EntityUid) → IsAncestor W.parents uid uid → ⊥
   pub policy_outcomes : List PolicyOutcome

@@ -17,7 +17,7 @@ use scope_index::Policy;
 use std::alloc::Global;
 use values::{EntityUid, Request};
 
-/// The greatest number of entities, other than those of the request, whose ancestors [`decide`] memoizes. No answer
+/// The greatest number of entities, other than the request's three, whose ancestors [`decide`] memoizes. No answer
 /// depends on this number.
 const OTHERS_MAX: usize = 64;
 
@@ -79,7 +79,8 @@ fn denial_if_cyclic<L: Lookup>(
     }
 }
 
-/// Returns the answer to a request, given the ancestors and the attributes of its entities. Otherwise like [`decide`].
+/// Returns the answer to a request, given the ancestors and the attributes of its principal, action and resource.
+/// Otherwise like [`decide`].
 ///
 /// `prepared` is the request with this data, and has the limit on memoized entities (64 for [`decide`]). The caller may
 /// use `prepared` before this call, for example to find candidates in an index. The only error is `NoMemory`.
@@ -103,10 +104,10 @@ pub fn decide_prepared<L: Lookup>(
 /// `ascending` of `answers_are_lawful`). If some entity is cyclic, no policy is evaluated: the request is denied, and
 /// the answer names the least cycle.
 ///
-/// Visits each policy at most once. The ancestors and the attributes of the request's three entities are looked up at
-/// most once each, and a condition is evaluated only if its policy's scope is true. The ancestors of another entity, as
-/// in `User::"u" in Group::"g"`, may be memoized after a condition has used them: at most one entity for each policy,
-/// and at most 64 in all.
+/// Visits each policy at most once. For each of the principal, the action and the resource, the ancestors and the
+/// attributes are looked up at most once. A condition is evaluated only if its policy's scope is true. The ancestors of
+/// another entity, as in `User::"u" in Group::"g"`, may be memoized after a condition has used them: at most one entity
+/// for each policy, and at most 64 in all.
 ///
 /// The only error is `NoMemory`. Source: Cedar reference guide, "Authorization".
 pub fn decide<L: Lookup>(

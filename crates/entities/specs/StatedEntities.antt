@@ -1,7 +1,7 @@
 -- Defines which JSON describes which entity, and the error of all other JSON.
 -- Source: Cedar reference guide 4.0, "Entities and context: JSON format".
--- Rules of this product: absent `attrs`, `parents` and `tags` are empty, and null does not count as absent; other keys
--- are ignored; no entity is an action, has tags, or is its own parent; the order of the errors.
+-- Rules of this product: absent `attrs`, `parents` and `tags` are empty, and null is not absent; further keys of an
+-- entity are ignored; no entity is an action, has tags, or is its own parent; the order of the errors.
 use Rattle.std.specs.Prelude.{◌≡◌, ◌↔◌, ℕ, List, [], ◌∷◌, Some, None, Contains, IsTrue, codes}
 use Rattle.std.specs.List.{AllZip}
 use Rattle.serde_json.specs.Data.{Data, Items, Members, no_members, array, object}

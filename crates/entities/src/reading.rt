@@ -102,7 +102,7 @@ fn entity_in(alloc: Global, schema: &Schema, value: &Value) -> Result<Entity, En
 }
 
 /// Parses a JSON value as an entity: `{"uid":{"type":"User","id":"alice"},"attrs":{..},"parents":[..]}`. Absent
-/// `attrs`, `parents` and `tags` are empty, and other keys are ignored.
+/// `attrs`, `parents` and `tags` are empty, and further keys of the entity are ignored.
 ///
 /// # Errors
 ///

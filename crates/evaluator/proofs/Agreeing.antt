@@ -24,7 +24,7 @@ use Rattle.evaluator.specs.Operators.{Entities}
 use Rattle.evaluator.specs.Evaluation as rule
 use Rattle.evaluator.specs.Evaluation.{literal_value, variable_value, HasOperands, put_each, EvaluatesTo, TestFails, EachEvaluatesTo, IsSoundEvaluation, IsCompleteEvaluation}
 use Rattle.evaluator.specs.Laws.{HasOneOutcome}
-use Rattle.evaluator.specs.inner.Meanings.{GivesOnly, MeaningsAreGiven}
+use Rattle.evaluator.specs.inner.Meanings.{GivesOnly, MeaningIsOutcome}
 use Rattle.evaluator.specs.inner.Computing.{DecidedEntities, decided_entities, and_then, demanded, truth, as_test, apply_unary, apply_binary, field_of, has_field, apply_unary_call, apply_binary_call, each, each_field, meaning, meaning_step, named_meaning, Answers}
 use Rattle.evaluator.proofs.Applied.{LawsBelow, unary_exists, unary_is, binary_exists, binary_is, field_exists, field_is, has_exists, has_is}
 use Rattle.evaluator.proofs.AppliedCalls.{unary_call_exists, unary_call_is, binary_call_exists, binary_call_is}
@@ -321,8 +321,8 @@ module _ (L : LawsBelow) (W : Entities) (ancestor_test : EntityUid → EntityUid
   only_given : (x : Expr) (r : EvaluationResult) → EvaluatesTo W q x r → r ≡ gives x
   only_given x r g = sym (computes x r g)
 
-pub meanings_are_given : LawsBelow → MeaningsAreGiven
-meanings_are_given L W ancestor_test D q x = record { given = given L W ancestor_test D q x; only = only_given L W ancestor_test D q x }
+pub meaning_is_outcome : LawsBelow → MeaningIsOutcome
+meaning_is_outcome L W ancestor_test D q x = record { given = given L W ancestor_test D q x; only = only_given L W ancestor_test D q x }
 
 -- ---- so an answer is what is given
 

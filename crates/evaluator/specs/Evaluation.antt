@@ -104,8 +104,8 @@ mutual
         → EvaluatesTo W q a (Ok v)
         → EvaluatesTo W q b (Ok w) → BinaryCallGives called v w r → EvaluatesTo W q (form.BinaryCall called a b) r
 
-  -- `TestFails W q x e` holds if `x`, under the request `q` and over the entity data `W`, fails as a test with the
-  -- error `e`. Either the outcome of `x` is `e`, or it is a value that is not a boolean, and `e` is `TypeError`.
+  -- `TestFails W q x e` holds if `x`, where a boolean is required, gives the error `e` under the request `q`, over the
+  -- entity data `W`. Either the outcome of `x` is `e`, or it is a value that is not a boolean, and `e` is `TypeError`.
   pub data TestFails (W : Entities) (q : Request) : Expr → EvalFault → Type 0 where
     test_errs : {a : Expr} {e : EvalFault} → EvaluatesTo W q a (Err e) → TestFails W q a e
     no_boolean : {a : Expr} {v : PlainValue} → EvaluatesTo W q a (Ok v) → boolean_in v ≡ None

@@ -13,7 +13,7 @@ use crate::choosing::{both_of, choice_of, either_of};
 use crate::eval_env::{EvalEnv, RequestEnv};
 use crate::fault::EvalFault;
 use crate::fields::variable_field;
-use crate::laws::meanings_are_given;
+use crate::laws::meaning_is_outcome;
 use crate::leaves::{literal_of, variable_of};
 use crate::lookup::Lookup;
 use crate::steps::{
@@ -26,8 +26,8 @@ use plain::Items;
 use std::alloc::Global;
 use values::{Record, Request, Value};
 
-/// Evaluates an expression under a request, over the stored entities. Like [`evaluate_in`], with the same errors, but
-/// the value is always owned: a borrowed one is copied.
+/// Evaluates an expression under a request, over the stored entities. Like [`evaluate_in`], but the value is always
+/// owned: a borrowed one is copied, which fails with `NoMemory` if an allocation does.
 pub fn evaluate<'a, L: Lookup>(
     alloc: Global,
     expr: &'a Expr,
@@ -39,9 +39,9 @@ pub fn evaluate<'a, L: Lookup>(
     ensures complete { IsCompleteEvaluation (entities_with (L.stored store.now) (L.parents store.now)) request.now
         expr.now result }
 {
-    meanings_are_given();
-    let asking = RequestEnv { request, store };
-    owned(alloc, outcome_of(alloc, expr, &asking))
+    meaning_is_outcome();
+    let env = RequestEnv { request, store };
+    owned(alloc, outcome_of(alloc, expr, &env))
 }
 
 /// Returns the boolean value of an expression under a request, over the stored entities. The errors are those of
@@ -86,7 +86,7 @@ pub fn evaluate_in<'a, L: EvalEnv>(
     ensures complete { IsCompleteEvaluation (entities_with (L.stored env.now) (L.parents env.now))
         (L.request_of env.now) expr.now result }
 {
-    meanings_are_given();
+    meaning_is_outcome();
     outcome_of(alloc, expr, env)
 }
 
@@ -104,7 +104,7 @@ pub fn evaluate_condition<L: EvalEnv>(
     ensures { AnswersTest (entities_with (L.stored env.now) (L.parents env.now)) (L.request_of env.now) expr.now
         result }
 {
-    meanings_are_given();
+    meaning_is_outcome();
     test_of(alloc, expr, env)
 }
 

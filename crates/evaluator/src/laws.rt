@@ -1,13 +1,13 @@
 //! Theorems about the outcomes of expressions. The functions are no-ops.
 ghost use Rattle.evaluator.specs.Laws.{HaveOneOutcome, HaveOneOutcomeInFiniteHierarchies, NoOutcomeIsNoMemory};
-ghost use Rattle.evaluator.specs.inner.Meanings.{MeaningsAreGiven};
+ghost use Rattle.evaluator.specs.inner.Meanings.{MeaningIsOutcome};
 
 use ancestor_search::laws::paths_are_decided;
 use values::{decimal_is_unique, network_is_unique, sets_hold_their_members};
 
 /// Proves that `meaning` computes the only outcome of an expression, if a test decides the ancestor relation. No-op.
-pub(crate) fn meanings_are_given()
-    ensures { MeaningsAreGiven }
+pub(crate) fn meaning_is_outcome()
+    ensures { MeaningIsOutcome }
 {
     decimal_is_unique();
     network_is_unique();
@@ -22,6 +22,6 @@ pub fn expressions_have_one_outcome()
     ensures finite { HaveOneOutcomeInFiniteHierarchies }
     ensures memory { NoOutcomeIsNoMemory }
 {
-    meanings_are_given();
+    meaning_is_outcome();
     paths_are_decided();
 }

@@ -1,4 +1,4 @@
--- Defines one call of `serve` or `serve_logged`: what it reads, what it writes, and the run of the site.
+-- Defines one call of `serve` or `serve_logged`: what it reads, what it replies, and the run of the site.
 -- Source: RFC 9112, section 9.3 (replies in the order of the requests).
 -- Rules of this product: each request is at most one step of the site.
 use Rattle.std.specs.Prelude.{◌≡◌, ℕ, List, [], ◌∷◌, ◌++◌, Option, Result}
@@ -51,13 +51,15 @@ module _ {R W : Type 0} (left : R → Option (List ℕ)) (read_failures : R → 
     (read_fails : R → R → Type 0) (holds : W → Option (List ℕ)) (write_failures : W → ℕ)
     (write_fails : W → W → Type 0) where
   -- `IsServed first last before after old new result` holds if in one call the site went from the state `old` to
-  -- `new`, the reader from `first` to `last`, and the writer from `before` to `after`. The call answered
-  -- requests, the last reply perhaps cut off. `inputs` are the inputs of these requests in order, `replies` the site's
-  -- replies to these inputs, and the run of `inputs` with `replies` leads from `old` to `new`. If `result` is `Ok`, no
-  -- bytes were left to read, or a reply ended the stream; else `result` is the call's error (`EndsAs` of http_streams).
+  -- `new`, the reader from `first` to `last`, and the writer from `before` to `after`. The call handled requests, or
+  -- none; the last HTTP reply may be cut off or unsent. `inputs` are the inputs of these requests in order, `replies`
+  -- the site's replies to these inputs, and the run of `inputs` with `replies` leads from `old` to `new`. If `result`
+  -- is `Ok`, no bytes were left to read, or an HTTP reply ended the stream; else `result` is the call's error (`EndsAs`
+  -- of http_streams).
   -- An example: the call reads `PUT /v1/policies/a` and `GET /nowhere`, and then the stream ends. The one input is the
-  -- put of the first request's body under `a`, and the reply to it has a stamp. The call writes the reply 200 with the
-  -- stamp, then the reply 404. The new store is the join of this put and the updates that the site had.
+  -- put of the first request's body under `a`, and the site's reply to it has a stamp. The call writes the HTTP reply
+  -- 200 with the stamp, then the HTTP reply 404. The new store is the join of this put and the updates that the site
+  -- had.
   pub record IsServed (first last : R) (before after : W) (old new : SiteView) (result : Result (Unit {0}) StreamFault)
       : Type 0 where
     pub inputs : List Input

@@ -1,4 +1,4 @@
-//! Replies to requests by their routes, each by at most one call of the site.
+//! Replies to requests by their routes. A request makes at most one step of the site.
 ghost use Rattle.std.specs.Prelude.{◌≡◌, ◌≢◌, ◌≤◌, ◌+◌, ℕ, List, [], option_map, vec_len};
 ghost use Rattle.std.specs.Vec.{vec_capacity};
 ghost use Rattle.serde_json.specs.View.{view};
@@ -25,7 +25,8 @@ use std::alloc::Global;
 
 // ---- routes
 
-/// Answers a request with this route and this body: appends the body of the reply to `text`, and returns the status.
+/// Answers the request with the route `route` and the body `body`: appends the body of the reply to `text`, and returns
+/// the status.
 fn answer_route(
     alloc: Global,
     scratch: &mut Scratch,
@@ -95,7 +96,7 @@ pub(crate) fn answer(
 
 // ---- with a log: `line` gets method and target before the site is called, and all else once `text` has the reply
 
-/// Returns the status of the reply to a request that asks for no operation, or `None` if it asks for one.
+/// Returns the status (404 or 405) of the reply to a request whose route is not an operation; `None` for an operation.
 fn unserved_status(route: &Route) -> Option<StatusCode>
     ensures { result ≡ unserved_status route.now }
 {
@@ -115,8 +116,8 @@ fn unserved_status(route: &Route) -> Option<StatusCode>
     }
 }
 
-/// Reports that an allocation failed before the site made a step; for a request that asks for no operation, reports its
-/// own status (404 or 405) instead.
+/// Reports that an allocation failed before the site made a step; for a route that is not an operation, reports its own
+/// status (404 or 405) instead.
 fn report_no_memory(route: &Route, text: &mut Vec<u8>) -> StatusCode
     requires room { vec_len text.old + REPLY_ROOM ≤ vec_capacity text.old }
     ensures reply { IsUndoneReply route.now result text.old.items text.new.items }
@@ -142,9 +143,9 @@ fn report_undecided(text: &mut Vec<u8>, line: &mut Vec<u8>) -> StatusCode
     status
 }
 
-/// Decides the request whose body was parsed as `json`, and appends the rest of its log line to `line`. If the rest of
-/// a decision's line cannot be allocated, the reply is the error 1 (out of memory, status 503) instead of the decision,
-/// and `line` gets only this status.
+/// Decides the request in `json` (`None` if the body is not JSON), and appends the rest of its log line to `line`. If
+/// the rest of a decision's line cannot be allocated, the reply is the error 1 (out of memory, status 503) instead of
+/// the decision, and `line` gets only this status.
 fn decide_parsed(
     alloc: Global,
     site: &Site,

@@ -41,7 +41,7 @@ pub(crate) enum CallFault {
     NotReached,
     /// No reply of status 200 was received.
     Network(NetworkFault),
-    /// The reply to a merge has no count of updates.
+    /// The reply to a merge is not a count of updates, `{"taken":n}`.
     NoCount,
 }
 
@@ -110,8 +110,8 @@ fn call_report(alloc: Global, round_call: &RoundCall<'_>, why: &str) -> Result<S
     format!(in alloc; "{address}: call {number} of 6, {asked}: {why}")
 }
 
-/// Writes the address, number and request of a failed call, and the cause; or, if that line cannot be allocated, the
-/// error line of out of memory. Returns the status of the run.
+/// Reports a failed call: writes a line with its address, number and request, and the cause, to standard error; if
+/// memory runs out, writes the error line of out of memory. Returns the status of the run.
 fn report_call<H: Host>(
     alloc: Global,
     host: &mut H,
@@ -200,8 +200,8 @@ fn call_at<H: Host>(
     }
 }
 
-/// Writes `line`, the reply to a merge, to standard output. If `line` has no count, reports that instead. In this
-/// case, and if writing fails, returns the status of the run as the error.
+/// Writes `line`, the reply to a merge, to standard output. If `line` is not `{"taken":n}`, reports that instead.
+/// In this case, and if writing fails, returns the status of the run as the error.
 fn write_taken<H: Host>(
     alloc: Global,
     host: &mut H,

@@ -1,7 +1,7 @@
 -- Defines the schema that bytes describe, and the first error of bytes that describe none.
 -- Source: Cedar reference guide 4.0, "Schema JSON format": `shape`, `memberOfTypes`, `memberOf`, `appliesTo`.
 -- Rules of this product: the limits on types (10,000 nodes, 64 deep); no action is its own ancestor; the order of the
--- errors, with their codes: not JSON (20), then the form of the whole file (21), unknown names (22), cycles of common
+-- errors, with their codes: not JSON (20), then a wrong form anywhere (21), unknown names (22), cycles of common
 -- types (23), cycles of actions (24), types that are too large (25); the label of a schema is SHA-256 (FIPS 180-4) of
 -- its bytes, in lower case hexadecimal digits.
 use Rattle.std.specs.Prelude.{◌≡◌, ◌↔◌, ℕ, List, [], ◌∷◌, map, Contains, IsTrue, IsSome, Bool, Option, Some, None}
@@ -38,7 +38,7 @@ pub record EnvironmentOf : Type 0 where
   pub place : EnvironmentKey
   pub context : Cedar
 
--- A `StatedSchema` has the label, the lists and the look-ups of a schema.
+-- A `StatedSchema` is an abstract schema: its label, lists and look-ups.
 pub record StatedSchema : Type 0 where
   pub label : List ℕ
   pub environments : List EnvironmentOf
@@ -58,7 +58,8 @@ ActionHasAncestor v u above = (us : List EntityUid) × (v.ancestors u ≡ Some u
 
 -- ---- hierarchies
 
--- `with_actions parents actions` is `parents` with the edges by `memberOf`: each of `actions` in turn gets its parents.
+-- `with_actions parents actions` is `parents`, except that each of `actions` in turn gets the parents that its
+-- `memberOf` lists.
 abbrev pub with_actions : Parents → List ResolvedAction → Parents
 with_actions parents [] = parents
 with_actions parents (a ∷ rest) = with_actions (with_parents parents a.uid a.parents) rest
@@ -71,8 +72,8 @@ action_parents s = with_actions no_parents s.actions
 abbrev pub type_uid : List ℕ → EntityUid
 type_uid name = record { type_name = name; id = [] }
 
--- `with_types parents es` is `parents` with the edges by `memberOfTypes`: each entity type of `es` in turn gets its
--- parents.
+-- `with_types parents es` is `parents`, except that each entity type of `es` in turn gets the parents that its
+-- `memberOfTypes` lists.
 abbrev pub with_types : Parents → List ResolvedEntityType → Parents
 with_types parents [] = parents
 with_types parents (e ∷ rest) =
@@ -94,7 +95,7 @@ abbrev pub IsRecordOf : Declarations → Option Qualified → Cedar → Type 0
 IsRecordOf commons None t = t ≡ record_of no_fields
 IsRecordOf commons (Some r) t = IsExpansion commons r t
 
--- `IsSchemaType s r` holds if `r` is a type of the schema `s`: a common type by its name, a shape or a context.
+-- `IsSchemaType s r` holds if `r` is a type of the schema `s`: the name of a common type, a shape or a context.
 pub data IsSchemaType (s : ResolvedSchema) : Qualified → Type 0 where
   common : (q : List ℕ) (r : Qualified) → Declares s.commons q r → IsSchemaType s (qualified.common q)
   shape_or_context : (r : Qualified) → IsShapeOrContext s r → IsSchemaType s r
@@ -185,8 +186,9 @@ pub record HasDeclarations (bytes : List ℕ) (s : ResolvedSchema) : Type 0 wher
 
 -- `IsSchemaOf bytes v` holds if `bytes` describe the schema `v`. The bytes are a schema file (`HasDeclarations`) where
 -- no action is its own ancestor and each type has an expansion within the limits. `v` has the label of `bytes`, and
--- its lists and look-ups have what the file declares. No common type, entity type or action is declared twice, by the
--- theorems `declarations_are_read_as_stated` and, of `schema_names`, `files_are_in_order`.
+-- its lists and look-ups have what the file declares. In the file, no common type has two definitions, and no entity
+-- type or action is declared twice: `declarations_are_read_as_stated` and `files_are_in_order` (of `schema_names`)
+-- prove that.
 pub record IsSchemaOf (bytes : List ℕ) (v : StatedSchema) : Type 0 where
   pub named : ResolvedSchema
   pub states : HasDeclarations bytes named

@@ -63,7 +63,7 @@ fn demand_edges(alloc: Global, found: &ResolvedFile) -> Result<Searched, SchemaF
 }
 
 /// Returns the shapes and the environments of a file. `commons` declares each common type named in a shape or a context
-/// of the file. `table` has the expansion of each common type, unless it is too large. The only errors are
+/// of the file. `table` has the expansion of each common type whose expansion is not too large. The only errors are
 /// `TypeTooLarge` (25), and `NoMemory`.
 fn make_types(alloc: Global, found: &ResolvedFile, table: &Table) -> Result<Types, SchemaFault>
     ghost commons: { Declarations }

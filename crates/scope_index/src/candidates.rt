@@ -20,11 +20,11 @@ use std::collections::BTreeMap;
 use values::{EntityUid, Request};
 
 // If at least this many policies are candidates of every request, they are listed in their bucket's order, by id, and
-// then the other candidates are added. No result depends on this number.
+// then the other candidates are added. The candidates do not depend on this number.
 const MANY: usize = 64;
 
-// The greatest number of candidates, other than the candidates of every request, that are inserted one by one. No
-// result depends on this number.
+// The greatest number of candidates, other than the candidates of every request, that are inserted one by one. The
+// candidates do not depend on this number.
 const FEW: usize = 128;
 
 // Appends the policies of a bucket to the candidates.
@@ -222,8 +222,9 @@ fn place_each<'a>(
     Ok(())
 }
 
-// Returns whether the others are few enough to be inserted one by one: at most `FEW`, and at most a quarter of `all`.
-// Each insertion moves the policies after it, so beyond these limits all candidates are sorted instead.
+// Returns whether `others` policies are few enough to be inserted one by one into a sorted list of `all` policies: at
+// most `FEW`, and at most a quarter of `all`. Each insertion moves the policies after it; beyond these limits,
+// appending the policies and sorting the list is cheaper.
 fn are_few(others: usize, all: usize) -> bool {
     others <= FEW && others <= all / 4
 }

@@ -1,4 +1,4 @@
--- Defines the steps of a site, each from a store `s` to a store `t` with a result, and the results of its queries.
+-- Defines the steps of a site, each from a store `s` to a store `t` with a result, and the results of two queries.
 -- Rules of this product: `ClockFull` is the last error that a local command is checked for; the count of a command's
 -- stamp is one more than the greatest in the whole store; updates from another site are applied in their order; queries
 -- and rejected inputs leave the store unchanged.
@@ -77,7 +77,7 @@ PutsEntity schema n s json (Err fault.ClockFull) t =
 PutsEntity schema n s json (Err _) t = ⊥
 
 -- `Deletes n s name r t` holds if, at the site named `n`, deleting `name` may lead from `s` to `t` with the result `r`.
--- A deletion writes a tombstone under `name` if `name` has a text.
+-- A deletion of a name with a text, if it gets a stamp, writes a tombstone under the name.
 abbrev pub Deletes : List ℕ → Store → Name → Result Stamp SiteFault → Store → Type 0
 Deletes n s name (Ok stamp) t = IsSome (text_under s name) × Records n s name None stamp t
 Deletes n s name (Err fault.NoMemory) t = t ≡ s
@@ -88,8 +88,8 @@ Deletes n s name (Err _) t = ⊥
 -- ---- updates that another site sent
 
 -- `TakesUpdates s us taken t` holds if `taken` reports that all of the updates `us`, or exactly the first `k` of them
--- (`Short k`), were applied, and `t` is the store of the updates of `s` and the applied ones. At each name `t` has the
--- greatest entry among them (`store_of` of stamped_store).
+-- (`Short k`), were applied, and `t` is the store of the updates of `s` and the applied ones: at each name, `t` has the
+-- greatest entry of both (`store_of` of stamped_store).
 abbrev pub TakesUpdates : Store → List Update → taking.Taken → Store → Type 0
 TakesUpdates s us (All k) t = (k ≡ length us) × (t ≡ store_of (updates s ++ us))
 TakesUpdates s us (Short k) t = (k < length us) × (t ≡ store_of (updates s ++ take k us))

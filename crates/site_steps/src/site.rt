@@ -27,8 +27,8 @@ use std::marker::Model;
 
 /// A site: a schema, a name, and a store of stamped texts with their parsed forms.
 ///
-/// Contracts see these three as a `SiteView`. Its abstract store has at most one stamped body for each policy id and
-/// each uid of an entity.
+/// Contracts see these three as a `SiteView`. The abstract store of a view (`store_in`) has at most one stamped body
+/// for each policy id and each uid of an entity.
 #[derive(Drop)]
 pub struct Site {
     pub(crate) alloc: Global,
@@ -58,7 +58,7 @@ impl Site {
     ///
     /// `name` goes into the site's stamps and must satisfy [`is_site_name`]. Does not allocate.
     ///
-    /// [`is_site_name`]: stamped_store::is_site_name
+    /// [`is_site_name`]: site_store::is_site_name
     pub fn new(alloc: Global, schema: Shared<Schema>, name: &str) -> Self
         requires { IsSiteName name.now }
         ensures schema { result.schema ≡ schema }

@@ -127,8 +127,8 @@ abbrev pub first_entries : {P E : Type 0} → ℕ → StoreEntries P E → Store
 first_entries n k = concrete_entries (take n k.policies) (take (n - length k.policies) k.entities)
 
 -- `IsOrderedAndCounted k greatest` is the invariant of the concrete store. It holds if `greatest` is the greatest count
--- of the entries `k`, and the updates of `k` are those of its abstract store in the same order; so the policies and the
--- entities of `k` each ascend.
+-- of the entries `k`, and the updates of `k` are those of its abstract store in the same order; so each of the two
+-- lists of `k` ascends.
 pub record IsOrderedAndCounted {P E : Type 0} (k : StoreEntries P E) (greatest : ℕ) : Type 0 where
   pub counted : greatest ≡ updates_of.greatest_count (abstract_store k)
   pub in_order : updates (abstract_store k) ≡ abstract_updates k

@@ -28,8 +28,8 @@ use values::EntityUid;
 /// The greatest count that a stamp may have in a message or from a local command: 10^18.
 pub const COUNT_MAX: u64 = 1_000_000_000_000_000_000;
 
-/// The store of a site: the entries of policies by id, and those of entities by uid. The texts of policies have parsed
-/// forms of type `P`, and those of entities have parsed forms of type `E`.
+/// The store of a site: the entries of policies by id, and those of entities by uid. The texts in the entries have
+/// parsed forms: of type `P` for policies, and of type `E` for entities.
 ///
 /// Contracts see these entries. The entries represent an abstract store, which has at most one entry at each name. In
 /// the order of names, policies come before entities.
@@ -205,7 +205,8 @@ impl<P: Drop, E: Drop> StampedStore<P, E> {
 
 // The steps of the store's methods.
 
-// Joins an entry at a key, and returns the greater of `greatest` and the entry's count.
+// Joins an entry at a key, and returns the greater of `greatest` and the entry's count. If an allocation fails, returns
+// the key and the entry.
 fn take_counted<K: Ord + Drop, P: Drop>(
     entries: &mut Stamped<K, Entry<P>>,
     key: K,

@@ -17,7 +17,8 @@ use validator::{Entity, Schema};
 
 /// Parses a state or a delta under a schema.
 ///
-/// Returns the updates in the order of the message, with each text parsed under the schema.
+/// Returns the updates in the order of the message, each text with its parsed form. A text that is not valid under the
+/// schema is an error.
 ///
 /// # Errors
 ///

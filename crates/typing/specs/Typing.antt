@@ -1,9 +1,9 @@
 -- Defines the type of an expression, and the capabilities that an expression gains: the fields that it shows to be
--- present if it is true. There is one case for each rule.
+-- present if it is true. Each typing rule is one case.
 -- Source: Cedar reference guide 4.0, "Policy validation"; cedar-spec, cedar-lean/Cedar/Validation/Typechecker.lean
 -- (`typeOf`).
--- Rules of this product: those of Literals.antt and Rows.antt; also, `a && b` gains the capabilities of both sides if
--- only `b` has the type False.
+-- Rules of this product: those at the head of Literals.antt and of Rows.antt; and if `b` has the type False, but `a`
+-- has not, `a && b` still gains the capabilities of both sides.
 use Rattle.std.specs.Prelude.{◌≡◌, ℕ, List, [], ◌∷◌, ◌++◌, map, Contains, Bool, Some, Ok}
 use Rattle.std.specs.Bool.{Decides}
 use Rattle.evaluator.specs.grammar_core.declared.leaf.Literal.{Literal}

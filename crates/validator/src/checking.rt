@@ -86,13 +86,14 @@ fn is_false_everywhere(
 /// Validates a policy under a schema, in strict mode.
 ///
 /// Returns whether the policy is impossible: its type is False in each environment of the schema. An impossible
-/// policy passes validation if its names are all declared. If the schema has no environments, every policy is
-/// impossible.
+/// policy passes validation if the entity types and the actions that it names are declared. If the schema has no
+/// environments, every policy is impossible.
 ///
 /// # Errors
 ///
-/// The names of the whole policy are checked first, in the order of its text. Then its expression is typed in each
-/// environment, in ascending order of action, principal type and resource type. The first error is returned:
+/// The entity types and the actions that the policy names are checked first, in the order of its text. Then its
+/// expression is typed in each environment, in ascending order of action, principal type and resource type. The first
+/// error is returned:
 ///
 /// - `UnknownType` (40), `UnknownAction` (41): a name, even one in an operand that is never evaluated, is not declared.
 /// - `Unexpected` (42), `NoCommonType` (43), `AttributeMayBeMissing` (44), `EmptySet` (45), `BadExtensionLiteral`

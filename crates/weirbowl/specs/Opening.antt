@@ -27,7 +27,7 @@ abbrev pub IsOpenError : List ℕ → List ℕ → OpenError → Type 0
 IsOpenError schema name SiteName = IsSiteName name → ⊥
 IsOpenError schema name (Schema r) = (r ≡ no_memory → ⊥) → IsSiteName name × IsSchemaRefused schema r
 
--- `code_of f` is the code of the error `f`: 2 for a name, 1 for `NoMemory`, 20 to 25 for a schema.
+-- `code_of f` is the code of the error `f`: 2 for a name, else that of the refusal.
 abbrev pub code_of : OpenError → ℕ
 code_of SiteName = 2
 code_of (Schema r) = r.code

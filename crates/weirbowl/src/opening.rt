@@ -23,7 +23,7 @@ pub enum OpenError {
 }
 
 impl OpenError {
-    /// Returns the error's code: 2 for a name, 1 for out of memory, 20 to 25 for a schema.
+    /// Returns the error's code: 2 for a name, else that of the refusal (1 for out of memory, 20 to 25 for a schema).
     pub fn code(self) -> u8
         ensures { result ≡ code_of self }
     {

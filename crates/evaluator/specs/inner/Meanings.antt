@@ -14,9 +14,9 @@ pub record GivesOnly (W : Entities) (q : Request) (x : Expr) (m : EvaluationResu
   pub given : EvaluatesTo W q x m
   pub only : (r : EvaluationResult) → EvaluatesTo W q x r → r ≡ m
 
--- `MeaningsAreGiven`: if a test decides the ancestor relation, the outcome that `meaning` computes with it is the only
+-- `MeaningIsOutcome`: if a test decides the ancestor relation, the outcome that `meaning` computes with it is the only
 -- outcome of the expression.
-abbrev pub MeaningsAreGiven : Type 0
-MeaningsAreGiven = (W : Entities) (ancestor_test : EntityUid → EntityUid → Bool) → Decides W.parents ancestor_test
+abbrev pub MeaningIsOutcome : Type 0
+MeaningIsOutcome = (W : Entities) (ancestor_test : EntityUid → EntityUid → Bool) → Decides W.parents ancestor_test
     → (q : Request) (x : Expr) →
     GivesOnly W q x (meaning q (decided_entities W.stored ancestor_test) x)

@@ -10,7 +10,7 @@ returns-clause-sound g c =
     let ancestor_test = g.L.Ancestry.ancestor_test store in
     let q = c.args.request.now in
     let x = c.args.expr.now in
-    let given = c.meanings_are_given.ensures W ancestor_test (g.met.L.Ancestry.ancestor_test_decides store) q x in
+    let given = c.meaning_is_outcome.ensures W ancestor_test (g.met.L.Ancestry.ancestor_test_decides store) q x in
     let m = meaning q (decided_entities W.stored ancestor_test) x in
     answers_what_is_given W q x m given c.owned.result (c.owned.ensures m c.outcome_of.ensures)
 
@@ -21,6 +21,6 @@ returns-clause-complete g c =
     let ancestor_test = g.L.Ancestry.ancestor_test store in
     let q = c.args.request.now in
     let x = c.args.expr.now in
-    let given = c.meanings_are_given.ensures W ancestor_test (g.met.L.Ancestry.ancestor_test_decides store) q x in
+    let given = c.meaning_is_outcome.ensures W ancestor_test (g.met.L.Ancestry.ancestor_test_decides store) q x in
     let m = meaning q (decided_entities W.stored ancestor_test) x in
     answers_all_that_is_given W q x m given c.owned.result (c.owned.ensures m c.outcome_of.ensures)

@@ -10,5 +10,5 @@ returns g c =
     let ancestor_test = g.L.Ancestry.ancestor_test env in
     let q = g.L.EvalEnv.request_of env in
     let x = c.args.expr.now in
-    let given = c.meanings_are_given.ensures W ancestor_test (g.met.L.Ancestry.ancestor_test_decides env) q x in
+    let given = c.meaning_is_outcome.ensures W ancestor_test (g.met.L.Ancestry.ancestor_test_decides env) q x in
     test_answers W q x (meaning q (decided_entities W.stored ancestor_test) x) given.given c.test_of.result c.test_of.ensures

@@ -10,7 +10,7 @@ returns-clause-sound g c =
     let ancestor_test = g.L.Ancestry.ancestor_test env in
     let q = g.L.EvalEnv.request_of env in
     let x = c.args.expr.now in
-    let given = c.meanings_are_given.ensures W ancestor_test (g.met.L.Ancestry.ancestor_test_decides env) q x in
+    let given = c.meaning_is_outcome.ensures W ancestor_test (g.met.L.Ancestry.ancestor_test_decides env) q x in
     answers_what_is_given W q x (meaning q (decided_entities W.stored ancestor_test) x) given c.outcome_of.result c.outcome_of.ensures
 
 pub returns-clause-complete : goal.returns-clause-complete
@@ -20,5 +20,5 @@ returns-clause-complete g c =
     let ancestor_test = g.L.Ancestry.ancestor_test env in
     let q = g.L.EvalEnv.request_of env in
     let x = c.args.expr.now in
-    let given = c.meanings_are_given.ensures W ancestor_test (g.met.L.Ancestry.ancestor_test_decides env) q x in
+    let given = c.meaning_is_outcome.ensures W ancestor_test (g.met.L.Ancestry.ancestor_test_decides env) q x in
     answers_all_that_is_given W q x (meaning q (decided_entities W.stored ancestor_test) x) given c.outcome_of.result c.outcome_of.ensures
