@@ -5,12 +5,14 @@
 --                the first name that is not declared
 --   Appending    bytes after others
 --   Listing      the words for one type more
+--   NameLists    one name more, of declared ones
 --   Reading      the attribute that a form reads, and whether it is declared
 mod Appending
 mod Declared
 mod Environments
 mod Finding
 mod Listing
+mod NameLists
 mod Naming
 mod OneName
 mod Reaching

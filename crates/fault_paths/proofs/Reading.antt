@@ -1,6 +1,6 @@
 -- The attribute that a form reads, and whether it is declared.
 use Rattle.std.specs.Prelude.{◌≡◌, ◌↔◌, ℕ, List, [], ◌∷◌, map, Bool, true, false, IsTrue, Ok, Err, is_ok, refl}
-use Rattle.std.specs.Prelude.{Option, Some, None, option_map, slice_get, length, codes, if◌then◌else◌}
+use Rattle.std.specs.Prelude.{Option, Some, None, option_map, slice_get, length, if◌then◌else◌}
 use Rattle.std.proofs.Common.{◌<◌, ◌≤◌, ◌++◌, get_or, sym, ◌∙◌, ap}
 use Rattle.std.proofs.lemmas.Option.{slice_get-map, slice_get_read, slice_get_past}
 use Rattle.grammar_core.specs.declared.expr.Expr.{Expr}
@@ -19,7 +19,7 @@ use Rattle.validator.specs.declared.fault.TypeFault.TheVariants as fault
 use Rattle.validator.specs.typing.Environment as typing
 use Rattle.validator.specs.typing.Types as types
 use Rattle.validator.specs.typing.Rows.{Row, field_type_of}
-use Rattle.fault_paths.specs.Words.{type_word, attribute_in, attribute_of, declaration_words, declared_words}
+use Rattle.fault_paths.specs.Words.{attribute_in, attribute_of, field_names, fields_of, declaration_words, declared_words, name_detail}
 use Rattle.fault_paths.specs.Words.{types_words, is_missing, environment_words, what_words, detail_in, typing_detail}
 use Rattle.fault_paths.proofs.Appending.{in_turn, nothing_more}
 
@@ -57,13 +57,13 @@ decided (Err n) true h = absurd (apart (h.0 refl))
 
 pub first_declared : (E : typing.Environment) (k : List ℕ) (ts : List StaticType) (t : StaticType) (b : Bool) → Some t ≡ slice_get ts 0
     → IsTrue b ↔ IsType (field_type_of E true k (static_view t))
-    → declaration_words b (static_view t) ≡ declared_words E k (map static_view ts)
+    → declaration_words b (static_view t) (field_names (fields_of E.attributes (static_view t))) ≡ declared_words E k (map static_view ts)
 first_declared E k [] t b is h = absurd (some_not_none is)
   where
     some_not_none : Some t ≡ None → ⊥
     some_not_none e = cc
 first_declared E k (u ∷ rest) t b is h =
-    ap (λ c. declaration_words c (static_view t)) (decided (field_type_of E true k (static_view t)) b h)
+    ap (λ c. declaration_words c (static_view t) (field_names (fields_of E.attributes (static_view t)))) (decided (field_type_of E true k (static_view t)) b h)
     ∙ ap (λ s. declared_words E k (static_view s ∷ map static_view rest)) (some_same is)
   where
     some_same : Some t ≡ Some u → t ≡ u
@@ -85,6 +85,16 @@ not_missing fault.Unexpected other = refl
 not_missing fault.NoCommonType other = refl
 not_missing fault.EmptySet other = refl
 not_missing fault.BadExtensionLiteral other = refl
+
+pub no_name_detail : (s : StatedSchema) (f : TypeFault) → ¬ (f ≡ fault.UnknownAction) → [] ≡ name_detail s f
+no_name_detail s fault.UnknownAction other = absurd (other refl)
+no_name_detail s fault.NoMemory other = refl
+no_name_detail s fault.UnknownType other = refl
+no_name_detail s fault.Unexpected other = refl
+no_name_detail s fault.NoCommonType other = refl
+no_name_detail s fault.AttributeMayBeMissing other = refl
+no_name_detail s fault.EmptySet other = refl
+no_name_detail s fault.BadExtensionLiteral other = refl
 
 -- ---- environments
 
@@ -134,13 +144,3 @@ module _ (s : StatedSchema) (b : TypeBlame) (old : List ℕ) where
       let words : types_words ts ≡ what_words E b.fault x ts =
       ap (λ (c : Bool). if c then declared_words E (attribute_of x) ts else types_words ts) (sym so ∙ is) in
       detail_there e mid new h first (second ∙ ap (λ l. mid ++ l) words)
-
--- ---- a declaration
-
-pub declaration_is : (b : Bool) (t : types.StaticType) (old mid new before : List ℕ)
-    → before ≡ (if b then codes ": optional in " else codes ": not declared in ") → mid ≡ old ++ before → new ≡ mid ++ type_word t
-    → new ≡ old ++ declaration_words b t
-declaration_is true t old mid new before e first second =
-    in_turn old mid new (codes ": optional in ") (type_word t) (first ∙ ap (λ l. old ++ l) e) second
-declaration_is false t old mid new before e first second =
-    in_turn old mid new (codes ": not declared in ") (type_word t) (first ∙ ap (λ l. old ++ l) e) second

@@ -1,8 +1,8 @@
 -- Defines the report on a policy that does not pass validation, in words.
 -- Source: docs/codes.md.
--- Rules of this product: the error is that of `check`; an undeclared name is named, and a typing error is reported with
--- the first environment that has an error, and the types there.
-use Rattle.std.specs.Prelude.{◌≡◌, ℕ, List, [], string_bytes}
+-- Rules of this product: the error is that of `check`; an undeclared name is named, for an undeclared action with the
+-- declared ones, and a typing error is reported with the first environment that has an error, and the types there.
+use Rattle.std.specs.Prelude.{◌≡◌, ℕ, List, string_bytes}
 use Rattle.type_checker.specs.policy_grammar.declared.policy.Policy.{Policy}
 use Rattle.type_checker.specs.schema.Schemas.{StatedSchema}
 use Rattle.fault_paths.specs.NamesAt.{name_view}
@@ -10,7 +10,7 @@ use Rattle.fault_paths.specs.PolicyReports.{fault_of, IsBlame}
 use Rattle.fault_paths.specs.declared.refusing.PolicyBlame.{PolicyBlame}
 use Rattle.fault_paths.specs.declared.refusing.PolicyBlame.TheVariants.{Name, Typing}
 use Rattle.fault_paths.specs.declared.explaining.PolicyFault.{PolicyFault}
-use Rattle.fault_paths.specs.Words.{name_words, typing_cause, typing_detail}
+use Rattle.fault_paths.specs.Words.{name_words, name_detail, typing_cause, typing_detail}
 
 -- `path_of b` is the path to the expression that `b` blames, or to the form that has the undeclared name.
 abbrev pub path_of : PolicyBlame → List ℕ
@@ -23,9 +23,9 @@ abbrev pub cause_of : PolicyBlame → List ℕ
 cause_of (Name b) = name_words (name_view b.name)
 cause_of (Typing b) = typing_cause b.fault b.place.form.now
 
--- `detail_of s b` are the further details of `b` under the schema `s`; an undeclared name has none.
+-- `detail_of s b` are the further details of `b` under the schema `s`.
 abbrev pub detail_of : StatedSchema → PolicyBlame → List ℕ
-detail_of s (Name b) = []
+detail_of s (Name b) = name_detail s b.fault
 detail_of s (Typing b) = typing_detail s b
 
 -- `IsWordedAs s b f` holds if `f` reports the error, the path, the cause and the details of `b`.

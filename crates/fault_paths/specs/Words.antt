@@ -2,7 +2,8 @@
 -- pass validation.
 -- Source: docs/language.md for names of entities; docs/formats.md for names of types.
 -- Rules of this product: a type is named as schemas name it, a set type by `Set` and a record type by `Record`; an
--- environment is named by the type of its principal, its action and the type of its resource.
+-- environment is named by the type of its principal, its action and the type of its resource; for an undeclared
+-- attribute or action the declared ones are named, in the order of the type or of the schema.
 use Rattle.std.specs.Prelude.{ℕ, Bool, true, false, if◌then◌else◌, List, [], ◌∷◌, ◌++◌, map, codes}
 use Rattle.std.specs.Prelude.{Option, None, Some, is_ok, slice_get}
 use Rattle.grammar_core.specs.declared.expr.Expr.{Expr}
@@ -13,7 +14,7 @@ use Rattle.type_checker.specs.schema.Schemas.{EnvironmentOf, StatedSchema}
 use Rattle.type_checker.specs.FromSchemas.{typing_environment_of}
 use Rattle.type_checker.specs.Views.{static_view}
 use Rattle.validator.specs.typing.Types as types
-use Rattle.validator.specs.typing.Types.{StaticType}
+use Rattle.validator.specs.typing.Types.{StaticType, FieldTypes}
 use Rattle.validator.specs.typing.Environment.{Environment}
 use Rattle.validator.specs.typing.Rows.{field_type_of}
 use Rattle.validator.specs.Names as names
@@ -59,6 +60,44 @@ abbrev pub environment_words : EnvironmentOf → List ℕ
 environment_words e = codes "in " ++ e.place.principal ++ codes ", " ++ uid_words e.place.action ++ codes ", "
     ++ e.place.resource
 
+-- ---- declared names
+
+-- `field_names fs` are the names of the fields `fs`, in order.
+abbrev pub field_names : FieldTypes → List (List ℕ)
+field_names types.no_field_types = []
+field_names (types.field_type k t r fs) = k ∷ field_names fs
+
+-- `fields_of attributes t` are the fields of the record type `t`, or the attributes of the entity type `t`, which
+-- `attributes` gives by its name; another type has none.
+abbrev pub fields_of : (List ℕ → FieldTypes) → StaticType → FieldTypes
+fields_of attributes (types.record_type fs) = fs
+fields_of attributes (types.entity_type n) = attributes n
+fields_of attributes t = types.no_field_types
+
+-- `more_names ns` are the names `ns`, each after a comma and a blank.
+abbrev pub more_names : List (List ℕ) → List ℕ
+more_names [] = []
+more_names (n ∷ ns) = codes ", " ++ n ++ more_names ns
+
+-- `names_or empty before ns` is `before`, then the names `ns`, separated by commas; `empty` if `ns` is empty.
+abbrev pub names_or : List ℕ → List ℕ → List (List ℕ) → List ℕ
+names_or empty before [] = empty
+names_or empty before (n ∷ ns) = before ++ n ++ more_names ns
+
+-- `which_words ns` says which attributes a type has, where `ns` are their names.
+abbrev pub which_words : List (List ℕ) → List ℕ
+which_words ns = names_or (codes ", which has no attributes") (codes ", which has ") ns
+
+-- `action_words us` says that the actions `us` are declared.
+abbrev pub action_words : List EntityUid → List ℕ
+action_words us = names_or (codes "no action is declared") (codes "declared: ") (map uid_words us)
+
+-- `name_detail s f` are the details of the error `f` of an undeclared name under the schema `s`: for an undeclared
+-- action (41) the actions that `s` declares; else empty.
+abbrev pub name_detail : StatedSchema → TypeFault → List ℕ
+name_detail s fault.UnknownAction = action_words s.actions
+name_detail s f = []
+
 -- ---- attributes
 
 -- `is_missing f` tests whether `f` is the error of an attribute that is undeclared or may be missing (44).
@@ -75,17 +114,18 @@ attribute_in y = []
 abbrev pub attribute_of : Expr → List ℕ
 attribute_of x = attribute_in (out-Expr x)
 
--- `declaration_words declared t` says that the attribute is optional in the type `t` if `declared`, else that it is not
--- declared in `t`.
-abbrev pub declaration_words : Bool → StaticType → List ℕ
-declaration_words true t = codes ": optional in " ++ type_word t
-declaration_words false t = codes ": not declared in " ++ type_word t
+-- `declaration_words declared t ns` says that the attribute is optional in the type `t` if `declared`, else that it is
+-- not declared in `t`, and which attributes are, where `ns` are their names.
+abbrev pub declaration_words : Bool → StaticType → List (List ℕ) → List ℕ
+declaration_words true t ns = codes ": optional in " ++ type_word t
+declaration_words false t ns = codes ": not declared in " ++ type_word t ++ which_words ns
 
--- `declared_words env k ts` says whether the first of the types `ts` declares the attribute `k` in `env`; empty if `ts`
--- is.
+-- `declared_words env k ts` says whether the first of the types `ts` declares the attribute `k` in `env`, and if not,
+-- which attributes it declares; empty if `ts` is.
 abbrev pub declared_words : Environment → List ℕ → List StaticType → List ℕ
 declared_words env k [] = []
-declared_words env k (t ∷ ts) = declaration_words (is_ok (field_type_of env true k t)) t
+declared_words env k (t ∷ ts) =
+    declaration_words (is_ok (field_type_of env true k t)) t (field_names (fields_of env.attributes t))
 
 -- ---- errors of typing
 

@@ -6,7 +6,7 @@ ghost use Rattle.validator.specs.Passing.{Passes};
 ghost use Rattle.fault_paths.specs.ReportWording.{IsPolicyFault, IsWordedAs, cause_of, detail_of};
 
 use crate::causes::typing_cause;
-use crate::details::push_detail;
+use crate::details::{push_detail, push_name_detail};
 use crate::refusing::{PolicyBlame, blame};
 use crate::wording::push_name;
 use grammar_core::Expr;
@@ -26,8 +26,10 @@ pub struct PolicyFault {
     /// The undeclared name, or the attribute that is undeclared or may be missing (`AttributeMayBeMissing`, 44); empty
     /// for other errors.
     pub cause: String,
-    /// The first environment that has an error, and then the types that the demand is about or, for
-    /// `AttributeMayBeMissing`, whether the attribute is declared; empty for an undeclared name.
+    /// For a typing error the first environment that has an error, and then the types that the demand is about or, for
+    /// `AttributeMayBeMissing`, whether the attribute is declared, and if not, which attributes its type has. For an
+    /// undeclared action (`UnknownAction`, 41) the actions that the schema declares; empty for an undeclared entity
+    /// type (`UnknownType`, 40).
     pub detail: String,
 }
 
@@ -43,7 +45,10 @@ fn push_words<'a>(
         ≡ string_bytes detail.old ++ detail_of (schema_view schema.entry.now) blame.now)) }
 {
     match blame {
-        PolicyBlame::Name(blame) => push_name(cause, &blame.name),
+        PolicyBlame::Name(blame) => {
+            push_name(cause, &blame.name)?;
+            push_name_detail(detail, schema, blame.fault)
+        }
         PolicyBlame::Typing(blame) => {
             cause.push_str(typing_cause(blame.fault, blame.place.form))?;
             push_detail(detail, schema, blame)
@@ -103,7 +108,8 @@ fn explain_whole<'a>(
 ///
 /// The error is the one that [`check`](validator::check) returns, and the environment is the first that has an error.
 /// Types the policy once in each environment up to this one. In this one, types parts of the policy once more for each
-/// level of the path to the blamed expression.
+/// level of the path to the blamed expression. For an undeclared attribute or action also takes time linear in the
+/// names of the declared ones.
 ///
 /// # Errors
 ///

@@ -1,12 +1,16 @@
-//! The words for types, entities and environments in a report.
+//! The words for types, entities, environments and declared names in a report.
 ghost use Rattle.std.specs.Prelude.{◌≡◌, ◌++◌, OnOk, map, string_bytes};
+ghost use Rattle.schema_types.specs.CedarViews.{cedar_fields_view};
 ghost use Rattle.fault_paths.specs.NamesAt.{name_view};
 ghost use Rattle.type_checker.specs.schema.Views.{environment_view};
-ghost use Rattle.type_checker.specs.Views.{leaf_view, static_view};
+ghost use Rattle.type_checker.specs.FromSchemas.{static_fields};
+ghost use Rattle.type_checker.specs.Views.{leaf_view, static_view, built_fields};
 ghost use Rattle.fault_paths.specs.Words.{type_word, uid_words, name_words, environment_words, types_words};
+ghost use Rattle.fault_paths.specs.Words.{field_names, which_words, action_words};
 
 use crate::names::UnknownName;
-use plain::NoMemory;
+use plain::{NoMemory, Text};
+use schema_types::CedarType;
 use type_checker::{Environment, Leaf, StaticType};
 use values::EntityUid;
 
@@ -82,4 +86,60 @@ pub(crate) fn push_environment(out: &mut String, environment: &Environment) -> R
     push_uid(out, &environment.place.action)?;
     out.push_str(", ")?;
     out.push_str(environment.place.resource.as_str())
+}
+
+/// Appends which attributes a type has, where `fields` are its declared fields.
+pub(crate) fn push_declared_names(
+    out: &mut String,
+    fields: &[(Text, CedarType, bool)],
+) -> Result<(), NoMemory>
+    ensures { OnOk result (string_bytes out.new ≡ string_bytes out.old
+        ++ which_words (field_names (static_fields (cedar_fields_view fields.now)))) }
+{
+    if fields.is_empty() {
+        return out.push_str(", which has no attributes");
+    }
+    let mut separator = ", which has ";
+    for field in fields {
+        out.push_str(separator)?;
+        out.push_str(field.0.as_str())?;
+        separator = ", ";
+    }
+    Ok(())
+}
+
+/// Appends which attributes a type has, where `fields` are its fields, built by an expression.
+pub(crate) fn push_built_names(
+    out: &mut String,
+    fields: &[(&str, StaticType<'_>, bool)],
+) -> Result<(), NoMemory>
+    ensures { OnOk result (string_bytes out.new ≡ string_bytes out.old
+        ++ which_words (field_names (built_fields (map (λ f. (f.0, static_view f.1, f.2)) fields.now)))) }
+{
+    if fields.is_empty() {
+        return out.push_str(", which has no attributes");
+    }
+    let mut separator = ", which has ";
+    for field in fields {
+        out.push_str(separator)?;
+        out.push_str(field.0)?;
+        separator = ", ";
+    }
+    Ok(())
+}
+
+/// Appends that the given actions are declared.
+pub(crate) fn push_actions(out: &mut String, actions: &[EntityUid]) -> Result<(), NoMemory>
+    ensures { OnOk result (string_bytes out.new ≡ string_bytes out.old ++ action_words actions.now) }
+{
+    if actions.is_empty() {
+        return out.push_str("no action is declared");
+    }
+    let mut separator = "declared: ";
+    for action in actions {
+        out.push_str(separator)?;
+        push_uid(out, action)?;
+        separator = ", ";
+    }
+    Ok(())
 }

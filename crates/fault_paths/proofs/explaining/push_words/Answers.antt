@@ -2,18 +2,17 @@ use Rattle.std.proofs.Common.{string_bytes, sym, ap, ◌∙◌, ◌++◌}
 use Rattle.std.proofs.lemmas.Result.{IfOk-weaker}
 use Rattle.type_checker.specs.schema.Views.{schema_view}
 use Rattle.fault_paths.specs.ReportWording.{cause_of, detail_of}
-use Rattle.fault_paths.proofs.Appending.{nothing_more}
 use Rattle.fault_paths.proofs.explaining.push_words.Goals as goal
 
-pub returns-in-Name : goal.returns-in-Name
-returns-in-Name c =
+pub returns-in_ok-push_name-in-Name : goal.returns-in_ok-push_name-in-Name
+returns-in_ok-push_name-in-Name c =
     let s = schema_view c.args.schema.now in
-    IfOk-weaker c.push_name.result _ _
+    IfOk-weaker c.push_name_detail.result _ _
     (λ _ h. (
-      h ∙ ap (λ b. string_bytes c.args.cause.now ++ cause_of b) (sym c.in-Name.is),
-      nothing_more (string_bytes c.args.detail.now) ∙ ap (λ b. string_bytes c.args.detail.now ++ detail_of s b) (sym c.in-Name.is),
+      c.in_ok-push_name-in-Name.ensures ∙ ap (λ b. string_bytes c.args.cause.now ++ cause_of b) (sym c.in-Name.is),
+      h ∙ ap (λ b. string_bytes c.args.detail.now ++ detail_of s b) (sym c.in-Name.is),
     ))
-    c.push_name.ensures
+    c.push_name_detail.ensures
 
 pub returns-in_ok-push_str-in-Typing : goal.returns-in_ok-push_str-in-Typing
 returns-in_ok-push_str-in-Typing c =
