@@ -10,7 +10,7 @@
 - The promises of systems of sites or the contract of the whole program rest on each of the twelve files of docs/reading.md.
 - Each file of docs/, bench/, tools/, examples/, rows/ and of a crate's src/, specs/ and proofs/ that a document names by its path exists. Under a heading
   that names crates, so does each path that begins with specs/, proofs/, src/, must-fail/ or mutants/, in one of these crates.
-- README.md and docs/proving.md have the numbers of crates of the two programs, docs/proving.md that of all crates. tools/last_run.md has the number of
+- README.md has the numbers of crates of the two programs, docs/proving.md that of all crates. tools/last_run.md has the number of
   must-fail edits of each crate.
 - README.md has at most 80 lines, all documents together at most MOST_BYTES. Lines of documents have at most 100 characters, except tables and code.
 - Lines of specs/ and src/ have at most 120 characters, except those of LONG.

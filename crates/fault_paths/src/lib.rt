@@ -1,5 +1,6 @@
 //! The place of a rejected policy's error, that is, the blamed expression or the undeclared name with its path, and the
-//! report on it in words: the cause, the environment, the types, and the declared names in place of an undeclared one.
+//! report on it in words: the cause, the environment and the types; for an undeclared attribute or action, the declared
+//! ones.
 //!
 //! Each core expression is a *form* with operands. A typing error *blames* the form whose demand is not met, or the
 //! operand that does not meet it. A *path* leads from the whole expression to a part of it by the indexes of operands.

@@ -27,8 +27,8 @@ abbrev pub before_requests : SiteView → Served
 before_requests site = record { site = site; inputs = []; replies = [] }
 
 -- `Continues old a status text new` holds if a request that asks for `a` may get the reply `status` with the body
--- `text`, and `new` is the next `Served` after `old`. If `a` gives an input, the site makes one step, and the input
--- and the `Reply` are added. For `rejects` and `unserved` the site is not called, and nothing is added.
+-- `text`, and `new` is the next `Served` after `old`. If `a` gives an input, the site makes one step, whose input
+-- and reply are added. For `rejects` and `unserved` the site is not called, and nothing is added.
 abbrev pub Continues : Served → SiteRequest → StatusCode → List ℕ → Served → Type 0
 Continues old (gives i) status text new =
     (r : Reply) × Step (schema_of old.site) old.site.name (store_in old.site) i r (store_in new.site)
