@@ -24,7 +24,7 @@ pub data IsSignedText : List ℕ → ℤ → Type 0 where
   plain : {text : List ℕ} {n : ℕ} → IsUnsignedText text n → IsSignedText text (pos n)
   minus : {text : List ℕ} {n : ℕ} → IsUnsignedText text n → IsSignedText (codes "-" ++ text) (neg_ℤ (pos n))
 
--- `IsDecimalText text z` holds if `text` is a decimal of `z` ten-thousandths, and `z` fits in signed 64 bits.
+-- `IsDecimalText text z` holds if `IsSignedText text z` holds and `z` fits in signed 64 bits.
 abbrev pub IsDecimalText : List ℕ → ℤ → Type 0
 IsDecimalText text z = IsSignedText text z × FitsSigned w64 z
 

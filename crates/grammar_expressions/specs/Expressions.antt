@@ -1,8 +1,8 @@
 -- Defines the grammar of expressions: which syntax trees a list of tokens derives.
--- The comment above a definition of a `Lang`, or of a function from kinds to an `Option`, states its production.
+-- The comment above a definition of a `Lang`, or of a function from kinds to an `Option`, is its production, without
+-- the limit of nesting.
 -- Source: Cedar reference guide 4.0, "Grammar specification for Cedar policy syntax".
--- Rules of this product: a variable's word followed by `::` or `(` begins a Path, and the nesting of expressions is
--- limited.
+-- Rules of this product: the nesting of expressions is limited.
 use Rattle.std.specs.Prelude.{◌≡◌, ℕ, zero, suc, Bool, true, false, List, [], ◌∷◌, Option, Some, None, is_some}
 use Rattle.grammar_trees.specs.grammar_tokens.declared.token.TokenKind.{TokenKind}
 use Rattle.grammar_trees.specs.grammar_tokens.declared.token.TokenKind.TheVariants as k

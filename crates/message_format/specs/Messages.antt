@@ -2,10 +2,10 @@
 -- Rules of this product: the form is {"entries":[{"body":text or null,"count":n,"name":N,"site":text},
 -- ..],"kind":K,"schema":label,"version":2}, with "state" or "delta" for K, and {"entity":{"id":..,"type":..}} or
 -- {"policy":id} for N. Each key is required, no others are allowed, and the `body` of a tombstone is null. Messages
--- are written compact, keys ascending, entries by name. A JSON text of this form is parsed as a message if counts
--- are unsigned 64-bit integers, sites are site names, types are Paths, and the message passes the checks of
--- Updates.antt. Entries may be in any order; two may have the same name. Version 1, where a site is a number, is read
--- and never written.
+-- are written compact, keys ascending, entries by name. A JSON text of this form with the schema's label is parsed as
+-- a message if counts are unsigned 64-bit integers, sites are site names, types are Paths, and the message passes the
+-- checks of Updates.antt. Entries may be in any order; two may have the same name. Version 1, where a site is a
+-- number, is read and never written.
 use Rattle.std.specs.Prelude.{◌||◌, Bool, ℕ, List, [], ◌∷◌, map, codes, is_some, Option, Some, None}
 use Rattle.std.specs.Prelude.{Result, Ok, if◌then◌else◌}
 use Rattle.std.specs.Str.{bytes_eq}
@@ -131,8 +131,8 @@ updates_in label d = do
   updates_by (entries_in version) label d
 
 -- `updates_stated label bytes` is the list of the updates that `bytes` describe for the schema with the label `label`,
--- in order, or the first error of JSON, version, shape or label. Updates.antt adds the checks of counts, of the ids
--- of policies, and of bodies.
+-- in order, or the first error of JSON, version, shape or label. Updates.antt adds the checks of the ranges of
+-- counts, of the ids of policies, and of bodies.
 unfoldable pub updates_stated : List ℕ → List ℕ → Result (List Update) MessageFault
 updates_stated label bytes = do
   d ← or_fault NotJson (json_of bytes)

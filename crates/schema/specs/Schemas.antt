@@ -95,7 +95,7 @@ abbrev pub IsRecordOf : Declarations → Option Qualified → Cedar → Type 0
 IsRecordOf commons None t = t ≡ record_of no_fields
 IsRecordOf commons (Some r) t = IsExpansion commons r t
 
--- `IsSchemaType s r` holds if `r` is a type of the schema `s`: the name of a common type, a shape or a context.
+-- `IsSchemaType s r` holds if `r` is a type of the schema `s`: a shape, a context or the name of a common type.
 pub data IsSchemaType (s : ResolvedSchema) : Qualified → Type 0 where
   common : (q : List ℕ) (r : Qualified) → Declares s.commons q r → IsSchemaType s (qualified.common q)
   shape_or_context : (r : Qualified) → IsShapeOrContext s r → IsSchemaType s r
