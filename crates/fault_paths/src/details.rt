@@ -6,14 +6,14 @@ ghost use Rattle.type_checker.specs.Views.{static_view};
 ghost use Rattle.fault_paths.specs.Words.{field_names, fields_of, which_words, declaration_words};
 ghost use Rattle.fault_paths.specs.Words.{declared_words, name_detail, typing_detail};
 
-use crate::attributes::{attributes_of, is_declared, no_fields};
+use crate::attributes::is_declared;
 use crate::blaming::TypeBlame;
 use crate::causes::{attribute_of, is_missing};
 use crate::wording::{
     push_actions, push_built_names, push_declared_names, push_environment, push_types, type_word,
 };
 use plain::NoMemory;
-use type_checker::{Environment, Leaf, Schema, StaticType};
+use type_checker::{Environment, Leaf, Schema, StaticType, attributes_of};
 use validator::TypeFault;
 
 /// Appends which attributes the type `owner` has. Only record types and entity types have any.
@@ -33,7 +33,7 @@ fn push_attributes(
         StaticType::Record(fields) => push_built_names(out, fields.as_slice()),
         StaticType::Leaf(Leaf::Boolean(_) | Leaf::Long | Leaf::Text | Leaf::Decimal | Leaf::Ipaddr)
         | StaticType::DeclaredSet(_)
-        | StaticType::Set(_) => push_declared_names(out, no_fields()),
+        | StaticType::Set(_) => push_declared_names(out, &[]),
     }
 }
 

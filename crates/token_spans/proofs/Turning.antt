@@ -1,5 +1,6 @@
--- A `Turn` or a `NodePlace` that a function does not look for.
-use Rattle.std.proofs.Common.{◌≡◌, refl, ℕ, List, Option, None, Bor}
+-- A `Turn` or a `NodePlace` that a function does not look for, and the conditions of a policy by their number.
+use Rattle.std.proofs.Common.{◌≡◌, ◌<◌, ◌≤◌, ◌-◌, refl, ap, ◌∙◌, ℕ, List, [], ◌∷◌, length, take, drop, get_or, Option, None, Bor, arith}
+use Rattle.std.proofs.lemmas.List.{take_all}
 use Rattle.grammar_trees.specs.grammar_tokens.declared.token.Token.{Token}
 use Rattle.grammar_trees.specs.declared.tree.ExprTree.{ExprTree}
 use Rattle.grammar_policies.specs.declared.tree.PartTree.{PartTree}
@@ -9,7 +10,7 @@ use Rattle.token_spans.specs.declared.turns.Turn.{Turn}
 use Rattle.token_spans.specs.declared.turns.Turn.TheVariants as t
 use Rattle.token_spans.specs.declared.places.NodePlace.{NodePlace}
 use Rattle.token_spans.specs.declared.places.NodePlace.TheVariants as p
-use Rattle.token_spans.specs.Places.{abstract_turn, unless_at, nowhere, place_of}
+use Rattle.token_spans.specs.Places.{abstract_turn, turn, unless_at, if_stop, joint_at, at_condition, at_conditions, condition_count, nowhere, place_of}
 use Rattle.token_spans.specs.Names.{at_end, at_second, named}
 
 pub end-other : (x : Turn) (o : Option (List Token)) → (x ≡ t.Stop → ⊥) → None ≡ at_end (abstract_turn x) o
@@ -32,3 +33,31 @@ named-other (p.Entity part from rest) e a x = absurd (e part from rest refl)
 named-other (p.Action part from rest) e a x = absurd (a part from rest refl)
 named-other (p.Expression tree from rest) e a x = absurd (x tree from rest refl)
 named-other y e a x = refl
+
+pub stop-other : (x : Turn) (policy : List Token) → (x ≡ t.Stop → ⊥) → nowhere ≡ if_stop (abstract_turn x) policy
+stop-other t.Stop policy other = absurd (other refl)
+stop-other x policy other = refl
+
+pub conditions_none : (policy : List Token) (cs : List Condition) (ts : List Token) (path : List ℕ) → length cs < 1
+    → if_stop (turn path) policy ≡ at_conditions policy cs ts path
+conditions_none policy [] ts path below = refl
+conditions_none policy (c ∷ cs) ts path below = absurd (omega arith)
+
+pub conditions_one : (policy : List Token) (cs : List Condition) (ts : List Token) (path : List ℕ) (only : Condition) → only ≡ get_or cs 0 only
+    → 1 ≤ length cs → length cs < 2 → at_condition only ts path ≡ at_conditions policy cs ts path
+conditions_one policy [] ts path only is above below = absurd (omega arith)
+conditions_one policy (c ∷ []) ts path only is above below = ap (λ x. at_condition x ts path) is
+conditions_one policy (c ∷ (d ∷ cs)) ts path only is above below = absurd (omega arith)
+
+rest_of : {A : Type 0} (x : A) (xs : List A) → take (length (x ∷ xs) - 1) xs ≡ xs
+rest_of x xs = take_all (length (x ∷ xs) - 1) xs (omega arith)
+
+pub conditions_more : (policy : List Token) (cs : List Condition) (ts : List Token) (path : List ℕ) (first : Condition) → first ≡ get_or cs 0 first
+    → 2 ≤ length cs
+    → joint_at (turn path) policy (at_condition first ts) (at_conditions policy (take (length cs - 1) (drop 1 cs)) (drop (condition_count first) ts))
+    ≡ at_conditions policy cs ts path
+conditions_more policy [] ts path first is above = absurd (omega arith)
+conditions_more policy (c ∷ []) ts path first is above = absurd (omega arith)
+conditions_more policy (c ∷ (d ∷ cs)) ts path first is above =
+    ap (λ x. joint_at (turn path) policy (at_condition x ts) (at_conditions policy (take (length (c ∷ (d ∷ cs)) - 1) (d ∷ cs)) (drop (condition_count x) ts))) is
+    ∙ ap (λ xs. joint_at (turn path) policy (at_condition c ts) (at_conditions policy xs (drop (condition_count c) ts))) (rest_of c (d ∷ cs))

@@ -22,20 +22,25 @@ pub struct Span {
     pub end: usize,
 }
 
-/// Returns the span from the first of these tokens to the last; `None` if there are no tokens.
-fn covering(tokens: &[Token]) -> Option<Span>
-    ensures { result ≡ spec.covering tokens.now }
+/// Returns the span from the first of the tokens `written` to the last; `None` if there are none.
+fn covering(written: Option<&[Token]>) -> Option<Span>
+    ensures { result ≡ option_and_then spec.covering (option_map (λ ts. ts.now) written.entry) }
 {
-    let last: usize = tokens.len().saturating_sub(1);
-    match tokens.get(0) {
-        Some(from) => match tokens.get(last) {
-            Some(to) => Some(Span {
-                start: from.start,
-                end: to.end,
-            }),
-            None => None,
-        },
+    match written {
         None => None,
+        Some(tokens) => {
+            let last: usize = tokens.len().saturating_sub(1);
+            match tokens.get(0) {
+                Some(from) => match tokens.get(last) {
+                    Some(to) => Some(Span {
+                        start: from.start,
+                        end: to.end,
+                    }),
+                    None => None,
+                },
+                None => None,
+            }
+        }
     }
 }
 
@@ -43,17 +48,7 @@ fn covering(tokens: &[Token]) -> Option<Span>
 fn starting_at(tokens: &[Token], at: usize) -> Option<Span>
     ensures { result ≡ spec.starting_at at tokens.now }
 {
-    covering(front(from_byte(tokens, at), 1))
-}
-
-/// Returns the span of tokens, if there are some.
-fn covered(written: Option<&[Token]>) -> Option<Span>
-    ensures { result ≡ option_and_then spec.covering (option_map (λ ts. ts.now) written.entry) }
-{
-    match written {
-        None => None,
-        Some(tokens) => covering(tokens),
-    }
+    covering(Some(front(from_byte(tokens, at), 1)))
 }
 
 /// Returns the span of the token of a text that starts at a byte, such as the place of a parse error; `None` if no
@@ -108,7 +103,7 @@ fn span_in(
 {
     match policy_tree(alloc, text) {
         Ok(tree) => {
-            let span = covered(chosen(tokens, &tree, path, is_name));
+            let span = covering(chosen(tokens, &tree, path, is_name));
             drop(tree);
             Ok(span)
         }

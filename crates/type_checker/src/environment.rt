@@ -61,8 +61,11 @@ fn fields_in<'a>(ty: &'a CedarType) -> &'a [(Text, CedarType, bool)]
     }
 }
 
-/// Returns the attributes that the schema declares for entities of a type; action types and undeclared types have none.
-fn attributes_of<'a>(schema: &'a Schema, name: &TypeName) -> &'a [(Text, CedarType, bool)]
+/// Returns the attributes that the schema declares for entities of a type, each with its type and whether it is
+/// required, in ascending order of their names; action types and undeclared types have none.
+///
+/// O(log n), where n is the number of entity types. Does not allocate.
+pub fn attributes_of<'a>(schema: &'a Schema, name: &TypeName) -> &'a [(Text, CedarType, bool)]
     ensures { static_fields (cedar_fields_view result.now) ≡ attributes_of (schema_view schema.now) name.now }
 {
     if is_action_type(name) {

@@ -37,7 +37,7 @@ pub use entities::{
     entities_are_read_as_stated, entities_read_back, json_texts_are_utf8, read_entity, read_schema,
     stated_schemas_are_well_formed,
 };
-pub use environment::{TypingEnvironment, is_action_type};
+pub use environment::{TypingEnvironment, attributes_of, is_action_type};
 pub use fault::ExpressionFault;
 pub use fields::{field_type, has_type};
 pub use laws::environments_are_ordered;

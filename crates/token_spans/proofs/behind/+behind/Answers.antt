@@ -1,6 +1,7 @@
 use Rattle.std.proofs.Common.{◌≡◌, ℕ, ◌+◌, map, length, refl, sym, ap, ◌∙◌, drop, arith, rules}
-use Rattle.grammar_trees.specs.declared.tree.ExprTree.{the_lemmas}
+use denote.Param.Weighed.{at_most}
 use Rattle.grammar_trees.specs.declared.tree.ExprTree.TheVariants as t
+use Rattle.grammar_trees.specs.declared.tree.ExprTree.TheViews as v
 use Rattle.token_spans.specs.TokenCounts.{tree_count, term_count, entry_count, access_tree_count, each_count, total, lone_count, path_count, uid_count}
 use Rattle.token_spans.proofs.Dropping.{twice, one_more, counted, turned, length-mapped}
 use Rattle.token_spans.proofs.Counts.{count-Uid, count-Call, count-Parentheses, count-Set, count-Record, count-Member, count-Not, count-Minus, count-Product, count-Sum, count-Compare, count-Has, count-Like, count-Is, count-IsIn, count-And, count-Or, count-If}
@@ -136,103 +137,103 @@ tokens_after_entries-loop-entry-preserved t' c =
     (twice c.loop-entry.rest.now c.tokens_after_tree.result.now c.skip-rest.result.now (entry_count c.entry-item.result) 1 (twice c.loop-entry.rest.now c.skip.result.now c.tokens_after_tree.result.now 2 (tree_count c.entry-item.result.value) c.skip.ensures c.tokens_after_tree.ensures) c.skip-rest.ensures) ∙ c.loop-entry.invariant
 
 pub tokens_after_tree-tokens_after_row-requires : goal.tokens_after_tree-tokens_after_row-requires
-tokens_after_tree-tokens_after_row-requires t' c = (search (rules, the_lemmas), tt)
+tokens_after_tree-tokens_after_row-requires t' c = (search (rules, v.sized-Call), tt)
 
 pub tokens_after_tree-tokens_after_row-requires-in-Set : goal.tokens_after_tree-tokens_after_row-requires-in-Set
-tokens_after_tree-tokens_after_row-requires-in-Set t' c = (search (rules, the_lemmas), tt)
+tokens_after_tree-tokens_after_row-requires-in-Set t' c = (search (rules, v.sized-Set), tt)
 
 pub tokens_after_tree-tokens_after_piece-requires : goal.tokens_after_tree-tokens_after_piece-requires
-tokens_after_tree-tokens_after_piece-requires t' c = (search (rules, the_lemmas), tt)
+tokens_after_tree-tokens_after_piece-requires t' c = (search (rules, v.sized-Parentheses), tt)
 
 pub tokens_after_tree-tokens_after_entries-requires : goal.tokens_after_tree-tokens_after_entries-requires
-tokens_after_tree-tokens_after_entries-requires t' c = (search (rules, the_lemmas), tt)
+tokens_after_tree-tokens_after_entries-requires t' c = (search (rules, v.sized-Record), tt)
 
 pub tokens_after_tree-tokens_after_operand-requires : goal.tokens_after_tree-tokens_after_operand-requires
-tokens_after_tree-tokens_after_operand-requires t' c = (search (rules, the_lemmas), tt)
+tokens_after_tree-tokens_after_operand-requires t' c = (search (rules, v.sized-Member), tt)
 
 pub tokens_after_tree-tokens_after_accesses-requires : goal.tokens_after_tree-tokens_after_accesses-requires
-tokens_after_tree-tokens_after_accesses-requires t' c = (search (rules, the_lemmas), tt)
+tokens_after_tree-tokens_after_accesses-requires t' c = (search (rules, v.sized-Member), tt)
 
 pub tokens_after_tree-tokens_after_operand-requires-in-Not : goal.tokens_after_tree-tokens_after_operand-requires-in-Not
-tokens_after_tree-tokens_after_operand-requires-in-Not t' c = (search (rules, the_lemmas), tt)
+tokens_after_tree-tokens_after_operand-requires-in-Not t' c = (search (rules, v.sized-Not), tt)
 
 pub tokens_after_tree-tokens_after_operand-requires-in-Minus : goal.tokens_after_tree-tokens_after_operand-requires-in-Minus
-tokens_after_tree-tokens_after_operand-requires-in-Minus t' c = (search (rules, the_lemmas), tt)
+tokens_after_tree-tokens_after_operand-requires-in-Minus t' c = (search (rules, v.sized-Minus), tt)
 
 pub tokens_after_tree-tokens_after_each-requires : goal.tokens_after_tree-tokens_after_each-requires
-tokens_after_tree-tokens_after_each-requires t' c = (search (rules, the_lemmas), tt)
+tokens_after_tree-tokens_after_each-requires t' c = (search (rules, v.sized-Product), tt)
 
 pub tokens_after_tree-tokens_after_operand-requires-in-Product : goal.tokens_after_tree-tokens_after_operand-requires-in-Product
-tokens_after_tree-tokens_after_operand-requires-in-Product t' c = (search (rules, the_lemmas), tt)
+tokens_after_tree-tokens_after_operand-requires-in-Product t' c = (search (rules, v.sized-Product), tt)
 
 pub tokens_after_tree-tokens_after_terms-requires : goal.tokens_after_tree-tokens_after_terms-requires
-tokens_after_tree-tokens_after_terms-requires t' c = (search (rules, the_lemmas), tt)
+tokens_after_tree-tokens_after_terms-requires t' c = (search (rules, v.sized-Sum), tt)
 
 pub tokens_after_tree-tokens_after_operand-requires-in-Sum : goal.tokens_after_tree-tokens_after_operand-requires-in-Sum
-tokens_after_tree-tokens_after_operand-requires-in-Sum t' c = (search (rules, the_lemmas), tt)
+tokens_after_tree-tokens_after_operand-requires-in-Sum t' c = (search (rules, v.sized-Sum), tt)
 
 pub tokens_after_tree-tokens_after_piece-requires-in-Compare : goal.tokens_after_tree-tokens_after_piece-requires-in-Compare
-tokens_after_tree-tokens_after_piece-requires-in-Compare t' c = (search (rules, the_lemmas), tt)
+tokens_after_tree-tokens_after_piece-requires-in-Compare t' c = (search (rules, v.sized-Compare), tt)
 
 pub tokens_after_tree-tokens_after_operand-requires-in-Compare : goal.tokens_after_tree-tokens_after_operand-requires-in-Compare
-tokens_after_tree-tokens_after_operand-requires-in-Compare t' c = (search (rules, the_lemmas), tt)
+tokens_after_tree-tokens_after_operand-requires-in-Compare t' c = (search (rules, v.sized-Compare), tt)
 
 pub tokens_after_tree-tokens_after_operand-requires-in-Has : goal.tokens_after_tree-tokens_after_operand-requires-in-Has
-tokens_after_tree-tokens_after_operand-requires-in-Has t' c = (search (rules, the_lemmas), tt)
+tokens_after_tree-tokens_after_operand-requires-in-Has t' c = (search (rules, v.sized-Has), tt)
 
 pub tokens_after_tree-tokens_after_operand-requires-in-Like : goal.tokens_after_tree-tokens_after_operand-requires-in-Like
-tokens_after_tree-tokens_after_operand-requires-in-Like t' c = (search (rules, the_lemmas), tt)
+tokens_after_tree-tokens_after_operand-requires-in-Like t' c = (search (rules, v.sized-Like), tt)
 
 pub tokens_after_tree-tokens_after_piece-requires-in-Is : goal.tokens_after_tree-tokens_after_piece-requires-in-Is
-tokens_after_tree-tokens_after_piece-requires-in-Is t' c = (search (rules, the_lemmas), tt)
+tokens_after_tree-tokens_after_piece-requires-in-Is t' c = (search (rules, v.sized-Is), tt)
 
 pub tokens_after_tree-tokens_after_piece-requires-in-IsIn : goal.tokens_after_tree-tokens_after_piece-requires-in-IsIn
-tokens_after_tree-tokens_after_piece-requires-in-IsIn t' c = (search (rules, the_lemmas), tt)
+tokens_after_tree-tokens_after_piece-requires-in-IsIn t' c = (search (rules, v.sized-IsIn), tt)
 
 pub tokens_after_tree-tokens_after_operand-requires-in-IsIn : goal.tokens_after_tree-tokens_after_operand-requires-in-IsIn
-tokens_after_tree-tokens_after_operand-requires-in-IsIn t' c = (search (rules, the_lemmas), tt)
+tokens_after_tree-tokens_after_operand-requires-in-IsIn t' c = (search (rules, v.sized-IsIn), tt)
 
 pub tokens_after_tree-tokens_after_each-requires-in-And : goal.tokens_after_tree-tokens_after_each-requires-in-And
-tokens_after_tree-tokens_after_each-requires-in-And t' c = (search (rules, the_lemmas), tt)
+tokens_after_tree-tokens_after_each-requires-in-And t' c = (search (rules, v.sized-And), tt)
 
 pub tokens_after_tree-tokens_after_operand-requires-in-And : goal.tokens_after_tree-tokens_after_operand-requires-in-And
-tokens_after_tree-tokens_after_operand-requires-in-And t' c = (search (rules, the_lemmas), tt)
+tokens_after_tree-tokens_after_operand-requires-in-And t' c = (search (rules, v.sized-And), tt)
 
 pub tokens_after_tree-tokens_after_each-requires-in-Or : goal.tokens_after_tree-tokens_after_each-requires-in-Or
-tokens_after_tree-tokens_after_each-requires-in-Or t' c = (search (rules, the_lemmas), tt)
+tokens_after_tree-tokens_after_each-requires-in-Or t' c = (search (rules, v.sized-Or), tt)
 
 pub tokens_after_tree-tokens_after_operand-requires-in-Or : goal.tokens_after_tree-tokens_after_operand-requires-in-Or
-tokens_after_tree-tokens_after_operand-requires-in-Or t' c = (search (rules, the_lemmas), tt)
+tokens_after_tree-tokens_after_operand-requires-in-Or t' c = (search (rules, v.sized-Or), tt)
 
 pub tokens_after_tree-tokens_after_piece-tested-requires : goal.tokens_after_tree-tokens_after_piece-tested-requires
-tokens_after_tree-tokens_after_piece-tested-requires t' c = (search (rules, the_lemmas), tt)
+tokens_after_tree-tokens_after_piece-tested-requires t' c = (search (rules, v.sized-If), tt)
 
 pub tokens_after_tree-tokens_after_piece-chosen-requires : goal.tokens_after_tree-tokens_after_piece-chosen-requires
-tokens_after_tree-tokens_after_piece-chosen-requires t' c = (search (rules, the_lemmas), tt)
+tokens_after_tree-tokens_after_piece-chosen-requires t' c = (search (rules, v.sized-If), tt)
 
 pub tokens_after_tree-tokens_after_operand-requires-in-If : goal.tokens_after_tree-tokens_after_operand-requires-in-If
-tokens_after_tree-tokens_after_operand-requires-in-If t' c = (search (rules, the_lemmas), tt)
+tokens_after_tree-tokens_after_operand-requires-in-If t' c = (search (rules, v.sized-If), tt)
 
 pub tokens_after_operand-tokens_after_tree-requires : goal.tokens_after_operand-tokens_after_tree-requires
-tokens_after_operand-tokens_after_tree-requires t' c = (search (rules, the_lemmas), tt)
+tokens_after_operand-tokens_after_tree-requires t' c = (search rules, tt)
 
 pub tokens_after_piece-tokens_after_operand-requires : goal.tokens_after_piece-tokens_after_operand-requires
-tokens_after_piece-tokens_after_operand-requires t' c = (search (rules, the_lemmas), tt)
+tokens_after_piece-tokens_after_operand-requires t' c = (search rules, tt)
 
 pub tokens_after_row-tokens_after_each-requires : goal.tokens_after_row-tokens_after_each-requires
-tokens_after_row-tokens_after_each-requires t' c = (search (rules, the_lemmas), tt)
+tokens_after_row-tokens_after_each-requires t' c = (search rules, tt)
 
 pub tokens_after_each-tokens_after_tree-requires : goal.tokens_after_each-tokens_after_tree-requires
-tokens_after_each-tokens_after_tree-requires t' c = (search (rules, the_lemmas), tt)
+tokens_after_each-tokens_after_tree-requires t' c = (search (rules, at_most), tt)
 
 pub tokens_after_terms-tokens_after_tree-requires : goal.tokens_after_terms-tokens_after_tree-requires
-tokens_after_terms-tokens_after_tree-requires t' c = (search (rules, the_lemmas), tt)
+tokens_after_terms-tokens_after_tree-requires t' c = (search (rules, at_most), tt)
 
 pub tokens_after_entries-tokens_after_tree-requires : goal.tokens_after_entries-tokens_after_tree-requires
-tokens_after_entries-tokens_after_tree-requires t' c = (search (rules, the_lemmas), tt)
+tokens_after_entries-tokens_after_tree-requires t' c = (search (rules, at_most), tt)
 
 pub tokens_after_accesses-tokens_after_access-rest-requires : goal.tokens_after_accesses-tokens_after_access-rest-requires
-tokens_after_accesses-tokens_after_access-rest-requires t' c = (search (rules, the_lemmas), tt)
+tokens_after_accesses-tokens_after_access-rest-requires t' c = (search (rules, at_most), tt)
 
 pub tokens_after_access-tokens_after_row-requires : goal.tokens_after_access-tokens_after_row-requires
-tokens_after_access-tokens_after_row-requires t' c = (search (rules, the_lemmas), tt)
+tokens_after_access-tokens_after_row-requires t' c = (search rules, tt)

@@ -19,6 +19,6 @@ returns-then-index-eq1 c =
     let ts = c.args.form.now.tokens.now in
     let n = kept c.args.form.now.part (length more) in
     let before = c.saturating_sub-before.result in
-    let is : before ≡ n - 1 = cc in
+    let is : before ≡ n - 1 = c.saturating_sub-before.ensures ∙ ap (λ k. k - 1) (c.kept.ensures ∙ ap (kept c.args.form.now.part) c.len.ensures) in
     chain-second (form_of c.args.form.now) a (piece_at a more ts) n c.args.index before (option_map form_of c.row_operand.result) c.if-index-eq1.true is
     (c.row_operand.ensures ∙ ap (λ (us : List Token). row_at more us before) c.tokens_after_piece.ensures ∙ row_is_piece a more ts before)

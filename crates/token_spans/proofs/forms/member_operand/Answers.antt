@@ -18,7 +18,7 @@ returns-in-None c =
     let ts = c.args.form.now.tokens.now in
     let n = kept c.args.form.now.part (length accesses) in
     let before = c.saturating_sub-before.result in
-    let is : before ≡ n - 1 = cc in
+    let is : before ≡ n - 1 = c.saturating_sub-before.ensures ∙ ap (λ k. k - 1) (c.kept.ensures ∙ ap (kept c.args.form.now.part) c.len.ensures) in
     member-argument (form_of c.args.form.now) a accesses n c.args.index before None c.if-index-eq0.false is
     (ap (option_and_then (piece a accesses ts before (c.args.index - 1))) (c.in-None.ensures ∙ ap (λ xs. slice_get xs before) c.as_slice-accesses.ensures))
 
@@ -29,7 +29,7 @@ returns-in-Field c =
     let ts = c.args.form.now.tokens.now in
     let n = kept c.args.form.now.part (length accesses) in
     let before = c.saturating_sub-before.result in
-    let is : before ≡ n - 1 = cc in
+    let is : before ≡ n - 1 = c.saturating_sub-before.ensures ∙ ap (λ k. k - 1) (c.kept.ensures ∙ ap (kept c.args.form.now.part) c.len.ensures) in
     member-argument (form_of c.args.form.now) a accesses n c.args.index before None c.if-index-eq0.false is
     (ap (piece a accesses ts before (c.args.index - 1)) (sym c.in-Field.is)
     ∙ ap (option_and_then (piece a accesses ts before (c.args.index - 1))) (c.in-Some.ensures ∙ ap (λ xs. slice_get xs before) c.as_slice-accesses.ensures))
@@ -41,7 +41,7 @@ returns-in-Method c =
     let ts = c.args.form.now.tokens.now in
     let n = kept c.args.form.now.part (length accesses) in
     let before = c.saturating_sub-before.result in
-    let is : before ≡ n - 1 = cc in
+    let is : before ≡ n - 1 = c.saturating_sub-before.ensures ∙ ap (λ k. k - 1) (c.kept.ensures ∙ ap (kept c.args.form.now.part) c.len.ensures) in
     let past =
     c.tokens_after_accesses-behind.ensures
     ∙ ap (λ xs. drop (total (map access_tree_count xs)) c.tokens_after_operand-behind.result.now) (c.front.ensures ∙ ap (take before) c.as_slice-accesses.ensures)

@@ -18,7 +18,7 @@ returns-in-None c =
     let ts = c.args.form.now.tokens.now in
     let n = kept c.args.form.now.part (length terms) in
     let before = c.saturating_sub-before.result in
-    let is : before ≡ n - 1 = cc in
+    let is : before ≡ n - 1 = c.saturating_sub-before.ensures ∙ ap (λ k. k - 1) (c.kept.ensures ∙ ap (kept c.args.form.now.part) c.len.ensures) in
     chain-second (form_of c.args.form.now) a (term_at a terms ts) n c.args.index before None c.if-index-eq1.true is
     (ap (option_map (piece a terms ts before)) (c.in-None.ensures ∙ ap (λ xs. slice_get xs before) c.as_slice-terms.ensures))
 
@@ -29,7 +29,7 @@ returns-in-Some c =
     let ts = c.args.form.now.tokens.now in
     let n = kept c.args.form.now.part (length terms) in
     let before = c.saturating_sub-before.result in
-    let is : before ≡ n - 1 = cc in
+    let is : before ≡ n - 1 = c.saturating_sub-before.ensures ∙ ap (λ k. k - 1) (c.kept.ensures ∙ ap (kept c.args.form.now.part) c.len.ensures) in
     let past =
     c.tokens_after_terms-behind.ensures
     ∙ ap (λ xs. drop (each_count (map term_count xs)) c.tokens_after_operand-behind.result.now) (c.front.ensures ∙ ap (take before) c.as_slice-terms.ensures)

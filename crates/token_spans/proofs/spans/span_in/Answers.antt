@@ -10,7 +10,7 @@ returns-in-Ok c =
       derives = c.in-Ok.ensures.derives;
       tokens = c.args.tokens.now;
       lexed = c.requires;
-      covers = c.covered-span.ensures ∙ ap (option_and_then covering) c.chosen.ensures;
+      covers = c.covering-span.ensures ∙ ap (option_and_then covering) c.chosen.ensures;
     })
 
 pub returns-in_default : goal.returns-in_default

@@ -29,3 +29,6 @@ returns-in-None c =
     object (c.in-Ok.ensures ∙ ap is_uid c.get-3.ensures) (c.is_absent_or_object-2.ensures ∙ ap is_absent_or_object c.get-2.ensures) (c.is_absent_or_object.ensures ∙ ap is_absent_or_object c.get.ensures)
     c.or_unmet-from_tags.ensures c.or_unmet-from_attrs.ensures c.in-None.ensures)
     c.find_in_parents.ensures
+
+pub returns-in-Err : goal.returns-in-Err
+returns-in-Err c = tt

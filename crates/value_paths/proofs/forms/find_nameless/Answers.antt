@@ -20,3 +20,6 @@ loop-index-preserved c =
 
 pub returns : goal.returns
 returns c = nameless_done c.args.parents.now c.loop-index.index _ c.loop-index-test.false c.loop-index.invariant
+
+pub returns-in-Err : goal.returns-in-Err
+returns-in-Err c = tt

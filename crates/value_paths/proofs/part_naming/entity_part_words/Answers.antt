@@ -20,3 +20,9 @@ returns-in-Ok c =
     if_ok c.part_words.result (λ (words : List ℕ). (o : Option PlacedFault) × IsEntityFault s d o × (words ≡ part_words o whole)) (NamesPartOfEntity s (Some d))
     (λ words h. (h.0, h.1, h.2 ∙ ap (part_words h.0) (c.in-Ok.ensures ∙ ap (shape_at s) c.get.ensures)))
     (words_told (IsEntityFault s d) c.entity_fault.result c.part_words.result whole c.entity_fault.ensures c.part_words.ensures))
+
+pub returns-in-None : goal.returns-in-None
+returns-in-None c = rw c.in-None.is (c.from_string.ensures ∙ c.new.ensures.bytes)
+
+pub returns-in-Err : goal.returns-in-Err
+returns-in-Err c = tt

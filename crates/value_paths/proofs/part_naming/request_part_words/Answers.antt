@@ -1,4 +1,4 @@
-use Rattle.std.proofs.Common.{◌≡◌, ℕ, List, Option, Some, option_map}
+use Rattle.std.proofs.Common.{◌≡◌, ◌∙◌, ℕ, List, Option, Some, option_map}
 use Rattle.serde_json.specs.View.{view}
 use Rattle.schema_types.specs.Cedar.{Cedar}
 use Rattle.schema_types.specs.CedarViews.{cedar_view}
@@ -19,3 +19,9 @@ returns-in-Ok c =
     if_ok c.part_words.result (λ (words : List ℕ). (o : Option PlacedFault) × IsRequestFault s d o × (words ≡ part_words o whole)) (NamesPartOfRequest s (Some d))
     (λ words h. (h.0, whole, h.1, c.in-Ok.ensures, h.2))
     (words_told (IsRequestFault s d) c.request_fault.result c.part_words.result whole c.request_fault.ensures c.part_words.ensures))
+
+pub returns-in-None : goal.returns-in-None
+returns-in-None c = rw c.in-None.is (c.from_string.ensures ∙ c.new.ensures.bytes)
+
+pub returns-in-Err : goal.returns-in-Err
+returns-in-Err c = tt

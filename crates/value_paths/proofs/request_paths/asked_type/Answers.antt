@@ -11,3 +11,6 @@ returns-in-Ok c =
     (option_map (λ v. view v.now) c.get.result) (option_map (λ v. view v.now) c.get-2.result) (option_map (λ v. view v.now) c.get-3.result) c.in-Ok.principal c.in-Ok.others
     (option_map (λ t. cedar_view t.now) c.named_type-ty.result) c.get.ensures c.get-2.ensures c.get-3.ensures c.name_at-principal.ensures c.name_at-action.ensures c.name_at-resource.ensures
     c.both-others.ensures.first c.both-others.ensures.second c.in-Ok.ensures.first c.in-Ok.ensures.second c.named_type-ty.ensures
+
+pub returns-in-Err : goal.returns-in-Err
+returns-in-Err c = tt

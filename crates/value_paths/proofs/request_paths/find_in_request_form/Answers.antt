@@ -46,3 +46,6 @@ returns-in-None c =
     (option_map (λ v. view v.now) c.get-2.result) (option_map (λ v. view v.now) c.get-3.result) (option_map (λ v. view v.now) c.get-4.result) principal others
     c.get-2.ensures c.get-3.ensures c.get-4.ensures c.is_named-principal.ensures c.is_named-action.ensures c.is_named-resource.ensures
     c.both-others.ensures.first c.both-others.ensures.second c.in-Ok.ensures.first c.in-Ok.ensures.second)
+
+pub returns-in-Err : goal.returns-in-Err
+returns-in-Err c = tt

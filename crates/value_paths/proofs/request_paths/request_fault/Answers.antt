@@ -16,3 +16,6 @@ returns-in-Some c =
 pub returns-in-None : goal.returns-in-None
 returns-in-None c =
     request_read (schema_view c.args.schema.now) (view c.args.value.now) c.read_request.result c.read_request.ensures.read (subst (IsFaultOf c.read_request.result) c.in-None.is c.in-Ok.ensures)
+
+pub returns-in-Err : goal.returns-in-Err
+returns-in-Err c = tt

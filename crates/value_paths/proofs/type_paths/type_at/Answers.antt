@@ -1,5 +1,6 @@
-use Rattle.std.proofs.Common.{◌∙◌, ◌+◌, drop, sym, ap}
+use Rattle.std.proofs.Common.{◌∙◌, ◌+◌, drop, refl, sym, ap}
 use Rattle.std.specs.Prelude.{option_and_then}
+use Rattle.std.proofs.lemmas.List.{drop_all}
 use Rattle.schema_types.specs.CedarViews.{cedar_view}
 use Rattle.value_paths.specs.TypePaths.{type_at}
 use Rattle.value_paths.proofs.Going.{cut}
@@ -18,3 +19,9 @@ returns-in-None c =
     sym (c.loop-step.invariant
     ∙ ap (type_at (cedar_view c.loop-step.ty.now)) (cut c.args.path.now c.loop-step.step-index c.step-item.result c.loop-step-test.true c.step-item.is)
     ∙ ap (option_and_then (λ part. type_at part rest)) (sym c.in-None.ensures))
+
+pub loop-step-init : goal.loop-step-init
+loop-step-init c = refl
+
+pub returns : goal.returns
+returns c = sym (c.loop-step.invariant ∙ ap (type_at (cedar_view c.loop-step.ty.now)) (drop_all c.loop-step.step-index c.args.path.now c.loop-step-test.false))

@@ -18,3 +18,6 @@ returns-in-Ok c =
     (made_so c.record_with.result pair.record (λ (x : CedarType). cedar_view x ≡ record_of (field [] t false no_fields)) pair.ensures.second c.record_with.ensures)
     (made_so c.object_with-object.result pair.object (λ (v : Value). view v ≡ object (member [] d no_members)) pair.ensures.first c.object_with-object.ensures)
     c.read_record-read.ensures c.is_value.ensures
+
+pub returns-in-Err : goal.returns-in-Err
+returns-in-Err c = tt
