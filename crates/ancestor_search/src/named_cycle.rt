@@ -195,7 +195,7 @@ fn is_at<'a>(distances: &Distances<'a>, uid: &'a EntityUid, far: usize) -> bool
 }
 
 // Returns whether the entity is less than the other; `true` if there is no other.
-fn is_below(uid: &EntityUid, other: Option<&EntityUid>) -> bool
+fn is_less(uid: &EntityUid, other: Option<&EntityUid>) -> bool
     ensures { MatchOption other.entry (IsTrue result) (λ y. result ≡ is_lt (uid_cmp uid.now y.now)) }
 {
     match other {
@@ -214,7 +214,7 @@ fn least_at<'a>(
 {
     let mut least = None;
     for parent in parents {
-        if is_at(distances, parent, far) && is_below(parent, least) {
+        if is_at(distances, parent, far) && is_less(parent, least) {
             least = Some(parent);
         }
     }

@@ -134,8 +134,8 @@ pub(crate) fn outcome_of<'a, L: EvalEnv>(
         Expr::Has(owner, name) => has_of(alloc, owner, name.as_str(), env),
         Expr::Set(members) => set_of(alloc, members.as_slice(), env),
         Expr::Record(fields) => record_of(alloc, fields, env),
-        Expr::UnaryCall(called, operand) => one_called(alloc, *called, operand, env),
-        Expr::BinaryCall(called, left, right) => { two_called(alloc, *called, left, right, env) }
+        Expr::UnaryCall(called, operand) => call_of_one(alloc, *called, operand, env),
+        Expr::BinaryCall(called, left, right) => { call_of_two(alloc, *called, left, right, env) }
     }
 }
 
@@ -166,7 +166,7 @@ pub(crate) fn two_operands<'a, L: EvalEnv>(
 /// Returns the result of a call on the values of two expressions.
 #[cycle(evaluate)]
 #[inline(never)]
-fn two_called<'a, L: EvalEnv>(
+fn call_of_two<'a, L: EvalEnv>(
     alloc: Global,
     called: BinaryCall,
     left: &'a Expr,
@@ -207,7 +207,7 @@ fn one_operand<'a, L: EvalEnv>(
 /// Returns the result of a call on the value of an expression.
 #[cycle(evaluate)]
 #[inline(never)]
-fn one_called<'a, L: EvalEnv>(
+fn call_of_one<'a, L: EvalEnv>(
     alloc: Global,
     called: UnaryCall,
     operand: &'a Expr,

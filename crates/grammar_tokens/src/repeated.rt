@@ -12,7 +12,7 @@ use plain::{Items, NoMemory};
 use std::alloc::Global;
 
 /// Returns an empty list, with a capacity of one item if `wanted` is true: most lists of pieces have one item or none.
-fn room_for_one<T>(alloc: Global, wanted: bool) -> Result<Items<T>, NoMemory>
+fn empty_list<T>(alloc: Global, wanted: bool) -> Result<Items<T>, NoMemory>
     ensures { IfOk result (λ found. found ≡ []) }
 {
     if wanted {
@@ -58,7 +58,7 @@ pub fn read_many<T: Drop, S: KindSet, F: Fn(&mut Cursor<'_>) -> Result<T, StopCa
     ensures { (p : Parser T) → CallsRead p (F.post read)
         → ParsesTo (many (S.included set) p tokens.old.rest.now) result tokens.new.rest.now }
 {
-    let none = room_for_one(alloc, tokens.sees_one_of(set))?;
+    let none = empty_list(alloc, tokens.sees_one_of(set))?;
     read_on(none, tokens, set, read)
 }
 
@@ -76,7 +76,7 @@ pub fn read_more<T: Drop, S: KindSet, F: Fn(&mut Cursor<'_>) -> Result<T, StopCa
     ensures { (p : Parser T) → CallsRead p (F.post read)
         → ParsesTo (many_after first (S.included set) p tokens.old.rest.now) result tokens.new.rest.now }
 {
-    let mut found = room_for_one(alloc, true)?;
+    let mut found = empty_list(alloc, true)?;
     found.push(first)?;
     read_on(found, tokens, set, read)
 }

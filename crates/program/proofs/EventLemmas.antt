@@ -9,7 +9,7 @@ use Rattle.program.specs.Events.{Event, read, stored, wrote, printed, connected,
 use Rattle.program.specs.Reports.{ended, status_after, IsReported, IsFileReported, IsFailureReported, IsPrinted}
 use Rattle.program.specs.Courses.{Course, Reads, ReadsIfNamed, ReadsIfThere, GoesOnIfThere, Stores, Connects, Listens, OpensIfNamed, Announces, WarnsIf}
 use Rattle.program.specs.inner.Served.{IsWarned}
-use Rattle.program.specs.inner.FileReads.{IsFound, IsUnread, IsUnreadIfNamed, IsUnreadExisting, found_as}
+use Rattle.program.specs.inner.FileReads.{IsFound, IsUnread, IsUnreadIfNamed, IsFailedRead, found_as}
 
 pub failed_there : Failed ≡ Missing → ⊥
 failed_there e = absurd cc
@@ -74,13 +74,13 @@ module _ {L H : Type 0} (does : H → Event L → H → Type 0) where
       (read name (Err fault) ∷ run.0, (next, step, run.1), (fault, run.0, refl, run.2))
 
   pub unread_there : (old next new : H) (name : List ℕ) (fault : FileFault) (end : ℕ) → (fault ≡ Missing → ⊥) → does old (read name (Err fault)) next
-      → Runs does next new (λ events. IsFileReported name fault events end) → Runs does old new (λ events. IsUnreadExisting name events end)
+      → Runs does next new (λ events. IsFileReported name fault events end) → Runs does old new (λ events. IsFailedRead name events end)
   unread_there old next new name fault end there step run =
       (read name (Err fault) ∷ run.0, (next, step, run.1), (fault, run.0, there, refl, run.2))
 
   pub unread_as : (old next new : H) (name : List ℕ) (field fault : FileFault) (end : ℕ) → field ≡ fault → (fault ≡ Missing → ⊥)
       → does old (read name (Err field)) next → Runs does next new (λ events. IsFileReported name fault events end)
-      → Runs does old new (λ events. IsUnreadExisting name events end)
+      → Runs does old new (λ events. IsFailedRead name events end)
   unread_as old next new name field fault end is there step run =
       unread_there old next new name fault end there (subst (λ (f : FileFault). does old (read name (Err f)) next) is step) run
 
@@ -100,7 +100,7 @@ module _ {L H : Type 0} (does : H → Event L → H → Type 0) where
   unread_goes name goes_on NoMemory events end there told = told
 
   pub there_none : (old new : H) (name : List ℕ) (goes_on : Option (List ℕ) → Course L) (end : ℕ)
-      → Runs does old new (λ events. IsUnreadExisting name events end)
+      → Runs does old new (λ events. IsFailedRead name events end)
       → Runs does old new (λ events. ReadsIfThere name goes_on events end)
   there_none old new name goes_on end run =
       (run.0, run.1, (Err run.2.0, run.2.1, run.2.3, unread_goes name goes_on run.2.0 run.2.1 end run.2.2 run.2.4))

@@ -2,7 +2,7 @@
 ghost use Rattle.std.specs.Prelude.{◌≡◌, Ok, MatchResult, option_map};
 ghost use Rattle.std.specs.Process.{exit_status};
 ghost use Rattle.program.specs.Events.{read, Runs};
-ghost use Rattle.program.specs.inner.FileReads.{found_as, IsFound, IsUnread, IsUnreadIfNamed, IsUnreadExisting};
+ghost use Rattle.program.specs.inner.FileReads.{found_as, IsFound, IsUnread, IsUnreadIfNamed, IsFailedRead};
 
 use crate::device::FileFault;
 use crate::host::Host;
@@ -44,7 +44,7 @@ pub(crate) fn read_if_named<H: Host>(
 pub(crate) fn read_if_there<H: Host>(host: &mut H, name: &str) -> Result<Option<Vec<u8>>, ExitCode>
     ensures { MatchResult result
         (λ found. H.does host.old (read name.now (found_as (option_map (λ bytes. bytes.items) found))) host.new)
-        (λ end. Runs H.does host.old host.new (λ events. IsUnreadExisting name.now events (exit_status end))) }
+        (λ end. Runs H.does host.old host.new (λ events. IsFailedRead name.now events (exit_status end))) }
 {
     match host.read(name) {
         Ok(bytes) => Ok(Some(bytes)),

@@ -23,14 +23,15 @@ abbrev pub is_memory : ErrorKind → Bool
 is_memory OutOfMemory = true
 is_memory _ = false
 
--- `IsFirstFault words error` holds if the kind of `error` is among the kinds of error that clap may report for `words`.
-abbrev pub IsFirstFault : List Text → Error → Type 0
-IsFirstFault words error = IsAmong (kind_of error) (fault_of site_app words)
+-- `IsReportedFault words error` holds if the kind of `error` is among the kinds of error that clap may report for
+-- `words`.
+abbrev pub IsReportedFault : List Text → Error → Type 0
+IsReportedFault words error = IsAmong (kind_of error) (fault_of site_app words)
 
 -- `IsFaultOf words f` holds if `f` says why `words` are not a command. `NoMemory` is possible for any arguments.
 abbrev pub IsFaultOf : List Text → LineFault → Type 0
-IsFaultOf words (Help error) = (is_help (kind_of error) ≡ true) × IsFirstFault words error
-IsFaultOf words (Words error) = (is_help (kind_of error) ≡ false) × IsFirstFault words error
+IsFaultOf words (Help error) = (is_help (kind_of error) ≡ true) × IsReportedFault words error
+IsFaultOf words (Words error) = (is_help (kind_of error) ≡ false) × IsReportedFault words error
 IsFaultOf words Site = (fault_of site_app words ≡ []) × HasInvalidSite (subcommand_of site_app words)
 IsFaultOf words Incomplete = (fault_of site_app words ≡ []) × IsNoLine (subcommand_of site_app words)
     × (HasInvalidSite (subcommand_of site_app words) → ⊥)

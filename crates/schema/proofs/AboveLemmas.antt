@@ -6,7 +6,7 @@ use Rattle.values.specs.declared.entity_uid.EntityUid.{EntityUid}
 use Rattle.ancestor_search.specs.Deciding.{Contains-here, Contains-there, Contains-cases, Contains-none}
 use Rattle.schema.specs.SchemaEntries.{SchemaEntries}
 use Rattle.schema.specs.Schemas.{ActionHasAncestor}
-use Rattle.schema.specs.Views.{schema_view, parents_at, action_has_ancestor, above_in}
+use Rattle.schema.specs.Views.{schema_view, parents_at, action_has_ancestor, ancestors_among}
 
 -- ---- those that pass a test
 
@@ -61,7 +61,7 @@ module _ (k : SchemaEntries) (listed : (w : EntityUid) → Contains k.actions w 
   test w = action_has_ancestor k.action_numbers k.action_ancestor_spans u w
 
   abbrev those : List EntityUid
-  those = above_in k.actions k.action_numbers k.action_ancestor_spans u
+  those = ancestors_among k.actions k.action_numbers k.action_ancestor_spans u
 
   abbrev are_both : Bool
   are_both = is_some (parents_at k.member_of u) && is_some (parents_at k.member_of above)

@@ -27,7 +27,7 @@ use Rattle.schema.specs.Schemas.{IsRecordOf, action_parents, type_parents, type_
 use Rattle.schema.specs.SchemaEntries.{kept}
 use Rattle.schema.specs.Places.{environment_of}
 use Rattle.schema.specs.LookUps.{is_numbered_at, is_ancestor_at, is_ancestor, is_action_ancestor_at, action_has_ancestor}
-use Rattle.schema.specs.Views.{environment_view, schema_view, above_in}
+use Rattle.schema.specs.Views.{environment_view, schema_view, ancestors_among}
 use Rattle.schema.specs.declared.type_numbers.TypeNumbers.{TypeNumbers}
 use Rattle.schema.specs.inner.ByNaming.{IsParsedAs}
 use Rattle.schema.specs.inner.Numbering.{AreNumbers}
@@ -120,7 +120,7 @@ module _ (s : ResolvedSchema) (called : AreNamed s) (h : Hierarchies) (are : Are
   above_told u w a (Some i) e = below_at u w i e (at w) refl
 
   abbrev those_above : EntityUid → List EntityUid
-  those_above u = above_in h.actions h.above.numbers.entries h.above.spans u
+  those_above u = ancestors_among h.actions h.above.numbers.entries h.above.spans u
 
   those_ascend : (u : EntityUid) → IsAscending (those_above u)
   those_ascend u = IsStrictlySortedBy-filter uid_cmp (λ w. action_has_ancestor h.above.numbers.entries h.above.spans u w) h.actions

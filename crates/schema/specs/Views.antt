@@ -21,10 +21,10 @@ environment_view e = record { place = e.place; context = cedar_view e.context }
 abbrev pub shape_at : List (List ℕ × EntityDecl) → List ℕ → Option Cedar
 shape_at types n = option_map (λ d. cedar_view d.shape) (lookup (is_at (text_cmp n)) types)
 
--- `above_in actions numbers spans u` are those of `actions` that are ancestors of the action `u`, by `numbers` and
--- `spans` (`action_has_ancestor`).
-abbrev pub above_in : List EntityUid → List (EntityUid × ℕ) → List (List NumberSpan) → EntityUid → List EntityUid
-above_in actions numbers spans u = filter (λ above. action_has_ancestor numbers spans u above) actions
+-- `ancestors_among actions numbers spans u` are those of `actions` that are ancestors of the action `u`, by `numbers`
+-- and `spans` (`action_has_ancestor`).
+abbrev pub ancestors_among : List EntityUid → List (EntityUid × ℕ) → List (List NumberSpan) → EntityUid → List EntityUid
+ancestors_among actions numbers spans u = filter (λ above. action_has_ancestor numbers spans u above) actions
 
 -- `schema_view k` is the abstract schema with the entries `k`.
 abbrev pub schema_view : SchemaEntries → StatedSchema
@@ -35,7 +35,8 @@ schema_view k = record {
   shape = shape_at k.entity_types;
   member_of = parents_at k.member_of;
   ancestors = λ u.
-      option_map (λ parents. above_in k.actions k.action_numbers k.action_ancestor_spans u) (parents_at k.member_of u);
+      option_map (λ parents. ancestors_among k.actions k.action_numbers k.action_ancestor_spans u)
+      (parents_at k.member_of u);
   may_have_parent = is_ancestor k.type_numbers k.type_ancestor_spans;
 }
 

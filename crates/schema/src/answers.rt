@@ -111,7 +111,7 @@ impl Schema {
         self.is_stated();
         stated_schemas_are_well_formed();
         if self.are_actions(uid, above) {
-            return self.has_above(uid, above);
+            return self.has_ancestor_number(uid, above);
         }
         false
     }
@@ -125,7 +125,7 @@ impl Schema {
     }
 
     /// Returns whether the number of `above` is among those of the ancestors of `uid`.
-    fn has_above(&self, uid: &EntityUid, above: &EntityUid) -> bool
+    fn has_ancestor_number(&self, uid: &EntityUid, above: &EntityUid) -> bool
         ensures { result
             ≡ action_has_ancestor self.now.action_numbers self.now.action_ancestor_spans uid.now above.now }
     {

@@ -104,7 +104,7 @@ fn append_all<'e>(uids: &'e [EntityUid], found: &mut Vec<&'e EntityUid>) -> Resu
 }
 
 /// Returns the uids of the list, first in an order in which each follows its parents unless these lead back to it, and
-/// then all again in the order of the list. Any order is correct; this one saves searches ([`spans_above`]).
+/// then all again in the order of the list. Any order is correct; this one saves searches ([`ancestor_spans`]).
 fn in_order<'e>(
     alloc: Global,
     edges: &Searched,
@@ -277,7 +277,7 @@ fn spans_found(
 
 /// Returns the numbers of the ancestors of an entity. If `reached` has the ancestors of each parent, they give these
 /// numbers; otherwise a search does.
-fn spans_above(
+fn ancestor_spans(
     alloc: Global,
     edges: &Searched,
     numbers: &BTreeMap<EntityUid, usize>,
@@ -309,14 +309,14 @@ fn all_spans(
 {
     let mut reached = Items::new(alloc);
     for uid in uids {
-        let spans = spans_above(alloc, edges, numbers, reached.as_slice(), *uid)?;
+        let spans = ancestor_spans(alloc, edges, numbers, reached.as_slice(), *uid)?;
         reached.push(spans)?;
     }
     Ok(reached)
 }
 
 /// Numbers these entities, and returns the numbers of the ancestors of each.
-pub(crate) fn above_each(
+pub(crate) fn ancestors_of_each(
     alloc: Global,
     edges: &Searched,
     uids: &[EntityUid],

@@ -21,7 +21,7 @@ use crate::hierarchies::{action_edges, make_members, type_edges, uids_of};
 use crate::label::label_of;
 use crate::laws::schemas_are_read_as_stated;
 use crate::listed_environments::environments_in_order;
-use crate::numbering::{NumberedAncestors, above_each};
+use crate::numbering::{NumberedAncestors, ancestors_of_each};
 use crate::parts::{EntityDecl, Environment};
 use crate::shapes::make_shapes;
 use crate::type_numbers::{TypeNumbers, number_types};
@@ -96,7 +96,7 @@ fn make_hierarchies(
     let entity_types = found.entity_types.as_slice();
     let members = make_members(alloc, edges, actions)?;
     let uids = uids_of(alloc, &members)?;
-    let above = above_each(alloc, edges, uids.as_slice())?;
+    let above = ancestors_of_each(alloc, edges, uids.as_slice())?;
     let type_edges = type_edges(alloc, entity_types)?;
     let types = number_types(alloc, &type_edges, entity_types)?;
     Ok(Hierarchies {

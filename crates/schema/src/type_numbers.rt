@@ -8,7 +8,7 @@ ghost use Rattle.schema.specs.inner.Numbering.{AddsName, AreNames, type_points, 
 
 use crate::hierarchies::type_uid;
 use crate::maps::put;
-use crate::numbering::above_each;
+use crate::numbering::ancestors_of_each;
 use crate::spans::NumberSpan;
 use ancestor_search::Searched;
 use plain::{Items, NoMemory};
@@ -87,7 +87,7 @@ pub(crate) fn number_types(
         (map resolved_entity_type_view entity_types.now) t) }
 {
     let uids = points_of(alloc, entity_types)?;
-    let above = above_each(alloc, edges, uids.as_slice())?;
+    let above = ancestors_of_each(alloc, edges, uids.as_slice())?;
     let numbers = numbers_by_name(alloc, &above.numbers, uids.as_slice())?;
     Ok(TypeNumbers {
         numbers,

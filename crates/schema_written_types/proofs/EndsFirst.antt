@@ -3,7 +3,7 @@ use Rattle.std.proofs.Common.{◌≡◌, ◌∙◌, ℕ, ◌+◌, ◌-◌, ◌<�
 use Rattle.std.specs.Prelude.{◌⊎◌, Contains, slice_index_or, slice_index}
 use Rattle.std.proofs.lemmas.List.{length-set, length-replicate}
 use Rattle.schema_written_types.specs.declared.place_order.Step.{Step}
-use Rattle.schema_written_types.specs.Orders.{Graph, graph_of, ends_of, Leads, edge, edges, one_if_same, times, ComesAfterTargets, ComeAfterSuccessors, IsSuccessorsFirst}
+use Rattle.schema_written_types.specs.Orders.{Graph, graph_of, successors_of, Leads, edge, edges, one_if_same, times, ComesAfterItsSuccessors, ComeAfterSuccessors, IsSuccessorsFirst}
 use Rattle.schema_written_types.specs.inner.Ordering.{is_new, one_if_seen, times_on, entered, AreFollowed, IsEdgeTo, IsPath, IsWalk, KeepsSeen, unseen_effort, path_effort, effort, WalksOn}
 
 -- ---- numbers and lists
@@ -54,12 +54,12 @@ same_at (x ∷ xs) zero a b lt p q = sym p ∙ q
 same_at (x ∷ xs) (suc k) a b lt p q = same_at xs k a b (omega (arith, lt)) p q
 
 -- where edges in memory lead
-pub ends_at : (es : List (Vec ℕ Global)) (a : ℕ) → a < length es → (d : Vec ℕ Global) → ends_of (graph_of es) a ≡ (slice_index_or es a d).items
+pub ends_at : (es : List (Vec ℕ Global)) (a : ℕ) → a < length es → (d : Vec ℕ Global) → successors_of (graph_of es) a ≡ (slice_index_or es a d).items
 ends_at [] a lt d = absurd (omega (arith, lt))
 ends_at (v ∷ vs) zero lt d = refl
 ends_at (v ∷ vs) (suc a) lt d = ends_at vs a (omega (arith, lt)) d
 
-pub no_ends : (es : List (Vec ℕ Global)) (a : ℕ) → length es ≤ a → ends_of (graph_of es) a ≡ []
+pub no_ends : (es : List (Vec ℕ Global)) (a : ℕ) → length es ≤ a → successors_of (graph_of es) a ≡ []
 no_ends [] a h = refl
 no_ends (v ∷ vs) zero h = absurd (omega (arith, h))
 no_ends (v ∷ vs) (suc a) h = no_ends vs a (omega (arith, h))
@@ -134,7 +134,7 @@ new_at (x ∷ ss) (suc a) s lt at = new_at ss a s (omega (arith, lt)) at
 
 -- ---- paths
 
-leads_then : (g : Graph) (a b c : ℕ) → Leads g a b → Contains (ends_of g b) c → Leads g a c
+leads_then : (g : Graph) (a b c : ℕ) → Leads g a b → Contains (successors_of g b) c → Leads g a c
 leads_then g _ _ c (edge a b at) last = edges a b c at (edge b c last)
 leads_then g _ _ c (edges a m b at rest) last = edges a m c at (leads_then g m b c rest last)
 
@@ -174,20 +174,20 @@ path_listed g order p (s ∷ path) h = (
   path_longer g order p (Some s.place) path h.2,
 )
 
-behind_push : (g : Graph) (before order : List ℕ) (p : ℕ) → ComeAfterSuccessors g before order → ComesAfterTargets g (before ++ order) p
+behind_push : (g : Graph) (before order : List ℕ) (p : ℕ) → ComeAfterSuccessors g before order → ComesAfterItsSuccessors g (before ++ order) p
     → ComeAfterSuccessors g before (order ++ p ∷ [])
-behind_push g before [] p h here = (subst (λ (xs : List ℕ). ComesAfterTargets g xs p) (append-nil before) here, tt)
+behind_push g before [] p h here = (subst (λ (xs : List ℕ). ComesAfterItsSuccessors g xs p) (append-nil before) here, tt)
 behind_push g before (x ∷ order) p h here = (
   h.0,
   behind_push g (before ++ x ∷ []) order p h.1
-      (subst (λ (xs : List ℕ). ComesAfterTargets g xs p) (sym (append_assoc before (x ∷ []) order)) here),
+      (subst (λ (xs : List ℕ). ComesAfterItsSuccessors g xs p) (sym (append_assoc before (x ∷ []) order)) here),
 )
 
 -- ---- steps
 
 module _ (g : Graph) where
   finished : (s : Step) (path : List Step) (seen : List Bool) (order : List ℕ) → IsWalk g (s ∷ path) seen order
-      → length (ends_of g s.place) ≤ s.followed → IsWalk g path seen (order ++ s.place ∷ [])
+      → length (successors_of g s.place) ≤ s.followed → IsWalk g path seen (order ++ s.place ∷ [])
   finished s path seen order w all = record {
     len = w.len;
     counts = λ a. let more = times_push a order s.place in let old = w.counts a in omega (arith, more, old);
@@ -200,7 +200,7 @@ module _ (g : Graph) where
   }
 
   followed_new : (s : Step) (path : List Step) (seen : List Bool) (order : List ℕ) (q : ℕ) → IsWalk g (s ∷ path) seen order
-      → s.followed < length (ends_of g s.place) → slice_index_or (ends_of g s.place) s.followed q ≡ q → is_new seen q ≡ true
+      → s.followed < length (successors_of g s.place) → slice_index_or (successors_of g s.place) s.followed q ≡ q → is_new seen q ≡ true
       → IsWalk g (record { place = q; followed = 0 } ∷ record { place = s.place; followed = s.followed + 1 } ∷ path) (slice_set seen q true) order
   followed_new s path seen order q w lt is new = record {
     len = length-set seen q true ∙ w.len;
@@ -210,7 +210,7 @@ module _ (g : Graph) where
       tt,
       (
         (λ k b low len at bn. elim (differ k s.followed) [
-          | inl same ↦ inr (ap Some (same_at (ends_of g s.place) s.followed q b lt is (subst (λ (j : ℕ). slice_index_or (ends_of g s.place) j b ≡ b) same at)))
+          | inl same ↦ inr (ap Some (same_at (successors_of g s.place) s.followed q b lt is (subst (λ (j : ℕ). slice_index_or (successors_of g s.place) j b ≡ b) same at)))
           | inr off ↦ elim (w.chain.0 k b (omega (arith, low, off)) len at bn) [ inl known ↦ inl known | inr on ↦ absurd cc ]
         ]),
         (s.followed, lt, is),
@@ -221,7 +221,7 @@ module _ (g : Graph) where
   }
 
   followed_old : (s : Step) (path : List Step) (seen : List Bool) (order : List ℕ) (q : ℕ) → IsWalk g (s ∷ path) seen order
-      → s.followed < length (ends_of g s.place) → slice_index_or (ends_of g s.place) s.followed q ≡ q → is_new seen q ≡ false
+      → s.followed < length (successors_of g s.place) → slice_index_or (successors_of g s.place) s.followed q ≡ q → is_new seen q ≡ false
       → IsWalk g (record { place = s.place; followed = s.followed + 1 } ∷ path) seen order
   followed_old s path seen order q w lt is old = record {
     len = w.len;
@@ -229,7 +229,7 @@ module _ (g : Graph) where
     chain = (
       (λ k b low len at bn. elim (differ k s.followed) [
         | inl same ↦
-            let one : q ≡ b = same_at (ends_of g s.place) s.followed q b lt is (subst (λ (j : ℕ). slice_index_or (ends_of g s.place) j b ≡ b) same at) in
+            let one : q ≡ b = same_at (successors_of g s.place) s.followed q b lt is (subst (λ (j : ℕ). slice_index_or (successors_of g s.place) j b ≡ b) same at) in
             inl (subst (λ (x : ℕ). Contains order x ⊎ Leads g x s.place) one (known (subst (λ (x : ℕ). x < length g) (sym one) bn)))
         | inr off ↦ elim (w.chain.0 k b (omega (arith, low, off)) len at bn) [ inl known ↦ inl known | inr on ↦ absurd cc ]
       ]),
@@ -249,7 +249,7 @@ module _ (g : Graph) where
           | inl none ↦ elim step_leads [
             | inl other ↦ inr (on_leads g order path s.place w.chain.2 q (omega (arith, counted, seen_one, none, other)))
             | inr same ↦ inr (subst (λ (x : ℕ). Leads g x s.place) (sym same) (edge s.place s.place
-                (subst (λ (x : ℕ). Contains (ends_of g s.place) x) same (s.followed, lt, is))))
+                (subst (λ (x : ℕ). Contains (successors_of g s.place) x) same (s.followed, lt, is))))
           ]
           | inr some ↦ inl (stands q order (omega (arith, some)))
         ]
@@ -257,7 +257,7 @@ module _ (g : Graph) where
   -- ---- what is left to do
 
   seen_effort_set : (vs : Graph) (seen : List Bool) (q : ℕ) → length seen ≡ length vs → is_new seen q ≡ true
-      → unseen_effort vs (slice_set seen q true) + suc (length (ends_of vs q)) ≡ unseen_effort vs seen
+      → unseen_effort vs (slice_set seen q true) + suc (length (successors_of vs q)) ≡ unseen_effort vs seen
   seen_effort_set vs [] q len new = absurd cc
   seen_effort_set [] (s ∷ ss) q len new = absurd (omega (arith, len))
   seen_effort_set (v ∷ vs) (true ∷ ss) zero len new = absurd cc
@@ -266,7 +266,7 @@ module _ (g : Graph) where
 
   -- ---- steps of the code
 
-  pub finish_on : (s : Step) (path : List Step) (seen : List Bool) (order : List ℕ) → length (ends_of g s.place) ≤ s.followed
+  pub finish_on : (s : Step) (path : List Step) (seen : List Bool) (order : List ℕ) → length (successors_of g s.place) ≤ s.followed
       → WalksOn g (s ∷ path) path seen seen order (order ++ s.place ∷ [])
   finish_on s path seen order all = record {
     walks = λ w. finished s path seen order w all;
@@ -276,7 +276,7 @@ module _ (g : Graph) where
   }
 
   pub follow_on : (s : Step) (path : List Step) (seen : List Bool) (order : List ℕ) (q : ℕ)
-      → s.followed < length (ends_of g s.place) → slice_index_or (ends_of g s.place) s.followed q ≡ q
+      → s.followed < length (successors_of g s.place) → slice_index_or (successors_of g s.place) s.followed q ≡ q
       → (new : Bool) → is_new seen q ≡ new
       → WalksOn g (s ∷ path) (entered seen q (record { place = s.place; followed = s.followed + 1 } ∷ path)) seen (slice_set seen q true) order order
   follow_on s path seen order q lt is true new = record {
@@ -319,12 +319,12 @@ module _ (g : Graph) where
     behind = w.behind;
   }
 
-  pub finish_as : (s : Step) (path : List Step) (seen : List Bool) (order order' : List ℕ) (ends : List ℕ) → ends ≡ ends_of g s.place
+  pub finish_as : (s : Step) (path : List Step) (seen : List Bool) (order order' : List ℕ) (ends : List ℕ) → ends ≡ successors_of g s.place
       → length ends ≤ s.followed → order' ≡ order ++ s.place ∷ [] → WalksOn g (s ∷ path) path seen seen order order'
   finish_as s path seen order order' ends is all more =
       rw more (finish_on s path seen order (subst (λ (l : List ℕ). length l ≤ s.followed) is all))
 
-  pub follow_as : (s : Step) (path : List Step) (seen : List Bool) (order : List ℕ) (q : ℕ) (ends : List ℕ) → ends ≡ ends_of g s.place
+  pub follow_as : (s : Step) (path : List Step) (seen : List Bool) (order : List ℕ) (q : ℕ) (ends : List ℕ) → ends ≡ successors_of g s.place
       → s.followed < length ends → slice_index_or ends s.followed q ≡ q → (on path' : List Step) (seen' : List Bool)
       → on ≡ record { place = s.place; followed = s.followed + 1 } ∷ path → path' ≡ entered seen q on → seen' ≡ slice_set seen q true
       → WalksOn g (s ∷ path) path' seen seen' order order

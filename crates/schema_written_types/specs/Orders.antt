@@ -14,16 +14,16 @@ Graph = List (List ℕ)
 abbrev pub graph_of : List (Vec ℕ Global) → Graph
 graph_of edges = map (λ v. v.items) edges
 
--- `ends_of g a` are the successors of the node `a` in the graph `g`; `[]` if `a` is not a node of `g`.
-abbrev pub ends_of : Graph → ℕ → List ℕ
-ends_of [] a = []
-ends_of (ends ∷ g) zero = ends
-ends_of (ends ∷ g) (suc a) = ends_of g a
+-- `successors_of g a` are the successors of the node `a` in the graph `g`; `[]` if `a` is not a node of `g`.
+abbrev pub successors_of : Graph → ℕ → List ℕ
+successors_of [] a = []
+successors_of (ends ∷ g) zero = ends
+successors_of (ends ∷ g) (suc a) = successors_of g a
 
 -- `Leads g a b` holds if one or more edges of the graph `g` lead from `a` to `b`.
 pub data Leads (g : Graph) : ℕ → ℕ → Type 0 where
-  edge : (a b : ℕ) → Contains (ends_of g a) b → Leads g a b
-  edges : (a b c : ℕ) → Contains (ends_of g a) b → Leads g b c → Leads g a c
+  edge : (a b : ℕ) → Contains (successors_of g a) b → Leads g a b
+  edges : (a b c : ℕ) → Contains (successors_of g a) b → Leads g b c → Leads g a c
 
 -- `one_if_same a b` is 1 if the nodes `a` and `b` are equal, else 0.
 abbrev pub one_if_same : ℕ → ℕ → ℕ
@@ -37,16 +37,18 @@ abbrev pub times : ℕ → List ℕ → ℕ
 times a [] = 0
 times a (b ∷ bs) = one_if_same a b + times a bs
 
--- `ComesAfterTargets g before a` holds if each edge from `a` leads to a node of `before`, to a node that leads back to
--- `a`, or out of the graph `g`.
-abbrev pub ComesAfterTargets : Graph → List ℕ → ℕ → Type 0
-ComesAfterTargets g before a = (b : ℕ) → Contains (ends_of g a) b → b < length g → Contains before b ⊎ Leads g b a
+-- `ComesAfterItsSuccessors g before a` holds if each edge from `a` leads to a node of `before`, to a node that leads
+-- back to `a`, or out of the graph `g`.
+abbrev pub ComesAfterItsSuccessors : Graph → List ℕ → ℕ → Type 0
+ComesAfterItsSuccessors g before a =
+    (b : ℕ) → Contains (successors_of g a) b → b < length g → Contains before b ⊎ Leads g b a
 
--- `ComeAfterSuccessors g before rest` holds if `ComesAfterTargets` holds for each node of `rest`, with `before` and the
--- nodes of `rest` that precede it as the earlier nodes.
+-- `ComeAfterSuccessors g before rest` holds if `ComesAfterItsSuccessors` holds for each node of `rest`, with `before`
+-- and the nodes of `rest` that precede it as the earlier nodes.
 abbrev pub ComeAfterSuccessors : Graph → List ℕ → List ℕ → Type 0
 ComeAfterSuccessors g before [] = ⊤
-ComeAfterSuccessors g before (a ∷ rest) = ComesAfterTargets g before a × ComeAfterSuccessors g (before ++ a ∷ []) rest
+ComeAfterSuccessors g before (a ∷ rest) =
+    ComesAfterItsSuccessors g before a × ComeAfterSuccessors g (before ++ a ∷ []) rest
 
 -- `IsSuccessorsFirst g order` holds if `order` has exactly the nodes of the graph `g`, without duplicates, each after
 -- its successors except those that lead back to it.

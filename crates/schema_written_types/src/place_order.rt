@@ -1,6 +1,6 @@
 //! An order of a graph's nodes in which each node comes after its successors, except those that lead back to it.
 ghost use Rattle.std.specs.Prelude.{◌≡◌, ◌∷◌, ◌<◌, [], true, false, length, replicate, slice_set, IfOk, OnOk};
-ghost use Rattle.schema_written_types.specs.Orders.{graph_of, ends_of as ends_at, IsSuccessorsFirst};
+ghost use Rattle.schema_written_types.specs.Orders.{graph_of, successors_of as ends_at, IsSuccessorsFirst};
 ghost use Rattle.schema_written_types.specs.inner.Ordering.{is_new, entered, IsWalk, WalksOn, KeepsSeen, one_if_seen};
 
 use plain::NoMemory;
@@ -16,7 +16,7 @@ pub(crate) struct Step {
 }
 
 /// Returns the successors of a node; an empty slice if `place` is not a node.
-fn ends_of(edges: &[Vec<usize>], place: usize) -> &[usize]
+fn successors_of(edges: &[Vec<usize>], place: usize) -> &[usize]
     ensures { result.now ≡ ends_at (graph_of edges.now) place }
 {
     if place < edges.len() {
@@ -63,7 +63,7 @@ fn go_on(
     ensures { OnOk result (WalksOn (graph_of edges.now) (step ∷ path.old.items) path.new.items
         seen.old.items seen.new.items order.old.items order.new.items) }
 {
-    let ends = ends_of(edges, step.place);
+    let ends = successors_of(edges, step.place);
     if step.followed >= ends.len() {
         order.push(step.place)?;
         return Ok(());

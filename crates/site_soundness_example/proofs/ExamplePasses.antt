@@ -120,7 +120,7 @@ truth_typed = Typing.types_literal (literal.Boolean true)
 
 action_typed : Types env [] action_part true_type []
 action_typed =
-    Typing.types_settled binary.Equal (form.Variable variable.Action) (entity_literal view)
+    Typing.types_decided binary.Equal (form.Variable variable.Action) (entity_literal view)
     (Literals.equal_literals Literals.action Literals.stated ((λ e. refl), (λ e. refl)))
 
 unsettled : (a b : Expr) → UndecidedByLiterals env binary.Less a b

@@ -56,7 +56,7 @@ module _ (env : Environment) where
   layer_has (typing.if_of_true a b c h g) = at_layer (form.If a b c) _ _ _ _ (form.outs-If a b c) tt
   layer_has (typing.if_of_false a b c h g) = at_layer (form.If a b c) _ _ _ _ (form.outs-If a b c) tt
   layer_has (typing.if_of_both a b c h g i e l) = at_layer (form.If a b c) _ _ _ _ (form.outs-If a b c) tt
-  layer_has (typing.types_settled op a b e) = at_layer (form.Binary op a b) _ _ _ _ (form.outs-Binary op a b) tt
+  layer_has (typing.types_decided op a b e) = at_layer (form.Binary op a b) _ _ _ _ (form.outs-Binary op a b) tt
   layer_has (typing.types_binary op a b n h g e) = at_layer (form.Binary op a b) _ _ _ _ (form.outs-Binary op a b) tt
   layer_has (typing.types_field a k h d e) = at_layer (form.Field a k) _ _ _ _ (form.outs-Field a k) tt
   layer_has (typing.types_has a k h d e) = at_layer (form.Has a k) _ _ _ _ (form.outs-Has a k) tt

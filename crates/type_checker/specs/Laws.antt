@@ -5,10 +5,10 @@ use Rattle.typing.specs.Laws.{IsTransitive}
 use Rattle.entities.specs.schema.Schemas.{EnvironmentOf, StatedSchema, IsSchemaOf}
 use Rattle.type_checker.specs.FromSchemas.{typing_environment_of}
 
--- `TypesAreBelowTransitively`: in each typing environment of such a schema, the ancestor relation of entity types is
+-- `TypeAncestryIsTransitive`: in each typing environment of such a schema, the ancestor relation of entity types is
 -- transitive.
-abbrev pub TypesAreBelowTransitively : Type 0
-TypesAreBelowTransitively =
+abbrev pub TypeAncestryIsTransitive : Type 0
+TypeAncestryIsTransitive =
     (bytes : List ℕ) (v : StatedSchema) → IsSchemaOf bytes v → (e : EnvironmentOf)
     → IsTransitive (typing_environment_of v e).may_have_ancestor
 

@@ -178,7 +178,7 @@ module _ (env : Environment) where
     types_is (Typing.if_of_both {K} {L} {M} {N} {B} a b c {s} {t} {u} h g i e l) =
         if_from K a b c _ (types_is h) ∙ (ap (λ r. Judging.if_typed Types.boolean_type L r (all K c)) (types_is g) ∙ (ap (λ p. Judging.if_typed Types.boolean_type L (typed s M) p) (types_is i)
         ∙ (ap (λ o. Judging.branches o (KnownPairs.in_both N (L ++ M))) e ∙ ap (typed u) (KnownPairs.in_both_is l))))
-    types_is (Typing.types_settled {K} op a b {r} e) = settled_from K op a b (Some r) (Tests.settlement_is env e)
+    types_is (Typing.types_decided {K} op a b {r} e) = settled_from K op a b (Some r) (Tests.settlement_is env e)
     types_is (Typing.types_binary {K} {L} op a b {s} {t} n h g e) =
         operands_from K op a b _ n (types_is h) ∙ (ap (Judging.operands_with env op (typed s L)) (types_is g) ∙ ap (typed_row Judging.learns_none) e)
     types_is (Typing.types_field {K} a k {is_known} h d e) = field_from K a k is_known _ d (types_is h) ∙ ap (typed_row Judging.learns_none) e

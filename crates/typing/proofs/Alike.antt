@@ -109,7 +109,7 @@ module _ (env : Environment) where
         let r = types_alike (joined s f.1) g in
         let o = types_alike s i in
         (in_both o.0 (f.0 ++ r.0), in_both_alike o.1 (joined f.1 r.1) l, Typing.if_of_both a b c f.2 r.2 o.2 e (in_both_holds o.0 (f.0 ++ r.0)))
-    types_alike s (Typing.types_settled op a b h) = ([], itself [], Typing.types_settled op a b h)
+    types_alike s (Typing.types_decided op a b h) = ([], itself [], Typing.types_decided op a b h)
     types_alike s (Typing.types_binary op a b n h g e) = ([], itself [], Typing.types_binary op a b n (types_alike s h).2 (types_alike s g).2 e)
     types_alike s (Typing.types_field a k {is_known} h d e) =
         ([], itself [], Typing.types_field a k (types_alike s h).2 (known_alike (a, k) is_known s d) e)

@@ -67,7 +67,7 @@ module _ (env : Environment) where
 
   binary_case : (K : CapabilityList) (op : Binary) (a b : Expr) (i : Option Bool) (r p : Judgement) → Tests.settlement env op a b ≡ i
       → Holds K a r → Holds K b p → Holds K (form.Binary op a b) (Judging.settled_or i (Judging.operands_with env op r p))
-  binary_case K op a b (Some i) r p e h g = Typing.types_settled op a b (Tests.settlement_holds env op a b i e)
+  binary_case K op a b (Some i) r p e h g = Typing.types_decided op a b (Tests.settlement_holds env op a b i e)
   binary_case K op a b None (typed s L) (typed t M) e h g =
       let n = Tests.none_settled env op a b e in
       row_case K (form.Binary op a b) Judging.learns_none (Rows.binary_type env op s t)

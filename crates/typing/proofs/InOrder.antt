@@ -333,7 +333,7 @@ module _ (env : Environment) (o : HasOrderedTypes env) where
     ordered (Typing.if_of_true a b c h g) = ordered g
     ordered (Typing.if_of_false a b c h g) = ordered g
     ordered (Typing.if_of_both a b c {s} {t} {u} h g i e l) = common_type s t u (ordered g) e
-    ordered (Typing.types_settled op a b {r} h) = truth_ordered r
+    ordered (Typing.types_decided op a b {r} h) = truth_ordered r
     ordered (Typing.types_binary op a b {s} {t} {u} n h g e) = row_of (Rows.binary_type env op s t) u (binary_ordered env op s t) e
     ordered (Typing.types_field a k {is_known} {s} {t} h d e) = row_of (Rows.field_type_of env is_known k s) t (field_ordered env o is_known k s (ordered h)) e
     ordered (Typing.types_has a k {is_known} {s} {t} h d e) = row_of (Rows.has_type env is_known k s) t (has_ordered env is_known k s) e

@@ -307,7 +307,7 @@ module _ (env : Environment) (W : Entities) (q : Request) (C : Conforms env W q)
     is_sound k (Typing.if_of_false a b c h f) r g = if_false_goes (is_sound k h) (is_sound k f) (layer W q (Expr-F.If a b c) (form.outs-If a b c) g)
     is_sound k (Typing.if_of_both {K} {L} a b c {s} {t} {u} h f i e l) r g =
         if_goes s t u (is_sound k h) (λ p. is_sound (present_joined K L k p) f) (is_sound k i) e l (layer W q (Expr-F.If a b c) (form.outs-If a b c) g)
-    is_sound k (Typing.types_settled op a b h) r g = learns_nothing (settled_goes env W q C one h (layer W q (Expr-F.Binary op a b) (form.outs-Binary op a b) g))
+    is_sound k (Typing.types_decided op a b h) r g = learns_nothing (settled_goes env W q C one h (layer W q (Expr-F.Binary op a b) (form.outs-Binary op a b) g))
     is_sound k (Typing.types_binary op a b {s} {t} {u} n h f e) r g =
         learns_nothing (two_goes s t (Rows.binary_type env op s t) u (is_sound k h) (is_sound k f) e (λ v w i j m l. binary_fits env W q C op i j l)
         (layer W q (Expr-F.Binary op a b) (form.outs-Binary op a b) g))

@@ -55,7 +55,7 @@ mutual
         → Types env (K ++ L) b s M → Types env K c t N → common s t ≡ Some u → InBoth N (L ++ M) B
         → Types env K (form.If a b c) u B
     -- literals decide the result: the operands are not typed
-    types_settled : {K : CapabilityList} (op : Binary) (a b : Expr) {r : Bool} → DecidedByLiterals env op a b r
+    types_decided : {K : CapabilityList} (op : Binary) (a b : Expr) {r : Bool} → DecidedByLiterals env op a b r
         → Types env K (form.Binary op a b) (truth_type r) []
     types_binary : {K L M : CapabilityList} (op : Binary) (a b : Expr) {s t u : StaticType}
         → UndecidedByLiterals env op a b

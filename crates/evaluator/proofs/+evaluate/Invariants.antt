@@ -47,8 +47,8 @@ decreases-choosing::either_test g l = 4 * max (size-Expr l.left.now) (size-Expr 
 abbrev pub decreases-evaluating::one_operand : goal.decreases-evaluating::one_operand
 decreases-evaluating::one_operand g l = 4 * goal.size-evaluating::one_operand g l + 1
 
-abbrev pub decreases-evaluating::one_called : goal.decreases-evaluating::one_called
-decreases-evaluating::one_called g l = 4 * goal.size-evaluating::one_called g l + 1
+abbrev pub decreases-evaluating::call_of_one : goal.decreases-evaluating::call_of_one
+decreases-evaluating::call_of_one g l = 4 * goal.size-evaluating::call_of_one g l + 1
 
 abbrev pub decreases-evaluating::field_of : goal.decreases-evaluating::field_of
 decreases-evaluating::field_of g l = 4 * goal.size-evaluating::field_of g l + 1
@@ -74,5 +74,5 @@ decreases-choosing::either_of g l = 4 * max (size-Expr l.left.now) (size-Expr l.
 abbrev pub decreases-evaluating::two_operands : goal.decreases-evaluating::two_operands
 decreases-evaluating::two_operands g l = 4 * max (size-Expr l.left.now) (size-Expr l.right.now) + 3
 
-abbrev pub decreases-evaluating::two_called : goal.decreases-evaluating::two_called
-decreases-evaluating::two_called g l = 4 * max (size-Expr l.left.now) (size-Expr l.right.now) + 3
+abbrev pub decreases-evaluating::call_of_two : goal.decreases-evaluating::call_of_two
+decreases-evaluating::call_of_two g l = 4 * max (size-Expr l.left.now) (size-Expr l.right.now) + 3

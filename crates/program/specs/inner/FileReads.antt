@@ -24,10 +24,10 @@ module _ {L : Type 0} where
   IsUnread name events end = (fault : FileFault) × (rest : List (Event L)) × (events ≡ read name (Err fault) ∷ rest)
       × IsFileReported name fault rest end
 
-  -- `IsUnreadExisting name`: the file `name` was not read, with an error other than `Missing`, and the run reports
+  -- `IsFailedRead name`: the file `name` was not read, with an error other than `Missing`, and the run reports
   -- that.
-  abbrev pub IsUnreadExisting : List ℕ → Course L
-  IsUnreadExisting name events end = (fault : FileFault) × (rest : List (Event L)) × (fault ≡ Missing → ⊥)
+  abbrev pub IsFailedRead : List ℕ → Course L
+  IsFailedRead name events end = (fault : FileFault) × (rest : List (Event L)) × (fault ≡ Missing → ⊥)
       × (events ≡ read name (Err fault) ∷ rest) × IsFileReported name fault rest end
 
   -- `IsUnreadIfNamed name`: the name `name` is present, but the file was not read, and the run reports that.

@@ -3,7 +3,7 @@
 use Rattle.std.specs.Prelude.{◌≡◌, ◌⊎◌, ◌+◌, ◌-◌, ◌<◌, ⊤, ℕ, zero, suc, List, [], ◌∷◌, length, Contains, Bool, true}
 use Rattle.std.specs.Prelude.{false, not, if◌then◌else◌, Option, Some, None, slice_index_or}
 use Rattle.schema_written_types.specs.declared.place_order.Step.{Step}
-use Rattle.schema_written_types.specs.Orders.{Graph, ends_of, Leads, one_if_same, times, ComeAfterSuccessors}
+use Rattle.schema_written_types.specs.Orders.{Graph, successors_of, Leads, one_if_same, times, ComeAfterSuccessors}
 
 -- `is_new seen a` tests whether `a` is a node that is not marked in `seen`.
 abbrev pub is_new : List Bool → ℕ → Bool
@@ -36,13 +36,13 @@ IsFollowed g order next a b = (Contains order b ⊎ Leads g b a) ⊎ (next ≡ S
 -- `AreFollowed g order next s` holds if `IsFollowed` holds for each edge that the step `s` has followed, unless the
 -- edge leads out of the graph `g`.
 abbrev pub AreFollowed : Graph → List ℕ → Option ℕ → Step → Type 0
-AreFollowed g order next s = (k b : ℕ) → k < s.followed → k < length (ends_of g s.place)
-    → slice_index_or (ends_of g s.place) k b ≡ b → b < length g → IsFollowed g order next s.place b
+AreFollowed g order next s = (k b : ℕ) → k < s.followed → k < length (successors_of g s.place)
+    → slice_index_or (successors_of g s.place) k b ≡ b → b < length g → IsFollowed g order next s.place b
 
 -- `IsEdgeTo g a next` holds if an edge of the graph `g` leads from `a` to the node in `next`, or `next` is `None`.
 abbrev pub IsEdgeTo : Graph → ℕ → Option ℕ → Type 0
 IsEdgeTo g a None = ⊤
-IsEdgeTo g a (Some b) = Contains (ends_of g a) b
+IsEdgeTo g a (Some b) = Contains (successors_of g a) b
 
 -- `IsPath g order next path` holds if `path` is a path of the graph `g` on which `AreFollowed` holds for each step. An
 -- edge leads from the node of each step to that of the step after it, and from the last to the node in `next`, if there
@@ -78,7 +78,7 @@ unseen_effort (v ∷ vs) (s ∷ ss) = (if s then 0 else suc (length v)) + unseen
 -- followed.
 abbrev pub path_effort : Graph → List Step → ℕ
 path_effort g [] = 0
-path_effort g (s ∷ path) = suc (length (ends_of g s.place) - s.followed) + path_effort g path
+path_effort g (s ∷ path) = suc (length (successors_of g s.place) - s.followed) + path_effort g path
 
 -- `effort g path seen` is the sum of `path_effort g path` and `unseen_effort g seen`: the measure of the search, which
 -- decreases with each turn.

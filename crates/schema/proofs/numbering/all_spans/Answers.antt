@@ -14,11 +14,11 @@ loop-uid-init c = record {
   keeps = none_reached (searched.parents-value.it c.args.edges.now) (get uid_cmp c.args.numbers.now) c.new-reached.result c.new-reached.ensures;
 }
 
-pub spans_above-requires-clause-apart : goal.spans_above-requires-clause-apart
-spans_above-requires-clause-apart c = apart (get uid_cmp c.args.numbers.now) (names c.args.uids.now) c.requires
+pub ancestor_spans-requires-clause-apart : goal.ancestor_spans-requires-clause-apart
+ancestor_spans-requires-clause-apart c = apart (get uid_cmp c.args.numbers.now) (names c.args.uids.now) c.requires
 
-pub spans_above-requires-clause-keeps : goal.spans_above-requires-clause-keeps
-spans_above-requires-clause-keeps c =
+pub ancestor_spans-requires-clause-keeps : goal.ancestor_spans-requires-clause-keeps
+ancestor_spans-requires-clause-keeps c =
     subst (λ (ss : List (List NumberSpan)). KeepsAncestors (searched.parents-value.it c.args.edges.now) (get uid_cmp c.args.numbers.now) ss) (sym c.as_slice.ensures) c.loop-uid.invariant.keeps
 
 pub loop-uid-preserved : goal.loop-uid-preserved

@@ -227,7 +227,7 @@ type_binary-returns-in-Some level c =
     (subst (λ y. DecidedByLiterals E op c.deref.result.now y c.in-Some.truth) c.deref-2.ensures c.in-Some.ensures) in
     plain_judged E K K (form.Binary op a b) c.plain.result
     (ap static_view c.plain.ensures.kind ∙ (c.boolean.ensures ∙ c.truth_type.ensures))
-    c.plain.ensures.gains refl (typing.types_settled op a b s)
+    c.plain.ensures.gains refl (typing.types_decided op a b s)
 
 pub type_binary-returns-in-None : goal.type_binary-returns-in-None
 type_binary-returns-in-None level c =

@@ -6,7 +6,7 @@ use Rattle.values.specs.declared.entity_uid.EntityUid.{EntityUid}
 use Rattle.values.specs.Names.{uid_cmp}
 use Rattle.ancestor_search.specs.Hierarchy.{names}
 use Rattle.schema.specs.inner.Numbering.{IsNumbering}
-use Rattle.schema.proofs.numbering.above_each.Goals as goal
+use Rattle.schema.proofs.numbering.ancestors_of_each.Goals as goal
 
 pub all_spans-requires : goal.all_spans-requires
 all_spans-requires c =

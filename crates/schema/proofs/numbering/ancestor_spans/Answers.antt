@@ -8,7 +8,7 @@ use Rattle.values.specs.declared.entity_uid.EntityUid.{EntityUid}
 use Rattle.values.specs.Names.{uid_cmp}
 use Rattle.schema.specs.inner.Numbering.{AddsParents}
 use Rattle.schema.proofs.NumberLemmas.{by_parents, same_spans}
-use Rattle.schema.proofs.numbering.spans_above.Goals as goal
+use Rattle.schema.proofs.numbering.ancestor_spans.Goals as goal
 
 pub returns-in-Some : goal.returns-in-Some
 returns-in-Some c =
