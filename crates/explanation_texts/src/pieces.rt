@@ -1,8 +1,7 @@
 //! The pieces of which explanations are made.
 ghost use Rattle.std.specs.Prelude.{◌≡◌, ◌++◌, OnOk, string_bytes, length, chars, encode_utf8_all, map, take, drop};
 ghost use Rattle.std.specs.List.{flat_map};
-ghost use Rattle.explanation_texts.specs.Excerpt.{is_control, is_bidi_control, is_hidden};
-ghost use Rattle.explanation_texts.specs.Excerpt.{shown_char, blank_char, mark_if};
+ghost use Rattle.explanation_texts.specs.Excerpt.{is_hidden, mark_if};
 ghost use Rattle.explanation_texts.specs.ExplanationText.{part, index_part};
 ghost use Rattle.explanation_texts.specs.inner.Pieces.{drawn_char, bytes_of};
 
@@ -30,52 +29,33 @@ pub(crate) enum Piece<'t> {
     Part(&'t str, &'t str, usize, &'t str),
 }
 
-// Returns whether a character is a control character other than a tab.
-fn is_control(c: char) -> bool
-    ensures { result ≡ is_control c }
-{
-    matches!(c, '\0'..='\u{8}' | '\n'..='\u{1f}' | '\u{7f}'..='\u{9f}')
-}
-
-// Returns whether a character changes the direction of writing.
-fn is_bidi_control(c: char) -> bool
-    ensures { result ≡ is_bidi_control c }
-{
-    matches!(
-        c,
-        '\u{61c}' | '\u{200e}'..='\u{200f}' | '\u{202a}'..='\u{202e}' | '\u{2066}'..='\u{2069}'
-    )
-}
-
 // Returns whether a character is a control character other than a tab, or changes the direction of writing.
 fn is_hidden_char(c: char) -> bool
     ensures { result ≡ is_hidden c }
 {
-    is_control(c) || is_bidi_control(c)
+    matches!(
+        c,
+        '\0'..='\u{8}'
+            | '\n'..='\u{1f}'
+            | '\u{7f}'..='\u{9f}'
+            | '\u{61c}'
+            | '\u{200e}'..='\u{200f}'
+            | '\u{202a}'..='\u{202e}'
+            | '\u{2066}'..='\u{2069}'
+    )
 }
 
-// Returns the character that is shown for `c`: U+FFFD if `c` is hidden.
-fn shown_for(c: char) -> char
-    ensures { result ≡ shown_char c }
-{
-    if is_hidden_char(c) { '\u{fffd}' } else { c }
-}
-
-// Returns the blank that is as wide as `c`: a tab for a tab, else a space.
-fn blank_for(c: char) -> char
-    ensures { result ≡ blank_char c }
-{
-    if c == '\t' { '\t' } else { ' ' }
-}
-
-// Returns the character that is written for `c`: a blank if `are_blank`, else `c` as it is shown.
+// Returns the character that is written for `c`: if `are_blank`, a blank as wide, which is a tab for a tab and else a
+// space; else `c` as it is shown, which is U+FFFD if `c` is hidden.
 fn drawn_for(c: char, are_blank: bool) -> char
     ensures { result ≡ drawn_char are_blank c }
 {
     if are_blank {
-        blank_for(c)
+        if c == '\t' { '\t' } else { ' ' }
+    } else if is_hidden_char(c) {
+        '\u{fffd}'
     } else {
-        shown_for(c)
+        c
     }
 }
 

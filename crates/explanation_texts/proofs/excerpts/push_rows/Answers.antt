@@ -1,4 +1,4 @@
-use Rattle.std.proofs.Common.{◌∙◌, ℕ, List, ◌++◌, ap, rules, string_bytes}
+use Rattle.std.proofs.Common.{◌∙◌, ℕ, List, ◌++◌, ap, string_bytes}
 use Rattle.explanation_texts.proofs.Columns.{all_characters}
 use Rattle.explanation_texts.proofs.Joined.{on_ok}
 use Rattle.explanation_texts.proofs.Rows.{rows_of}
@@ -12,5 +12,5 @@ returns c =
     (λ is. is ∙ ap (λ (l : List ℕ). string_bytes c.args.out.now ++ l)
     (rows_of c.args.file.now c.args.line.now place.line place.column cut.before cut.end cut.place c.args.digits c.args.carets
     c.saturating_sub.result c.saturating_sub-2.result cut.len c.mark_if.result.now c.mark_if-2.result.now c.mark_if-3.result.now
-    (all_characters c.args.file.now (search rules)) c.mark_if.ensures c.saturating_sub.ensures c.requires c.mark_if-2.ensures c.mark_if-3.ensures
+    (all_characters c.args.file.now c.utf8.file) c.mark_if.ensures c.saturating_sub.ensures c.requires c.mark_if-2.ensures c.mark_if-3.ensures
     c.saturating_sub-2.ensures))

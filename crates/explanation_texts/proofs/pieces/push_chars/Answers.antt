@@ -1,4 +1,4 @@
-use Rattle.std.proofs.Common.{◌++◌, ◌∙◌, ℕ, List, map, rules, sym, ap, append-nil, string_bytes, encode_utf8_all}
+use Rattle.std.proofs.Common.{◌++◌, ◌∙◌, ℕ, List, map, sym, ap, append-nil, string_bytes, encode_utf8_all}
 use Rattle.std.proofs.lemmas.List.{map-id}
 use Rattle.std.proofs.lemmas.Iterator.{YieldsList-from_chars, YieldsList-from_take}
 use Rattle.std.proofs.lemmas.Iterator.Consumers.{YieldsList-at, YieldsList-end}
@@ -17,7 +17,7 @@ loop-c-preserved c =
 
 pub returns : goal.returns
 returns c =
-    let all = YieldsList-from_chars c.args.text.now (search rules) c.chars.ensures.rest in
+    let all = YieldsList-from_chars c.args.text.now c.utf8.text c.chars.ensures.rest in
     let behind = YieldsList-from_skip c.args.skipped (YieldsList-at c.skip.ensures.source all) c.skip.ensures.count in
     let part = YieldsList-from_take c.args.count (YieldsList-at c.take-c-items.ensures.source behind) c.take-c-items.ensures.count in
     let items = YieldsList-at c.into_iter-c-iterator.ensures.into_iter_gives part in
