@@ -16,6 +16,7 @@ mod parents;
 mod reading;
 mod requests;
 mod stated;
+mod type_parts;
 mod uid_set;
 mod value_fault;
 mod value_laws;
@@ -42,9 +43,11 @@ pub use schema::{
     Environment, Schema, SchemaFault, bytes_have_one_outcome, declarations_are_read_as_stated,
     read_schema, stated_schemas_are_well_formed,
 };
+pub use stated::is_absent_or_object;
+pub use type_parts::{Field, declared_type, element_type, record_fields};
 pub use value_fault::ValueFault;
 pub use value_laws::{
     canonical_is_read, canonical_nests_within_its_type, json_is_read_again, records_are_read_again,
     values_have_no_float, written_is_read_again,
 };
-pub use value_reading::read_record;
+pub use value_reading::{is_of_type, read_record};

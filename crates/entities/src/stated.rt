@@ -57,8 +57,8 @@ fn read_parents(alloc: Global, parents: Option<&Value>) -> Result<Items<EntityUi
     }
 }
 
-/// Returns whether the value is absent or an object.
-pub(crate) fn is_absent_or_object(found: Option<&Value>) -> bool
+/// Returns whether the value is absent or an object. Does not allocate.
+pub fn is_absent_or_object(found: Option<&Value>) -> bool
     ensures { result ≡ is_absent_or_object (option_map (λ v. view v.now) found.entry) }
 {
     match found {

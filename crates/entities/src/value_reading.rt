@@ -1,12 +1,11 @@
 //! Parsing of JSON values as values of a Cedar type.
-ghost use Rattle.std.specs.Prelude.{◌≡◌, option_map};
+ghost use Rattle.std.specs.Prelude.{◌≡◌, IfOk, is_ok};
 ghost use Rattle.serde_json.specs.View.{view, items_view, members_view};
 ghost use Rattle.json_words.specs.ReadsAs.{ReadsAs, AlwaysReadsAs, or_fault};
 ghost use Rattle.json_words.specs.Json.{text_at as text_in_json};
 ghost use Rattle.schema_types.specs.CedarViews.{cedar_view, cedar_fields_view};
 ghost use Rattle.entities.specs.declared.value_fault.ValueFault.TheVariants as ValueFault;
 ghost use Rattle.values.specs.extensions.TextsDecided.{decimal_of, network_of};
-ghost use Rattle.entities.specs.Parts.{element_of, fields_in, declared_at};
 ghost use Rattle.entities.specs.Typing.{plain_call, call_in, argument_in, boolean_in, long_of, long_in, text_in};
 ghost use Rattle.entities.specs.Typing.{entity_in, decimal_in, ipaddr_in, leaf, all_there};
 ghost use Rattle.entities.specs.Typing.{typed_value as typed_of};
@@ -16,42 +15,15 @@ ghost use Rattle.entities.specs.inner.InPlace.{IsInPlace};
 ghost use Rattle.entities.specs.inner.FieldSuffixes.{DeclareAlikeFrom};
 ghost use Rattle.entities.specs.Typing.{typed_items as items_of_type, typed_members as members_of_type};
 
+use crate::type_parts::{Field, declared_type, element_type, record_fields};
 use crate::value_fault::ValueFault;
 use entity_uids::read_uid;
 use json_words::{only_keys, text_at};
-use plain::{Items, Text};
+use plain::{NoMemory, Text};
 use schema_types::CedarType;
 use serde_json::{Map, Value as Json};
 use std::alloc::Global;
 use values::{Decimal, IpNet, Record, TypeName, Value};
-
-/// A field of a record type: its name, its type, and whether it is required.
-type Field = (Text, CedarType, bool);
-
-/// The fields of a record type.
-type Fields = Items<Field>;
-
-// ---- types
-
-/// Returns the type of a set's members; `None` if the type is not a set type.
-fn element(ty: &CedarType) -> Option<&CedarType>
-    ensures { option_map (λ t. cedar_view t.now) result ≡ element_of (cedar_view ty.now) }
-{
-    match ty {
-        CedarType::Set(element) => Some(element),
-        _ => None,
-    }
-}
-
-/// Returns the fields of a record type; `None` if the type is not a record type.
-fn fields(ty: &CedarType) -> Option<&Fields>
-    ensures { option_map (λ fs. cedar_fields_view fs.now) result ≡ fields_in (cedar_view ty.now) }
-{
-    match ty {
-        CedarType::Record(fields) => Some(fields),
-        _ => None,
-    }
-}
 
 /// Returns the rest of `fields` from the first field whose name is not less than `name`. A caller that looks up names
 /// in ascending order need not visit the skipped fields again.
@@ -66,23 +38,11 @@ fn from_name<'t>(fields: &'t [Field], name: &str) -> &'t [Field]
     &[]
 }
 
-/// Returns the type of the field of this name, if there is one.
-fn declared<'t>(fields: &'t [Field], name: &str) -> Option<&'t CedarType>
-    ensures { option_map (λ t. cedar_view t.now) result ≡ declared_at name.now (cedar_fields_view fields.now) }
-{
-    for field in fields {
-        if field.0.as_str() == name {
-            return Some(&field.1);
-        }
-    }
-    None
-}
-
 /// Returns whether each required field is present.
-fn has_required(fields: &Fields, value: &Json) -> bool
+fn has_required(fields: &[Field], value: &Json) -> bool
     ensures { result ≡ all_there (cedar_fields_view fields.now) (view value.now) }
 {
-    for field in fields.as_slice() {
+    for field in fields {
         if field.2 && value.get(field.0.as_str()).is_none() {
             return false;
         }
@@ -292,13 +252,13 @@ fn typed_value(alloc: Global, value: &Json, ty: &CedarType) -> Result<Value, Val
         Json::Number(_) => read_leaf(alloc, value, ty),
         Json::String(_) => read_leaf(alloc, value, ty),
         Json::Array(items) => {
-            let Some(element) = element(ty) else {
+            let Some(element) = element_type(ty) else {
                 return Err(ValueFault::WrongType);
             };
             let members = typed_items(alloc, items, element)?;
             Ok(Value::set(members)?)
         }
-        Json::Object(members) => match fields(ty) {
+        Json::Object(members) => match record_fields(ty) {
             None => read_leaf(alloc, value, ty),
             Some(fields) => {
                 let record = match typed_members(alloc, members, fields) {
@@ -335,17 +295,17 @@ fn typed_items(alloc: Global, items: &Vec<Json>, ty: &CedarType) -> Result<Vec<V
 fn typed_members(
     alloc: Global,
     members: &Map<String, Json>,
-    fields: &Fields,
+    fields: &[Field],
 ) -> Result<Record, ValueFault>
     ensures { ReadsAs ValueFault.NoMemory (λ r. r) result
         (members_of_type (cedar_fields_view fields.now) (members_view members.now.entries)) }
 {
     let mut record = Record::new(alloc);
-    let mut rest = fields.as_slice();
+    let mut rest = fields;
     for (key, member) in members.iter() {
         let name = key.as_str();
         rest = from_name(rest, name);
-        let ty = match declared(rest, name) {
+        let ty = match declared_type(rest, name) {
             Some(ty) => ty,
             None => return Err(ValueFault::Undeclared),
         };
@@ -354,6 +314,26 @@ fn typed_members(
         record.insert(name, value)?;
     }
     Ok(record)
+}
+
+/// Returns whether a JSON value describes a value of this type. Parses the value, and drops what it describes.
+///
+/// # Errors
+///
+/// - `NoMemory` (1): an allocation failed.
+pub fn is_of_type(alloc: Global, value: &Json, ty: &CedarType) -> Result<bool, NoMemory>
+    ensures { IfOk result (λ yes. yes ≡ is_ok (typed_of (cedar_view ty.now) (view value.now))) }
+{
+    match typed_value(alloc, value, ty) {
+        Ok(parsed) => {
+            drop(parsed);
+            Ok(true)
+        }
+        Err(fault) => match fault {
+            ValueFault::NoMemory => Err(NoMemory),
+            _ => Ok(false),
+        },
+    }
 }
 
 /// Parses a JSON object as a record of this type, as for attributes and contexts.
@@ -371,7 +351,7 @@ fn typed_members(
 pub fn read_record(alloc: Global, value: &Json, ty: &CedarType) -> Result<Record, ValueFault>
     ensures { ReadsAs ValueFault.NoMemory (λ r. r) result (record_in (cedar_view ty.now) (view value.now)) }
 {
-    let Some(fields) = fields(ty) else {
+    let Some(fields) = record_fields(ty) else {
         return Err(ValueFault::WrongType);
     };
     let Some(members) = value.as_object() else {
