@@ -6,6 +6,5 @@ mod Once
 mod Parts
 mod RequestLaws
 mod Requests
-mod Singles
 mod Telling
 mod Unmet

@@ -4,55 +4,16 @@ ghost use Rattle.serde_json.specs.Find.{get};
 ghost use Rattle.serde_json.specs.View.{view, items_view, members_view};
 ghost use Rattle.schema_types.specs.CedarViews.{cedar_view, cedar_fields_view};
 ghost use Rattle.entities.specs.EntityForms.{or_empty};
-ghost use Rattle.entities.specs.Parts.{element_of, fields_in, declared_at};
 ghost use Rattle.value_paths.specs.inner.FoundPaths.{or_else, absent_path, value_path, item_path, member_path};
 ghost use Rattle.value_paths.specs.inner.FoundPaths.{record_path};
 
 use crate::steps::{Step, Trail, at_key, under_key};
 use crate::wholes::find_whole;
-use plain::{Items, NoMemory, Text};
+use entities::{Field, declared_type, element_type, record_fields};
+use plain::NoMemory;
 use schema_types::CedarType;
 use serde_json::{Map, Value};
 use std::alloc::Global;
-
-/// A field of a record type: its name, its type, and whether it is required.
-pub(crate) type Field = (Text, CedarType, bool);
-
-/// The fields of a record type.
-pub(crate) type Fields = Items<Field>;
-
-/// Returns the type of a set's members; `None` if the type is not a set type.
-pub(crate) fn element(ty: &CedarType) -> Option<&CedarType>
-    ensures { option_map (λ t. cedar_view t.now) result ≡ element_of (cedar_view ty.now) }
-{
-    match ty {
-        CedarType::Set(element) => Some(element),
-        _ => None,
-    }
-}
-
-/// Returns the fields of a record type; `None` if the type is not a record type.
-pub(crate) fn fields(ty: &CedarType) -> Option<&Fields>
-    ensures { option_map (λ fs. cedar_fields_view fs.now) result ≡ fields_in (cedar_view ty.now) }
-{
-    match ty {
-        CedarType::Record(fields) => Some(fields),
-        _ => None,
-    }
-}
-
-/// Returns the type of the field of this name, if there is one.
-pub(crate) fn declared<'t>(fields: &'t Fields, name: &str) -> Option<&'t CedarType>
-    ensures { option_map (λ t. cedar_view t.now) result ≡ declared_at name.now (cedar_fields_view fields.now) }
-{
-    let fields = fields.as_slice();
-    for field in fields {
-        if field.0.as_str() == name {
-            return Some(&field.1);
-        }
-    }
-    None
-}
 
 /// Returns whether `value` has no member at `key`. An absent value counts as an empty object.
 fn lacks(value: Option<&Value>, key: &str) -> bool
@@ -68,13 +29,13 @@ fn lacks(value: Option<&Value>, key: &str) -> bool
 /// as an empty object.
 fn find_absent(
     alloc: Global,
-    fields: &Fields,
+    fields: &[Field],
     value: Option<&Value>,
 ) -> Result<Option<Trail>, NoMemory>
     ensures { IfOk result (λ o. o ≡ absent_path (cedar_fields_view fields.now)
         (or_empty (option_map (λ v. view v.now) value.entry))) }
 {
-    for field in fields.as_slice() {
+    for field in fields {
         if field.2 && lacks(value, field.0.as_str()) {
             return at_key(alloc, field.0.as_str());
         }
@@ -89,11 +50,11 @@ fn find(alloc: Global, value: &Value, ty: &CedarType) -> Result<Option<Trail>, N
     ensures { IfOk result (λ o. o ≡ value_path (cedar_view ty.now) (view value.now)) }
 {
     match value {
-        Value::Array(items) => match element(ty) {
+        Value::Array(items) => match element_type(ty) {
             Some(element) => find_item(alloc, items, element),
             None => Ok(Some(Trail::here(alloc))),
         },
-        Value::Object(members) => match fields(ty) {
+        Value::Object(members) => match record_fields(ty) {
             Some(fields) => find_in_members(alloc, members, fields, value),
             None => find_whole(alloc, value, ty),
         },
@@ -126,7 +87,7 @@ fn find_item(alloc: Global, items: &Vec<Value>, ty: &CedarType) -> Result<Option
 fn find_in_members(
     alloc: Global,
     members: &Map<String, Value>,
-    fields: &Fields,
+    fields: &[Field],
     value: &Value,
 ) -> Result<Option<Trail>, NoMemory>
     ensures { IfOk result
@@ -135,7 +96,7 @@ fn find_in_members(
 {
     for (key, member) in members.iter() {
         let name = key.as_str();
-        let ty = match declared(fields, name) {
+        let ty = match declared_type(fields, name) {
             Some(ty) => ty,
             None => return at_key(alloc, name),
         };
@@ -161,7 +122,7 @@ pub(crate) fn find_in_record(
     ensures { IfOk result
         (λ o. o ≡ record_path (cedar_view ty.now) (or_empty (option_map (λ v. view v.now) found.entry))) }
 {
-    match fields(ty) {
+    match record_fields(ty) {
         Some(fields) => match found {
             Some(value) => match value.as_object() {
                 Some(members) => find_in_members(alloc, members, fields, value),

@@ -1,14 +1,13 @@
 //! The search for the part of an entity's JSON that does not have the form of an entity.
 ghost use Rattle.std.specs.Prelude.{◌≡◌, ◌∷◌, [], IfOk, Some, codes, option_map};
 ghost use Rattle.serde_json.specs.View.{view, items_view};
-ghost use Rattle.entities.specs.EntityForms.{is_absent_or_object};
 ghost use Rattle.value_paths.specs.EntityPaths.{is_uid, to_parent, parent_demands, parents_demands, form_demands};
 ghost use Rattle.value_paths.specs.EntityPaths.{first_unmet};
 ghost use Rattle.value_paths.specs.inner.FoundPaths.{or_unmet};
 
 use crate::placed::was_some;
 use crate::steps::{Step, Trail, at_key, under_key};
-use entities::read_uid;
+use entities::{is_absent_or_object, read_uid};
 use plain::NoMemory;
 use serde_json::Value;
 use std::alloc::Global;
@@ -31,16 +30,6 @@ fn is_uid(alloc: Global, found: Option<&Value>) -> Result<bool, NoMemory>
     match found {
         Some(value) => was_some(read_uid(alloc, value)),
         None => Ok(false),
-    }
-}
-
-/// Returns whether a value is absent or an object.
-pub(crate) fn is_absent_or_object(found: Option<&Value>) -> bool
-    ensures { result ≡ is_absent_or_object (option_map (λ v. view v.now) found.entry) }
-{
-    match found {
-        None => true,
-        Some(value) => value.is_object(),
     }
 }
 

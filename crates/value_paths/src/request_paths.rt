@@ -11,10 +11,12 @@ ghost use Rattle.value_paths.specs.inner.FoundNames.{named_type};
 ghost use Rattle.value_paths.specs.RequestPaths.{IsContextType};
 
 use crate::entity_paths::find_under;
-use crate::forms::{is_absent_or_object, or_unmet};
+use crate::forms::or_unmet;
 use crate::placed::{PlacedFault, fault_of, placed, was_some};
 use crate::steps::{Trail, at_key};
-use entities::{EntityFault, Environment, Schema, names_read_back, read_name, read_request};
+use entities::{
+    EntityFault, Environment, Schema, is_absent_or_object, names_read_back, read_name, read_request,
+};
 use plain::{NoMemory, both};
 use schema_types::CedarType;
 use serde_json::Value;

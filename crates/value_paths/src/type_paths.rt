@@ -3,8 +3,8 @@ ghost use Rattle.std.specs.Prelude.{◌≡◌, option_map};
 ghost use Rattle.schema_types.specs.CedarViews.{cedar_view};
 ghost use Rattle.value_paths.specs.TypePaths.{type_under, type_at};
 
-use crate::finding::{declared, element, fields};
 use crate::steps::Step;
+use entities::{declared_type, element_type, record_fields};
 use schema_types::CedarType;
 
 /// Returns the type of the part that a step leads to, if one is declared.
@@ -12,11 +12,11 @@ fn type_under<'t>(ty: &'t CedarType, step: &Step) -> Option<&'t CedarType>
     ensures { option_map (λ t. cedar_view t.now) result ≡ type_under (cedar_view ty.now) step.now }
 {
     match step {
-        Step::Key(key) => match fields(ty) {
-            Some(fields) => declared(fields, key.as_str()),
+        Step::Key(key) => match record_fields(ty) {
+            Some(fields) => declared_type(fields, key.as_str()),
             None => None,
         },
-        Step::Index(_) => element(ty),
+        Step::Index(_) => element_type(ty),
     }
 }
 

@@ -89,14 +89,14 @@ find_item-loop-index-preserved t c =
 pub find_item-returns : goal.find_item-returns
 find_item-returns t c = items_done (cedar_view c.args.ty.now) c.deref-item-items.result.now c.loop-index.index _ c.loop-index-test.false c.loop-index.invariant
 
-pub find_in_members-returns-in-None-declared : goal.find_in_members-returns-in-None-declared
-find_in_members-returns-in-None-declared t c =
+pub find_in_members-returns-in-None-declared_type : goal.find_in_members-returns-in-None-declared_type
+find_in_members-returns-in-None-declared_type t c =
     let fs = cedar_fields_view c.args.fields.now in
     let here = c.loop-key.invariant ∙ ap (λ (es : Entries). member_path fs (members_view es)) c.in-Some.ensures.steps in
     subst (λ (x : Option (List Step)). IfOk c.at_key.result (λ o. o ≡ x))
     (in_member fs (view c.args.value.now) (some_key c.as_str-name.result.now []) _
     (ap (λ (k : List ℕ). some_key k []) c.as_str-name.ensures.value
-    ∙ member_unknown fs c.in-Some.key.now c.in-Some.member.now c.next.new.self _ (c.in-None-declared.ensures ∙ ap (λ (k : List ℕ). declared_at k fs) c.as_str-name.ensures.value) here))
+    ∙ member_unknown fs c.in-Some.key.now c.in-Some.member.now c.next.new.self _ (c.in-None-declared_type.ensures ∙ ap (λ (k : List ℕ). declared_at k fs) c.as_str-name.ensures.value) here))
     c.at_key.ensures
 
 pub find_in_members-returns-in-Some-found : goal.find_in_members-returns-in-Some-found
@@ -106,16 +106,16 @@ find_in_members-returns-in-Some-found t c =
     subst (λ (x : Option (List Step)). IfOk c.under_key.result (λ o. o ≡ x))
     (in_member fs (view c.args.value.now) (some_key c.as_str-name.result.now c.in-Some-found.trail) _
     (ap (λ (k : List ℕ). some_key k c.in-Some-found.trail) c.as_str-name.ensures.value
-    ∙ member_stops fs c.in-Some.key.now c.in-Some.member.now c.next.new.self (cedar_view c.in-Some-declared.ty.now) c.in-Some-found.trail _
-    (c.in-Some-declared.ensures ∙ ap (λ (k : List ℕ). declared_at k fs) c.as_str-name.ensures.value) (sym c.in-Some-found.is ∙ c.in-Ok.ensures) here))
+    ∙ member_stops fs c.in-Some.key.now c.in-Some.member.now c.next.new.self (cedar_view c.in-Some-declared_type.ty.now) c.in-Some-found.trail _
+    (c.in-Some-declared_type.ensures ∙ ap (λ (k : List ℕ). declared_at k fs) c.as_str-name.ensures.value) (sym c.in-Some-found.is ∙ c.in-Ok.ensures) here))
     c.under_key.ensures
 
 pub find_in_members-loop-key-preserved : goal.find_in_members-loop-key-preserved
 find_in_members-loop-key-preserved t c =
     let fs = cedar_fields_view c.args.fields.now in
     let here = c.loop-key.invariant ∙ ap (λ (es : Entries). member_path fs (members_view es)) c.in-Some.ensures.steps in
-    member_goes fs c.in-Some.key.now c.in-Some.member.now c.next.new.self (cedar_view c.in-Some-declared.ty.now) _
-    (c.in-Some-declared.ensures ∙ ap (λ (k : List ℕ). declared_at k fs) c.as_str-name.ensures.value) (sym c.in-None-found.is ∙ c.in-Ok.ensures) here
+    member_goes fs c.in-Some.key.now c.in-Some.member.now c.next.new.self (cedar_view c.in-Some-declared_type.ty.now) _
+    (c.in-Some-declared_type.ensures ∙ ap (λ (k : List ℕ). declared_at k fs) c.as_str-name.ensures.value) (sym c.in-None-found.is ∙ c.in-Ok.ensures) here
 
 pub find_in_members-returns : goal.find_in_members-returns
 find_in_members-returns t c =

@@ -39,9 +39,8 @@ returns-then-lacks c =
     let xs = c.args.fields.now in
     let i = c.loop-field.field-index in
     let f = c.field-item.result in
-    let same = c.as_slice-field-items.ensures in
-    let lt : i < length xs = subst (λ (ys : Row). i < length ys) same c.loop-field-test.true in
-    let at : f ≡ get_or xs i f = c.field-item.is ∙ ap (λ (ys : Row). get_or ys i f) same in
+    let lt : i < length xs = c.loop-field-test.true in
+    let at : f ≡ get_or xs i f = c.field-item.is in
     let lacking : c.lacks.result ≡ not (is_some (get f.0 d)) = c.lacks.ensures ∙ ap (λ (k : List ℕ). not (is_some (get k d))) c.as_str.ensures in
     let there : false ≡ (not f.2 || is_some (get f.0 d)) = sym (ap not c.if-lacks.true) ∙ by_lack c.lacks.result (is_some (get f.0 d)) f.2 lacking c.if-field.true in
     subst (λ (x : Option (List Step)). IfOk c.at_key.result (λ o. o ≡ x))
@@ -55,9 +54,8 @@ loop-field-preserved c =
     let xs = c.args.fields.now in
     let i = c.loop-field.field-index in
     let f = c.field-item.result in
-    let same = c.as_slice-field-items.ensures in
-    let lt : i < length xs = subst (λ (ys : Row). i < length ys) same c.loop-field-test.true in
-    let at : f ≡ get_or xs i f = c.field-item.is ∙ ap (λ (ys : Row). get_or ys i f) same in
+    let lt : i < length xs = c.loop-field-test.true in
+    let at : f ≡ get_or xs i f = c.field-item.is in
     let there : true ≡ (not f.2 || is_some (get f.0 d)) =
     elim c.else-field.branch [
       | else-field-via-then-field+else-lacks w ↦
@@ -70,5 +68,5 @@ pub returns : goal.returns
 returns c =
     let d = or_empty (option_map (λ v. view v.now) c.args.value) in
     let n = c.loop-field.field-index in
-    let le : length c.args.fields.now ≤ n = subst (λ (ys : Row). length ys ≤ n) c.as_slice-field-items.ensures c.loop-field-test.false in
+    let le : length c.args.fields.now ≤ n = c.loop-field-test.false in
     rest_done (λ (ys : Row). absent_path (cedar_fields_view ys) d) c.args.fields.now n _ le c.loop-field.invariant
