@@ -32,11 +32,11 @@ use Rattle.grammar_trees.specs.grammar_tokens.Grammar.{identifiers, path, uid}
 
 -- ## Tokens whose meaning depends only on their kind
 
--- `symbol meaning`: one token whose kind has a meaning by `meaning`; the value of the production is that meaning
+-- `symbol meaning`: one token whose kind `meaning` maps to a value, which is the value of the production
 abbrev pub symbol : {A : Type 0} → (TokenKind → Option A) → Lang A
 symbol meaning ts a = (t : Token) × (ts ≡ t ∷ []) × (meaning t.kind ≡ Some a)
 
--- `known meaning` are the kinds that have a meaning by `meaning`.
+-- `known meaning` are the kinds that `meaning` maps to a value.
 abbrev pub known : {A : Type 0} → (TokenKind → Option A) → Kinds
 known meaning kind = is_some (meaning kind)
 
@@ -71,8 +71,7 @@ comparison_of k.NotEqual = Some comparison.NotEqual
 comparison_of k.In = Some comparison.In
 comparison_of _ = None
 
--- `booleans`, `signs` and `comparisons` are the kinds that have a meaning by `boolean_of`, `sign_of` and
--- `comparison_of`.
+-- `booleans`, `signs` and `comparisons` are the kinds that `boolean_of`, `sign_of` and `comparison_of` map to a value.
 abbrev pub booleans : Kinds
 booleans = known boolean_of
 

@@ -96,7 +96,7 @@ pub(crate) fn answer(
 
 // ---- with a log: `line` gets method and target before the site is called, and all else once `text` has the reply
 
-/// Returns the status (404 or 405) of the reply to a request whose route is not an operation; `None` for an operation.
+/// Returns the status (404 or 405) of the reply to a request that asks for no operation; `None` for an operation.
 fn unserved_status(route: &Route) -> Option<StatusCode>
     ensures { result ≡ unserved_status route.now }
 {
@@ -116,8 +116,8 @@ fn unserved_status(route: &Route) -> Option<StatusCode>
     }
 }
 
-/// Reports that an allocation failed before the site made a step; for a route that is not an operation, reports its own
-/// status (404 or 405) instead.
+/// Reports that an allocation failed before the site made a step; for a request that asks for no operation, reports
+/// 404 or 405 instead.
 fn report_no_memory(route: &Route, text: &mut Vec<u8>) -> StatusCode
     requires room { vec_len text.old + REPLY_ROOM ≤ vec_capacity text.old }
     ensures reply { IsUndoneReply route.now result text.old.items text.new.items }
@@ -242,9 +242,9 @@ fn answer_logged(
     }
 }
 
-/// Gives a reply that [`answer`] may give, and puts the request's log line into `line`. If an allocation fails for the
-/// route, or for the beginning of the log line (method and target), the site makes no step, and method and target are
-/// null in the log line.
+/// Answers a request within the contract of [`answer`], and puts its log line into `line`. If an allocation fails for
+/// the route, or for the beginning of the log line (method and target), the site makes no step, and method and target
+/// are null in the log line.
 pub(crate) fn answer_with_line(
     alloc: Global,
     scratch: &mut Scratch,

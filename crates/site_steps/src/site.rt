@@ -193,13 +193,14 @@ impl Site {
         Ok(answered?)
     }
 
-    /// Rebuilds the index and the ancestor cache if absent and if there is memory; the ancestor cache only if it would
-    /// not be too large. No entry changes. Each applied put, deletion or message rebuilds them in the same way.
+    /// Rebuilds the index if it is absent, and the ancestor cache if it is absent and would not be too large. Either
+    /// stays absent if an allocation for it fails. No entry changes. Each applied put, deletion or message does the
+    /// same.
     ///
     /// If the last build of the ancestor cache found too many ancestors, the cache stays absent during many further
     /// updates of entities (`RebuildRule` of site_store counts them).
     ///
-    /// Call this on a site that is queried before anything is put into it: a new site has no ancestor cache.
+    /// A new site has no ancestor cache: call this if queries come before the first put or message.
     pub fn rebuild(&mut self)
         ensures { self.new ≡ self.old }
     {

@@ -203,7 +203,7 @@ impl<P: Drop, E: Drop> StampedStore<P, E> {
     }
 }
 
-// The steps of the store's methods.
+// Helpers of the store's methods.
 
 // Joins an entry at a key, and returns the greater of `greatest` and the entry's count. If an allocation fails, returns
 // the key and the entry.

@@ -22,7 +22,7 @@ pub struct Span {
     pub end: usize,
 }
 
-/// Returns the span from the first of the tokens `written` to the last; `None` if there are none.
+/// Returns the span from the first of the tokens `written` to the last; `None` if `written` is empty.
 fn covering(written: Option<&[Token]>) -> Option<Span>
     ensures { result ≡ option_and_then spec.covering (option_map (λ ts. ts.now) written.entry) }
 {

@@ -95,7 +95,7 @@ fn is_false_everywhere(
 /// expression is typed in each environment, in ascending order of action, principal type and resource type. The first
 /// error is returned:
 ///
-/// - `UnknownType` (40), `UnknownAction` (41): a name, even one in an operand that is never evaluated, is not declared.
+/// - `UnknownType` (40), `UnknownAction` (41): a name, even one in an operand that is not typed, is not declared.
 /// - `Unexpected` (42), `NoCommonType` (43), `AttributeMayBeMissing` (44), `EmptySet` (45), `BadExtensionLiteral`
 ///   (46): the first error of typing, in the order of evaluation, in the first environment that has one.
 /// - `NoMemory` (1): an allocation failed, or a count of references would overflow; possible at any point.
