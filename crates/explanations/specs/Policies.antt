@@ -1,10 +1,9 @@
 -- Defines the explanation of the policies of a file that do not pass validation.
 -- Rules of this product: each policy that `check` reports as rejected is explained, in the order of the file, once,
 -- with the code that `check` reports, and no other policy is. A policy of at most 10,000 bytes, whose condition has at
--- most 10,000 nodes, is explained with the cause and the details (the first environment with an error and the types
--- there, or for an attribute or an action the declared ones), at the name or the expression at fault; a larger one
--- without a cause, at the whole policy. A note says so if the whole policy is shown. Without a schema no policy is
--- rejected.
+-- most 10,000 nodes, is explained with the cause and the details that fault_paths gives, at the name or the expression
+-- at fault; a larger one without a cause, at the whole policy. A note says so if the whole policy is shown. Without a
+-- schema no policy is rejected.
 use Rattle.std.specs.Prelude.{◌≡◌, ℕ, ◌+◌, ◌-◌, min, nat_le, Bool, true, false, ◌&&◌, List, [], ◌∷◌, ◌++◌, length}
 use Rattle.std.specs.Prelude.{Option, Some, None}
 use Rattle.std.specs.Prelude.{string_bytes, codes}

@@ -72,9 +72,9 @@ impl StoredWorld<'_, '_> {
         is_in_order(self.store);
         candidates_suffice();
         // 0: memoizes no ancestors of entities other than the request's; the ancestor cache, if present, has them
-        let mut known = PreparedRequest::of(self.alloc, self, request, 0)?;
-        let policies = self.policies_for(request, &known, scan_count)?;
+        let mut prepared = PreparedRequest::of(self.alloc, self, request, 0)?;
+        let policies = self.policies_for(request, &prepared, scan_count)?;
         scan_count.begin(policies.len());
-        decide_prepared(self.alloc, &policies, &mut known)
+        decide_prepared(self.alloc, &policies, &mut prepared)
     }
 }

@@ -19,8 +19,8 @@ returns c =
     let lent = ap named c.deref.ensures.value in
     let in_order = subst (λ (x : StoreView). updates (abstract_store x.kept) ≡ abstract_updates x.kept) c.self.view_is c.is_in_order.ensures in
     let among = subst (λ (k : StoreView × Request). AreCandidates (world_stored k.0).parents c.args.request.now (policies_read s.kept.policies) ps)
-    c.in_ok-known.ensures (subst (λ (xs : List NamedPolicy). AreCandidates (world_stored c.in_ok-known.known.0).parents c.args.request.now (policies_read s.kept.policies) xs) (sym lent) c.in_ok-policies.ensures.candidates) in
+    c.in_ok-prepared.ensures (subst (λ (xs : List NamedPolicy). AreCandidates (world_stored c.in_ok-prepared.prepared.0).parents c.args.request.now (policies_read s.kept.policies) xs) (sym lent) c.in_ok-policies.ensures.candidates) in
     let rise = subst (λ (xs : List NamedPolicy). Ascend xs) (sym lent) c.in_ok-policies.ensures.ascending in
     over_candidates c.decide_prepared.result (world_stored s) (reaches (world_stored s).parents (uids_stored s)) (stored_decides s)
     c.candidates_suffice.ensures c.args.request.now s.kept ps in_order among rise
-    (subst (λ (k : StoreView × Request). IfOk c.decide_prepared.result (IsAnswer (world_stored k.0) k.1 ps)) c.in_ok-known.ensures c.decide_prepared.ensures)
+    (subst (λ (k : StoreView × Request). IfOk c.decide_prepared.result (IsAnswer (world_stored k.0) k.1 ps)) c.in_ok-prepared.ensures c.decide_prepared.ensures)
