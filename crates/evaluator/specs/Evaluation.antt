@@ -53,8 +53,8 @@ pub data HasOperands : Expr → List Expr → Type 0 where
   of_unary_call : (called : UnaryCall) (a : Expr) → HasOperands (form.UnaryCall called a) (a ∷ [])
   of_binary_call : (called : BinaryCall) (a b : Expr) → HasOperands (form.BinaryCall called a b) (a ∷ b ∷ [])
 
--- `put_each xs vs done` are the fields `done` after each name of `xs` in turn gets the value at its index in `vs`, as
--- far as both lists go.
+-- `put_each xs vs done` is `done` with each name of `xs` in turn set to the value at the same index in `vs`, as far as
+-- both lists go.
 abbrev pub put_each : List (Named Expr) → List PlainValue → List Field → List Field
 put_each (x ∷ xs) (v ∷ vs) done = put_each xs vs (put x.name v done)
 put_each xs vs done = done

@@ -109,9 +109,9 @@ variable_by None = refuse
 unfoldable pub alone : PathTree → Parser ExprTree
 alone p = variable_by (variable_at p.first p.more)
 
--- In this module `may` is whether one more level of nesting may be opened, and `inner` parses an expression of that
--- level.
-module _ (may : Bool) (inner : Parser ExprTree) where
+-- In this module `may_nest` is whether one more level of nesting may be opened, and `inner` parses an expression of
+-- that level.
+module _ (may_nest : Bool) (inner : Parser ExprTree) where
   -- ---- lists
 
   -- `next_argument` parses "," and an expression.
@@ -164,7 +164,7 @@ module _ (may : Bool) (inner : Parser ExprTree) where
   -- `call_or_variable p` parses the arguments of a call of the Path `p` if "(" comes next, which needs one more level
   -- of nesting; else `p` must name a variable.
   unfoldable pub call_or_variable : PathTree → Parser ExprTree
-  call_or_variable p = either (only k.LParen) (gate may (call_of p)) (alone p)
+  call_or_variable p = either (only k.LParen) (gate may_nest (call_of p)) (alone p)
 
   -- `named_as n` parses what follows the name `n`: nothing after a Uid, maybe arguments after a Path.
   abbrev pub named_as : PathOrUid → Parser ExprTree
@@ -211,7 +211,7 @@ module _ (may : Bool) (inner : Parser ExprTree) where
 
   -- `primary` parses a Primary of the grammar; a bracket needs one more level of nesting.
   unfoldable pub primary : Parser ExprTree
-  primary = either identifiers named (either openers (gate may nested) literal)
+  primary = either identifiers named (either openers (gate may_nest nested) literal)
 
   -- ---- accesses
 
@@ -222,7 +222,7 @@ module _ (may : Bool) (inner : Parser ExprTree) where
   -- `maybe_called` parses the arguments of a method if "(" comes next, which needs one more level of nesting; else
   -- nothing.
   unfoldable pub maybe_called : Parser (Option (List ExprTree))
-  maybe_called = either (only k.LParen) (gate may call_arguments) (pure None)
+  maybe_called = either (only k.LParen) (gate may_nest call_arguments) (pure None)
 
   -- `dotted` parses ".", an identifier and maybe arguments.
   unfoldable pub dotted : Parser (Access (List ExprTree))
@@ -403,7 +403,7 @@ module _ (may : Bool) (inner : Parser ExprTree) where
 
   -- `level` parses an expression; a conditional needs one more level of nesting.
   unfoldable pub level : Parser ExprTree
-  level = either (only k.If) (gate may conditional) disjunction
+  level = either (only k.If) (gate may_nest conditional) disjunction
 
 -- `expr levels` parses an expression of at most `levels` levels of nesting, its own included.
 unfoldable pub expr : ℕ → Parser ExprTree

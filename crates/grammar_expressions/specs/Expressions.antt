@@ -32,7 +32,7 @@ use Rattle.grammar_trees.specs.grammar_tokens.Grammar.{identifiers, path, uid}
 
 -- ## Tokens whose meaning depends only on their kind
 
--- `symbol meaning`: one token whose kind `meaning` maps to a value, which is the value of the production
+-- `symbol meaning`: one token; `meaning` maps its kind to the value of the production
 abbrev pub symbol : {A : Type 0} → (TokenKind → Option A) → Lang A
 symbol meaning ts a = (t : Token) × (ts ≡ t ∷ []) × (meaning t.kind ≡ Some a)
 

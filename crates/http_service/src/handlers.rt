@@ -242,9 +242,9 @@ fn answer_logged(
     }
 }
 
-/// Answers a request within the contract of [`answer`], and puts its log line into `line`. If an allocation fails for
-/// the route, or for the beginning of the log line (method and target), the site makes no step, and method and target
-/// are null in the log line.
+/// Answers a request like [`answer`], and puts its log line into `line`. If an allocation fails for the route, or for
+/// the beginning of the log line (method and target), the site makes no step, and method and target are null in the log
+/// line.
 pub(crate) fn answer_with_line(
     alloc: Global,
     scratch: &mut Scratch,

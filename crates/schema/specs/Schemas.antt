@@ -177,7 +177,7 @@ pub record HasContent (bytes : List ℕ) (ns : List NamespaceOf) : Type 0 where
   pub states : DescribesNamespaces value ns
 
 -- `HasDeclarations bytes s` holds if `bytes` are a schema file, `s` are its declarations with their names resolved, and
--- no shape or context is, directly or by name, a type other than a record.
+-- no shape or context is, or leads by name to, a type other than a record.
 pub record HasDeclarations (bytes : List ℕ) (s : ResolvedSchema) : Type 0 where
   pub namespaces : List NamespaceOf
   pub content : HasContent bytes namespaces

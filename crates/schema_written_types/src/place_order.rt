@@ -1,6 +1,6 @@
 //! An order of a graph's nodes in which each node comes after its successors, except those that lead back to it.
 ghost use Rattle.std.specs.Prelude.{◌≡◌, ◌∷◌, ◌<◌, [], true, false, length, replicate, slice_set, IfOk, OnOk};
-ghost use Rattle.schema_written_types.specs.Orders.{graph_of, successors_of as ends_at, IsSuccessorsFirst};
+ghost use Rattle.schema_written_types.specs.Orders.{graph_of, successors_of as successors_at, IsSuccessorsFirst};
 ghost use Rattle.schema_written_types.specs.inner.Ordering.{is_new, entered, IsWalk, WalksOn, KeepsSeen, one_if_seen};
 
 use plain::NoMemory;
@@ -17,7 +17,7 @@ pub(crate) struct Step {
 
 /// Returns the successors of a node; an empty slice if `place` is not a node.
 fn successors_of(edges: &[Vec<usize>], place: usize) -> &[usize]
-    ensures { result.now ≡ ends_at (graph_of edges.now) place }
+    ensures { result.now ≡ successors_at (graph_of edges.now) place }
 {
     if place < edges.len() {
         &edges[place]

@@ -193,9 +193,8 @@ impl Site {
         Ok(answered?)
     }
 
-    /// Rebuilds the index if it is absent, and the ancestor cache if it is absent and would not be too large. Either
-    /// stays absent if an allocation for it fails. No entry changes. Each applied put, deletion or message does the
-    /// same.
+    /// Rebuilds the index if it is absent, and the ancestor cache if it is absent and would not be too large, as each
+    /// applied put, deletion or message does. Either stays absent if an allocation for it fails. No entry changes.
     ///
     /// If the last build of the ancestor cache found too many ancestors, the cache stays absent during many further
     /// updates of entities (`RebuildRule` of site_store counts them).
