@@ -1,9 +1,9 @@
 -- The form of an entity: the first demand that is not met is why it has none.
-use Rattle.std.proofs.Common.{◌≡◌, ◌∙◌, ℕ, suc, ◌+◌, List, [], ◌∷◌, Bool, true, false, Option, Some, None, Result, Ok, Err, refl, sym, ap, subst, codes}
+use Rattle.std.proofs.Common.{◌≡◌, ◌∙◌, ℕ, suc, ◌+◌, List, [], ◌∷◌, Bool, true, false, Option, Some, None, Result, Ok, Err, refl, ap, subst, codes}
 use Rattle.std.specs.Prelude.{⊤, ◌&&◌, is_some, option_and_then}
 use Rattle.serde_json.specs.Data.{Data, Items, no_items, item, Members}
 use Rattle.serde_json.specs.Data as json
-use Rattle.serde_json.specs.Find.{get, as_array, as_object}
+use Rattle.serde_json.specs.Find.{get, as_array}
 use Rattle.json_words.specs.ReadsAs.{◌>>=◌, or_fault, demand}
 use Rattle.json_words.specs.Each.{each, list_of}
 use Rattle.json_words.proofs.EachLemmas.{bind_ok}
@@ -15,7 +15,7 @@ use Rattle.entities.specs.declared.fault.EntityFault.TheVariants.{BadShape}
 use Rattle.entities.specs.declared.stated.StatedEntity.{StatedEntity}
 use Rattle.entities.specs.EntityForms.{is_absent_or_object, stated_uid, uids_of, stated_parents, has_objects, stated_in}
 use Rattle.value_paths.specs.declared.steps.Step.{Step}
-use Rattle.value_paths.specs.EntityPaths.{to_key, first_unmet, is_uid, is_absent_or_array, items_at, parent_demands, parents_demands, form_demands}
+use Rattle.value_paths.specs.EntityPaths.{to_key, first_unmet, is_uid, items_at, parent_demands, parents_demands, form_demands}
 
 -- a path where there is no form, and none where there is one
 abbrev pub HasForm : {A : Type 0} → Result A EntityFault → Option (List Step) → Type 0

@@ -4,7 +4,7 @@ use Rattle.serde_json.specs.Data.{Data}
 use Rattle.serde_json.specs.Find.{get, as_object}
 use Rattle.values.specs.declared.entity_uid.EntityUid.{EntityUid}
 use Rattle.schema_types.specs.Cedar.{Cedar}
-use Rattle.entities.specs.entity_uids.Uids.{NamesEntity, IsRead}
+use Rattle.entities.specs.entity_uids.Uids.{NamesEntity}
 use Rattle.entities.specs.Typing.{with_or}
 use Rattle.entities.specs.schema.Schemas.{StatedSchema}
 use Rattle.entities.specs.declared.fault.EntityFault.{EntityFault}

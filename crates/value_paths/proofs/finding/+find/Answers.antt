@@ -55,16 +55,16 @@ pub find-returns-in-None : goal.find-returns-in-None
 find-returns-in-None t c =
     ap (λ (p : List Step). Some p) c.here.ensures ∙ array_at (cedar_view c.args.ty.now) c.args.value.now c.in-Array.items None c.in-Array.is c.in-None.ensures
 
-pub find-returns-in-Some-fields : goal.find-returns-in-Some-fields
-find-returns-in-Some-fields t c =
+pub find-returns-in-Some-record_fields : goal.find-returns-in-Some-record_fields
+find-returns-in-Some-record_fields t c =
     subst (λ (x : Option (List Step)). IfOk c.find_in_members.result (λ o. o ≡ x))
-    (object_at (cedar_view c.args.ty.now) c.args.value.now c.in-Object.members (Some (cedar_fields_view c.in-Some-fields.fields.now)) c.in-Object.is c.in-Some-fields.ensures)
+    (object_at (cedar_view c.args.ty.now) c.args.value.now c.in-Object.members (Some (cedar_fields_view c.in-Some-record_fields.fields.now)) c.in-Object.is c.in-Some-record_fields.ensures)
     c.find_in_members.ensures
 
-pub find-returns-in-None-fields : goal.find-returns-in-None-fields
-find-returns-in-None-fields t c =
+pub find-returns-in-None-record_fields : goal.find-returns-in-None-record_fields
+find-returns-in-None-record_fields t c =
     subst (λ (x : Option (List Step)). IfOk c.find_whole.result (λ o. o ≡ x))
-    (object_at (cedar_view c.args.ty.now) c.args.value.now c.in-Object.members None c.in-Object.is c.in-None-fields.ensures) c.find_whole.ensures
+    (object_at (cedar_view c.args.ty.now) c.args.value.now c.in-Object.members None c.in-Object.is c.in-None-record_fields.ensures) c.find_whole.ensures
 
 pub find-returns-in_default : goal.find-returns-in_default
 find-returns-in_default t c =

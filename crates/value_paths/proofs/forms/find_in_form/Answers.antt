@@ -1,7 +1,7 @@
 use Rattle.std.proofs.Common.{◌≡◌, ◌∙◌, List, true, Option, Some, None, IfOk, option_map, sym, ap, subst}
 use Rattle.std.specs.Prelude.{is_some}
 use Rattle.serde_json.specs.Data.{Data}
-use Rattle.serde_json.specs.Find.{get, as_object}
+use Rattle.serde_json.specs.Find.{as_object}
 use Rattle.serde_json.specs.View.{view}
 use Rattle.entities.specs.EntityForms.{is_absent_or_object}
 use Rattle.value_paths.specs.declared.steps.Step.{Step}

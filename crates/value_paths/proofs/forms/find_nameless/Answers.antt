@@ -1,4 +1,4 @@
-use Rattle.std.proofs.Common.{◌≡◌, ◌∙◌, List, Option, Bool, true, false, IfOk, sym, subst}
+use Rattle.std.proofs.Common.{◌≡◌, ◌∙◌, List, Option, true, false, IfOk, sym, subst}
 use Rattle.std.specs.Prelude.{is_some}
 use Rattle.serde_json.specs.View.{view}
 use Rattle.entities.specs.entity_uids.Uids.{uid_in}

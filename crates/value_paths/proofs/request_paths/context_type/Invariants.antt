@@ -1,5 +1,5 @@
 use Rattle.std.proofs.Common.{◌≡◌, drop, map}
-use Rattle.entities.specs.schema.Views.{schema_view, environment_view}
+use Rattle.entities.specs.schema.Views.{environment_view}
 use Rattle.entities.specs.Contexts.{context_where, is_place}
 use Rattle.value_paths.proofs.request_paths.context_type.Given as goal
 
