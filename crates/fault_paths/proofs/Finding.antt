@@ -1,5 +1,5 @@
 -- What is found of one expression.
-use Rattle.std.specs.Prelude.{◌≡◌, ◌≢◌, ℕ, [], ◌++◌, List, Some, None, refl}
+use Rattle.std.specs.Prelude.{◌≡◌, ◌≢◌, [], ◌++◌, List, refl}
 use Rattle.std.proofs.Common.{sym, ap, ◌∙◌, subst}
 use Rattle.std.proofs.lemmas.List.{map-append}
 use Rattle.grammar_core.specs.declared.expr.Expr.{Expr}
@@ -18,10 +18,7 @@ use Rattle.type_checker.specs.type_capabilities.declared.capability.Capability.{
 use Rattle.type_checker.specs.declared.typed.Typed.{Typed}
 use Rattle.type_checker.specs.declared.fault.ExpressionFault as at_hand
 use Rattle.type_checker.specs.declared.fault.ExpressionFault.TheVariants as fault
-use Rattle.typing.specs.BlamedExpressions.{blamed}
-use Rattle.fault_paths.specs.Views.{place_view}
-use Rattle.fault_paths.specs.declared.blaming.TypeBlame.{TypeBlame}
-use Rattle.fault_paths.specs.inner.Judging.{IsFault, IsFaultyIn, IsBlamedAt}
+use Rattle.fault_paths.specs.inner.Judging.{IsFault}
 
 module _ (env : Environment) (x : Expr) where
   abbrev TypedBehind : List Capability → Typed → Type 0
@@ -39,20 +36,13 @@ module _ (env : Environment) (x : Expr) where
   told_as fault.BadExtensionLiteral n = refl
 
   -- it has a type where nothing is known, or this fault
-  pub typed_there : (ps : List Capability) (t : Typed) → ps ≡ [] → TypedBehind ps t → IsFaultyIn env x None
+  pub typed_there : (ps : List Capability) (t : Typed) → ps ≡ [] → TypedBehind ps t → (s : types.StaticType) × HasType x s env
   typed_there ps t e h = (static_view t.kind, (capabilities t.gains.items, subst (λ qs. TypedBehind qs t) e h))
 
   pub faulty_there : (ps : List Capability) (f : at_hand.ExpressionFault) (g : TypeFault) → ps ≡ [] → f ≢ fault.NoMemory
-      → g ≡ of_types f → FaultyBehind ps f → IsFaultyIn env x (Some g)
+      → g ≡ of_types f → FaultyBehind ps f → IsFault env x g
   faulty_there ps f g e n told h =
       (fault_view f, told ∙ told_as f n, subst (λ qs. Faults env (capabilities qs) x (fault_view f)) e (h n))
-
-pub blamed_so : (env other : Environment) (x : Expr) (i : ℕ) (b : TypeBlame) → env ≡ other → b.environment ≡ i
-    → IsFault env x b.fault → ((n : ExpressionFault) (h : Faults env [] x n) → blamed h ≡ place_view b.place) → IsBlamedAt other i x b
-blamed_so env other x i b e at f h = subst (λ E. IsBlamedAt E i x b) e (at, f, h)
-
-pub typed_so : (env other : Environment) (x : Expr) → env ≡ other → IsFaultyIn env x None → (t : types.StaticType) × HasType x t other
-typed_so env other x e h = subst (λ E. IsFaultyIn E x None) e h
 
 pub pairs_append : (ps qs rs : List Capability) → rs ≡ ps ++ qs → capabilities rs ≡ capabilities ps ++ capabilities qs
 pairs_append ps qs rs e = ap capabilities e ∙ map-append capability_of ps qs

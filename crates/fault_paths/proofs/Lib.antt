@@ -4,8 +4,8 @@
 --   Naming, OneName
 --                the first name that is not declared
 --   Appending    bytes after others
---   Listing      the words for one type more
---   NameLists    one name more, of declared ones
+--   Listing      the words for types
+--   NameLists    lists of words, one item after the other, and of the attributes of a type
 --   Reading      the attribute that a form reads, and whether it is declared
 mod Appending
 mod Declared

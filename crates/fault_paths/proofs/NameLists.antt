@@ -7,11 +7,21 @@ use Rattle.std.specs.Borrow.{Bor}
 use Rattle.schema_types.specs.declared.cedar.CedarType.{CedarType}
 use Rattle.schema_types.specs.CedarViews.{cedar_fields_view}
 use Rattle.type_checker.specs.FromSchemas.{static_fields}
-use Rattle.type_checker.specs.Views.{static_view, built_fields}
+use Rattle.type_checker.specs.Views.{leaf_view, static_view, static_step, built_fields}
+use Rattle.type_checker.specs.declared.static_type.BooleanType.TheVariants as truth
+use Rattle.type_checker.specs.declared.static_type.Leaf.{Leaf}
+use Rattle.type_checker.specs.declared.static_type.Leaf.TheVariants as leaf
+use Rattle.type_checker.specs.declared.static_type.StaticType.TheOpen.{StaticType-F}
+use Rattle.type_checker.specs.declared.static_type.StaticType.TheVariants as variant
+use Rattle.type_checker.specs.declared.static_type.StaticType.TheViews as shown
+use Rattle.type_checker.specs.declared.static_type.StaticType.TheViews.{out-StaticType, roll-StaticType, roll-out-StaticType}
+use Rattle.type_checker.specs.declared.static_type.StaticType.TheFolds.{fold-roll-StaticType}
 use Rattle.type_checker.specs.declared.static_type.StaticType.{StaticType}
+use Rattle.validator.specs.typing.Types as types
 use Rattle.validator.specs.typing.Types.{FieldTypes}
-use Rattle.fault_paths.specs.Words.{field_names, more_names, names_or}
+use Rattle.fault_paths.specs.Words.{field_names, fields_of, more_names, names_or}
 use Rattle.fault_paths.proofs.Appending.{in_turn}
+use Rattle.fault_paths.proofs.Listing.{leaf_is, declared_is, built_is}
 
 -- what precedes a name after these
 abbrev pub separator_in : List ℕ → List (List ℕ) → List ℕ
@@ -78,22 +88,70 @@ named_to_end {X} name empty before xs i b old new e is past so =
 abbrev pub Declared : Type 0
 Declared = List ℕ × CedarType × Bool
 
-abbrev pub declared_name : Declared → List ℕ
+abbrev declared_name : Declared → List ℕ
 declared_name f = f.0
 
-pub declared_names : (fs : List Declared) → map declared_name fs ≡ field_names (static_fields (cedar_fields_view fs))
+declared_names : (fs : List Declared) → map declared_name fs ≡ field_names (static_fields (cedar_fields_view fs))
 declared_names [] = refl
 declared_names (f ∷ fs) = ap (λ ns. f.0 ∷ ns) (declared_names fs)
 
 abbrev pub Built : Type 0
 Built = Bor (List ℕ) × StaticType × Bool
 
-abbrev pub built_name : Built → List ℕ
+abbrev built_name : Built → List ℕ
 built_name f = f.0.now
 
-abbrev pub built_view : List Built → FieldTypes
+abbrev built_view : List Built → FieldTypes
 built_view fs = built_fields (map (λ f. (f.0, static_view f.1, f.2)) fs)
 
-pub built_names : (fs : List Built) → map built_name fs ≡ field_names (built_view fs)
+built_names : (fs : List Built) → map built_name fs ≡ field_names (built_view fs)
 built_names [] = refl
 built_names (f ∷ fs) = ap (λ ns. f.0.now ∷ ns) (built_names fs)
+
+-- the names of a type's attributes, by its outermost layer
+module _ (attributes : List ℕ → FieldTypes) (t : StaticType) where
+  abbrev names_of : types.StaticType → List (List ℕ)
+  names_of s = field_names (fields_of attributes s)
+
+  pub entity_names : (l : Leaf) (n : Bor (List ℕ)) (fs : List Declared) → t ≡ variant.Leaf l → l ≡ leaf.Entity n
+      → static_fields (cedar_fields_view fs) ≡ attributes n.now → map declared_name fs ≡ names_of (static_view t)
+  entity_names l n fs e f h =
+      declared_names fs ∙ ap field_names h ∙ sym (ap names_of (leaf_is t l e) ∙ ap (λ k. names_of (leaf_view k)) f)
+
+  pub declared_record_names : (fs : Bor (List Declared)) → t ≡ variant.DeclaredRecord fs → map declared_name fs.now ≡ names_of (static_view t)
+  declared_record_names fs e = declared_names fs.now ∙ sym (ap names_of (declared_is t fs e))
+
+  pub built_record_names : (fs gs : List Built) → t ≡ shown.Record fs → gs ≡ fs → map built_name gs ≡ names_of (static_view t)
+  built_record_names fs gs e f = built_names gs ∙ ap (λ hs. field_names (built_view hs)) f ∙ sym (ap names_of (built_is t fs e))
+
+  pub leaf_names : (l : Leaf) → t ≡ variant.Leaf l → ((n : Bor (List ℕ)) → l ≡ leaf.Entity n → ⊥) → [] ≡ names_of (static_view t)
+  leaf_names l e no_entity = of l no_entity ∙ sym (ap names_of (leaf_is t l e))
+    where
+      of : (k : Leaf) → ((n : Bor (List ℕ)) → k ≡ leaf.Entity n → ⊥) → [] ≡ names_of (leaf_view k)
+      of (leaf.Boolean truth.True) other = refl
+      of (leaf.Boolean truth.False) other = refl
+      of (leaf.Boolean truth.Either) other = refl
+      of leaf.Long other = refl
+      of leaf.Text other = refl
+      of (leaf.Entity n) other = absurd (other n refl)
+      of leaf.Decimal other = refl
+      of leaf.Ipaddr other = refl
+
+  pub set_names : ((l : Leaf) → t ≡ variant.Leaf l → ⊥) → ((fs : Bor (List Declared)) → t ≡ variant.DeclaredRecord fs → ⊥)
+      → ((fs : List Built) → t ≡ shown.Record fs → ⊥) → [] ≡ names_of (static_view t)
+  set_names no_leaf no_declared no_built = of (out-StaticType t) refl
+    where
+      is : (y : StaticType-F StaticType) → out-StaticType t ≡ y → t ≡ roll-StaticType y
+      is y o = sym (roll-out-StaticType t) ∙ ap roll-StaticType o
+
+      view : (y : StaticType-F StaticType) → out-StaticType t ≡ y → [] ≡ names_of (static_view (roll-StaticType y)) → [] ≡ names_of (static_view t)
+      view y o e = e ∙ sym (ap (λ s. names_of (static_view s)) (is y o))
+
+      of : (y : StaticType-F StaticType) → out-StaticType t ≡ y → [] ≡ names_of (static_view t)
+      of (StaticType-F.Leaf l) o = absurd (no_leaf l (is (StaticType-F.Leaf l) o ∙ shown.rolls-Leaf l))
+      of (StaticType-F.DeclaredRecord fs) o = absurd (no_declared fs (is (StaticType-F.DeclaredRecord fs) o ∙ shown.rolls-DeclaredRecord fs))
+      of (StaticType-F.Record fs) o = absurd (no_built fs (is (StaticType-F.Record fs) o ∙ shown.rolls-Record fs))
+      of (StaticType-F.DeclaredSet m) o =
+          view (StaticType-F.DeclaredSet m) o (sym (ap names_of (fold-roll-StaticType types.StaticType static_step (StaticType-F.DeclaredSet m))))
+      of (StaticType-F.Set m) o =
+          view (StaticType-F.Set m) o (sym (ap names_of (fold-roll-StaticType types.StaticType static_step (StaticType-F.Set m))))

@@ -1,6 +1,6 @@
 -- The attribute that a form reads, and whether it is declared.
 use Rattle.std.specs.Prelude.{◌≡◌, ◌↔◌, ℕ, List, [], ◌∷◌, map, Bool, true, false, IsTrue, Ok, Err, is_ok, refl}
-use Rattle.std.specs.Prelude.{Option, Some, None, option_map, slice_get, length, if◌then◌else◌}
+use Rattle.std.specs.Prelude.{Option, Some, None, option_map, slice_get, length, if◌then◌else◌, codes}
 use Rattle.std.proofs.Common.{◌<◌, ◌≤◌, ◌++◌, get_or, sym, ◌∙◌, ap}
 use Rattle.std.proofs.lemmas.Option.{slice_get-map, slice_get_read, slice_get_past}
 use Rattle.grammar_core.specs.declared.expr.Expr.{Expr}
@@ -19,14 +19,14 @@ use Rattle.validator.specs.declared.fault.TypeFault.TheVariants as fault
 use Rattle.validator.specs.typing.Environment as typing
 use Rattle.validator.specs.typing.Types as types
 use Rattle.validator.specs.typing.Rows.{Row, field_type_of}
-use Rattle.fault_paths.specs.Words.{attribute_in, attribute_of, field_names, fields_of, declaration_words, declared_words, name_detail}
-use Rattle.fault_paths.specs.Words.{types_words, is_missing, environment_words, what_words, detail_in, typing_detail}
+use Rattle.fault_paths.specs.Words.{type_word, which_words, attribute_in, attribute_of, field_names, fields_of, declaration_words, declared_words, name_detail}
+use Rattle.fault_paths.specs.Words.{types_words, is_missing, typing_cause, environment_words, what_words, detail_in, typing_detail}
 use Rattle.fault_paths.proofs.Appending.{in_turn, nothing_more}
 
-pub form_reads : (x w : Expr) (y : Expr-F Expr) → x ≡ w → out-Expr w ≡ y → attribute_in y ≡ attribute_of x
+form_reads : (x w : Expr) (y : Expr-F Expr) → x ≡ w → out-Expr w ≡ y → attribute_in y ≡ attribute_of x
 form_reads x w y e f = sym (ap attribute_in (ap out-Expr e ∙ f))
 
-pub reads_none : (x : Expr) → ((a : Expr) (k : List ℕ) → x ≡ form.Field a k → ⊥) → [] ≡ attribute_of x
+reads_none : (x : Expr) → ((a : Expr) (k : List ℕ) → x ≡ form.Field a k → ⊥) → [] ≡ attribute_of x
 reads_none x no_field = at (out-Expr x) refl
   where
     at : (y : Expr-F Expr) → out-Expr x ≡ y → [] ≡ attribute_in y
@@ -44,10 +44,35 @@ reads_none x no_field = at (out-Expr x) refl
     at (Expr-F.UnaryCall called a) e = refl
     at (Expr-F.BinaryCall called a b) e = refl
 
+not_missing : (f : TypeFault) → ¬ (f ≡ fault.AttributeMayBeMissing) → false ≡ is_missing f
+not_missing fault.AttributeMayBeMissing other = absurd (other refl)
+not_missing fault.NoMemory other = refl
+not_missing fault.UnknownType other = refl
+not_missing fault.UnknownAction other = refl
+not_missing fault.Unexpected other = refl
+not_missing fault.NoCommonType other = refl
+not_missing fault.EmptySet other = refl
+not_missing fault.BadExtensionLiteral other = refl
+
+-- ---- the cause
+
+module _ (f : TypeFault) (x : Expr) where
+  -- the attribute that the form reads
+  pub read_cause : (w : Expr) (y : Expr-F Expr) → f ≡ fault.AttributeMayBeMissing → x ≡ w → out-Expr w ≡ y → attribute_in y ≡ typing_cause f x
+  read_cause w y is e o = form_reads x w y e o ∙ sym (ap (λ g. typing_cause g x) is)
+
+  pub nothing_read : f ≡ fault.AttributeMayBeMissing → ((a : Expr) (k : List ℕ) → x ≡ form.Field a k → ⊥) → [] ≡ typing_cause f x
+  nothing_read is no_field = reads_none x no_field ∙ sym (ap (λ g. typing_cause g x) is)
+
+  pub no_cause : ¬ (f ≡ fault.AttributeMayBeMissing) → [] ≡ typing_cause f x
+  no_cause other = ap (λ (m : Bool). if m then attribute_of x else []) (not_missing f other)
+
+-- ---- whether it is declared
+
 abbrev IsType : Row → Type 0
 IsType r = (t : types.StaticType) × (r ≡ Ok t)
 
-pub decided : (r : Row) (b : Bool) → IsTrue b ↔ IsType r → b ≡ is_ok r
+decided : (r : Row) (b : Bool) → IsTrue b ↔ IsType r → b ≡ is_ok r
 decided (Ok t) b h = h.1 (t, refl)
 decided (Err n) false h = refl
 decided (Err n) true h = absurd (apart (h.0 refl))
@@ -55,7 +80,7 @@ decided (Err n) true h = absurd (apart (h.0 refl))
     apart : IsType (Err n) → ⊥
     apart (t, e) = cc
 
-pub first_declared : (E : typing.Environment) (k : List ℕ) (ts : List StaticType) (t : StaticType) (b : Bool) → Some t ≡ slice_get ts 0
+first_declared : (E : typing.Environment) (k : List ℕ) (ts : List StaticType) (t : StaticType) (b : Bool) → Some t ≡ slice_get ts 0
     → IsTrue b ↔ IsType (field_type_of E true k (static_view t))
     → declaration_words b (static_view t) (field_names (fields_of E.attributes (static_view t))) ≡ declared_words E k (map static_view ts)
 first_declared E k [] t b is h = absurd (some_not_none is)
@@ -76,15 +101,26 @@ none_declared E k (u ∷ rest) is = absurd (none_not_some is)
     none_not_some : None ≡ Some u → ⊥
     none_not_some e = cc
 
-pub not_missing : (f : TypeFault) → ¬ (f ≡ fault.AttributeMayBeMissing) → false ≡ is_missing f
-not_missing fault.AttributeMayBeMissing other = absurd (other refl)
-not_missing fault.NoMemory other = refl
-not_missing fault.UnknownType other = refl
-not_missing fault.UnknownAction other = refl
-not_missing fault.Unexpected other = refl
-not_missing fault.NoCommonType other = refl
-not_missing fault.EmptySet other = refl
-not_missing fault.BadExtensionLiteral other = refl
+-- the first type declares it, or does not
+module _ (E : typing.Environment) (k : List ℕ) (ts : List StaticType) (t : StaticType) (b : Bool) (is : Some t ≡ slice_get ts 0)
+    (h : IsTrue b ↔ IsType (field_type_of E true k (static_view t))) (old mid : List ℕ) where
+  abbrev names : List (List ℕ)
+  names = field_names (fields_of E.attributes (static_view t))
+
+  in_words : (c : Bool) → b ≡ c → declaration_words c (static_view t) names ≡ declared_words E k (map static_view ts)
+  in_words c e = ap (λ d. declaration_words d (static_view t) names) (sym e) ∙ first_declared E k ts t b is h
+
+  pub optional_in : (new : List ℕ) → b ≡ true → mid ≡ old ++ codes ": optional in " → new ≡ mid ++ type_word (static_view t)
+      → new ≡ old ++ declared_words E k (map static_view ts)
+  optional_in new e first second =
+      in_turn old mid new (codes ": optional in ") (type_word (static_view t)) first second ∙ ap (λ l. old ++ l) (in_words true e)
+
+  pub not_declared_in : (next new : List ℕ) → b ≡ false → mid ≡ old ++ codes ": not declared in " → next ≡ mid ++ type_word (static_view t)
+      → new ≡ next ++ which_words names → new ≡ old ++ declared_words E k (map static_view ts)
+  not_declared_in next new e first second third =
+      in_turn old mid new (codes ": not declared in ") (type_word (static_view t) ++ which_words names) first
+      (in_turn mid next new (type_word (static_view t)) (which_words names) second third)
+      ∙ ap (λ l. old ++ l) (in_words false e)
 
 pub no_name_detail : (s : StatedSchema) (f : TypeFault) → ¬ (f ≡ fault.UnknownAction) → [] ≡ name_detail s f
 no_name_detail s fault.UnknownAction other = absurd (other refl)
@@ -122,25 +158,24 @@ module _ (s : StatedSchema) (b : TypeBlame) (old : List ℕ) where
 
   -- the error is that of an attribute, or another
 
-  pub detail_missing : (e : EnvironmentOf) (mid new : List ℕ) (m : Bool) → slice_get s.environments b.environment ≡ Some e
-      → mid ≡ old ++ environment_words e → m ≡ is_missing b.fault → m ≡ true
-      → new ≡ mid ++ declared_words (typing_environment_of s e) (attribute_of b.place.form.now) (map static_view b.place.types.items)
-      → new ≡ old ++ typing_detail s b
-  detail_missing e mid new m h first is so second =
+  pub detail_missing : (e : EnvironmentOf) (mid new k : List ℕ) → slice_get s.environments b.environment ≡ Some e
+      → mid ≡ old ++ environment_words e → b.fault ≡ fault.AttributeMayBeMissing → k ≡ typing_cause b.fault b.place.form.now
+      → new ≡ mid ++ declared_words (typing_environment_of s e) k (map static_view b.place.types.items) → new ≡ old ++ typing_detail s b
+  detail_missing e mid new k h first is named second =
       let E = typing_environment_of s e in
       let x = b.place.form.now in
       let ts = map static_view b.place.types.items in
-      let words : declared_words E (attribute_of x) ts ≡ what_words E b.fault x ts =
-      ap (λ (c : Bool). if c then declared_words E (attribute_of x) ts else types_words ts) (sym so ∙ is) in
+      let words : declared_words E k ts ≡ what_words E b.fault x ts =
+      ap (λ n. declared_words E n ts) (named ∙ ap (λ f. typing_cause f x) is) ∙ sym (ap (λ f. what_words E f x ts) is) in
       detail_there e mid new h first (second ∙ ap (λ l. mid ++ l) words)
 
-  pub detail_other : (e : EnvironmentOf) (mid new : List ℕ) (m : Bool) → slice_get s.environments b.environment ≡ Some e
-      → mid ≡ old ++ environment_words e → m ≡ is_missing b.fault → m ≡ false
+  pub detail_other : (e : EnvironmentOf) (mid new : List ℕ) → slice_get s.environments b.environment ≡ Some e
+      → mid ≡ old ++ environment_words e → ¬ (b.fault ≡ fault.AttributeMayBeMissing)
       → new ≡ mid ++ types_words (map static_view b.place.types.items) → new ≡ old ++ typing_detail s b
-  detail_other e mid new m h first is so second =
+  detail_other e mid new h first other second =
       let E = typing_environment_of s e in
       let x = b.place.form.now in
       let ts = map static_view b.place.types.items in
       let words : types_words ts ≡ what_words E b.fault x ts =
-      ap (λ (c : Bool). if c then declared_words E (attribute_of x) ts else types_words ts) (sym so ∙ is) in
+      ap (λ (m : Bool). if m then declared_words E (attribute_of x) ts else types_words ts) (not_missing b.fault other) in
       detail_there e mid new h first (second ∙ ap (λ l. mid ++ l) words)

@@ -5,7 +5,7 @@ ghost use Rattle.type_checker.specs.schema.Views.{schema_view};
 ghost use Rattle.type_checker.specs.Views.{typing_environment};
 ghost use Rattle.validator.specs.Passing.{environments_of, HasBooleanType};
 ghost use Rattle.fault_paths.specs.FirstTypingError.{IsTypeBlame};
-ghost use Rattle.fault_paths.specs.inner.Judging.{IsFaultyIn};
+ghost use Rattle.fault_paths.specs.inner.Judging.{IsBlamedIn};
 
 use crate::descending::{BlamedForm, blame_in};
 use grammar_core::Expr;
@@ -25,13 +25,15 @@ pub struct TypeBlame<'a> {
     pub place: BlamedForm<'a>,
 }
 
-/// Returns the error of typing an expression without known capabilities, or `None` if it has a type.
-fn fault_in<'a>(
+/// Returns the error of typing an expression in the environment `env`, which has the index `at`, with what the error
+/// blames there, or `None` if the expression has a type.
+fn blame_at<'a>(
     alloc: Global,
     env: TypingEnvironment<'a>,
+    at: usize,
     whole: &'a Expr,
-) -> Result<Option<TypeFault>, NoMemory>
-    ensures { IfOk result (IsFaultyIn (typing_environment env.entry) whole.entry.now) }
+) -> Result<Option<TypeBlame<'a>>, NoMemory>
+    ensures { IfOk result (IsBlamedIn (typing_environment env.entry) at whole.entry.now) }
 {
     match judge_under(alloc, env, &[], whole) {
         Ok(typed) => {
@@ -40,7 +42,14 @@ fn fault_in<'a>(
         }
         Err(fault) => match fault {
             ExpressionFault::NoMemory => Err(NoMemory),
-            _ => Ok(Some(TypeFault::from(fault))),
+            _ => match blame_in(alloc, env, whole) {
+                Err(error) => Err(error),
+                Ok(place) => Ok(Some(TypeBlame {
+                    fault: TypeFault::from(fault),
+                    environment: at,
+                    place,
+                })),
+            },
         },
     }
 }
@@ -71,18 +80,9 @@ pub fn blame_type<'a>(
     let environments = schema.environments();
     for (at, environment) in environments.iter().enumerate() {
         let env = TypingEnvironment::new(schema, environment);
-        match fault_in(alloc, env, whole) {
+        match blame_at(alloc, env, at, whole) {
             Err(error) => return Err(error),
-            Ok(Some(fault)) => match blame_in(alloc, env, whole) {
-                Err(error) => return Err(error),
-                Ok(place) => {
-                    return Ok(Some(TypeBlame {
-                        fault,
-                        environment: at,
-                        place,
-                    }));
-                }
-            },
+            Ok(Some(blame)) => return Ok(Some(blame)),
             Ok(None) => {}
         }
     }

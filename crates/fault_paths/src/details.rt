@@ -3,18 +3,22 @@ ghost use Rattle.std.specs.Prelude.{◌≡◌, ◌++◌, OnOk, map, string_bytes
 ghost use Rattle.type_checker.specs.schema.Views.{schema_view, environment_view};
 ghost use Rattle.type_checker.specs.FromSchemas.{attributes_of, typing_environment_of};
 ghost use Rattle.type_checker.specs.Views.{static_view};
-ghost use Rattle.fault_paths.specs.Words.{field_names, fields_of, which_words, declaration_words};
+ghost use Rattle.fault_paths.specs.Words.{field_names, fields_of, which_words};
 ghost use Rattle.fault_paths.specs.Words.{declared_words, name_detail, typing_detail};
 
 use crate::attributes::is_declared;
 use crate::blaming::TypeBlame;
-use crate::causes::{attribute_of, is_missing};
-use crate::wording::{
-    push_actions, push_built_names, push_declared_names, push_environment, push_types, type_word,
-};
+use crate::causes::typing_cause;
+use crate::wording::{push_environment, push_list, type_word};
 use plain::NoMemory;
 use type_checker::{Environment, Leaf, Schema, StaticType, attributes_of};
 use validator::TypeFault;
+
+// The words for a type without attributes.
+const NO_ATTRIBUTES: &str = ", which has no attributes";
+
+// The words before the attributes of a type.
+const ATTRIBUTES: &str = ", which has ";
 
 /// Appends which attributes the type `owner` has. Only record types and entity types have any.
 fn push_attributes(
@@ -26,41 +30,22 @@ fn push_attributes(
         (field_names (fields_of (attributes_of (schema_view schema.now)) (static_view owner.now)))) }
 {
     match owner {
-        StaticType::Leaf(Leaf::Entity(name)) => {
-            push_declared_names(out, attributes_of(schema, *name))
+        StaticType::Leaf(leaf) => match leaf {
+            Leaf::Entity(name) => {
+                push_list(out, NO_ATTRIBUTES, ATTRIBUTES, attributes_of(schema, *name))
+            }
+            _ => out.push_str(NO_ATTRIBUTES),
+        },
+        StaticType::DeclaredRecord(fields) => push_list(out, NO_ATTRIBUTES, ATTRIBUTES, *fields),
+        StaticType::Record(fields) => {
+            push_list(out, NO_ATTRIBUTES, ATTRIBUTES, fields.as_slice())
         }
-        StaticType::DeclaredRecord(fields) => push_declared_names(out, *fields),
-        StaticType::Record(fields) => push_built_names(out, fields.as_slice()),
-        StaticType::Leaf(Leaf::Boolean(_) | Leaf::Long | Leaf::Text | Leaf::Decimal | Leaf::Ipaddr)
-        | StaticType::DeclaredSet(_)
-        | StaticType::Set(_) => push_declared_names(out, &[]),
-    }
-}
-
-/// Appends that an attribute is optional in the type `owner` if `declared`, else that it is not declared there, and
-/// which attributes are.
-fn push_declaration(
-    out: &mut String,
-    schema: &Schema,
-    owner: &StaticType<'_>,
-    declared: bool,
-) -> Result<(), NoMemory>
-    ensures { OnOk result (string_bytes out.new ≡ string_bytes out.old ++ declaration_words declared
-        (static_view owner.now)
-        (field_names (fields_of (attributes_of (schema_view schema.now)) (static_view owner.now)))) }
-{
-    if declared {
-        out.push_str(": optional in ")?;
-        out.push_str(type_word(owner))
-    } else {
-        out.push_str(": not declared in ")?;
-        out.push_str(type_word(owner))?;
-        push_attributes(out, schema, owner)
+        _ => out.push_str(NO_ATTRIBUTES),
     }
 }
 
 /// Appends whether the first of `types` declares the attribute `name`, and if not, which attributes it has; nothing
-/// without types.
+/// without types. A declared attribute that may be missing is optional.
 fn push_declared<'a>(
     out: &mut String,
     schema: &'a Schema,
@@ -73,10 +58,17 @@ fn push_declared<'a>(
         (environment_view environment.entry.now)) name.now (map static_view types.now)) }
 {
     match types.first() {
-        Some(owner) => match is_declared(schema, environment, owner, name) {
-            Ok(declared) => push_declaration(out, schema, owner, declared),
-            Err(error) => Err(error),
-        },
+        Some(owner) => {
+            let declared = is_declared(schema, environment, owner, name)?;
+            if declared {
+                out.push_str(": optional in ")?;
+                out.push_str(type_word(owner))
+            } else {
+                out.push_str(": not declared in ")?;
+                out.push_str(type_word(owner))?;
+                push_attributes(out, schema, owner)
+            }
+        }
         None => Ok(()),
     }
 }
@@ -96,16 +88,12 @@ pub(crate) fn push_detail<'a>(
         Some(environment) => {
             push_environment(out, environment)?;
             let types = blame.place.types.as_slice();
-            if is_missing(blame.fault) {
-                push_declared(
-                    out,
-                    schema,
-                    environment,
-                    types,
-                    attribute_of(blame.place.form),
-                )
-            } else {
-                push_types(out, types)
+            match blame.fault {
+                TypeFault::AttributeMayBeMissing => {
+                    let name = typing_cause(blame.fault, blame.place.form);
+                    push_declared(out, schema, environment, types, name)
+                }
+                _ => push_list(out, "", ": ", types),
             }
         }
         None => Ok(()),
@@ -122,7 +110,9 @@ pub(crate) fn push_name_detail(
     ensures { OnOk result (string_bytes out.new ≡ string_bytes out.old ++ name_detail (schema_view schema.now) fault) }
 {
     match fault {
-        TypeFault::UnknownAction => push_actions(out, schema.actions()),
+        TypeFault::UnknownAction => {
+            push_list(out, "no action is declared", "declared: ", schema.actions())
+        }
         _ => Ok(()),
     }
 }

@@ -3,7 +3,8 @@ ghost use Rattle.std.specs.Prelude.{◌≡◌, ◌++◌, IfOk, OnOk, MatchOption
 ghost use Rattle.type_checker.specs.policy_grammar.PolicyExpression.{expression_of};
 ghost use Rattle.type_checker.specs.schema.Views.{schema_view};
 ghost use Rattle.validator.specs.Passing.{Passes};
-ghost use Rattle.fault_paths.specs.ReportWording.{IsPolicyFault, IsWordedAs, cause_of, detail_of};
+ghost use Rattle.fault_paths.specs.PolicyReports.{fault_of};
+ghost use Rattle.fault_paths.specs.ReportWording.{IsPolicyFault, path_of, cause_of, detail_of};
 
 use crate::causes::typing_cause;
 use crate::details::{push_detail, push_name_detail};
@@ -56,30 +57,15 @@ fn push_words<'a>(
     }
 }
 
-/// Returns the report on the error that `blame` reports.
-fn report<'a>(
-    alloc: Global,
-    schema: &'a Schema,
-    blame: PolicyBlame<'a>,
-) -> Result<PolicyFault, NoMemory>
-    ensures { IfOk result (IsWordedAs (schema_view schema.entry.now) blame.entry) }
+/// Returns the error that `blame` reports, and the path to the blamed expression, or to the form with the undeclared
+/// name.
+fn fault_and_path(blame: PolicyBlame<'_>) -> (TypeFault, Vec<usize>)
+    ensures fault { result.0 ≡ fault_of blame.entry }
+    ensures path { result.1.items ≡ path_of blame.entry }
 {
-    let mut cause = String::new(alloc);
-    let mut detail = String::new(alloc);
-    push_words(&mut cause, &mut detail, schema, &blame)?;
     match blame {
-        PolicyBlame::Name(blame) => Ok(PolicyFault {
-            fault: blame.fault,
-            path: blame.path,
-            cause,
-            detail,
-        }),
-        PolicyBlame::Typing(blame) => Ok(PolicyFault {
-            fault: blame.fault,
-            path: blame.place.path,
-            cause,
-            detail,
-        }),
+        PolicyBlame::Name(blame) => (blame.fault, blame.path),
+        PolicyBlame::Typing(blame) => (blame.fault, blame.place.path),
     }
 }
 
@@ -97,10 +83,21 @@ fn explain_whole<'a>(
     match blame(alloc, schema, policy, whole) {
         Err(error) => Err(error),
         Ok(None) => Ok(None),
-        Ok(Some(blame)) => match report(alloc, schema, blame) {
-            Err(error) => Err(error),
-            Ok(fault) => Ok(Some(fault)),
-        },
+        Ok(Some(blame)) => {
+            let mut cause = String::new(alloc);
+            let mut detail = String::new(alloc);
+            let worded = push_words(&mut cause, &mut detail, schema, &blame);
+            let (fault, path) = fault_and_path(blame);
+            match worded {
+                Err(error) => Err(error),
+                Ok(()) => Ok(Some(PolicyFault {
+                    fault,
+                    path,
+                    cause,
+                    detail,
+                })),
+            }
+        }
     }
 }
 

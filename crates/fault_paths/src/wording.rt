@@ -1,12 +1,9 @@
-//! The words for types, entities, environments and declared names in a report.
-ghost use Rattle.std.specs.Prelude.{◌≡◌, ◌++◌, OnOk, map, string_bytes};
-ghost use Rattle.schema_types.specs.CedarViews.{cedar_fields_view};
+//! The words for types, entities, environments and declared names in a report, and for lists of them.
+ghost use Rattle.std.specs.Prelude.{◌≡◌, ◌++◌, ℕ, List, OnOk, map, string_bytes};
 ghost use Rattle.fault_paths.specs.NamesAt.{name_view};
 ghost use Rattle.type_checker.specs.schema.Views.{environment_view};
-ghost use Rattle.type_checker.specs.FromSchemas.{static_fields};
-ghost use Rattle.type_checker.specs.Views.{leaf_view, static_view, built_fields};
-ghost use Rattle.fault_paths.specs.Words.{type_word, uid_words, name_words, environment_words, types_words};
-ghost use Rattle.fault_paths.specs.Words.{field_names, which_words, action_words};
+ghost use Rattle.type_checker.specs.Views.{static_view};
+ghost use Rattle.fault_paths.specs.Words.{type_word, uid_words, name_words, environment_words, names_or};
 
 use crate::names::UnknownName;
 use plain::{NoMemory, Text};
@@ -14,18 +11,75 @@ use schema_types::CedarType;
 use type_checker::{Environment, Leaf, StaticType};
 use values::EntityUid;
 
-/// Returns the word for a type without parts.
-fn leaf_word<'r>(leaf: &'r Leaf<'_>) -> &'r str
-    ensures { result.now ≡ type_word (leaf_view leaf.now) }
-{
-    match leaf {
-        Leaf::Boolean(_) => "Boolean",
-        Leaf::Long => "Long",
-        Leaf::Text => "String",
-        Leaf::Entity(name) => name.as_str(),
-        Leaf::Decimal => "decimal",
-        Leaf::Ipaddr => "ipaddr",
+/// An item of a list in a report.
+pub(crate) trait Listed {
+    /// The words for the item.
+    ghost words: { Self → List ℕ };
+
+    /// Appends the words for the item.
+    fn push_to(&self, out: &mut String) -> Result<(), NoMemory>
+        ensures { OnOk result (string_bytes out.new ≡ string_bytes out.old ++ words self.now) };
+}
+
+impl Listed for EntityUid {
+    ghost words = { uid_words };
+
+    /// Appends the uid in the form `T::"id"` of policies, but without escapes in the id.
+    fn push_to(&self, out: &mut String) -> Result<(), NoMemory> {
+        out.push_str(self.type_name.as_str())?;
+        out.push_str("::\"")?;
+        out.push_str(self.id.as_str())?;
+        out.push_str("\"")
     }
+}
+
+impl<'a> Listed for StaticType<'a> {
+    ghost words = { λ ty. type_word (static_view ty) };
+
+    /// Appends the word for the type.
+    fn push_to(&self, out: &mut String) -> Result<(), NoMemory> {
+        out.push_str(type_word(self))
+    }
+}
+
+impl Listed for (Text, CedarType, bool) {
+    ghost words = { λ field. field.0 };
+
+    /// Appends the name of the declared field.
+    fn push_to(&self, out: &mut String) -> Result<(), NoMemory> {
+        out.push_str(self.0.as_str())
+    }
+}
+
+impl<'r, 'a> Listed for (&'r str, StaticType<'a>, bool) {
+    ghost words = { λ field. field.0.now };
+
+    /// Appends the name of the field, which an expression built.
+    fn push_to(&self, out: &mut String) -> Result<(), NoMemory> {
+        out.push_str(self.0)
+    }
+}
+
+/// Appends `before` and the words for the items, separated by commas; `empty` if there are no items.
+pub(crate) fn push_list<T: Listed>(
+    out: &mut String,
+    empty: &str,
+    before: &str,
+    items: &[T],
+) -> Result<(), NoMemory>
+    ensures { OnOk result (string_bytes out.new ≡ string_bytes out.old
+        ++ names_or empty.now before.now (map T.words items.now)) }
+{
+    if items.is_empty() {
+        return out.push_str(empty);
+    }
+    let mut separator = before;
+    for item in items {
+        out.push_str(separator)?;
+        item.push_to(out)?;
+        separator = ", ";
+    }
+    Ok(())
 }
 
 /// Returns the word that schemas use for a type.
@@ -33,36 +87,17 @@ pub(crate) fn type_word<'r>(ty: &'r StaticType<'_>) -> &'r str
     ensures { result.now ≡ type_word (static_view ty.now) }
 {
     match ty {
-        StaticType::Leaf(leaf) => leaf_word(leaf),
-        StaticType::DeclaredSet(_) => "Set",
-        StaticType::DeclaredRecord(_) => "Record",
-        StaticType::Set(_) => "Set",
-        StaticType::Record(_) => "Record",
+        StaticType::Leaf(leaf) => match leaf {
+            Leaf::Boolean(_) => "Boolean",
+            Leaf::Long => "Long",
+            Leaf::Text => "String",
+            Leaf::Entity(name) => name.as_str(),
+            Leaf::Decimal => "decimal",
+            Leaf::Ipaddr => "ipaddr",
+        },
+        StaticType::DeclaredSet(_) | StaticType::Set(_) => "Set",
+        StaticType::DeclaredRecord(_) | StaticType::Record(_) => "Record",
     }
-}
-
-/// Appends a colon and the words for types, separated by commas; nothing without types.
-pub(crate) fn push_types(out: &mut String, types: &[StaticType<'_>]) -> Result<(), NoMemory>
-    ensures { OnOk result (string_bytes out.new
-        ≡ string_bytes out.old ++ types_words (map static_view types.now)) }
-{
-    let mut separator = ": ";
-    for ty in types {
-        out.push_str(separator)?;
-        out.push_str(type_word(ty))?;
-        separator = ", ";
-    }
-    Ok(())
-}
-
-/// Appends an entity uid in the form `T::"id"` of policies, but without escapes in the id.
-fn push_uid(out: &mut String, uid: &EntityUid) -> Result<(), NoMemory>
-    ensures { OnOk result (string_bytes out.new ≡ string_bytes out.old ++ uid_words uid.now) }
-{
-    out.push_str(uid.type_name.as_str())?;
-    out.push_str("::\"")?;
-    out.push_str(uid.id.as_str())?;
-    out.push_str("\"")
 }
 
 /// Appends an undeclared name.
@@ -71,7 +106,7 @@ pub(crate) fn push_name(out: &mut String, name: &UnknownName<'_>) -> Result<(), 
 {
     match name {
         UnknownName::TestedType(name) => out.push_str(name.as_str()),
-        UnknownName::Entity(uid) => push_uid(out, *uid),
+        UnknownName::Entity(uid) => uid.push_to(out),
     }
 }
 
@@ -83,63 +118,7 @@ pub(crate) fn push_environment(out: &mut String, environment: &Environment) -> R
     out.push_str("in ")?;
     out.push_str(environment.place.principal.as_str())?;
     out.push_str(", ")?;
-    push_uid(out, &environment.place.action)?;
+    environment.place.action.push_to(out)?;
     out.push_str(", ")?;
     out.push_str(environment.place.resource.as_str())
-}
-
-/// Appends which attributes a type has, where `fields` are its declared fields.
-pub(crate) fn push_declared_names(
-    out: &mut String,
-    fields: &[(Text, CedarType, bool)],
-) -> Result<(), NoMemory>
-    ensures { OnOk result (string_bytes out.new ≡ string_bytes out.old
-        ++ which_words (field_names (static_fields (cedar_fields_view fields.now)))) }
-{
-    if fields.is_empty() {
-        return out.push_str(", which has no attributes");
-    }
-    let mut separator = ", which has ";
-    for field in fields {
-        out.push_str(separator)?;
-        out.push_str(field.0.as_str())?;
-        separator = ", ";
-    }
-    Ok(())
-}
-
-/// Appends which attributes a type has, where `fields` are its fields, built by an expression.
-pub(crate) fn push_built_names(
-    out: &mut String,
-    fields: &[(&str, StaticType<'_>, bool)],
-) -> Result<(), NoMemory>
-    ensures { OnOk result (string_bytes out.new ≡ string_bytes out.old
-        ++ which_words (field_names (built_fields (map (λ f. (f.0, static_view f.1, f.2)) fields.now)))) }
-{
-    if fields.is_empty() {
-        return out.push_str(", which has no attributes");
-    }
-    let mut separator = ", which has ";
-    for field in fields {
-        out.push_str(separator)?;
-        out.push_str(field.0)?;
-        separator = ", ";
-    }
-    Ok(())
-}
-
-/// Appends that the given actions are declared.
-pub(crate) fn push_actions(out: &mut String, actions: &[EntityUid]) -> Result<(), NoMemory>
-    ensures { OnOk result (string_bytes out.new ≡ string_bytes out.old ++ action_words actions.now) }
-{
-    if actions.is_empty() {
-        return out.push_str("no action is declared");
-    }
-    let mut separator = "declared: ";
-    for action in actions {
-        out.push_str(separator)?;
-        push_uid(out, action)?;
-        separator = ", ";
-    }
-    Ok(())
 }

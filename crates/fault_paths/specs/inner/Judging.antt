@@ -15,10 +15,6 @@ use Rattle.fault_paths.specs.declared.blaming.TypeBlame.{TypeBlame}
 abbrev pub IsFault : Environment → Expr → TypeFault → Type 0
 IsFault env x f = (n : ExpressionFault) × (f ≡ of_typing n) × Faults env [] x n
 
--- `IsFaultyIn env x o` holds if `o` is the error of typing `x` in `env`, or `None` and `x` has a type there.
-abbrev pub IsFaultyIn : Environment → Expr → Option TypeFault → Type 0
-IsFaultyIn env x o = MatchOption o ((t : StaticType) × HasType x t env) (IsFault env x)
-
 -- `IsBlamedAt env i x b` holds if `b` reports the index `i` of `env`, an error of typing `x` in `env`, and the place
 -- that each derivation of such an error blames.
 abbrev pub IsBlamedAt : Environment → ℕ → Expr → TypeBlame → Type 0

@@ -1,9 +1,7 @@
-use Rattle.std.proofs.Common.{refl, None, Some}
+use Rattle.std.proofs.Common.{refl, None, Some, subst}
 use Rattle.type_checker.specs.schema.Views.{schema_view}
-use Rattle.type_checker.specs.Views.{typing_environment}
 use Rattle.typing.proofs.Existing.{one_judgement}
-use Rattle.fault_paths.specs.declared.blaming.TypeBlame.{TypeBlame}
-use Rattle.fault_paths.proofs.Finding.{blamed_so, typed_so}
+use Rattle.fault_paths.specs.inner.Judging.{IsBlamedIn}
 use Rattle.fault_paths.proofs.Environments.{none_before, typed_next, blamed_so_far, all_typed}
 use Rattle.fault_paths.proofs.blaming.blame_type.Goals as goal
 
@@ -17,17 +15,16 @@ loop-at-preserved c =
     typed_next one_judgement c.args.policy.now (schema_view c.args.schema.now) c.environments-environments.result.now c.environments-environments.ensures
     x c.requires c.loop-at.at c.index-environments-at.result c.loop-at-test.true c.index-environments-at.is c.loop-at.invariant
     {o = None} refl
-    (typed_so (typing_environment c.new-env.result) _ x c.new-env.ensures (rw c.in-Ok-None.field-0-is at c.in-Ok-None.ensures))
+    (subst (λ E. IsBlamedIn E c.loop-at.at x None) c.new-env.ensures (rw c.in-Ok-None.field-0-is at c.in-Ok-None.ensures))
 
-pub returns-in-Ok : goal.returns-in-Ok
-returns-in-Ok c =
+pub returns-in-Ok-Some : goal.returns-in-Ok-Some
+returns-in-Ok-Some c =
     let x = c.args.whole.now in
-    let b : TypeBlame = record { fault = c.in-Ok-Some.fault; environment = c.loop-at.at; place = c.in-Ok.place } in
+    let b = c.in-Ok-Some.blame in
     blamed_so_far one_judgement c.args.policy.now (schema_view c.args.schema.now) c.environments-environments.result.now c.environments-environments.ensures
     x c.requires c.loop-at.at c.index-environments-at.result c.loop-at-test.true c.index-environments-at.is c.loop-at.invariant
     {o = Some b} b refl
-    (blamed_so (typing_environment c.new-env.result) _ x c.loop-at.at b c.new-env.ensures refl
-    (rw c.in-Ok-Some.field-0-is at c.in-Ok-Some.ensures) c.in-Ok.ensures)
+    (subst (λ E. IsBlamedIn E c.loop-at.at x (Some b)) c.new-env.ensures (rw c.in-Ok-Some.field-0-is at c.in-Ok-Some.ensures))
 
 pub returns : goal.returns
 returns c =

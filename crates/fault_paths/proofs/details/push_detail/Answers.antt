@@ -3,38 +3,39 @@ use Rattle.std.proofs.lemmas.Result.{IfOk-weaker}
 use Rattle.type_checker.specs.schema.Views.{schema_view, environment_view}
 use Rattle.type_checker.specs.FromSchemas.{typing_environment_of}
 use Rattle.type_checker.specs.Views.{static_view}
-use Rattle.fault_paths.specs.Words.{attribute_of, declared_words, types_words}
+use Rattle.fault_paths.specs.Words.{declared_words, types_words}
+use Rattle.fault_paths.proofs.Listing.{listed_types}
 use Rattle.fault_paths.proofs.Reading.{environment_there, environment_past, detail_missing, detail_other, detail_past}
 use Rattle.fault_paths.proofs.details.push_detail.Goals as goal
 
-pub returns-then-is_missing : goal.returns-then-is_missing
-returns-then-is_missing c =
+pub returns-in-AttributeMayBeMissing : goal.returns-in-AttributeMayBeMissing
+returns-in-AttributeMayBeMissing c =
     let s = schema_view c.args.schema.now in
     let b = c.args.blame.now in
     let e = environment_view c.in-Some.environment.now in
-    let E = typing_environment_of s e in
     let mid = string_bytes c.push_environment.new.out in
+    let name = c.typing_cause-name.result.now in
     let found = c.in-Some.ensures.lookup in
     let there = environment_there s c.environments.result.now b.environment c.environments.ensures c.in-Some.environment.now found.3.0 found.1 in
     IfOk-weaker c.push_declared.result _ _
-    (λ _ h. detail_missing s b (string_bytes c.args.out.now) e mid (string_bytes c.push_declared.new.out) c.is_missing.result there
-    c.in_ok-push_environment-in-Some.ensures c.is_missing.ensures c.if-is_missing.true
-    (h ∙ ap (λ k. mid ++ declared_words E k (map static_view c.as_slice-types.result.now)) c.attribute_of.ensures
-    ∙ ap (λ ts. mid ++ declared_words E (attribute_of b.place.form.now) (map static_view ts)) c.as_slice-types.ensures.value))
+    (λ _ h. detail_missing s b (string_bytes c.args.out.now) e mid (string_bytes c.push_declared.new.out) name there
+    c.in_ok-push_environment-in-Some.ensures c.in-AttributeMayBeMissing.is c.typing_cause-name.ensures
+    (h ∙ ap (λ ts. mid ++ declared_words (typing_environment_of s e) name (map static_view ts)) c.as_slice-types.ensures.value))
     c.push_declared.ensures
 
-pub returns-else-is_missing : goal.returns-else-is_missing
-returns-else-is_missing c =
+pub returns-in_default : goal.returns-in_default
+returns-in_default c =
     let s = schema_view c.args.schema.now in
     let b = c.args.blame.now in
     let mid = string_bytes c.push_environment.new.out in
     let found = c.in-Some.ensures.lookup in
     let there = environment_there s c.environments.result.now b.environment c.environments.ensures c.in-Some.environment.now found.3.0 found.1 in
-    IfOk-weaker c.push_types.result _ _
-    (λ _ h. detail_other s b (string_bytes c.args.out.now) (environment_view c.in-Some.environment.now) mid (string_bytes c.push_types.new.out)
-    c.is_missing.result there c.in_ok-push_environment-in-Some.ensures c.is_missing.ensures c.if-is_missing.false
-    (h ∙ ap (λ ts. mid ++ types_words (map static_view ts)) c.as_slice-types.ensures.value))
-    c.push_types.ensures
+    IfOk-weaker c.push_list.result _ _
+    (λ _ h. detail_other s b (string_bytes c.args.out.now) (environment_view c.in-Some.environment.now) mid (string_bytes c.push_list.new.out) there
+    c.in_ok-push_environment-in-Some.ensures c.in_default.not-AttributeMayBeMissing
+    (h ∙ ap (λ l. mid ++ l) (listed_types c.as_slice-types.result.now)
+    ∙ ap (λ ts. mid ++ types_words (map static_view ts)) c.as_slice-types.ensures.value))
+    c.push_list.ensures
 
 pub returns-in-None : goal.returns-in-None
 returns-in-None c =
