@@ -103,23 +103,21 @@ none_declared E k (u ∷ rest) is = absurd (none_not_some is)
 
 -- the first type declares it, or does not
 module _ (E : typing.Environment) (k : List ℕ) (ts : List StaticType) (t : StaticType) (b : Bool) (is : Some t ≡ slice_get ts 0)
-    (h : IsTrue b ↔ IsType (field_type_of E true k (static_view t))) (old mid : List ℕ) where
+    (h : IsTrue b ↔ IsType (field_type_of E true k (static_view t))) (w : List ℕ) (named : w ≡ type_word (static_view t)) (old : List ℕ) where
   abbrev names : List (List ℕ)
   names = field_names (fields_of E.attributes (static_view t))
 
   in_words : (c : Bool) → b ≡ c → declaration_words c (static_view t) names ≡ declared_words E k (map static_view ts)
   in_words c e = ap (λ d. declaration_words d (static_view t) names) (sym e) ∙ first_declared E k ts t b is h
 
-  pub optional_in : (new : List ℕ) → b ≡ true → mid ≡ old ++ codes ": optional in " → new ≡ mid ++ type_word (static_view t)
-      → new ≡ old ++ declared_words E k (map static_view ts)
-  optional_in new e first second =
-      in_turn old mid new (codes ": optional in ") (type_word (static_view t)) first second ∙ ap (λ l. old ++ l) (in_words true e)
+  pub optional_in : (new : List ℕ) → b ≡ true → new ≡ old ++ (codes ": optional in " ++ w) → new ≡ old ++ declared_words E k (map static_view ts)
+  optional_in new e first = first ∙ ap (λ v. old ++ (codes ": optional in " ++ v)) named ∙ ap (λ l. old ++ l) (in_words true e)
 
-  pub not_declared_in : (next new : List ℕ) → b ≡ false → mid ≡ old ++ codes ": not declared in " → next ≡ mid ++ type_word (static_view t)
-      → new ≡ next ++ which_words names → new ≡ old ++ declared_words E k (map static_view ts)
-  not_declared_in next new e first second third =
-      in_turn old mid new (codes ": not declared in ") (type_word (static_view t) ++ which_words names) first
-      (in_turn mid next new (type_word (static_view t)) (which_words names) second third)
+  pub not_declared_in : (mid new : List ℕ) → b ≡ false → mid ≡ old ++ (codes ": not declared in " ++ w) → new ≡ mid ++ which_words names
+      → new ≡ old ++ declared_words E k (map static_view ts)
+  not_declared_in mid new e first second =
+      in_turn old mid new (codes ": not declared in " ++ w) (which_words names) first second
+      ∙ ap (λ v. old ++ (codes ": not declared in " ++ (v ++ which_words names))) named
       ∙ ap (λ l. old ++ l) (in_words false e)
 
 pub no_name_detail : (s : StatedSchema) (f : TypeFault) → ¬ (f ≡ fault.UnknownAction) → [] ≡ name_detail s f

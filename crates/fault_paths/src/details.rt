@@ -61,11 +61,9 @@ fn push_declared<'a>(
         Some(owner) => {
             let declared = is_declared(schema, environment, owner, name)?;
             if declared {
-                out.push_str(": optional in ")?;
-                out.push_str(type_word(owner))
+                write!(out, ": optional in {}", type_word(owner))
             } else {
-                out.push_str(": not declared in ")?;
-                out.push_str(type_word(owner))?;
+                write!(out, ": not declared in {}", type_word(owner))?;
                 push_attributes(out, schema, owner)
             }
         }

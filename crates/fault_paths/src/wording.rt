@@ -26,10 +26,7 @@ impl Listed for EntityUid {
 
     /// Appends the uid in the form `T::"id"` of policies, but without escapes in the id.
     fn push_to(&self, out: &mut String) -> Result<(), NoMemory> {
-        out.push_str(self.type_name.as_str())?;
-        out.push_str("::\"")?;
-        out.push_str(self.id.as_str())?;
-        out.push_str("\"")
+        write!(out, "{}::\"{}\"", self.type_name.as_str(), self.id.as_str())
     }
 }
 
@@ -115,10 +112,8 @@ pub(crate) fn push_environment(out: &mut String, environment: &Environment) -> R
     ensures { OnOk result (string_bytes out.new
         ≡ string_bytes out.old ++ environment_words (environment_view environment.now)) }
 {
-    out.push_str("in ")?;
-    out.push_str(environment.place.principal.as_str())?;
-    out.push_str(", ")?;
-    environment.place.action.push_to(out)?;
-    out.push_str(", ")?;
-    out.push_str(environment.place.resource.as_str())
+    let place = &environment.place;
+    write!(out, "in {}, ", place.principal.as_str())?;
+    place.action.push_to(out)?;
+    write!(out, ", {}", place.resource.as_str())
 }
