@@ -1,11 +1,11 @@
 -- What is found of one expression.
-use Rattle.std.specs.Prelude.{◌≡◌, ◌≢◌, [], ◌++◌, List, refl}
+use Rattle.std.specs.Prelude.{◌≡◌, ◌≢◌, [], ◌++◌, List, Option, refl}
 use Rattle.std.proofs.Common.{sym, ap, ◌∙◌, subst}
 use Rattle.std.proofs.lemmas.List.{map-append}
 use Rattle.grammar_core.specs.declared.expr.Expr.{Expr}
 use Rattle.validator.specs.declared.fault.TypeFault.{TypeFault}
 use Rattle.validator.specs.typing.Types as types
-use Rattle.validator.specs.typing.Environment.{Environment, ExpressionFault}
+use Rattle.validator.specs.typing.Environment.{Environment}
 use Rattle.validator.specs.typing.Typing.{Types}
 use Rattle.validator.specs.typing.Faults.{Faults}
 use Rattle.validator.specs.Faults.{of_typing, of_types}
@@ -15,34 +15,34 @@ use Rattle.type_checker.specs.declared.static_type.BooleanType.{BooleanType}
 use Rattle.type_checker.specs.declared.static_type.BooleanType.TheVariants as truth
 use Rattle.type_checker.specs.type_capabilities.CapabilityList.{capability_of, capabilities}
 use Rattle.type_checker.specs.type_capabilities.declared.capability.Capability.{Capability}
-use Rattle.type_checker.specs.declared.typed.Typed.{Typed}
+use Rattle.type_checker.specs.declared.static_type.StaticType.{StaticType}
 use Rattle.type_checker.specs.declared.fault.ExpressionFault as at_hand
 use Rattle.type_checker.specs.declared.fault.ExpressionFault.TheVariants as fault
 use Rattle.fault_paths.specs.inner.Judging.{IsFault}
+use Rattle.fault_paths.specs.inner.Steps.{IsTyped, IsUntyped}
 
-module _ (env : Environment) (x : Expr) where
-  abbrev TypedBehind : List Capability → Typed → Type 0
-  TypedBehind ps t = Types env (capabilities ps) x (static_view t.kind) (capabilities t.gains.items)
+pub told_as : (f : at_hand.ExpressionFault) → f ≢ fault.NoMemory → of_types f ≡ of_typing (fault_view f)
+told_as fault.NoMemory n = absurd (n refl)
+told_as fault.Unexpected n = refl
+told_as fault.NoCommonType n = refl
+told_as fault.AttributeMayBeMissing n = refl
+told_as fault.EmptySet n = refl
+told_as fault.BadExtensionLiteral n = refl
 
-  abbrev FaultyBehind : List Capability → at_hand.ExpressionFault → Type 0
-  FaultyBehind ps f = f ≢ fault.NoMemory → Faults env (capabilities ps) x (fault_view f)
+-- without known capabilities
 
-  told_as : (f : at_hand.ExpressionFault) → f ≢ fault.NoMemory → of_types f ≡ of_typing (fault_view f)
-  told_as fault.NoMemory n = absurd (n refl)
-  told_as fault.Unexpected n = refl
-  told_as fault.NoCommonType n = refl
-  told_as fault.AttributeMayBeMissing n = refl
-  told_as fault.EmptySet n = refl
-  told_as fault.BadExtensionLiteral n = refl
+module _ (env : Environment) (x : Expr) (ps qs : List Capability) (ts us : List StaticType) (none : ps ≡ []) where
+  -- it has a type
+  pub typed_there : (o : Option BooleanType) → IsTyped env ps ts x qs us o → (s : types.StaticType) × HasType x s env
+  typed_there o t =
+      (static_view t.kind, (capabilities t.gained, subst (λ rs. Types env (capabilities rs) x (static_view t.kind) (capabilities t.gained)) none t.typed))
 
-  -- it has a type where nothing is known, or this fault
-  pub typed_there : (ps : List Capability) (t : Typed) → ps ≡ [] → TypedBehind ps t → (s : types.StaticType) × HasType x s env
-  typed_there ps t e h = (static_view t.kind, (capabilities t.gains.items, subst (λ qs. TypedBehind qs t) e h))
+  -- or an error, and nothing is known then
+  pub faulty_there : (f : TypeFault) (u : IsUntyped env ps x qs) → f ≡ of_typing u.error → IsFault env x f
+  faulty_there f u told = (u.error, told, subst (λ rs. Faults env (capabilities rs) x u.error) none u.has_error)
 
-  pub faulty_there : (ps : List Capability) (f : at_hand.ExpressionFault) (g : TypeFault) → ps ≡ [] → f ≢ fault.NoMemory
-      → g ≡ of_types f → FaultyBehind ps f → IsFault env x g
-  faulty_there ps f g e n told h =
-      (fault_view f, told ∙ told_as f n, subst (λ qs. Faults env (capabilities qs) x (fault_view f)) e (h n))
+  pub still_none : (u : IsUntyped env ps x qs) → qs ≡ []
+  still_none u = u.unchanged ∙ none
 
 pub pairs_append : (ps qs rs : List Capability) → rs ≡ ps ++ qs → capabilities rs ≡ capabilities ps ++ capabilities qs
 pairs_append ps qs rs e = ap capabilities e ∙ map-append capability_of ps qs

@@ -7,11 +7,12 @@ ghost use Rattle.validator.specs.Passing.{environments_of, HasBooleanType};
 ghost use Rattle.fault_paths.specs.FirstTypingError.{IsTypeBlame};
 ghost use Rattle.fault_paths.specs.inner.Judging.{IsBlamedIn};
 
-use crate::descending::{BlamedForm, blame_in};
+use crate::descending::{BlamedForm, descend};
+use crate::judging::{Judgement, judge};
 use grammar_core::Expr;
 use plain::NoMemory;
 use std::alloc::Global;
-use type_checker::{ExpressionFault, Policy, Schema, TypingEnvironment, judge_under};
+use type_checker::{Policy, Schema, TypingEnvironment};
 use validator::TypeFault;
 
 /// The first typing error of a policy, and what it blames.
@@ -35,22 +36,22 @@ fn blame_at<'a>(
 ) -> Result<Option<TypeBlame<'a>>, NoMemory>
     ensures { IfOk result (IsBlamedIn (typing_environment env.entry) at whole.entry.now) }
 {
-    match judge_under(alloc, env, &[], whole) {
-        Ok(typed) => {
-            drop(typed);
-            Ok(None)
-        }
-        Err(fault) => match fault {
-            ExpressionFault::NoMemory => Err(NoMemory),
-            _ => match blame_in(alloc, env, whole) {
+    let mut known = Vec::new(alloc);
+    let mut types = Vec::new(alloc);
+    match judge(alloc, env, &mut known, &mut types, whole) {
+        Err(error) => Err(error),
+        Ok(Judgement::Typed(_)) => Ok(None),
+        Ok(Judgement::Faulty(fault)) => {
+            let mut path = Vec::new(alloc);
+            match descend(alloc, env, &mut known, &mut path, &mut types, whole) {
                 Err(error) => Err(error),
-                Ok(place) => Ok(Some(TypeBlame {
-                    fault: TypeFault::from(fault),
+                Ok(form) => Ok(Some(TypeBlame {
+                    fault,
                     environment: at,
-                    place,
+                    place: BlamedForm { path, form, types },
                 })),
-            },
-        },
+            }
+        }
     }
 }
 

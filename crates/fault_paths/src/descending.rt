@@ -4,7 +4,6 @@ ghost use Rattle.validator.specs.typing.Environment as typing;
 ghost use Rattle.validator.specs.typing.Faults.{Faults};
 ghost use Rattle.type_checker.specs.Views.{typing_environment, static_view};
 ghost use Rattle.typing.specs.BlamedExpressions.{blamed};
-ghost use Rattle.fault_paths.specs.Views.{place_view};
 
 use crate::steps::{Step, step_from};
 use grammar_core::Expr;
@@ -27,7 +26,7 @@ pub struct BlamedForm<'a> {
 /// blamed expression to `path`, and the types that the demand is about to `types`.
 ///
 /// `known` and `path` are empty at first.
-fn descend<'a>(
+pub(crate) fn descend<'a>(
     alloc: Global,
     env: TypingEnvironment<'a>,
     known: &mut Vec<Capability<'a>>,
@@ -56,21 +55,4 @@ fn descend<'a>(
             }
         }
     }
-}
-
-/// Returns what the error of the expression `whole` in the environment `env` blames. For an expression without an error
-/// the result is unspecified.
-pub(crate) fn blame_in<'a>(
-    alloc: Global,
-    env: TypingEnvironment<'a>,
-    whole: &'a Expr,
-) -> Result<BlamedForm<'a>, NoMemory>
-    ensures { IfOk result (λ place. (n : typing.ExpressionFault)
-        (h : Faults (typing_environment env.entry) [] whole.entry.now n) → blamed h ≡ place_view place) }
-{
-    let mut known = Vec::new(alloc);
-    let mut path = Vec::new(alloc);
-    let mut types = Vec::new(alloc);
-    let form = descend(alloc, env, &mut known, &mut path, &mut types, whole)?;
-    Ok(BlamedForm { path, form, types })
 }

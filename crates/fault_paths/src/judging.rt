@@ -1,4 +1,4 @@
-//! The judgement on one operand on the way to the blamed expression.
+//! The judgement on an expression, or on one operand on the way to the blamed expression.
 ghost use Rattle.std.specs.Prelude.{IfOk};
 ghost use Rattle.type_checker.specs.Views.{typing_environment};
 ghost use Rattle.fault_paths.specs.inner.Steps.{IsJudged};
@@ -9,9 +9,17 @@ use std::alloc::Global;
 use type_checker::{
     BooleanType, Capability, ExpressionFault, StaticType, Typed, TypingEnvironment, judge_under,
 };
+use validator::TypeFault;
 
-/// Returns `None` if an expression has an error under the capabilities `known`, `Some(None)` if its type is not
-/// boolean, and else the boolean type.
+/// The judgement on an expression.
+pub(crate) enum Judgement {
+    /// The expression has this error.
+    Faulty(TypeFault),
+    /// The expression has a type: this boolean type, or `None` for another type.
+    Typed(Option<BooleanType>),
+}
+
+/// Returns the judgement on an expression under the capabilities `known`.
 ///
 /// Appends the type to `types`, and the capabilities that the expression gains to `known`. An expression with an error
 /// leaves `known` unchanged.
@@ -21,7 +29,7 @@ pub(crate) fn judge<'a>(
     known: &mut Vec<Capability<'a>>,
     types: &mut Vec<StaticType<'a>>,
     expr: &'a Expr,
-) -> Result<Option<Option<BooleanType>>, NoMemory>
+) -> Result<Judgement, NoMemory>
     ensures { IfOk result (IsJudged (typing_environment env.entry) known.old.items types.old.items expr.entry.now
         known.new.items types.new.items) }
 {
@@ -31,11 +39,11 @@ pub(crate) fn judge<'a>(
             let truth = kind.as_boolean();
             types.push(kind)?;
             known.extend_from_slice(gains.as_slice())?;
-            Ok(Some(truth))
+            Ok(Judgement::Typed(truth))
         }
         Err(fault) => match fault {
             ExpressionFault::NoMemory => Err(NoMemory),
-            _ => Ok(None),
+            _ => Ok(Judgement::Faulty(TypeFault::from(fault))),
         },
     }
 }

@@ -4,7 +4,7 @@ ghost use Rattle.grammar_core.specs.declared.expr.Expr.TheViews.{out-Expr};
 ghost use Rattle.type_checker.specs.Views.{typing_environment};
 ghost use Rattle.fault_paths.specs.inner.Steps.{IsStep, after, after_left};
 
-use crate::judging::judge;
+use crate::judging::{Judgement, judge};
 use grammar_core::Expr;
 use plain::NoMemory;
 use std::alloc::Global;
@@ -104,11 +104,11 @@ pub(crate) fn step_from<'a>(
         match operand(expr, at) {
             Some(next) => match judge(alloc, env, known, types, next) {
                 Err(error) => return Err(error),
-                Ok(None) => return Ok(Some(Step {
+                Ok(Judgement::Faulty(_)) => return Ok(Some(Step {
                     at,
                     faulty: Some(next),
                 })),
-                Ok(Some(truth)) => {
+                Ok(Judgement::Typed(truth)) => {
                     let count = known.len();
                     let collected = types.len();
                     match after(expr, at, truth, start, count, collected) {

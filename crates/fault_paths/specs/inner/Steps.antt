@@ -13,6 +13,9 @@ use Rattle.type_checker.specs.type_capabilities.declared.capability.Capability.{
 use Rattle.type_checker.specs.declared.static_type.BooleanType.{BooleanType}
 use Rattle.type_checker.specs.declared.static_type.BooleanType.TheVariants as truth
 use Rattle.type_checker.specs.declared.static_type.StaticType.{StaticType}
+use Rattle.validator.specs.Faults.{of_typing}
+use Rattle.fault_paths.specs.declared.judging.Judgement.{Judgement}
+use Rattle.fault_paths.specs.declared.judging.Judgement.TheVariants as judgement
 use Rattle.fault_paths.specs.declared.steps.Next.{Next}
 use Rattle.fault_paths.specs.declared.steps.Next.TheVariants as next
 use Rattle.fault_paths.specs.declared.steps.Step.{Step}
@@ -36,11 +39,12 @@ pub record IsTyped (env : Environment) (ps : List Capability) (ts : List StaticT
   pub appended : us ≡ ts ++ kind ∷ []
   pub boolean : MatchOption o (¬ IsBoolean (static_view kind)) (λ b. static_view kind ≡ boolean_view b)
 
--- `IsJudged env ps ts x qs us o` holds if `o` is `None` and `IsUntyped env ps x qs`, or `o` is `Some b` and
--- `IsTyped env ps ts x qs us b`.
+-- `IsJudged env ps ts x qs us j` holds if `j` is the error of `x`, as the validator reports it, and
+-- `IsUntyped env ps x qs`; or `j` is the boolean type of `x`, or `None` for another type, and `IsTyped` holds of it.
 abbrev pub IsJudged : Environment → List Capability → List StaticType → Expr → List Capability → List StaticType
-    → Option (Option BooleanType) → Type 0
-IsJudged env ps ts x qs us o = MatchOption o (IsUntyped env ps x qs) (IsTyped env ps ts x qs us)
+    → Judgement → Type 0
+IsJudged env ps ts x qs us (judgement.Faulty f) = (u : IsUntyped env ps x qs) × (f ≡ of_typing u.error)
+IsJudged env ps ts x qs us (judgement.Typed o) = IsTyped env ps ts x qs us o
 
 -- `last_of o` is the last part of a path: the index `o` of the blamed operand, or nothing if the form itself is blamed.
 abbrev pub last_of : Option ℕ → List ℕ

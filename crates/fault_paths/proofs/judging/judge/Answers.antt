@@ -3,6 +3,7 @@ use Rattle.type_checker.specs.Views.{static_view, fault_view, typing_environment
 use Rattle.type_checker.specs.type_capabilities.CapabilityList.{capabilities}
 use Rattle.validator.specs.typing.Typing.{Types}
 use Rattle.validator.specs.typing.Faults.{Faults}
+use Rattle.fault_paths.proofs.Finding.{told_as}
 use Rattle.fault_paths.proofs.judging.judge.Goals as goal
 
 pub returns-in_ok-extend_from_slice-in-Ok : goal.returns-in_ok-extend_from_slice-in-Ok
@@ -21,10 +22,12 @@ returns-in_ok-extend_from_slice-in-Ok c =
 
 pub returns-in_default : goal.returns-in_default
 returns-in_default c =
-    let E = typing_environment c.args.env in
-    record {
-      error = fault_view c.in-Err.fault;
-      has_error = subst (λ gs. Faults E (capabilities gs) c.args.expr.now (fault_view c.in-Err.fault)) c.as_slice.ensures.value
-          (c.in-Err.ensures.faulty c.in_default.not-NoMemory);
-      unchanged = refl;
-    }
+    let E = typing_environment c.args.env in (
+      record {
+        error = fault_view c.in-Err.fault;
+        has_error = subst (λ gs. Faults E (capabilities gs) c.args.expr.now (fault_view c.in-Err.fault)) c.as_slice.ensures.value
+            (c.in-Err.ensures.faulty c.in_default.not-NoMemory);
+        unchanged = refl;
+      },
+      c.from.ensures ∙ told_as c.in-Err.fault c.in_default.not-NoMemory,
+    )

@@ -9,17 +9,17 @@ pub each-init : goal.each-init
 each-init c =
     first (typing_environment c.args.env) c.args.known.now.items c.args.expr.now (out-Expr c.args.expr.now) refl c.clear.ensures.items
 
-pub returns-in-Ok-None : goal.returns-in-Ok-None
-returns-in-Ok-None c =
+pub returns-in-Ok-Faulty : goal.returns-in-Ok-Faulty
+returns-in-Ok-Faulty c =
     goes (typing_environment c.args.env) c.args.known.now.items c.args.expr.now (out-Expr c.args.expr.now) refl c.each.at c.each.types.items
-    c.each.invariant c.in-Some.ensures.item (rw c.in-Ok-None.field-0-is at c.in-Ok-None.ensures)
+    c.each.invariant c.in-Some.ensures.item (rw c.in-Ok-Faulty.field-0-is at c.in-Ok-Faulty.ensures).0
 
 pub returns-in-Blamed : goal.returns-in-Blamed
 returns-in-Blamed c =
     follows_is (typing_environment c.args.env) c.args.known.now.items c.args.expr.now c.each.at c.len-start.result c.len-count.result
     c.len-collected.result (c.len-start.ensures ∙ c.args.known.now.ok.0) (c.len-count.ensures ∙ c.judge.new.known.ok.0)
     (c.len-collected.ensures ∙ c.judge.new.types.ok.0) c.each.invariant c.in-Some.ensures.item
-    (rw c.in-Ok-Some.field-0-is at c.in-Ok-Some.ensures) c.in-Blamed.ensures
+    (rw c.in-Ok-Typed.field-0-is at c.in-Ok-Typed.ensures) c.in-Blamed.ensures
 
 pub each-preserved : goal.each-preserved
 each-preserved c =
@@ -29,7 +29,7 @@ each-preserved c =
     stands E ps x c.each.at c.in-Operand.behind c.in-Operand.capabilities c.in-Operand.demanded c.judge.new.known.items c.judge.new.types.items
     (follows_is E ps x c.each.at c.len-start.result c.len-count.result c.len-collected.result (c.len-start.ensures ∙ c.args.known.now.ok.0)
     (c.len-count.ensures ∙ c.judge.new.known.ok.0) (c.len-collected.ensures ∙ c.judge.new.types.ok.0) c.each.invariant c.in-Some.ensures.item
-    (rw c.in-Ok-Some.field-0-is at c.in-Ok-Some.ensures) c.in-Operand.ensures)
+    (rw c.in-Ok-Typed.field-0-is at c.in-Ok-Typed.ensures) c.in-Operand.ensures)
     c.truncate.ensures.items c.truncate-in-Operand.ensures.items
 
 pub each-smaller : goal.each-smaller
@@ -40,7 +40,7 @@ each-smaller c =
     fewer (operands_of x) c.each.at c.in-Operand.behind c.in-Some.next.now c.in-Some.ensures.item
     (follows_is E ps x c.each.at c.len-start.result c.len-count.result c.len-collected.result (c.len-start.ensures ∙ c.args.known.now.ok.0)
     (c.len-count.ensures ∙ c.judge.new.known.ok.0) (c.len-collected.ensures ∙ c.judge.new.types.ok.0) c.each.invariant c.in-Some.ensures.item
-    (rw c.in-Ok-Some.field-0-is at c.in-Ok-Some.ensures) c.in-Operand.ensures).0
+    (rw c.in-Ok-Typed.field-0-is at c.in-Ok-Typed.ensures) c.in-Operand.ensures).0
 
 pub returns-in-None : goal.returns-in-None
 returns-in-None c =
