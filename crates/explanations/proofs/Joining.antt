@@ -1,8 +1,9 @@
 -- Explanations of the parts, joined to that of the whole.
-use Rattle.std.proofs.Common.{◌≡◌, inl, inr, ℕ, Bool, true, false, List, [], ◌∷◌, ◌++◌, Option, None, Some, unwrap_or, option_map, Result, Err, OnOk, IfErr}
+use Rattle.std.proofs.Common.{◌≡◌, ◌⊎◌, ◌<◌, ◌≤◌, inl, inr, ℕ, Bool, true, false, List, [], ◌∷◌, ◌++◌, Option, None, Some, unwrap_or, option_map}
 use Rattle.std.proofs.Common.{refl, sym, ap, ◌∙◌, subst, length, arith}
-use Rattle.std.specs.Prelude.{⊤, MatchOption}
+use Rattle.std.specs.Prelude.{MatchOption}
 use Rattle.std.specs.Str.{IsUtf8, IsValidUpTo}
+use Rattle.std.proofs.lemmas.Bool.Decides.{nat_tests}
 use Rattle.std.proofs.lemmas.List.{take_all}
 use Rattle.plain.specs.AllocationErrors.{OrNoMemory}
 use Rattle.grammar_desugaring.specs.grammar_tokens.declared.token.Token.{Token}
@@ -16,6 +17,7 @@ use Rattle.schema_decisions.specs.answer_lines.Refusals.{no_memory}
 use Rattle.schema_decisions.specs.decision_texts.Decisions.{ArePoliciesOf, ArePoliciesRefused}
 use Rattle.schema_decisions.specs.Checks.{IsSchemaRefused}
 use Rattle.schema_decisions.specs.validator.declared.fault.TypeFault.{TypeFault}
+use Rattle.schema_decisions.specs.validator.declared.fault.TypeFault.TheVariants as fault
 use Rattle.schema_decisions.specs.validator.Faults.{code_of}
 use Rattle.schema_decisions.specs.validator.Passing.{Passes, IsCheckRefused}
 use Rattle.fault_paths.specs.declared.explaining.PolicyFault.{PolicyFault}
@@ -26,13 +28,12 @@ use Rattle.explanations.specs.declared.pieces.Piece.{Piece}
 use Rattle.explanations.specs.Files.{File, Files}
 use Rattle.explanations.specs.Parts.{IsPartOf, IsNothing, IsSourceAt, IsWholeAt, entry_words, IsMessageExplained, AppendsSome}
 use Rattle.explanations.specs.Pieces.{ArePiecesOf}
-use Rattle.explanations.specs.Policies.{is_searched, large_note, IsNameOrExpressionSpan, IsFaultText, IsCheckExplained, passes_so, rejected_so, too_large, ArePoliciesExplained}
-use Rattle.explanations.specs.UnparsedFiles.{byte_in, is_that, IsReadErrorText, IsPieceExplained, is_read, is_unread, ArePiecesExplained, AppendsExplained}
-use Rattle.explanations.specs.EntitiesAndRequests.{IsCheckedText, IsCheckOutcome, AreEntitiesExplained, IsRequestExplained}
+use Rattle.explanations.specs.Policies.{is_searched, is_name, large_note, IsNameOrExpressionSpan, IsFaultText, IsCheckExplained, passes_so, rejected_so, too_large, ArePoliciesExplained}
+use Rattle.explanations.specs.UnparsedFiles.{byte_in, is_that, names_token, IsReadErrorText, IsPieceExplained, is_read, is_unread, ArePiecesExplained, AppendsExplained}
+use Rattle.explanations.specs.EntitiesAndRequests.{IsCheckOutcome, AreEntitiesExplained, IsRequestExplained}
 use Rattle.explanations.specs.FileExplanations as whole
 use Rattle.explanations.specs.FileExplanations.{AreTokensOf, IsUnreadExplained, IsOutcomeExplained, IsTextExplained, IsNoTextExplained, IsFileExplained, AreOthersExplained, IsExplainedUnder, IsExplainedAs, IsExplained}
 use Rattle.explanations.proofs.Appending.{in_turn, nothing_more}
-use Rattle.explanations.proofs.Judging.{judged}
 
 -- an answer that is known to be there, or not
 pub some_so : {X : Type 0} (P : Type 0) (Q : X → Type 0) {o : Option X} {x : X} → o ≡ Some x → MatchOption o P Q → Q x
@@ -60,23 +61,28 @@ module _ (s : StatedSchema) (file text : List ℕ) (place : Piece) (policy : Pol
 
 -- ---- a piece, and a file that does not parse
 
+-- errors whose cause is a token, and other errors
+pub is_token_named : (code : ℕ) → 11 ≤ code → code ≤ 16 → names_token code ≡ true
+is_token_named code low high = grind (arith, nat_tests)
+
+pub no_token_named : (code : ℕ) → (code < 11) ⊎ (17 ≤ code) → names_token code ≡ false
+no_token_named code out = grind (arith, nat_tests)
+
 module _ (o : Option StatedSchema) (file text : List ℕ) (tokens : List Token) (old : List ℕ) where
   pub piece_parses : (of_file : Refusal) (piece : Piece) (part : List ℕ) (names : List (List ℕ)) (cores : List Policy) (new : List ℕ) → IsPartOf text piece.start piece.end part
       → IsPolicyFile part names cores → AppendsSome (ArePoliciesExplained o file text (piece ∷ []) cores) old new
       → AppendsExplained (IsPieceExplained o file text tokens of_file piece) old new false
   piece_parses of_file piece part names cores new h g a = (a.0, is_read part names cores a.0 h g a.1, a.2)
 
-  pub piece_does_not : (of_file : Refusal) (piece : Piece) (part : List ℕ) (f g : ReadFault) (code again at : ℕ) (told : Bool) (new : List ℕ) → told ≡ is_that of_file again at
-      → again ≡ reading.code_of g → IsPartOf text piece.start piece.end part
-      → IsFileRefused part f → g ≡ f → code ≡ reading.code_of g → at ≡ byte_in piece g → AppendsSome (IsReadErrorText file text tokens code at) old new
-      → AppendsExplained (IsPieceExplained o file text tokens of_file piece) old new told
-  piece_does_not of_file piece part f g code again at told new t d h refused e c i a =
-      let stated : IsReadErrorText file text tokens (reading.code_of g) (byte_in piece g) a.0 =
-      subst (λ (k : ℕ). IsReadErrorText file text tokens k (byte_in piece g) a.0) c (subst (λ (n : ℕ). IsReadErrorText file text tokens code n a.0) i a.1) in
-      let same : told ≡ is_that of_file (reading.code_of g) (byte_in piece g) =
-      t ∙ ap (λ (k : ℕ). is_that of_file k at) d ∙ ap (λ (k : ℕ). is_that of_file (reading.code_of g) k) i in
-      let so = is_unread part g a.0 h (subst (IsFileRefused part) (sym e) refused) stated in
-      (a.0, subst (λ (k : Bool). IsPieceExplained o file text tokens of_file piece k a.0) (sym same) so, a.2)
+  pub piece_does_not : (of_file : Refusal) (piece : Piece) (part : List ℕ) (f : ReadFault) (code at : ℕ) (told : Bool) (new : List ℕ) → told ≡ is_that of_file code at
+      → code ≡ reading.code_of f → at ≡ byte_in piece f → IsPartOf text piece.start piece.end part → IsFileRefused part f
+      → AppendsSome (IsReadErrorText file text tokens code at) old new → AppendsExplained (IsPieceExplained o file text tokens of_file piece) old new told
+  piece_does_not of_file piece part f code at told new t c i h refused a =
+      let stated : IsReadErrorText file text tokens (reading.code_of f) (byte_in piece f) a.0 =
+      subst (λ (k : ℕ). IsReadErrorText file text tokens k (byte_in piece f) a.0) c (subst (λ (n : ℕ). IsReadErrorText file text tokens code n a.0) i a.1) in
+      let same : told ≡ is_that of_file (reading.code_of f) (byte_in piece f) =
+      t ∙ ap (λ (k : ℕ). is_that of_file k at) c ∙ ap (λ (k : ℕ). is_that of_file (reading.code_of f) k) i in
+      (a.0, subst (λ (k : Bool). IsPieceExplained o file text tokens of_file piece k a.0) (sym same) (is_unread part f a.0 h refused stated), a.2)
 
   pub pieces_tell : (pieces : List Piece) (r : Refusal) (new : List ℕ) (told : Bool) → told ≡ true → AppendsExplained (ArePiecesExplained o file text tokens r pieces) old new told
       → AppendsSome (IsUnreadExplained o file text tokens pieces r) old new
@@ -139,26 +145,25 @@ pub whole_told : (name old new : List ℕ) (code : ℕ) (index : Option ℕ) (wo
     → AppendsSome (IsWholeAt name code index (λ w. w ≡ words)) old new → AppendsSome (IsWholeAt name code index IsDetail) old new
 whole_told name old new code index words IsDetail t a = (a.0, with_words name code index words IsDetail a.0 t a.1, a.2)
 
-pub of_that : (name old new : List ℕ) (r q : Refusal) → q ≡ r → AppendsSome (IsWholeAt name q.code q.place IsNothing) old new
-    → AppendsSome (IsWholeAt name r.code r.place IsNothing) old new
-of_that name old new r q e a = subst (λ (t : Refusal). AppendsSome (IsWholeAt name t.code t.place IsNothing) old new) e a
+-- a text that is accepted, of which there is nothing to explain
+pub accepted : (name old : List ℕ) (Read : Type 0) (Refused : Refusal → Type 0) (IsDetail : Option ℕ → List ℕ → Type 0) → Read
+    → AppendsSome (IsCheckOutcome name Read Refused IsDetail) old old
+accepted name old Read Refused IsDetail read = ([], inl (read, refl), nothing_more old)
 
-pub judged_so : (name old new : List ℕ) (IsDetail : Option ℕ → List ℕ → Type 0) (r q : Refusal) → q ≡ r → (r ≡ no_memory → ⊥)
-    → AppendsSome (IsWholeAt name q.code q.place (IsDetail q.place)) old new → AppendsSome (IsCheckedText name IsDetail (Err r)) old new
-judged_so name old new IsDetail r q e h a =
-    (a.0, (h, subst (λ (t : Refusal). IsWholeAt name t.code t.place (IsDetail t.place) a.0) e a.1), a.2)
-
-pub judged_text : (name old new : List ℕ) (Read : Type 0) (Refused : Refusal → Type 0) (IsDetail : Option ℕ → List ℕ → Type 0) (r : Result ⊤ Refusal) → OnOk r Read
-    → IfErr r (OrNoMemory no_memory Refused) → AppendsSome (IsCheckedText name IsDetail r) old new → AppendsSome (IsCheckOutcome name Read Refused IsDetail) old new
-judged_text name old new Read Refused IsDetail r read refused a = (a.0, judged name a.0 Read Refused IsDetail r read refused a.1, a.2)
+-- a text that is rejected, with these words on the error
+pub rejected : (name old new : List ℕ) (Read : Type 0) (Refused : Refusal → Type 0) (IsDetail : Option ℕ → List ℕ → Type 0) (r : Refusal) (words : List ℕ) → IsDetail r.place words
+    → OrNoMemory no_memory Refused r → (r ≡ no_memory → ⊥) × AppendsSome (IsWholeAt name r.code r.place (λ w. w ≡ words)) old new
+    → AppendsSome (IsCheckOutcome name Read Refused IsDetail) old new
+rejected name old new Read Refused IsDetail r words t refused (h, a) =
+    let told = whole_told name old new r.code r.place words (IsDetail r.place) t a in (told.0, inr (r, refused h, told.1), told.2)
 
 -- ---- all texts
 
 module _ (given : Files) (old : List ℕ) where
-  pub others : (o : Option StatedSchema) (schema : Option (List ℕ)) (one two new : List ℕ) → schema ≡ option_map (λ file. file.text) given.schema
-      → AppendsSome (IsFileExplained o given.policies.name given.policies.text) old one → AppendsSome (AreEntitiesExplained o given.entities) one two
-      → AppendsSome (IsRequestExplained o schema given.request) two new → AppendsSome (AreOthersExplained o given) old new
-  others o schema one two new e a b d = (
+  pub others : (o : Option StatedSchema) (one two new : List ℕ) → AppendsSome (IsFileExplained o given.policies.name given.policies.text) old one
+      → AppendsSome (AreEntitiesExplained o given.entities) one two
+      → AppendsSome (IsRequestExplained o (option_map (λ file. file.text) given.schema) given.request) two new → AppendsSome (AreOthersExplained o given) old new
+  others o one two new a b d = (
     a.0 ++ b.0 ++ d.0,
     record {
       first = a.0;
@@ -166,7 +171,7 @@ module _ (given : Files) (old : List ℕ) where
       third = d.0;
       policies = a.1;
       entities = b.1;
-      request = subst (λ (t : Option (List ℕ)). IsRequestExplained o t given.request d.0) e d.1;
+      request = d.1;
       is = refl;
     },
     in_turn old two new (a.0 ++ b.0) d.0 (in_turn old one two a.0 b.0 a.2 b.2) d.2,
@@ -190,6 +195,16 @@ pub given_as : (given : Files) (o : Option File) (old new : List ℕ) → given.
 given_as given o old new e a = subst (λ (p : Option File). AppendsSome (IsExplainedAs p given) old new) (sym e) a
 
 -- ---- spans
+
+-- errors of undeclared names, and other errors
+pub names : (f : TypeFault) → f ≡ fault.UnknownType ⊎ f ≡ fault.UnknownAction → is_name f ≡ true
+names f (inl e) = ap is_name e
+names f (inr e) = ap is_name e
+
+pub names_nothing : (f : TypeFault) → (f ≡ fault.UnknownType → ⊥) → (f ≡ fault.UnknownAction → ⊥) → is_name f ≡ false
+names_nothing fault.UnknownType h g = absurd (h refl)
+names_nothing fault.UnknownAction h g = absurd (g refl)
+names_nothing _ h g = refl
 
 pub found_name : (b : Bool) (part path as_stated : List ℕ) (found : Option Span) → b ≡ true → path ≡ as_stated → IsNameSpanOf part path found
     → IsNameOrExpressionSpan b part as_stated found

@@ -1,14 +1,13 @@
 //! Explains what is rejected in the texts of a schema, policies, entities and a request.
-ghost use Rattle.std.specs.Prelude.{◌≡◌, OnOk, IfOk, None, option_map, string_bytes};
+ghost use Rattle.std.specs.Prelude.{◌≡◌, OnOk, IfOk, option_map, string_bytes};
 ghost use Rattle.std.specs.Str.{IsValidUpTo};
 ghost use Rattle.schema_decisions.specs.schema.Views.{schema_view};
 ghost use Rattle.schema_decisions.specs.answer_lines.Refusals.{no_memory};
 ghost use Rattle.explanations.specs.Files.{file_of, files_of};
-ghost use Rattle.explanations.specs.Parts.{AppendsSome, IsNothing, IsWholeAt};
-ghost use Rattle.explanations.specs.FileExplanations.{AreTokensOf, IsTextExplained, not_utf8_words};
+ghost use Rattle.explanations.specs.Parts.{AppendsSome};
+ghost use Rattle.explanations.specs.FileExplanations.{AreTokensOf, IsTextExplained};
 ghost use Rattle.explanations.specs.FileExplanations.{IsNoTextExplained, IsFileExplained, AreOthersExplained};
-ghost use Rattle.explanations.specs.FileExplanations.{IsExplained};
-ghost use Rattle.explanations.specs.FileExplanations.{IsUnreadExplained, IsExplainedUnder};
+ghost use Rattle.explanations.specs.FileExplanations.{IsUnreadExplained, IsExplained};
 
 use crate::given::{Given, NamedText};
 use crate::others::{explain_entities, explain_request};
@@ -16,7 +15,6 @@ use crate::parts::{push_refusal, unless_no_memory};
 use crate::pieces::{Piece, pieces_of};
 use crate::policies::explain_policies;
 use crate::unread::{Lexed, explain_pieces, push_read_fault};
-use explanation_texts::{WholeFinding, push_whole};
 use grammar_desugaring::{LexFault, Token, tokens};
 use plain::NoMemory;
 use schema_decisions::{Refusal, Schema, policies_of_file, schema_in};
@@ -91,29 +89,6 @@ fn explain_text(
     }
 }
 
-/// Appends that the file `file`, which is rejected with `refusal`, is not UTF-8 at the byte `at`. Returns `NoMemory` if
-/// `refusal` is out of memory.
-fn push_not_utf8(
-    alloc: Global,
-    out: &mut String,
-    file: &str,
-    refusal: Refusal,
-    at: usize,
-) -> Result<(), NoMemory>
-    ensures { OnOk result ((refusal ≡ no_memory → ⊥)
-        × AppendsSome (IsWholeAt file.now refusal.code None (λ words. words ≡ not_utf8_words at))
-        (string_bytes out.old) (string_bytes out.new)) }
-{
-    let checked = unless_no_memory(refusal)?;
-    let words = format!(in alloc; "the file is not UTF-8 at byte {at} (from 0)")?;
-    let finding = WholeFinding {
-        code: u16::from(checked.code),
-        index: None,
-        detail: words.as_str(),
-    };
-    push_whole(out, file, &finding)
-}
-
 /// Appends that a file of policies is not UTF-8, where `at` is the length of its longest part from the beginning that
 /// is.
 fn explain_no_text(
@@ -128,7 +103,14 @@ fn explain_no_text(
 {
     match policies_of_file(alloc, source.text) {
         Ok(_policies) => Ok(()),
-        Err(refusal) => push_not_utf8(alloc, out, source.name, refusal, at),
+        Err(refusal) => {
+            let words = format!(in alloc; "the file is not UTF-8 at byte {at} (from 0)")?;
+            let whole = Refusal {
+                place: None,
+                ..refusal
+            };
+            push_refusal(out, source.name, whole, words.as_str())
+        }
     }
 }
 
@@ -148,16 +130,6 @@ fn explain_file(
     }
 }
 
-/// Returns the text of a file, if there is one.
-fn text_of_source<'t>(source: Option<NamedText<'_, 't>>) -> Option<&'t [u8]>
-    ensures { option_map (λ s. s.now) result ≡ option_map (λ s. s.text) (option_map file_of source.entry) }
-{
-    match source {
-        Some(source) => Some(source.text),
-        None => None,
-    }
-}
-
 /// Appends the explanation of what is rejected in the policies, the entities and the request.
 fn explain_others(
     alloc: Global,
@@ -170,50 +142,20 @@ fn explain_others(
 {
     explain_file(alloc, out, schema, given.policies)?;
     explain_entities(alloc, out, schema, given.entities)?;
-    explain_request(
-        alloc,
-        out,
-        schema,
-        text_of_source(given.schema),
-        given.request,
-    )
+    explain_request(alloc, out, schema, given.schema, given.request)
 }
 
-/// Appends why the schema of the file `name` is rejected with `refusal`. Returns `NoMemory` if `refusal` is out of
-/// memory.
-fn push_schema_refusal(out: &mut String, name: &str, refusal: Refusal) -> Result<(), NoMemory>
-    ensures { OnOk result ((refusal ≡ no_memory → ⊥)
-        × AppendsSome (IsWholeAt name.now refusal.code refusal.place IsNothing) (string_bytes out.old)
-        (string_bytes out.new)) }
-{
-    let checked = unless_no_memory(refusal)?;
-    push_refusal(out, name, checked, "")
-}
-
-/// Appends the explanation of what is rejected in the given files under `schema`, or of why `schema` itself is.
-fn explain_under(
-    alloc: Global,
-    out: &mut String,
-    schema: NamedText<'_, '_>,
-    given: &Given<'_, '_>,
-) -> Result<(), NoMemory>
-    ensures { OnOk result (AppendsSome (IsExplainedUnder (file_of schema.entry) (files_of given.now))
-        (string_bytes out.old) (string_bytes out.new)) }
-{
-    match schema_in(alloc, schema.text) {
-        Ok(stated) => explain_others(alloc, out, Some(&stated), given),
-        Err(refusal) => push_schema_refusal(out, schema.name, refusal),
-    }
-}
-
-/// Appends the explanation of what is rejected in the given texts.
+/// Appends the explanation of what is rejected in the given texts, or of why the schema itself is.
 fn explain_given(alloc: Global, out: &mut String, given: &Given<'_, '_>) -> Result<(), NoMemory>
     ensures { OnOk result (AppendsSome (IsExplained (files_of given.now))
         (string_bytes out.old) (string_bytes out.new)) }
 {
-    match given.schema {
-        Some(schema) => explain_under(alloc, out, schema, given),
-        None => explain_others(alloc, out, None, given),
+    let Some(source) = given.schema else {
+        return explain_others(alloc, out, None, given);
+    };
+    match schema_in(alloc, source.text) {
+        Ok(schema) => explain_others(alloc, out, Some(&schema), given),
+        Err(refusal) => push_refusal(out, source.name, refusal, ""),
     }
 }
 

@@ -1,34 +1,24 @@
 //! Explains that a message is rejected.
 ghost use Rattle.std.specs.Prelude.{◌≡◌, ◌++◌, IfOk, OnOk, string_bytes};
-ghost use Rattle.explanation_texts.specs.CodeText.{words_on};
-ghost use Rattle.explanations.specs.Parts.{name_in, inner_words, entry_words, IsMessageExplained};
+ghost use Rattle.explanations.specs.Parts.{inner_words, entry_words, IsMessageExplained};
 
 use explanation_texts::{WholeFinding, push_whole, words_of};
 use plain::NoMemory;
 use schema_decisions::Refusal;
 use std::alloc::Global;
 
-/// Returns the name of a code; empty if no error has this code.
-fn name_on(code: u8) -> &'static str
-    ensures { result.now ≡ name_in (words_on code) }
-{
-    match words_of(u16::from(code)) {
-        Some(words) => words.name,
-        None => "",
-    }
-}
-
-/// Appends the words on the inner error with this code; nothing without a code.
+/// Appends the words on the inner error with this code: the code and its name, if it has one; nothing without a code.
 fn push_inner(out: &mut String, within: Option<u8>) -> Result<(), NoMemory>
     ensures { OnOk result (string_bytes out.new ≡ string_bytes out.old ++ inner_words within) }
 {
-    match within {
-        Some(code) => {
-            let name = name_on(code);
-            write!(out, ", error {code}: {name}")
-        }
-        None => Ok(()),
-    }
+    let Some(code) = within else {
+        return Ok(());
+    };
+    let name = match words_of(u16::from(code)) {
+        Some(words) => words.name,
+        None => "",
+    };
+    write!(out, ", error {code}: {name}")
 }
 
 /// Returns the words on the entry at fault of a rejected message: its index, and its own error if there is one; no

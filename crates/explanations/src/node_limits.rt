@@ -4,7 +4,6 @@ ghost use Rattle.grammar_core.specs.Size.{node_count, total, values_of};
 ghost use Rattle.explanations.specs.inner.NodeLimits.{named_count};
 
 use grammar_core::{Expr, Named};
-use plain::Shared;
 
 /// Returns whether an expression has at most `most` nodes.
 ///
@@ -27,32 +26,26 @@ fn nodes_left(expr: &Expr, room: u64) -> u64
     }
     let rest = room - 1;
     match expr {
-        Expr::Literal(_) => rest,
-        Expr::Variable(_) => rest,
+        Expr::Literal(_) | Expr::Variable(_) => rest,
         Expr::If(test, consequent, alternative) => {
-            let branches = nodes_left(test, rest);
-            both_left(consequent, alternative, branches)
+            let rest = nodes_left(test, rest);
+            let rest = nodes_left(consequent, rest);
+            nodes_left(alternative, rest)
         }
-        Expr::And(left, right) => both_left(left, right, rest),
-        Expr::Or(left, right) => both_left(left, right, rest),
-        Expr::Unary(_, operand) => nodes_left(operand, rest),
-        Expr::Binary(_, left, right) => both_left(left, right, rest),
-        Expr::Field(owner, _) => nodes_left(owner, rest),
-        Expr::Has(owner, _) => nodes_left(owner, rest),
+        Expr::And(left, right)
+        | Expr::Or(left, right)
+        | Expr::Binary(_, left, right)
+        | Expr::BinaryCall(_, left, right) => {
+            let rest = nodes_left(left, rest);
+            nodes_left(right, rest)
+        }
+        Expr::Unary(_, operand)
+        | Expr::Field(operand, _)
+        | Expr::Has(operand, _)
+        | Expr::UnaryCall(_, operand) => nodes_left(operand, rest),
         Expr::Set(members) => members_left(members.as_slice(), rest),
         Expr::Record(fields) => fields_left(fields.as_slice(), rest),
-        Expr::UnaryCall(_, operand) => nodes_left(operand, rest),
-        Expr::BinaryCall(_, left, right) => both_left(left, right, rest),
     }
-}
-
-/// Returns what the nodes of two expressions leave of the room for `room` nodes.
-#[cycle(nodes_left)]
-fn both_left(left: &Shared<Expr>, right: &Shared<Expr>, room: u64) -> u64
-    ensures { result ≡ room - (node_count left.now + node_count right.now) }
-{
-    let rest = nodes_left(left, room);
-    nodes_left(right, rest)
 }
 
 /// Returns what the nodes of several expressions leave of the room for `room` nodes.

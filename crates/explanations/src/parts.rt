@@ -1,5 +1,5 @@
 //! Parts of a text, and the texts that explain errors.
-ghost use Rattle.std.specs.Prelude.{◌≡◌, OnOk, IfOk, string_bytes};
+ghost use Rattle.std.specs.Prelude.{◌≡◌, OnOk, string_bytes};
 ghost use Rattle.schema_decisions.specs.answer_lines.Refusals.{no_memory};
 ghost use Rattle.explanations.specs.Parts.{IsPartOf, IsWholeAt, AppendsSome};
 
@@ -20,36 +20,41 @@ pub(crate) fn part_of(text: &str, from: usize, to: usize) -> &str
     }
 }
 
+/// Checks that the error is not out of memory.
+///
+/// # Errors
+///
+/// - `NoMemory`: the error is `NoMemory`.
+pub(crate) fn unless_no_memory(refusal: Refusal) -> Result<(), NoMemory>
+    ensures { OnOk result (refusal ≡ no_memory → ⊥) }
+{
+    if refusal.code == 1 {
+        return Err(NoMemory);
+    }
+    Ok(())
+}
+
 /// Appends the text of an error in the file `file`: at the index of an item in its array, if the error has one, with
 /// the words `detail` on the part at fault.
+///
+/// # Errors
+///
+/// - `NoMemory`: an allocation failed, or the error is `NoMemory`.
 pub(crate) fn push_refusal(
     out: &mut String,
     file: &str,
     refusal: Refusal,
     detail: &str,
 ) -> Result<(), NoMemory>
-    ensures { OnOk result (AppendsSome (IsWholeAt file.now refusal.code refusal.place (λ words. words ≡ detail.now))
+    ensures { OnOk result ((refusal ≡ no_memory → ⊥)
+        × AppendsSome (IsWholeAt file.now refusal.code refusal.place (λ words. words ≡ detail.now))
         (string_bytes out.old) (string_bytes out.new)) }
 {
+    unless_no_memory(refusal)?;
     let finding = WholeFinding {
         code: u16::from(refusal.code),
         index: refusal.place,
         detail,
     };
     push_whole(out, file, &finding)
-}
-
-/// Returns the error, unless it is out of memory.
-///
-/// # Errors
-///
-/// - `NoMemory`: the error is `NoMemory`.
-pub(crate) fn unless_no_memory(refusal: Refusal) -> Result<Refusal, NoMemory>
-    ensures same { IfOk result (λ r. r ≡ refusal) }
-    ensures other { IfOk result (λ r. refusal ≡ no_memory → ⊥) }
-{
-    if refusal.code == 1 {
-        return Err(NoMemory);
-    }
-    Ok(refusal)
 }

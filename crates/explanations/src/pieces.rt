@@ -1,7 +1,6 @@
 //! Positions of policies in their file.
 ghost use Rattle.std.specs.Prelude.{◌≡◌, OnOk, IfOk};
-ghost use Rattle.explanations.specs.Pieces.{ArePiecesOf};
-ghost use Rattle.explanations.specs.Pieces.{is_end, open_after, pieces_after, with_open, piece_at};
+ghost use Rattle.explanations.specs.Pieces.{ArePiecesOf, open_after, pieces_after, with_open, piece_at};
 
 use grammar_desugaring::{Token, TokenKind};
 use plain::NoMemory;
@@ -16,13 +15,6 @@ pub(crate) struct Piece {
     pub end: usize,
 }
 
-/// Returns whether a token of this kind ends a policy.
-fn is_end(kind: TokenKind) -> bool
-    ensures { result ≡ is_end kind }
-{
-    matches!(kind, TokenKind::Semicolon)
-}
-
 /// Appends the piece that a token ends, if it ends one. Returns the byte at which the piece that is open after the
 /// token begins, if one is.
 fn take_token(
@@ -34,12 +26,14 @@ fn take_token(
         × (pieces.new.items ≡ pieces_after pieces.old.items begun token.now)) }
 {
     let start = begun.unwrap_or(token.start);
-    if is_end(token.kind) {
-        let end = token.end;
-        pieces.push(Piece { start, end })?;
-        return Ok(None);
+    match token.kind {
+        TokenKind::Semicolon => {
+            let end = token.end;
+            pieces.push(Piece { start, end })?;
+            Ok(None)
+        }
+        _ => Ok(Some(start)),
     }
-    Ok(Some(start))
 }
 
 /// Appends the piece that is open at the end of a text of this size, if one is.

@@ -1,12 +1,9 @@
 //! Explains policies that do not pass validation.
-ghost use Rattle.std.specs.Prelude.{◌≡◌, true, false, OnOk, IfOk, MatchOption, map, string_bytes, option_map};
-ghost use Rattle.schema_decisions.specs.validator.Passing.{Passes, IsCheckRefused};
+ghost use Rattle.std.specs.Prelude.{◌≡◌, false, OnOk, IfOk, map, string_bytes, option_map};
 ghost use Rattle.schema_decisions.specs.schema.Views.{schema_view};
 ghost use Rattle.explanations.specs.Parts.{AppendsSome};
-ghost use Rattle.explanations.specs.Policies.{is_searched, is_name, start_at, end_at, note_of, IsSpanFound};
-ghost use Rattle.explanations.specs.Policies.{IsFaultText};
-ghost use Rattle.explanations.specs.Policies.{IsCheckExplained, IsPolicyExplained};
-ghost use Rattle.explanations.specs.Policies.{ArePoliciesExplained};
+ghost use Rattle.explanations.specs.Policies.{is_searched, IsSpanFound, IsFaultText};
+ghost use Rattle.explanations.specs.Policies.{IsCheckExplained, IsPolicyExplained, ArePoliciesExplained};
 
 use crate::node_limits::has_at_most;
 use crate::parts::part_of;
@@ -34,22 +31,6 @@ fn is_searched(piece: Piece, policy: &Policy) -> bool
         && has_at_most(&policy.condition, MOST_NODES)
 }
 
-/// Returns whether an error is that of an undeclared name (40, 41).
-fn is_name(fault: TypeFault) -> bool
-    ensures { result ≡ is_name fault }
-{
-    match fault {
-        TypeFault::UnknownType => true,
-        TypeFault::UnknownAction => true,
-        TypeFault::NoMemory => false,
-        TypeFault::Unexpected => false,
-        TypeFault::NoCommonType => false,
-        TypeFault::AttributeMayBeMissing => false,
-        TypeFault::EmptySet => false,
-        TypeFault::BadExtensionLiteral => false,
-    }
-}
-
 /// Returns the span of the name or of the expression at fault, in the text of the policy.
 fn found_span(
     alloc: Global,
@@ -61,42 +42,14 @@ fn found_span(
 {
     let part = part_of(text, piece.start, piece.end);
     let path = fault.path.as_slice();
-    if is_name(fault.fault) {
-        return name_span(alloc, part, path);
-    }
-    span_of(alloc, part, path)
-}
-
-/// The shown part of a text.
-#[derive(Clone, Copy)]
-struct Spot {
-    start: usize,
-    end: usize,
-    /// What the part is, if it is not the error itself; else empty.
-    note: &'static str,
-}
-
-/// Returns the shown part of a policy; the whole policy if nothing was found.
-fn spot_of(piece: Piece, found: Option<Span>) -> Spot
-    ensures start { result.start ≡ start_at piece found }
-    ensures end { result.end ≡ end_at piece found }
-    ensures note { result.note.now ≡ note_of found }
-{
-    match found {
-        Some(span) => Spot {
-            start: piece.start.saturating_add(span.start),
-            end: piece.start.saturating_add(span.end),
-            note: "",
-        },
-        None => Spot {
-            start: piece.start,
-            end: piece.end,
-            note: "the whole policy is shown, not the expression at fault",
-        },
+    match fault.fault {
+        TypeFault::UnknownType | TypeFault::UnknownAction => name_span(alloc, part, path),
+        _ => span_of(alloc, part, path),
     }
 }
 
-/// Appends why a policy does not pass validation, by the error that was found.
+/// Appends why a policy does not pass validation, by the error that was found: at the name or the expression at fault,
+/// or at the whole policy if that was not found.
 fn push_fault(
     alloc: Global,
     out: &mut String,
@@ -108,55 +61,24 @@ fn push_fault(
     ensures { OnOk result (AppendsSome (IsFaultText file.now text.now piece fault.now)
         (string_bytes out.old) (string_bytes out.new)) }
 {
-    let found = found_span(alloc, text, piece, fault)?;
-    let spot = spot_of(piece, found);
-    let finding = SourceFinding {
+    let whole = SourceFinding {
         code: u16::from(fault.fault.code()),
-        start: spot.start,
-        end: spot.end,
+        start: piece.start,
+        end: piece.end,
         cause: fault.cause.as_str(),
         detail: fault.detail.as_str(),
-        note: spot.note,
+        note: "the whole policy is shown, not the expression at fault",
+    };
+    let finding = match found_span(alloc, text, piece, fault)? {
+        Some(span) => SourceFinding {
+            start: piece.start.saturating_add(span.start),
+            end: piece.start.saturating_add(span.end),
+            note: "",
+            ..whole
+        },
+        None => whole,
     };
     push_source(alloc, out, file, text, &finding)
-}
-
-/// Appends why a policy does not pass, if it does not, with its cause.
-fn explain_searched(
-    alloc: Global,
-    out: &mut String,
-    schema: &Schema,
-    file: &str,
-    text: &str,
-    piece: Piece,
-    policy: &Policy,
-) -> Result<(), NoMemory>
-    ensures { is_searched piece policy.now ≡ true → OnOk result (AppendsSome
-        (IsCheckExplained (schema_view schema.now) file.now text.now piece policy.now)
-        (string_bytes out.old) (string_bytes out.new)) }
-{
-    match explain_fault(alloc, schema, policy)? {
-        Some(fault) => push_fault(alloc, out, file, text, piece, &fault),
-        None => Ok(()),
-    }
-}
-
-/// Returns the error of a policy, or `None` if it passes validation.
-fn rejection_of(
-    alloc: Global,
-    schema: &Schema,
-    policy: &Policy,
-) -> Result<Option<TypeFault>, NoMemory>
-    ensures { let s = schema_view schema.now in IfOk result (λ o. MatchOption o
-        (Passes s policy.now) (IsCheckRefused s policy.now)) }
-{
-    match check(alloc, schema, policy) {
-        Ok(_verdict) => Ok(None),
-        Err(fault) => match fault {
-            TypeFault::NoMemory => Err(NoMemory),
-            _ => Ok(Some(fault)),
-        },
-    }
 }
 
 /// Appends why a policy does not pass, if it does not, without a search for the expression at fault.
@@ -173,40 +95,22 @@ fn explain_large(
         (IsCheckExplained (schema_view schema.now) file.now text.now piece policy.now)
         (string_bytes out.old) (string_bytes out.new)) }
 {
-    match rejection_of(alloc, schema, policy)? {
-        None => Ok(()),
-        Some(fault) => {
-            let finding = SourceFinding {
-                code: u16::from(fault.code()),
-                start: piece.start,
-                end: piece.end,
-                cause: "",
-                detail: "",
-                note: "the policy is too large to show the expression at fault",
-            };
-            push_source(alloc, out, file, text, &finding)
-        }
-    }
-}
-
-/// Appends why a policy does not pass, if it does not.
-fn explain_check(
-    alloc: Global,
-    out: &mut String,
-    schema: &Schema,
-    file: &str,
-    text: &str,
-    piece: Piece,
-    policy: &Policy,
-) -> Result<(), NoMemory>
-    ensures { OnOk result (AppendsSome
-        (IsCheckExplained (schema_view schema.now) file.now text.now piece policy.now)
-        (string_bytes out.old) (string_bytes out.new)) }
-{
-    if is_searched(piece, policy) {
-        explain_searched(alloc, out, schema, file, text, piece, policy)
-    } else {
-        explain_large(alloc, out, schema, file, text, piece, policy)
+    match check(alloc, schema, policy) {
+        Ok(_verdict) => Ok(()),
+        Err(fault) => match fault {
+            TypeFault::NoMemory => Err(NoMemory),
+            _ => {
+                let finding = SourceFinding {
+                    code: u16::from(fault.code()),
+                    start: piece.start,
+                    end: piece.end,
+                    cause: "",
+                    detail: "",
+                    note: "the policy is too large to show the expression at fault",
+                };
+                push_source(alloc, out, file, text, &finding)
+            }
+        },
     }
 }
 
@@ -223,8 +127,14 @@ fn explain_policy(
     ensures { OnOk result (AppendsSome (IsPolicyExplained (option_map (λ s. schema_view s.now) schema.entry)
         file.now text.now piece policy.now) (string_bytes out.old) (string_bytes out.new)) }
 {
-    match schema {
-        Some(schema) => explain_check(alloc, out, schema, file, text, piece, policy),
+    let Some(schema) = schema else {
+        return Ok(());
+    };
+    if !is_searched(piece, policy) {
+        return explain_large(alloc, out, schema, file, text, piece, policy);
+    }
+    match explain_fault(alloc, schema, policy)? {
+        Some(fault) => push_fault(alloc, out, file, text, piece, &fault),
         None => Ok(()),
     }
 }

@@ -7,6 +7,6 @@ use Rattle.explanations.proofs.explaining.explain_others.Goals as goal
 
 pub returns : goal.returns
 returns c =
-    on_ok c.explain_request.result c.explain_request.ensures (others (files_of c.args.given.now) (string_bytes c.args.out.now) (option_map (λ s. schema_view s.now) c.args.schema) (option_map (λ s. s.now) c.text_of_source.result)
-    (string_bytes c.explain_file.new.out) (string_bytes c.explain_entities.new.out) (string_bytes c.explain_request.new.out) c.text_of_source.ensures
-    c.in_ok-explain_file.ensures c.in_ok-explain_entities.ensures)
+    on_ok c.explain_request.result c.explain_request.ensures (others (files_of c.args.given.now) (string_bytes c.args.out.now) (option_map (λ s. schema_view s.now) c.args.schema)
+    (string_bytes c.explain_file.new.out) (string_bytes c.explain_entities.new.out) (string_bytes c.explain_request.new.out) c.in_ok-explain_file.ensures
+    c.in_ok-explain_entities.ensures)

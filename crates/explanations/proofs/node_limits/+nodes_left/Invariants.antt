@@ -1,5 +1,4 @@
-use Rattle.std.proofs.Common.{◌≡◌, ◌+◌, ◌-◌, ◌*◌, max, drop, map}
-use Rattle.grammar_core.specs.declared.expr.Expr.{size-Expr}
+use Rattle.std.proofs.Common.{◌≡◌, ◌+◌, ◌-◌, ◌*◌, drop, map}
 use Rattle.grammar_core.specs.Size.{node_count, total, values_of}
 use Rattle.explanations.specs.inner.NodeLimits.{named_count}
 use Rattle.explanations.proofs.node_limits.+nodes_left.Given as goal
@@ -13,12 +12,8 @@ invariant-fields_left-loop-field l =
     l.initial.rest - total (values_of (map named_count l.fields))
     ≡ l.rest - total (values_of (map named_count (drop l.field-index l.fields)))
 
--- What goes down two operands is as deep as the deeper of them.
 abbrev pub decreases-nodes_left : goal.decreases-nodes_left
 decreases-nodes_left l = 4 * goal.size-nodes_left l + 0
-
-abbrev pub decreases-both_left : goal.decreases-both_left
-decreases-both_left l = 4 * max (size-Expr l.left.now) (size-Expr l.right.now) + 1
 
 abbrev pub decreases-members_left : goal.decreases-members_left
 decreases-members_left l = 4 * goal.size-members_left l + 1

@@ -1,17 +1,42 @@
-use Rattle.std.proofs.Common.{option_map, string_bytes}
+use Rattle.std.proofs.Common.{ℕ, List, [], None, Some, refl, string_bytes, subst, sym}
 use Rattle.schema_decisions.specs.schema.Views.{schema_view}
 use Rattle.explanations.specs.EntitiesAndRequests.{AreEntitiesRead, AreEntitiesRefused, IsEntityPartNamed}
 use Rattle.explanations.proofs.Appending.{on_ok}
-use Rattle.explanations.proofs.Joining.{nothing_given, judged_text}
+use Rattle.explanations.proofs.Joining.{nothing_given, accepted, rejected}
 use Rattle.explanations.proofs.others.explain_entities.Goals as goal
 
-pub returns-in-Some : goal.returns-in-Some
-returns-in-Some c =
-    let s = option_map (λ t. schema_view t.now) c.args.schema in
-    rw c.in-Some.is (
-    on_ok c.explain_array.result c.explain_array.ensures (judged_text c.in-Some.source.name.now (string_bytes c.args.out.now) (string_bytes c.explain_array.new.out)
-    (AreEntitiesRead s c.in-Some.source.text.now) (AreEntitiesRefused s c.in-Some.source.text.now) (IsEntityPartNamed s c.in-Some.source.text.now) c.check_array-judged.result c.check_array-judged.ensures.read
-    c.check_array-judged.ensures.refused))
+pub returns-in_default : goal.returns-in_default
+returns-in_default c = rw c.in_default.is (nothing_given (string_bytes c.args.out.now))
 
-pub returns-in-None : goal.returns-in-None
-returns-in-None c = rw c.in-None.is (nothing_given (string_bytes c.args.out.now))
+pub returns-in-Ok : goal.returns-in-Ok
+returns-in-Ok c =
+    let text = c.in-Some.source.text.now in
+    rw (c.in-Some.is, c.in_default-schema.is) (
+    accepted c.in-Some.source.name.now (string_bytes c.args.out.now) (AreEntitiesRead None text) (AreEntitiesRefused None text) (IsEntityPartNamed None text)
+    (c.in-Ok._line.items, c.in-Ok.ensures.decided))
+
+pub returns-in-Err : goal.returns-in-Err
+returns-in-Err c =
+    let text = c.in-Some.source.text.now in
+    rw (c.in-Some.is, c.in_default-schema.is) (
+    on_ok c.push_refusal.result c.push_refusal.ensures (rejected c.in-Some.source.name.now (string_bytes c.args.out.now) (string_bytes c.push_refusal.new.out)
+    (AreEntitiesRead None text) (AreEntitiesRefused None text) (IsEntityPartNamed None text) c.in-Err.refusal [] refl c.in-Err.ensures.refused))
+
+pub returns-in-Ok-check_entities : goal.returns-in-Ok-check_entities
+returns-in-Ok-check_entities c =
+    let text = c.in-Some.source.text.now in
+    let s = Some (schema_view c.in-Some-schema.schema.now) in
+    rw (c.in-Some.is, c.in-Some-schema.is) (
+    accepted c.in-Some.source.name.now (string_bytes c.args.out.now) (AreEntitiesRead s text) (AreEntitiesRefused s text) (IsEntityPartNamed s text)
+    c.in-Ok-check_entities.ensures.read)
+
+pub returns-in_ok-words-in-Err-check_entities : goal.returns-in_ok-words-in-Err-check_entities
+returns-in_ok-words-in-Err-check_entities c =
+    let text = c.in-Some.source.text.now in
+    let s = Some (schema_view c.in-Some-schema.schema.now) in
+    let refusal = c.in-Err-check_entities.refusal in
+    rw (c.in-Some.is, c.in-Some-schema.is) (
+    on_ok c.push_refusal-in-Err-check_entities.result c.push_refusal-in-Err-check_entities.ensures (rejected c.in-Some.source.name.now (string_bytes c.args.out.now)
+    (string_bytes c.push_refusal-in-Err-check_entities.new.out) (AreEntitiesRead s text) (AreEntitiesRefused s text) (IsEntityPartNamed s text) refusal c.as_str.result.now
+    (subst (λ (words : List ℕ). IsEntityPartNamed s text refusal.place words) (sym c.as_str.ensures) c.in_ok-words-in-Err-check_entities.ensures)
+    c.in-Err-check_entities.ensures.refused))

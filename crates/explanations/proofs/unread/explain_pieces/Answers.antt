@@ -9,10 +9,9 @@ loop-piece-init c =
 
 pub loop-piece-preserved : goal.loop-piece-preserved
 loop-piece-preserved c =
-    let told = piece_more (option_map (λ s. schema_view s.now) c.args.schema) c.args.lexed.file.now c.args.lexed.text.now c.args.lexed.tokens.now c.args.lexed.refusal c.args.pieces.now c.loop-piece.piece-index
-    _ (string_bytes c.args.out.now) (string_bytes c.loop-piece.out) (string_bytes c.explain_piece.new.out) c.loop-piece.some c.in_ok-told.told
-    c.loop-piece-test.true c.loop-piece.invariant c.in_ok-told.ensures in
-    rw c.either-some.ensures told
+    piece_more (option_map (λ s. schema_view s.now) c.args.schema) c.args.lexed.file.now c.args.lexed.text.now c.args.lexed.tokens.now c.args.lexed.refusal c.args.pieces.now c.loop-piece.piece-index
+    _ (string_bytes c.args.out.now) (string_bytes c.loop-piece.out) (string_bytes c.explain_piece.new.out) c.loop-piece.some c.in_ok-some.field-0
+    c.loop-piece-test.true c.loop-piece.invariant c.in_ok-some.ensures
 
 pub returns : goal.returns
 returns c =
