@@ -1,11 +1,10 @@
 -- Defines the explanation of rejected entities and of a rejected request.
 -- Rules of this product: entities, and a request, are checked as `decide` checks them, whatever else is given. The
 -- first error is explained, with its index in the array and, under a schema, the JSON pointer of the part at fault.
-use Rattle.std.specs.Prelude.{◌≡◌, ◌⊎◌, ℕ, List, [], ◌++◌, Option, None, Some, Result, Ok, Err, ⊤, codes}
+use Rattle.std.specs.Prelude.{◌≡◌, ◌⊎◌, ℕ, List, [], ◌++◌, Option, None, Some, Ok, Err, codes}
 use Rattle.schema_decisions.specs.schema.Schemas.{StatedSchema}
 use Rattle.schema_decisions.specs.entity_data.declared.entity.Entity.{Entity}
 use Rattle.schema_decisions.specs.answer_lines.declared.refusal.Refusal.{Refusal}
-use Rattle.schema_decisions.specs.answer_lines.Refusals.{no_memory}
 use Rattle.schema_decisions.specs.decision_texts.BareReading.{bare_reading}
 use Rattle.schema_decisions.specs.decision_texts.Decisions as bare
 use Rattle.schema_decisions.specs.decision_texts.EntityArrays.{entities_of}
@@ -62,12 +61,6 @@ IsEntityPartNamed (Some s) text index words = NamesPartOfItem s text index words
 abbrev pub IsRequestPartNamed : Option StatedSchema → List ℕ → List ℕ → Type 0
 IsRequestPartNamed None text words = IsNothing words
 IsRequestPartNamed (Some s) text words = NamesPartOfRequestText s text words
-
--- `IsCheckedText name IsDetail judged bytes` holds if `bytes` explain the error `judged` of the file `name`, with words
--- for which `IsDetail` holds at the index of the error; if `judged` is not an error, `bytes` are empty.
-abbrev pub IsCheckedText : List ℕ → (Option ℕ → List ℕ → Type 0) → Result ⊤ Refusal → List ℕ → Type 0
-IsCheckedText name IsDetail (Ok done) bytes = bytes ≡ []
-IsCheckedText name IsDetail (Err r) bytes = (r ≡ no_memory → ⊥) × IsWholeAt name r.code r.place (IsDetail r.place) bytes
 
 -- `IsCheckOutcome name Read Refused IsDetail bytes` holds if the file `name` is accepted (`Read`) and `bytes` are
 -- empty, or it has an error for which `Refused` holds, and `bytes` explain the error with words for which `IsDetail`

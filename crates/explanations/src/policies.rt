@@ -31,7 +31,8 @@ fn is_searched(piece: Piece, policy: &Policy) -> bool
         && has_at_most(&policy.condition, MOST_NODES)
 }
 
-/// Returns the span of the name or of the expression at fault, in the text of the policy.
+/// Returns the span of what is at fault, in the text of the policy: the name, if it is undeclared (40, 41); else the
+/// expression.
 fn found_span(
     alloc: Global,
     text: &str,

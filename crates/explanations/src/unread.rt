@@ -41,8 +41,8 @@ fn end_of_token(tokens: &[Token], at: usize) -> usize
     at
 }
 
-/// Returns the text from `at` to `end`, or `end of the text` if `at` is its end; the empty string for an error that
-/// does not name a token, which errors 11 (unexpected) to 16 (slot), of the grammar, do.
+/// Returns the cause of an error of this code at the token from `at` to `end`: the token, or `end of the text` if `at`
+/// is the end. Only errors of the grammar, 11 (unexpected) to 16 (slot), name a token; others have an empty cause.
 fn cause_at(text: &str, code: u8, at: usize, end: usize) -> &str
     ensures { IsCauseAt text.now code at end result.now }
 {
