@@ -145,7 +145,7 @@ fn explain_others(
     explain_request(alloc, out, schema, given.schema, given.request)
 }
 
-/// Appends the explanation of what is rejected in the given texts, or of why the schema itself is.
+/// Appends why the schema is rejected, if it is; else the explanation of what is rejected in the other texts.
 fn explain_given(alloc: Global, out: &mut String, given: &Given<'_, '_>) -> Result<(), NoMemory>
     ensures { OnOk result (AppendsSome (IsExplained (files_of given.now))
         (string_bytes out.old) (string_bytes out.new)) }

@@ -20,7 +20,7 @@ const ANY_REQUEST: &[u8] =
     b"{\"principal\":{\"type\":\"A\",\"id\":\"\"},\"action\":{\"type\":\"A\",\"id\":\"\"},\
       \"resource\":{\"type\":\"A\",\"id\":\"\"}}";
 
-/// Appends why the entities are rejected, if there is a file of entities and it is rejected: under a schema with the
+/// Appends why the entities are rejected, if there is a file of entities and it is rejected; under a schema, with the
 /// part at fault.
 pub(crate) fn explain_entities(
     alloc: Global,
@@ -50,7 +50,7 @@ pub(crate) fn explain_entities(
     }
 }
 
-/// Checks that a text is a request, under the schema that the text `schema` describes if there is one.
+/// Checks that a text is a request, under the schema that the file `schema` describes if there is one.
 fn check_request(
     alloc: Global,
     schema: Option<NamedText<'_, '_>>,
@@ -67,7 +67,7 @@ fn check_request(
     Ok(())
 }
 
-/// Appends why the request is rejected, if there is one and it is rejected: under a schema with the part at fault.
+/// Appends why the request is rejected, if there is one and it is rejected; under a schema, with the part at fault.
 /// `schema` is the schema that the file `stated` describes.
 pub(crate) fn explain_request(
     alloc: Global,

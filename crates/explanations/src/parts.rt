@@ -35,7 +35,7 @@ pub(crate) fn unless_no_memory(refusal: Refusal) -> Result<(), NoMemory>
 }
 
 /// Appends the text of an error in the file `file`: at the index of an item in its array, if the error has one, with
-/// the words `detail` on the part at fault.
+/// the words `detail` on the error.
 ///
 /// # Errors
 ///

@@ -31,8 +31,8 @@ fn is_searched(piece: Piece, policy: &Policy) -> bool
         && has_at_most(&policy.condition, MOST_NODES)
 }
 
-/// Returns the span of what is at fault, in the text of the policy: the name, if it is undeclared (40, 41); else the
-/// expression.
+/// Returns the span, in the text of the policy, of the undeclared name (40, 41), else of the expression at fault;
+/// `None` if it was not found.
 fn found_span(
     alloc: Global,
     text: &str,
@@ -49,8 +49,8 @@ fn found_span(
     }
 }
 
-/// Appends why a policy does not pass validation, by the error that was found: at the name or the expression at fault,
-/// or at the whole policy if that was not found.
+/// Appends why a policy does not pass validation, with its error `fault`: at the name or the expression at fault or, if
+/// no span of it was found, at the whole policy.
 fn push_fault(
     alloc: Global,
     out: &mut String,

@@ -42,7 +42,8 @@ fn end_of_token(tokens: &[Token], at: usize) -> usize
 }
 
 /// Returns the cause of an error of this code at the token from `at` to `end`: the token, or `end of the text` if `at`
-/// is the end. Only errors of the grammar, 11 (unexpected) to 16 (slot), name a token; others have an empty cause.
+/// is not before the end of `text`. Only errors of the grammar, 11 (unexpected) to 16 (slot), name a token; others have
+/// an empty cause.
 fn cause_at(text: &str, code: u8, at: usize, end: usize) -> &str
     ensures { IsCauseAt text.now code at end result.now }
 {
@@ -79,8 +80,8 @@ pub(crate) fn push_read_fault(
     push_source(alloc, out, lexed.file, lexed.text, &finding)
 }
 
-/// Returns whether an error of this code at this byte is `refusal`, the error of the file: it has the same code, and
-/// either the same place or, if too long (18) or bad id (19), no byte of its own.
+/// Returns whether an error of this code at this byte is `refusal`, the error of the file: has the same code at the
+/// same byte, or the same code 18 (too long) or 19 (bad id), whose errors have no byte of their own.
 fn is_that(refusal: Refusal, code: u8, at: usize) -> bool
     ensures { result ≡ is_that refusal code at }
 {

@@ -45,7 +45,7 @@ fn push_attributes(
 }
 
 /// Appends whether the first of `types` declares the attribute `name`, and if not, which attributes it has; nothing
-/// without types. A declared attribute that may be missing is optional.
+/// without types. Of a declared one, appends that it is optional: only such a one may be missing.
 fn push_declared<'a>(
     out: &mut String,
     schema: &'a Schema,

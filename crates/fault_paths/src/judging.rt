@@ -1,4 +1,4 @@
-//! The judgement on an expression, or on one operand on the way to the blamed expression.
+//! The judgement on an expression.
 ghost use Rattle.std.specs.Prelude.{IfOk};
 ghost use Rattle.type_checker.specs.Views.{typing_environment};
 ghost use Rattle.fault_paths.specs.inner.Steps.{IsJudged};

@@ -5,7 +5,8 @@
 //! Each core expression is a *form* with operands. A typing error *blames* the form whose demand is not met, or the
 //! operand that does not meet it. A *path* leads from the whole expression to a part of it by the indexes of operands.
 //!
-//! This is a second pass, only for policies that [`check`](validator::check) rejected.
+//! This is a pass of its own, which also finds the place; of a policy that passes [`check`](validator::check) it
+//! reports nothing.
 #![tactic(auto)]
 
 mod attributes;

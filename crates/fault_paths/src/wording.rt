@@ -1,4 +1,4 @@
-//! The words for types, entities, environments and declared names in a report, and for lists of them.
+//! The words for types, entities, environments and names in a report, and for lists of them.
 ghost use Rattle.std.specs.Prelude.{◌≡◌, ◌++◌, ℕ, List, OnOk, map, string_bytes};
 ghost use Rattle.fault_paths.specs.NamesAt.{name_view};
 ghost use Rattle.type_checker.specs.schema.Views.{environment_view};

@@ -242,7 +242,7 @@ fn answer_logged(
     }
 }
 
-/// Answers a request like [`answer`], and puts its log line into `line`. If an allocation fails for the route, or for
+/// Answers a request as [`answer`] may, and puts its log line into `line`. If an allocation fails for the route, or for
 /// the beginning of the log line (method and target), the site makes no step, and method and target are null in the log
 /// line.
 pub(crate) fn answer_with_line(

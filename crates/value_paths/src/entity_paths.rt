@@ -94,8 +94,8 @@ fn find_part(
 /// parent that the entity may not have. The path of any other error leads to the innermost part of the attributes at
 /// fault: an item, a member, or a required key that is absent.
 ///
-/// Parses `value` again. The search is then O(n f), where n is the number of members of objects in `value`, and f the
-/// greatest number of fields of a record type.
+/// Parses `value` again. The search is then O(n f), where n is the number of members of objects and items of
+/// arrays in `value`, and f the greatest number of fields of a record type.
 pub fn entity_fault(
     alloc: Global,
     schema: &Schema,

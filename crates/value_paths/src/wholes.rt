@@ -1,4 +1,4 @@
-//! Values without parts, which are accepted or rejected as a whole.
+//! Values that are accepted or rejected as a whole.
 ghost use Rattle.std.specs.Prelude.{◌≡◌, IfOk};
 ghost use Rattle.serde_json.specs.View.{view};
 ghost use Rattle.schema_types.specs.CedarViews.{cedar_view};
@@ -12,7 +12,7 @@ use schema_types::CedarType;
 use serde_json::Value;
 use std::alloc::Global;
 
-/// Returns the path of a value without parts to itself if the type rejects it, else `None`.
+/// Returns the path of a value to itself if the type rejects the value, else `None`.
 pub(crate) fn find_whole(
     alloc: Global,
     value: &Value,
