@@ -8,7 +8,7 @@ use Rattle.std.specs.List.Sorted.{IsStrictlySortedBy}
 use Rattle.std.proofs.lemmas.List.Elements.{Contains-append_left, Contains-push, Contains-push_cases}
 use Rattle.values.specs.declared.entity_uid.EntityUid.{EntityUid}
 use Rattle.values.specs.Names.{uid_cmp, uid_cmp-IsAntisymmetric}
-use Rattle.ancestor_search.specs.Hierarchy.{Parents, IsAncestor, AreOnCycles, IsAscending, names}
+use Rattle.ancestor_search.specs.Hierarchy.{Parents, IsAncestor, AreOnCycles, IsAscending, referenced}
 use Rattle.ancestor_search.specs.Decided.{HaveAllParents, is_same}
 use Rattle.ancestor_search.specs.Deciding.{same_uid, same_self, Contains-here, Contains-there}
 use Rattle.ancestor_search.specs.Deciding.{Contains-cases, Contains-none}
@@ -41,16 +41,16 @@ pub no_member : (xs : List EntityUid) → ((x : EntityUid) → Contains xs x →
 no_member [] h = refl
 no_member (x ∷ xs) h = absurd (h x (Contains-here x xs))
 
-pub none_ascends : (xs : List (Bor EntityUid)) → xs ≡ [] → IsAscending (names xs)
+pub none_ascends : (xs : List (Bor EntityUid)) → xs ≡ [] → IsAscending (referenced xs)
 unfolding IsStrictlySortedBy
 none_ascends [] e = tt
 none_ascends (x ∷ xs) e = cc e
 
-pub names_has : (xs : List (Bor EntityUid)) (x : Bor EntityUid) → Contains xs x → Contains (names xs) x.now
+pub names_has : (xs : List (Bor EntityUid)) (x : Bor EntityUid) → Contains xs x → Contains (referenced xs) x.now
 names_has [] x h = Contains-none x h
 names_has (y ∷ ys) x h = elim (Contains-cases y ys x h) [
-  | inl e ↦ subst (λ z. Contains (y.now ∷ names ys) z) (ap (λ z. z.now) e) (Contains-here y.now (names ys))
-  | inr t ↦ Contains-there y.now (names ys) x.now (names_has ys x t)
+  | inl e ↦ subst (λ z. Contains (y.now ∷ referenced ys) z) (ap (λ z. z.now) e) (Contains-here y.now (referenced ys))
+  | inr t ↦ Contains-there y.now (referenced ys) x.now (names_has ys x t)
 ]
 
 -- the edges of one entity more

@@ -1,7 +1,7 @@
 //! The ancestor cache of a hierarchy whose edges the caller has.
 ghost use Rattle.std.specs.Prelude.{◌≡◌, ◌↔◌, ◌⊎◌, IsTrue, IsOk, IfOk, OnOk, OnErr, MatchOption};
 ghost use Rattle.ancestor_search.specs.Hierarchy.{Parents, IsAncestor, AreAllAncestorsOf, IsAscending, AreOnCycles};
-ghost use Rattle.ancestor_search.specs.Hierarchy.{names};
+ghost use Rattle.ancestor_search.specs.Hierarchy.{referenced};
 ghost use Rattle.ancestor_search.specs.Hierarchy.{no_parents, with_parents};
 ghost use Rattle.ancestor_search.specs.LeastCycle.{HasNoCycle, IsLeastCycle};
 ghost use Rattle.values.specs.declared.entity_uid.EntityUid.{EntityUid as PlainUid};
@@ -150,9 +150,10 @@ impl AncestorCache {
     /// `NoMemory`.
     pub fn ancestors(&self, uid: &EntityUid) -> Result<Vec<&EntityUid>, NoMemory>
         ensures all { IfOk result (λ found.
-            (parents : Parents) → IsCacheOf parents self.now → AreAllAncestorsOf parents uid.now (names found.items)) }
+            (parents : Parents) → IsCacheOf parents self.now
+            → AreAllAncestorsOf parents uid.now (referenced found.items)) }
         ensures ascending { IfOk result (λ found.
-            (parents : Parents) → IsCacheOf parents self.now → IsAscending (names found.items)) }
+            (parents : Parents) → IsCacheOf parents self.now → IsAscending (referenced found.items)) }
     {
         lent(self.alloc, ancestors_at(&self.relatives, uid))
     }
@@ -161,8 +162,8 @@ impl AncestorCache {
     /// cyclic, the call cannot fail and does not allocate.
     pub fn cyclic(&self) -> Result<Vec<&EntityUid>, NoMemory>
         ensures all { IfOk result (λ found.
-            (parents : Parents) → IsCacheOf parents self.now → AreOnCycles parents (names found.items)) }
-        ensures ascending { IfOk result (λ found. IsAscending (names found.items)) }
+            (parents : Parents) → IsCacheOf parents self.now → AreOnCycles parents (referenced found.items)) }
+        ensures ascending { IfOk result (λ found. IsAscending (referenced found.items)) }
         ensures at_once { (parents : Parents) → IsCacheOf parents self.now → HasNoCycle parents → IsOk result }
     {
         if are_none(&self.cyclic) {
@@ -179,7 +180,8 @@ impl AncestorCache {
     ) -> Result<Option<Vec<&'a EntityUid>>, NoMemory>
         requires { IsCacheOf (G.parents graph.now) self.now }
         ensures exact { let parents = G.parents graph.now in
-            IfOk result (λ o. MatchOption o (HasNoCycle parents) (λ found. IsLeastCycle parents (names found.items))) }
+            IfOk result (λ o. MatchOption o (HasNoCycle parents)
+            (λ found. IsLeastCycle parents (referenced found.items))) }
         ensures at_once { HasNoCycle (G.parents graph.now) → IsOk result }
     {
         if are_none(&self.cyclic) {

@@ -7,7 +7,7 @@
 //! the children of its former parents, and the entities that are no longer cyclic are removed from the set.
 ghost use Rattle.std.specs.Prelude.{◌≡◌, ◌↔◌, ◌⊎◌, [], ◌∷◌, ◌++◌, Contains, IsTrue, IfOk, OnOk, OnErr};
 ghost use Rattle.values.specs.declared.entity_uid.EntityUid.{EntityUid as PlainUid};
-ghost use Rattle.ancestor_search.specs.Hierarchy.{Parents, IsAscending, names};
+ghost use Rattle.ancestor_search.specs.Hierarchy.{Parents, IsAscending, referenced};
 ghost use Rattle.ancestor_closure.specs.Lists.{IsCacheContent, ancestors_in, children_in, IsStaleContent};
 ghost use Rattle.ancestor_closure.specs.Lists.{SameLists, SameChildren, HasEntry, KeepEntries, AddsChild};
 ghost use Rattle.ancestor_closure.specs.inner.OneChange.{TakesChild, firsts, written, IsInOwn, ListsAscend, Enters};
@@ -42,8 +42,8 @@ pub(crate) struct Change {
 
 // Returns references to these uids, ascending and without duplicates.
 fn ascending<'a>(alloc: Global, uids: &'a [EntityUid]) -> Result<Vec<&'a EntityUid>, NoMemory>
-    ensures all { IfOk result (λ found. (x : PlainUid) → Contains (names found.items) x ↔ Contains uids.now x) }
-    ensures ascending { IfOk result (λ found. IsAscending (names found.items)) }
+    ensures all { IfOk result (λ found. (x : PlainUid) → Contains (referenced found.items) x ↔ Contains uids.now x) }
+    ensures ascending { IfOk result (λ found. IsAscending (referenced found.items)) }
 {
     let mut found = BTreeSet::new(alloc);
     for uid in uids {
@@ -59,8 +59,8 @@ pub fn parents_by<'a, G: ParentsOf>(
     uid: &EntityUid,
 ) -> Result<Vec<&'a EntityUid>, NoMemory>
     ensures all { IfOk result (λ found.
-        (x : PlainUid) → Contains (names found.items) x ↔ Contains (G.parents graph.now uid.now) x) }
-    ensures ascending { IfOk result (λ found. IsAscending (names found.items)) }
+        (x : PlainUid) → Contains (referenced found.items) x ↔ Contains (G.parents graph.now uid.now) x) }
+    ensures ascending { IfOk result (λ found. IsAscending (referenced found.items)) }
 {
     ascending(alloc, graph.parents_of(uid))
 }
@@ -74,7 +74,7 @@ fn reserve_all(
     ensures lists { SameLists relatives.old relatives.new }
     ensures children { SameChildren relatives.old relatives.new }
     ensures stay { KeepEntries relatives.old relatives.new }
-    ensures there { OnOk result ((x : PlainUid) → Contains (names uids.now) x → HasEntry relatives.new x) }
+    ensures there { OnOk result ((x : PlainUid) → Contains (referenced uids.now) x → HasEntry relatives.new x) }
 {
     for uid in uids {
         reserve(alloc, relatives, uid)?;
@@ -94,7 +94,8 @@ pub fn add_entries(
     ensures children { SameChildren relatives.old relatives.new }
     ensures stay { KeepEntries relatives.old relatives.new }
     ensures there { OnOk result (HasEntry relatives.new uid.now) }
-    ensures parents_there { OnOk result ((x : PlainUid) → Contains (names parents.now) x → HasEntry relatives.new x) }
+    ensures parents_there { OnOk result
+        ((x : PlainUid) → Contains (referenced parents.now) x → HasEntry relatives.new x) }
 {
     reserve(alloc, relatives, uid)?;
     reserve_all(alloc, relatives, parents)
@@ -160,8 +161,8 @@ fn planned<G: ParentsOf>(
     parents: &[&EntityUid],
     budget: &mut CacheBudget,
 ) -> Result<Change, NoMemory>
-    requires all { (x : PlainUid) → Contains (names parents.now) x ↔ Contains (G.parents graph.now uid.now) x }
-    requires ascending { IsAscending (names parents.now) }
+    requires all { (x : PlainUid) → Contains (referenced parents.now) x ↔ Contains (G.parents graph.now uid.now) x }
+    requires ascending { IsAscending (referenced parents.now) }
     requires known { AreListsBut uid.now (G.parents graph.now)
         (ancestors_in relatives.now) (children_in relatives.now) }
     ensures { IfOk result (λ change. IsPlanned (G.parents graph.now) uid.now
@@ -259,12 +260,12 @@ fn make<G: ParentsOf>(
     parents: &[&EntityUid],
     budget: &mut CacheBudget,
 ) -> Result<usize, NoMemory>
-    requires all { (x : PlainUid) → Contains (names parents.now) x ↔ Contains (G.parents graph.now uid.now) x }
-    requires ascending { IsAscending (names parents.now) }
+    requires all { (x : PlainUid) → Contains (referenced parents.now) x ↔ Contains (G.parents graph.now uid.now) x }
+    requires ascending { IsAscending (referenced parents.now) }
     requires kept { IsStaleContent uid.now (G.parents graph.now)
         (ancestors_in relatives.old) (children_in relatives.old) cyclic.old.keys }
     requires there { HasEntry relatives.old uid.now }
-    requires parents_there { (x : PlainUid) → Contains (names parents.now) x → HasEntry relatives.old x }
+    requires parents_there { (x : PlainUid) → Contains (referenced parents.now) x → HasEntry relatives.old x }
     ensures ok { OnOk result (IsCacheContent (G.parents graph.now)
         (ancestors_in relatives.new) (children_in relatives.new) cyclic.new.keys) }
     ensures err { OnErr result ((before : Parents) →
@@ -295,8 +296,8 @@ fn make_with_room<G: ParentsOf>(
     parents: &[&EntityUid],
     budget: &mut CacheBudget,
 ) -> Result<usize, NoMemory>
-    requires all { (x : PlainUid) → Contains (names parents.now) x ↔ Contains (G.parents graph.now uid.now) x }
-    requires ascending { IsAscending (names parents.now) }
+    requires all { (x : PlainUid) → Contains (referenced parents.now) x ↔ Contains (G.parents graph.now uid.now) x }
+    requires ascending { IsAscending (referenced parents.now) }
     requires kept { IsStaleContent uid.now (G.parents graph.now)
         (ancestors_in relatives.old) (children_in relatives.old) cyclic.old.keys }
     ensures ok { OnOk result (IsCacheContent (G.parents graph.now)
@@ -315,7 +316,7 @@ fn has_none(
     uid: &EntityUid,
     parents: &[&EntityUid],
 ) -> bool
-    ensures { IsTrue result ↔ ((names parents.now ≡ []) × (ancestors_in relatives.now uid.now ≡ [])) }
+    ensures { IsTrue result ↔ ((referenced parents.now ≡ []) × (ancestors_in relatives.now uid.now ≡ [])) }
 {
     if parents.is_empty() {
         return ancestors_at(relatives, uid).is_empty();
@@ -331,8 +332,8 @@ fn has_already(
     parents: &[&EntityUid],
 ) -> Result<bool, NoMemory>
     requires list { IsAscending (ancestors_in relatives.now uid.now) }
-    requires parents { IsAscending (names parents.now) }
-    ensures { IfOk result (λ yes. IsTrue yes ↔ ((x : PlainUid) → Contains (names parents.now) x ↔
+    requires parents { IsAscending (referenced parents.now) }
+    ensures { IfOk result (λ yes. IsTrue yes ↔ ((x : PlainUid) → Contains (referenced parents.now) x ↔
         (Contains (ancestors_in relatives.now uid.now) x × Contains (children_in relatives.now x) uid.now))) }
 {
     let name = shared(alloc, relatives, uid)?;

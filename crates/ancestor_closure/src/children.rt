@@ -2,7 +2,7 @@
 ghost use Rattle.std.specs.Prelude.{◌≡◌, ◌↔◌, ◌⊎◌, ◌^◌, ◌<◌, [], ◌∷◌, Contains, IfOk, OnOk};
 ghost use Rattle.std.specs.BTreeSet.{btree_set_len};
 ghost use Rattle.values.specs.declared.entity_uid.EntityUid.{EntityUid as PlainUid};
-ghost use Rattle.ancestor_search.specs.Hierarchy.{IsAncestor, AreAllAncestorsOf, IsAscending, names};
+ghost use Rattle.ancestor_search.specs.Hierarchy.{IsAncestor, AreAllAncestorsOf, IsAscending, referenced};
 ghost use Rattle.ancestor_search.specs.Search.{AddsUnseen};
 ghost use Rattle.ancestor_closure.specs.Lists.{children_in, SameLists, HasEntry, KeepEntries, AddsChild};
 ghost use Rattle.ancestor_closure.specs.inner.OneChange.{TakesChild};
@@ -22,8 +22,8 @@ fn add_members<'a>(
     work: &mut Vec<&'a EntityUid>,
 ) -> Result<(), NoMemory>
     ensures adds { OnOk result
-        (AddsUnseen found.now.keys (names seen.old.keys) (names work.old.items)
-        (names seen.new.keys) (names work.new.items)) }
+        (AddsUnseen found.now.keys (referenced seen.old.keys) (referenced work.old.items)
+        (referenced seen.new.keys) (referenced work.new.items)) }
     ensures small { OnOk result (btree_set_len seen.new < 2 ^ 63) }
 {
     for child in found.iter() {
@@ -45,7 +45,7 @@ fn add_children<'a>(
     work: &mut Vec<&'a EntityUid>,
 ) -> Result<(), NoMemory>
     ensures adds { OnOk result (AddsUnseen (children_in relatives.now uid.now)
-        (names seen.old.keys) (names work.old.items) (names seen.new.keys) (names work.new.items)) }
+        (referenced seen.old.keys) (referenced work.old.items) (referenced seen.new.keys) (referenced work.new.items)) }
     ensures small { OnOk result (btree_set_len seen.new < 2 ^ 63) }
 {
     match relatives.get(uid) {
@@ -64,7 +64,7 @@ fn below<'a>(
     relatives: &'a BTreeMap<EntityUid, Relatives>,
     uid: &EntityUid,
 ) -> Result<BTreeSet<&'a EntityUid>, NoMemory>
-    ensures { IfOk result (λ found. AreAllAncestorsOf (children_in relatives.now) uid.now (names found.keys)) }
+    ensures { IfOk result (λ found. AreAllAncestorsOf (children_in relatives.now) uid.now (referenced found.keys)) }
 {
     let mut seen = BTreeSet::new(alloc);
     let mut work = Vec::new(alloc);

@@ -2,7 +2,7 @@
 ghost use Rattle.std.specs.Prelude.{◌≡◌, ◌↔◌, [], IsTrue, IsOk, IfOk, OnOk, OnErr, IsSome, MatchOption};
 ghost use Rattle.std.specs.BTreeMap.{get};
 ghost use Rattle.values.specs.Names.{uid_cmp};
-ghost use Rattle.ancestor_search.specs.Hierarchy.{IsAncestor, AreOnCycles, IsAscending, names};
+ghost use Rattle.ancestor_search.specs.Hierarchy.{IsAncestor, AreOnCycles, IsAscending, referenced};
 ghost use Rattle.ancestor_search.specs.Hierarchy.{no_parents, with_parents};
 ghost use Rattle.ancestor_search.specs.LeastCycle.{HasNoCycle, IsLeastCycle};
 ghost use Rattle.ancestor_search.specs.Search.{parents_of};
@@ -197,8 +197,8 @@ impl Ancestry for Closed {
 
     fn cyclic(&self) -> Result<Vec<&EntityUid>, NoMemory>
         ensures at_once { HasNoCycle (closed_parents self.now) → IsOk result }
-        ensures all { IfOk result (λ found. AreOnCycles (closed_parents self.now) (names found.items)) }
-        ensures ascending { IfOk result (λ found. IsAscending (names found.items)) }
+        ensures all { IfOk result (λ found. AreOnCycles (closed_parents self.now) (referenced found.items)) }
+        ensures ascending { IfOk result (λ found. IsAscending (referenced found.items)) }
     {
         self.kept.cyclic()
     }
@@ -206,7 +206,8 @@ impl Ancestry for Closed {
     fn least_cycle(&self) -> Result<Option<Vec<&EntityUid>>, NoMemory>
         ensures at_once { HasNoCycle (closed_parents self.now) → IsOk result }
         ensures exact { let parents = closed_parents self.now in
-            IfOk result (λ o. MatchOption o (HasNoCycle parents) (λ found. IsLeastCycle parents (names found.items))) }
+            IfOk result (λ o. MatchOption o (HasNoCycle parents)
+            (λ found. IsLeastCycle parents (referenced found.items))) }
     {
         self.kept.least_cycle(&self.edges)
     }

@@ -1,7 +1,7 @@
 //! The cyclic entities: those in their own lists of ancestors.
 ghost use Rattle.std.specs.Prelude.{◌≡◌, ◌↔◌, [], ◌∷◌, Contains, IsTrue, IfOk, OnOk};
 ghost use Rattle.values.specs.declared.entity_uid.EntityUid.{EntityUid as PlainUid};
-ghost use Rattle.ancestor_search.specs.Hierarchy.{IsAscending, names};
+ghost use Rattle.ancestor_search.specs.Hierarchy.{IsAscending, referenced};
 ghost use Rattle.ancestor_closure.specs.Lists.{ancestors_in};
 ghost use Rattle.ancestor_closure.specs.inner.OneChange.{IsInOwn, ListsAscend, Enters, Leaves};
 
@@ -84,7 +84,7 @@ pub fn members<'a>(
     alloc: Global,
     uids: &'a BTreeSet<Shared<EntityUid>>,
 ) -> Result<Vec<&'a EntityUid>, NoMemory>
-    ensures same { IfOk result (λ all. names all.items ≡ uids.now.keys) }
+    ensures same { IfOk result (λ all. referenced all.items ≡ uids.now.keys) }
     ensures ascending { IsAscending uids.now.keys }
 {
     // `len` ensures `ascending`

@@ -3,7 +3,7 @@ ghost use Rattle.std.specs.Prelude.{◌≡◌, ◌↔◌, Contains, IsTrue, IfOk
 ghost use Rattle.std.specs.declared.alloc.Global.{Global as PlainGlobal};
 ghost use Rattle.values.specs.declared.entity_uid.EntityUid.{EntityUid as PlainUid};
 ghost use Rattle.values.specs.Names.{uid_cmp};
-ghost use Rattle.ancestor_search.specs.Hierarchy.{IsAscending, names};
+ghost use Rattle.ancestor_search.specs.Hierarchy.{IsAscending, referenced};
 ghost use Rattle.ancestor_closure.specs.Lists.{IsListOf, ancestors_in, SameChildren, HasEntry};
 ghost use Rattle.ancestor_closure.specs.inner.OneChange.{firsts, written};
 
@@ -33,7 +33,7 @@ pub fn is_in(list: &[Shared<EntityUid>], uid: &EntityUid) -> bool
 /// Returns whether an ascending list contains all of these entities.
 pub(crate) fn are_in(uids: &[&EntityUid], list: &[Shared<EntityUid>]) -> bool
     requires { IsAscending list.now }
-    ensures { IsTrue result ↔ ((x : PlainUid) → Contains (names uids.now) x → Contains list.now x) }
+    ensures { IsTrue result ↔ ((x : PlainUid) → Contains (referenced uids.now) x → Contains list.now x) }
 {
     for uid in uids {
         if !is_in(list, uid) {
@@ -45,8 +45,8 @@ pub(crate) fn are_in(uids: &[&EntityUid], list: &[Shared<EntityUid>]) -> bool
 
 /// Returns whether the ascending list `uids` contains all entities of `list`.
 pub(crate) fn are_among(list: &[Shared<EntityUid>], uids: &[&EntityUid]) -> bool
-    requires { IsAscending (names uids.now) }
-    ensures { IsTrue result ↔ ((x : PlainUid) → Contains list.now x → Contains (names uids.now) x) }
+    requires { IsAscending (referenced uids.now) }
+    ensures { IsTrue result ↔ ((x : PlainUid) → Contains list.now x → Contains (referenced uids.now) x) }
 {
     for uid in list {
         if !is_among(uids, uid) {
@@ -61,7 +61,7 @@ pub fn lent<'a>(
     alloc: Global,
     uids: &'a [Shared<EntityUid>],
 ) -> Result<Vec<&'a EntityUid>, NoMemory>
-    ensures { IfOk result (λ all. names all.items ≡ uids.now) }
+    ensures { IfOk result (λ all. referenced all.items ≡ uids.now) }
 {
     let mut all = Vec::new(alloc);
     for uid in uids {
@@ -77,7 +77,7 @@ pub fn shared_all(
     relatives: &BTreeMap<EntityUid, Relatives>,
     uids: &[&EntityUid],
 ) -> Result<Vec<Shared<EntityUid>>, NoMemory>
-    ensures { IfOk result (λ all. all.items ≡ names uids.now) }
+    ensures { IfOk result (λ all. all.items ≡ referenced uids.now) }
 {
     let mut all = Vec::new(alloc);
     for uid in uids {

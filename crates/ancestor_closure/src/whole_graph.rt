@@ -1,7 +1,7 @@
 //! The ancestor cache of a whole graph, built from scratch.
 ghost use Rattle.std.specs.Prelude.{◌≡◌, ◌↔◌, ◌⊎◌, [], Contains, IfOk, OnOk};
 ghost use Rattle.values.specs.declared.entity_uid.EntityUid.{EntityUid as PlainUid};
-ghost use Rattle.ancestor_search.specs.Hierarchy.{names};
+ghost use Rattle.ancestor_search.specs.Hierarchy.{referenced};
 ghost use Rattle.ancestor_search.specs.inner.Backwards.{AreChildrenAmong};
 ghost use Rattle.ancestor_closure.specs.Lists.{ancestors_in, children_in, SameLists, SameChildren};
 ghost use Rattle.ancestor_closure.specs.Lists.{HasEntry, KeepEntries, AddsChild};
@@ -25,12 +25,12 @@ fn add_to_parents(
     uid: &EntityUid,
     parents: &[&EntityUid],
 ) -> Result<(), NoMemory>
-    requires { (x : PlainUid) → Contains (names parents.now) x → HasEntry relatives.old x }
+    requires { (x : PlainUid) → Contains (referenced parents.now) x → HasEntry relatives.old x }
     ensures lists { SameLists relatives.old relatives.new }
     ensures stay { KeepEntries relatives.old relatives.new }
-    ensures adds { AddsChild (names parents.now) uid.now (children_in relatives.old) (children_in relatives.new) }
+    ensures adds { AddsChild (referenced parents.now) uid.now (children_in relatives.old) (children_in relatives.new) }
     ensures added { OnOk result ((x : PlainUid) →
-        Contains (names parents.now) x → Contains (children_in relatives.new x) uid.now) }
+        Contains (referenced parents.now) x → Contains (children_in relatives.new x) uid.now) }
 {
     let name = shared(alloc, relatives, uid)?;
     let after = shared_all(alloc, relatives, parents)?;
@@ -63,8 +63,8 @@ fn children_among<G: ParentsOf>(
     uids: &[&EntityUid],
 ) -> Result<BTreeMap<EntityUid, Relatives>, NoMemory>
     ensures lists { IfOk result (λ m. (q : PlainUid) → ancestors_in m q ≡ []) }
-    ensures there { IfOk result (λ m. (q : PlainUid) → Contains (names uids.now) q → HasEntry m q) }
-    ensures children { IfOk result (λ m. AreChildrenAmong (names uids.now) (G.parents graph.now) (children_in m)) }
+    ensures there { IfOk result (λ m. (q : PlainUid) → Contains (referenced uids.now) q → HasEntry m q) }
+    ensures children { IfOk result (λ m. AreChildrenAmong (referenced uids.now) (G.parents graph.now) (children_in m)) }
 {
     let mut relatives = BTreeMap::new(alloc);
     for uid in uids {
@@ -82,8 +82,8 @@ fn write_lists<G: ParentsOf>(
     budget: &mut CacheBudget,
 ) -> Result<(), NoMemory>
     requires lists { (q : PlainUid) → ancestors_in relatives.old q ≡ [] }
-    requires there { (q : PlainUid) → Contains (names uids.now) q → HasEntry relatives.old q }
-    ensures lists { OnOk result (AreListsOf (G.parents graph.now) (names uids.now) (ancestors_in relatives.new)) }
+    requires there { (q : PlainUid) → Contains (referenced uids.now) q → HasEntry relatives.old q }
+    ensures lists { OnOk result (AreListsOf (G.parents graph.now) (referenced uids.now) (ancestors_in relatives.new)) }
     ensures children { SameChildren relatives.old relatives.new }
 {
     for uid in uids {
@@ -101,8 +101,8 @@ pub(crate) fn relatives_among<G: ParentsOf>(
     uids: &[&EntityUid],
     budget: &mut CacheBudget,
 ) -> Result<BTreeMap<EntityUid, Relatives>, NoMemory>
-    ensures lists { IfOk result (λ m. AreListsOf (G.parents graph.now) (names uids.now) (ancestors_in m)) }
-    ensures children { IfOk result (λ m. AreChildrenAmong (names uids.now) (G.parents graph.now) (children_in m)) }
+    ensures lists { IfOk result (λ m. AreListsOf (G.parents graph.now) (referenced uids.now) (ancestors_in m)) }
+    ensures children { IfOk result (λ m. AreChildrenAmong (referenced uids.now) (G.parents graph.now) (children_in m)) }
 {
     let mut relatives = children_among(alloc, graph, uids)?;
     write_lists(alloc, graph, &mut relatives, uids, budget)?;
@@ -115,7 +115,7 @@ pub(crate) fn set_of(
     relatives: &BTreeMap<EntityUid, Relatives>,
     uids: &[&EntityUid],
 ) -> Result<BTreeSet<Shared<EntityUid>>, NoMemory>
-    ensures { IfOk result (λ found. (x : PlainUid) → Contains found.keys x ↔ Contains (names uids.now) x) }
+    ensures { IfOk result (λ found. (x : PlainUid) → Contains found.keys x ↔ Contains (referenced uids.now) x) }
 {
     let mut found = BTreeSet::new(alloc);
     for uid in uids {

@@ -13,12 +13,12 @@ use Rattle.std.proofs.lemmas.Bool.{cases_lt}
 use Rattle.std.proofs.lemmas.List.Elements.{Contains-append_left, Contains-push, Contains-push_cases}
 use Rattle.values.specs.declared.entity_uid.EntityUid.{EntityUid}
 use Rattle.values.specs.Names.{uid_cmp, uid_cmp-IsTotalOrder, uid_cmp-IsAntisymmetric}
-use Rattle.ancestor_search.specs.Hierarchy.{Parents, Path, IsAncestor, IsAscending, names, AreOnCycles}
+use Rattle.ancestor_search.specs.Hierarchy.{Parents, Path, IsAncestor, IsAscending, referenced, AreOnCycles}
 use Rattle.ancestor_search.specs.Decided.{HaveAllParents}
 use Rattle.ancestor_search.specs.inner.Walking.{Way, LeadsTo, edges_of, MarksCycles}
 use Rattle.ancestor_search.specs.inner.Numbering.{IsNumber, NumbersAmong, AreNumbered, MarkedBefore}
 use Rattle.std.specs.BTreeSet.{insert_key}
-use Rattle.ancestor_search.proofs.Members.{insert_key-kept, insert_key-from, insert_key-here, length-names}
+use Rattle.ancestor_search.proofs.Members.{insert_key-kept, insert_key-from, insert_key-here, length-referenced}
 
 -- ---- two numbers of one entity are one
 pub number_is_one : (us : List EntityUid) → IsAscending us → (i j : ℕ) (x : EntityUid) → IsNumber us i x → IsNumber us j x → i ≡ j
@@ -50,24 +50,24 @@ comparisons_rise xs x sorted i j d le lt = elim (cases_lt i j) [
   | inr above ↦ let same : i ≡ j = omega arith in rw same (omega arith)
 ]
 
-pub names-at : (ks : List (Bor EntityUid)) (i : ℕ) (d : Bor EntityUid) → get_or (names ks) i d.now ≡ (get_or ks i d).now
-names-at [] i d = refl
-names-at (k ∷ ks) zero d = refl
-names-at (k ∷ ks) (suc i) d = names-at ks i d
+pub referenced-at : (ks : List (Bor EntityUid)) (i : ℕ) (d : Bor EntityUid) → get_or (referenced ks) i d.now ≡ (get_or ks i d).now
+referenced-at [] i d = refl
+referenced-at (k ∷ ks) zero d = refl
+referenced-at (k ∷ ks) (suc i) d = referenced-at ks i d
 
 bor : EntityUid → Bor EntityUid
 bor x = record { ref_ptr = (0, 0); now = x }
 
-pub number_found : (ks : List (Bor EntityUid)) (x : EntityUid) (i : ℕ) → IsSearchInRange (Ok i) (length ks) → IsBinarySearchResult (λ (y : Bor EntityUid). uid_cmp y.now x) ks (Ok i) → IsNumber (names ks) i x
+pub number_found : (ks : List (Bor EntityUid)) (x : EntityUid) (i : ℕ) → IsSearchInRange (Ok i) (length ks) → IsBinarySearchResult (λ (y : Bor EntityUid). uid_cmp y.now x) ks (Ok i) → IsNumber (referenced ks) i x
 unfolding bor
-number_found ks x i bound at = (rw length-names bound, names-at ks i (bor x) ∙ uid_cmp-IsAntisymmetric _ x (at (bor x)))
+number_found ks x i bound at = (rw length-referenced bound, referenced-at ks i (bor x) ∙ uid_cmp-IsAntisymmetric _ x (at (bor x)))
 
-pub number_none : (ks : List (Bor EntityUid)) (x : EntityUid) (i : ℕ) → IsAscending (names ks) → IsBinarySearchResult (λ (y : Bor EntityUid). uid_cmp y.now x) ks (Err i) → Contains (names ks) x → ⊥
+pub number_none : (ks : List (Bor EntityUid)) (x : EntityUid) (i : ℕ) → IsAscending (referenced ks) → IsBinarySearchResult (λ (y : Bor EntityUid). uid_cmp y.now x) ks (Err i) → Contains (referenced ks) x → ⊥
 unfolding bor
 number_none ks x i sorted parted (k, lt, e) =
-    let lt' : k < length ks = rw (← length-names) lt in
-    let parts = parted (λ a b d le l. rw (← names-at, ← names-at) (comparisons_rise (names ks) x sorted a b d.now le (rw length-names l))) in
-    let tied : uid_cmp (get_or ks k (bor x)).now x ≡ Equal = ap (λ y. uid_cmp y x) (sym (names-at ks k (bor x)) ∙ e) ∙ tied_itself uid_cmp-IsTotalOrder x in
+    let lt' : k < length ks = rw (← length-referenced) lt in
+    let parts = parted (λ a b d le l. rw (← referenced-at, ← referenced-at) (comparisons_rise (referenced ks) x sorted a b d.now le (rw length-referenced l))) in
+    let tied : uid_cmp (get_or ks k (bor x)).now x ≡ Equal = ap (λ y. uid_cmp y x) (sym (referenced-at ks k (bor x)) ∙ e) ∙ tied_itself uid_cmp-IsTotalOrder x in
     elim (cases_lt k i) [
       | inl below ↦ let less = parts.0 k (bor x) (omega arith) below in cc (less, tied)
       | inr above ↦ let greater = parts.1 k (bor x) above lt' in cc (greater, tied)

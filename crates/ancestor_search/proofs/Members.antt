@@ -9,7 +9,7 @@ use Rattle.std.specs.Borrow.{Bor}
 use Rattle.std.proofs.lemmas.Map.Lookups.{CmpEqualImpliesEq}
 use Rattle.values.specs.declared.entity_uid.EntityUid.{EntityUid}
 use Rattle.values.specs.Names.{uid_cmp}
-use Rattle.ancestor_search.specs.Hierarchy.{names}
+use Rattle.ancestor_search.specs.Hierarchy.{referenced}
 use Rattle.ancestor_search.specs.Deciding.{Contains-here, Contains-there, Contains-cases, Contains-none}
 
 module _ {K : Type 0} (cmp : K → K → Ordering) where
@@ -48,22 +48,22 @@ module _ {K : Type 0} (cmp : K → K → Ordering) where
       at rest Greater e = Contains-there y _ k rest
 
 -- a set of references is the set of what they refer to
-pub names-insert_key : (ks : List (Bor EntityUid)) (k : Bor EntityUid) → names (insert_key (λ x y. uid_cmp x.now y.now) ks k) ≡ insert_key uid_cmp (names ks) k.now
-names-insert_key [] k = refl
-names-insert_key (y ∷ ys) k = elim (uid_cmp k.now y.now) as (λ o. names (match_ordering o (k ∷ y ∷ ys) (y ∷ ys) (y ∷ insert_key (λ x y. uid_cmp x.now y.now) ys k)) ≡ match_ordering o (k.now ∷ y.now ∷ names ys) (y.now ∷ names ys) (y.now ∷ insert_key uid_cmp (names ys) k.now)) [
+pub referenced-insert_key : (ks : List (Bor EntityUid)) (k : Bor EntityUid) → referenced (insert_key (λ x y. uid_cmp x.now y.now) ks k) ≡ insert_key uid_cmp (referenced ks) k.now
+referenced-insert_key [] k = refl
+referenced-insert_key (y ∷ ys) k = elim (uid_cmp k.now y.now) as (λ o. referenced (match_ordering o (k ∷ y ∷ ys) (y ∷ ys) (y ∷ insert_key (λ x y. uid_cmp x.now y.now) ys k)) ≡ match_ordering o (k.now ∷ y.now ∷ referenced ys) (y.now ∷ referenced ys) (y.now ∷ insert_key uid_cmp (referenced ys) k.now)) [
   | Less ↦ refl
   | Equal ↦ refl
-  | Greater ↦ ap (λ r. y.now ∷ r) (names-insert_key ys k)
+  | Greater ↦ ap (λ r. y.now ∷ r) (referenced-insert_key ys k)
 ]
 
-pub names-push : (xs : List (Bor EntityUid)) (x : Bor EntityUid) → names (xs ++ x ∷ []) ≡ names xs ++ x.now ∷ []
-names-push [] x = refl
-names-push (y ∷ ys) x = ap (λ r. y.now ∷ r) (names-push ys x)
+pub referenced-push : (xs : List (Bor EntityUid)) (x : Bor EntityUid) → referenced (xs ++ x ∷ []) ≡ referenced xs ++ x.now ∷ []
+referenced-push [] x = refl
+referenced-push (y ∷ ys) x = ap (λ r. y.now ∷ r) (referenced-push ys x)
 
-pub length-names : (xs : List (Bor EntityUid)) → length (names xs) ≡ length xs
-length-names [] = refl
-length-names (y ∷ ys) = ap suc (length-names ys)
+pub length-referenced : (xs : List (Bor EntityUid)) → length (referenced xs) ≡ length xs
+length-referenced [] = refl
+length-referenced (y ∷ ys) = ap suc (length-referenced ys)
 
-pub names-none : (xs : List (Bor EntityUid)) → length xs ≡ 0 → names xs ≡ []
-names-none [] e = refl
-names-none (x ∷ xs) e = absurd (omega arith)
+pub referenced-none : (xs : List (Bor EntityUid)) → length xs ≡ 0 → referenced xs ≡ []
+referenced-none [] e = refl
+referenced-none (x ∷ xs) e = absurd (omega arith)

@@ -8,20 +8,20 @@ use Rattle.std.specs.Borrow.{Bor}
 use Rattle.std.proofs.lemmas.List.Elements.{Contains-append_left, Contains-push, Contains-push_cases}
 use Rattle.values.specs.declared.entity_uid.EntityUid.{EntityUid}
 use Rattle.values.specs.Names.{uid_cmp}
-use Rattle.ancestor_search.specs.Hierarchy.{Parents, names}
+use Rattle.ancestor_search.specs.Hierarchy.{Parents, referenced}
 use Rattle.ancestor_search.specs.Decided.{is_same, HaveAllParents}
 use Rattle.ancestor_search.specs.Deciding.{same_uid, same_self, Contains-none}
-use Rattle.ancestor_search.specs.inner.Backwards.{names_or_none, children_of, AddsToChildren, AreChildrenAmong, AreChildren}
+use Rattle.ancestor_search.specs.inner.Backwards.{referenced_or_none, children_of, AddsToChildren, AreChildrenAmong, AreChildren}
 
 abbrev Kept : Type 0
 Kept = BTreeMap (Bor EntityUid) (Vec (Bor EntityUid) Global)
 
 cond_or : (b : Bool) (v : Vec (Bor EntityUid) Global) (o : Option (Vec (Bor EntityUid) Global)) →
-    names_or_none (cond b (Some v) o) ≡ cond b (names v.items) (names_or_none o)
+    referenced_or_none (cond b (Some v) o) ≡ cond b (referenced v.items) (referenced_or_none o)
 cond_or true v o = refl
 cond_or false v o = refl
 
-cond_none : (b : Bool) (o : Option (Vec (Bor EntityUid) Global)) → names_or_none (cond b None o) ≡ cond b [] (names_or_none o)
+cond_none : (b : Bool) (o : Option (Vec (Bor EntityUid) Global)) → referenced_or_none (cond b None o) ≡ cond b [] (referenced_or_none o)
 cond_none true o = refl
 cond_none false o = refl
 
@@ -30,15 +30,15 @@ pub children_of-out : (m n : Kept) (parent : Bor EntityUid) → Updates (λ x y.
     (x : EntityUid) → children_of n x ≡ cond (is_same parent.now x) [] (children_of m x)
 children_of-out m n parent out x =
     let at : Bor EntityUid = record { ref_ptr = (0, 0); now = x } in
-    ap names_or_none (out.0 at) ∙ cond_none (is_same parent.now x) (get_by (λ k. uid_cmp x k.now) m)
+    ap referenced_or_none (out.0 at) ∙ cond_none (is_same parent.now x) (get_by (λ k. uid_cmp x k.now) m)
 
 -- a list is put in
 pub children_of-put : (m n : Kept) (parent : Bor EntityUid) (v : Vec (Bor EntityUid) Global) →
     Updates (λ x y. uid_cmp x.now y.now) m n parent (Some v) →
-    (x : EntityUid) → children_of n x ≡ cond (is_same parent.now x) (names v.items) (children_of m x)
+    (x : EntityUid) → children_of n x ≡ cond (is_same parent.now x) (referenced v.items) (children_of m x)
 children_of-put m n parent v put x =
     let at : Bor EntityUid = record { ref_ptr = (0, 0); now = x } in
-    ap names_or_none (put.0 at) ∙ cond_or (is_same parent.now x) v (get_by (λ k. uid_cmp x k.now) m)
+    ap referenced_or_none (put.0 at) ∙ cond_or (is_same parent.now x) v (get_by (λ k. uid_cmp x k.now) m)
 
 -- the list of a parent, taken out, and put in again with one child more
 pub one_child_more : (k0 k1 k2 : EntityUid → List EntityUid) (parent child : EntityUid) (xs : List EntityUid) →

@@ -2,7 +2,7 @@
 ghost use Rattle.std.specs.Prelude.{◌≡◌, List, IfOk};
 ghost use Rattle.std.specs.BTreeMap.{keys};
 ghost use Rattle.values.specs.declared.entity_uid.EntityUid.{EntityUid};
-ghost use Rattle.ancestor_search.specs.Hierarchy.{Parents, IsAscending, names, with_parents};
+ghost use Rattle.ancestor_search.specs.Hierarchy.{Parents, IsAscending, referenced, with_parents};
 ghost use Rattle.ancestor_search.specs.Decided.{HaveAllParents};
 ghost use Rattle.ancestor_search.specs.Search.{parents_of};
 ghost use Rattle.ancestor_search.specs.Deciding.{map_has_all};
@@ -29,8 +29,8 @@ pub trait Graph: ParentsOf {
 
     /// Returns the stored entities, ascending.
     fn stored_uids(&self, alloc: Global) -> Result<Vec<&EntityUid>, NoMemory>
-        ensures all { IfOk result (λ uids. names uids.items ≡ stored self.now) }
-        ensures ascending { IfOk result (λ uids. IsAscending (names uids.items)) };
+        ensures all { IfOk result (λ uids. referenced uids.items ≡ stored self.now) }
+        ensures ascending { IfOk result (λ uids. IsAscending (referenced uids.items)) };
 
     /// Each entity with parents is stored.
     ghost has_all: { (s : Self) → HaveAllParents (Self.parents s) (stored s) };

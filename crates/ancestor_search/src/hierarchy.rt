@@ -2,7 +2,7 @@
 ghost use Rattle.std.specs.Prelude.{◌≡◌, ◌↔◌, [], Bool, IsTrue, IfOk, OnOk, OnErr, MatchOption};
 ghost use Rattle.values.specs.declared.entity_uid.EntityUid.{EntityUid};
 ghost use Rattle.ancestor_search.specs.Hierarchy.{Parents, IsAncestor, AreAllAncestorsOf, IsAscending, AreOnCycles};
-ghost use Rattle.ancestor_search.specs.Hierarchy.{names};
+ghost use Rattle.ancestor_search.specs.Hierarchy.{referenced};
 ghost use Rattle.ancestor_search.specs.Hierarchy.{with_parents};
 ghost use Rattle.ancestor_search.specs.Decided.{Decides};
 ghost use Rattle.ancestor_search.specs.LeastCycle.{HasNoCycle, IsLeastCycle};
@@ -26,13 +26,13 @@ pub trait Ancestry {
 
     /// Returns all ancestors of `uid`, also those that are not stored, in ascending order.
     fn ancestors(&self, uid: &EntityUid) -> Result<Vec<&EntityUid>, NoMemory>
-        ensures all { IfOk result (λ found. AreAllAncestorsOf (parents self.now) uid.now (names found.items)) }
-        ensures ascending { IfOk result (λ found. IsAscending (names found.items)) };
+        ensures all { IfOk result (λ found. AreAllAncestorsOf (parents self.now) uid.now (referenced found.items)) }
+        ensures ascending { IfOk result (λ found. IsAscending (referenced found.items)) };
 
     /// Returns all cyclic entities, in ascending order.
     fn cyclic(&self) -> Result<Vec<&EntityUid>, NoMemory>
-        ensures all { IfOk result (λ found. AreOnCycles (parents self.now) (names found.items)) }
-        ensures ascending { IfOk result (λ found. IsAscending (names found.items)) };
+        ensures all { IfOk result (λ found. AreOnCycles (parents self.now) (referenced found.items)) }
+        ensures ascending { IfOk result (λ found. IsAscending (referenced found.items)) };
 
     /// Returns the least cycle, or `None` if there is no cycle.
     ///
@@ -40,7 +40,7 @@ pub trait Ancestry {
     /// compared item by item. An edge leads from each entity to the next, and from the last to the first.
     fn least_cycle(&self) -> Result<Option<Vec<&EntityUid>>, NoMemory>
         ensures { IfOk result (λ o. MatchOption o (HasNoCycle (parents self.now))
-            (λ found. IsLeastCycle (parents self.now) (names found.items))) };
+            (λ found. IsLeastCycle (parents self.now) (referenced found.items))) };
 
     /// The test `ancestor_test` decides the ancestor relation.
     ghost ancestor_test_decides: { (s : Self) → Decides (parents s) (ancestor_test s) };

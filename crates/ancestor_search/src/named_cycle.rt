@@ -12,7 +12,7 @@ ghost use Rattle.std.specs.Option.{option_copied};
 ghost use Rattle.std.specs.Ordering.{is_eq, is_lt};
 ghost use Rattle.values.specs.declared.entity_uid.EntityUid.{EntityUid as PlainUid};
 ghost use Rattle.values.specs.Names.{uid_cmp};
-ghost use Rattle.ancestor_search.specs.Hierarchy.{names, IsAncestor, AreOnCycles, IsAscending};
+ghost use Rattle.ancestor_search.specs.Hierarchy.{referenced, IsAncestor, AreOnCycles, IsAscending};
 ghost use Rattle.ancestor_search.specs.LeastCycle.{HasNoCycle, IsLeastCycle};
 ghost use Rattle.ancestor_search.specs.inner.Backwards.{children_of, AreChildrenAmong, AreChildren, AddsToChildren};
 ghost use Rattle.ancestor_search.specs.inner.Backwards.{dist_of, AreDistances, AreKnownUpTo, ReachesBack, Reaches};
@@ -33,7 +33,7 @@ type Distances<'a> = BTreeMap<&'a EntityUid, usize>;
 
 // Removes the children of a parent from the map, and returns them.
 fn take<'a>(alloc: Global, children: &mut Children<'a>, parent: &'a EntityUid) -> Vec<&'a EntityUid>
-    ensures was { names result.items ≡ children_of children.old parent.now }
+    ensures was { referenced result.items ≡ children_of children.old parent.now }
     ensures out { (x : PlainUid) → children_of children.new x ≡
         cond (is_eq (uid_cmp parent.now x)) [] (children_of children.old x) }
 {
@@ -81,7 +81,8 @@ fn children_among<'a, G: ParentsOf>(
     graph: &'a G,
     uids: &[&'a EntityUid],
 ) -> Result<Children<'a>, NoMemory>
-    ensures { IfOk result (λ children. AreChildrenAmong (names uids.now) (G.parents graph.now) (children_of children)) }
+    ensures { IfOk result
+        (λ children. AreChildrenAmong (referenced uids.now) (G.parents graph.now) (children_of children)) }
 {
     let mut children = BTreeMap::new(alloc);
     for uid in uids {
@@ -106,8 +107,9 @@ fn reach<'a>(
     reached: &mut Distances<'a>,
     level: &mut Vec<&'a EntityUid>,
 ) -> Result<(), NoMemory>
-    ensures { OnOk result (Reaches (is_one_of (names uids.now)) far (dist_of reached.old) (dist_of reached.new)
-        (names level.old.items) (names level.new.items) (btree_map_len reached.old) (btree_map_len reached.new)) }
+    ensures { OnOk result (Reaches (is_one_of (referenced uids.now)) far (dist_of reached.old) (dist_of reached.new)
+        (referenced level.old.items) (referenced level.new.items)
+        (btree_map_len reached.old) (btree_map_len reached.new)) }
 {
     for uid in uids {
         if !reached.contains_key(uid) {
@@ -127,7 +129,7 @@ fn reach_children<'a>(
     level: &mut Vec<&'a EntityUid>,
 ) -> Result<(), NoMemory>
     ensures { OnOk result (Reaches (is_one_of (children_of children.now uid.now)) far
-        (dist_of reached.old) (dist_of reached.new) (names level.old.items) (names level.new.items)
+        (dist_of reached.old) (dist_of reached.new) (referenced level.old.items) (referenced level.new.items)
         (btree_map_len reached.old) (btree_map_len reached.new)) }
 {
     match children.get(&uid) {
@@ -145,8 +147,8 @@ fn next_level<'a>(
     far: usize,
     reached: &mut Distances<'a>,
 ) -> Result<Vec<&'a EntityUid>, NoMemory>
-    ensures reaches { IfOk result (λ next. Reaches (is_child_of (children_of children.now) (names level.now)) far
-        (dist_of reached.old) (dist_of reached.new) [] (names next.items)
+    ensures reaches { IfOk result (λ next. Reaches (is_child_of (children_of children.now) (referenced level.now)) far
+        (dist_of reached.old) (dist_of reached.new) [] (referenced next.items)
         (btree_map_len reached.old) (btree_map_len reached.new)) }
     ensures small { OnOk result (btree_map_len reached.new < 2 ^ 63) }
 {
@@ -234,7 +236,7 @@ fn walk<'a, G: ParentsOf>(
     requires known { AreDistances (G.parents graph.now) start.now (dist_of distances.now) }
     requires all { AreKnownUpTo (G.parents graph.now) start.now (dist_of distances.now) long }
     requires long { dist_of distances.now start.now ≡ Some long }
-    ensures { IfOk result (λ found. IsWalkBack (G.parents graph.now) start.now (names found.items)) }
+    ensures { IfOk result (λ found. IsWalkBack (G.parents graph.now) start.now (referenced found.items)) }
 {
     let mut found = Vec::new(alloc);
     found.push(start)?;
@@ -255,10 +257,10 @@ pub fn least_cycle_among<'a, G: Graph>(
     graph: &'a G,
     cyclic: &[&'a EntityUid],
 ) -> Result<Option<Vec<&'a EntityUid>>, NoMemory>
-    requires all { AreOnCycles (G.parents graph.now) (names cyclic.now) }
-    requires ascending { IsAscending (names cyclic.now) }
+    requires all { AreOnCycles (G.parents graph.now) (referenced cyclic.now) }
+    requires ascending { IsAscending (referenced cyclic.now) }
     ensures { let parents = G.parents graph.now in
-        IfOk result (λ o. MatchOption o (HasNoCycle parents) (λ found. IsLeastCycle parents (names found.items))) }
+        IfOk result (λ o. MatchOption o (HasNoCycle parents) (λ found. IsLeastCycle parents (referenced found.items))) }
 {
     let Some(start) = cyclic.first() else {
         return Ok(None);
@@ -284,7 +286,7 @@ pub fn least_cycle<'a, G: Graph>(
     graph: &'a G,
 ) -> Result<Option<Vec<&'a EntityUid>>, NoMemory>
     ensures { let parents = G.parents graph.now in
-        IfOk result (λ o. MatchOption o (HasNoCycle parents) (λ found. IsLeastCycle parents (names found.items))) }
+        IfOk result (λ o. MatchOption o (HasNoCycle parents) (λ found. IsLeastCycle parents (referenced found.items))) }
 {
     let cyclic = on_cycles(alloc, graph)?;
     least_cycle_among(alloc, graph, &cyclic)

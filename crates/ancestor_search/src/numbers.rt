@@ -1,6 +1,6 @@
 //! Entities by number: an entity's number is its index in an ascending list.
 ghost use Rattle.std.specs.Prelude.{◌≡◌, IfOk, false, length, slice_index_or};
-ghost use Rattle.ancestor_search.specs.Hierarchy.{AreOnCycles, IsAscending, names};
+ghost use Rattle.ancestor_search.specs.Hierarchy.{AreOnCycles, IsAscending, referenced};
 ghost use Rattle.ancestor_search.specs.inner.Numbering.{NumbersAmong, AreNumbered, MarkedBefore};
 
 use crate::graph::{Graph, ParentsOf};
@@ -17,8 +17,8 @@ fn numbers_of<'a>(
     uids: &[&'a EntityUid],
     parents: &'a [EntityUid],
 ) -> Result<Vec<usize>, NoMemory>
-    requires { IsAscending (names uids.now) }
-    ensures { IfOk result (λ numbers. NumbersAmong (names uids.now) parents.now numbers.items) }
+    requires { IsAscending (referenced uids.now) }
+    ensures { IfOk result (λ numbers. NumbersAmong (referenced uids.now) parents.now numbers.items) }
 {
     let mut numbers = Vec::new(alloc);
     for parent in parents {
@@ -35,8 +35,8 @@ fn numbered<'a, G: ParentsOf>(
     graph: &'a G,
     uids: &[&'a EntityUid],
 ) -> Result<Vec<Vec<usize>>, NoMemory>
-    requires { IsAscending (names uids.now) }
-    ensures { let us = names uids.now in
+    requires { IsAscending (referenced uids.now) }
+    ensures { let us = referenced uids.now in
         IfOk result (λ edges. AreNumbered (G.parents graph.now) us (length us) edges.items) }
 {
     let mut edges = Vec::new(alloc);
@@ -64,8 +64,8 @@ fn marked<'a>(
     uids: &[&'a EntityUid],
     marks: &[bool],
 ) -> Result<BTreeSet<&'a EntityUid>, NoMemory>
-    ensures { let us = names uids.now in
-        IfOk result (λ found. MarkedBefore us marks.now (length us) (names found.keys)) }
+    ensures { let us = referenced uids.now in
+        IfOk result (λ found. MarkedBefore us marks.now (length us) (referenced found.keys)) }
 {
     let mut found = BTreeSet::new(alloc);
     for number in 0..uids.len() {
@@ -82,7 +82,7 @@ fn found_by_number<'a, G: Graph>(
     alloc: Global,
     graph: &'a G,
 ) -> Result<BTreeSet<&'a EntityUid>, NoMemory>
-    ensures { IfOk result (λ found. AreOnCycles (G.parents graph.now) (names found.keys)) }
+    ensures { IfOk result (λ found. AreOnCycles (G.parents graph.now) (referenced found.keys)) }
 {
     let uids = graph.stored_uids(alloc)?;
     let edges = numbered(alloc, graph, &uids)?;
@@ -96,8 +96,8 @@ fn found_by_number<'a, G: Graph>(
 /// For each edge the number of the parent is looked up once. The search then visits each edge at most twice, without a
 /// look-up.
 pub fn on_cycles<'a, G: Graph>(alloc: Global, graph: &'a G) -> Result<Vec<&'a EntityUid>, NoMemory>
-    ensures all { IfOk result (λ found. AreOnCycles (G.parents graph.now) (names found.items)) }
-    ensures ascending { IfOk result (λ found. IsAscending (names found.items)) }
+    ensures all { IfOk result (λ found. AreOnCycles (G.parents graph.now) (referenced found.items)) }
+    ensures ascending { IfOk result (λ found. IsAscending (referenced found.items)) }
 {
     listed(alloc, found_by_number(alloc, graph)?)
 }

@@ -1,7 +1,7 @@
 //! The search for the ancestors of an entity, in any graph.
 ghost use Rattle.std.specs.Prelude.{◌^◌, ◌<◌, Contains, IsTrue, ◌↔◌, IfOk, OnOk};
 ghost use Rattle.std.specs.BTreeSet.{btree_set_len};
-ghost use Rattle.ancestor_search.specs.Hierarchy.{IsAncestor, AreAllAncestorsOf, IsAscending, names, with_parents};
+ghost use Rattle.ancestor_search.specs.Hierarchy.{IsAncestor, AreAllAncestorsOf, IsAscending, referenced, with_parents};
 ghost use Rattle.ancestor_search.specs.Search.{AddsUnseen};
 
 use crate::graph::{Changed, ParentsOf};
@@ -25,8 +25,8 @@ fn add_parents<'a>(
     work: &mut Vec<&'a EntityUid>,
 ) -> Result<(), NoMemory>
     ensures adds { OnOk result
-        (AddsUnseen parents.now (names seen.old.keys) (names work.old.items) (names seen.new.keys)
-        (names work.new.items)) }
+        (AddsUnseen parents.now (referenced seen.old.keys) (referenced work.old.items) (referenced seen.new.keys)
+        (referenced work.new.items)) }
     ensures small { OnOk result (btree_set_len seen.new < 2 ^ 63) }
 {
     for parent in parents {
@@ -44,7 +44,7 @@ fn ancestor_set<'a, G: ParentsOf>(
     graph: &'a G,
     uid: &EntityUid,
 ) -> Result<BTreeSet<&'a EntityUid>, NoMemory>
-    ensures { IfOk result (λ found. AreAllAncestorsOf (G.parents graph.now) uid.now (names found.keys)) }
+    ensures { IfOk result (λ found. AreAllAncestorsOf (G.parents graph.now) uid.now (referenced found.keys)) }
 {
     let mut seen = BTreeSet::new(alloc);
     let mut work = Vec::new(alloc);
@@ -87,8 +87,8 @@ pub fn ancestors_of<'a, G: ParentsOf>(
     graph: &'a G,
     uid: &EntityUid,
 ) -> Result<Vec<&'a EntityUid>, NoMemory>
-    ensures all { IfOk result (λ found. AreAllAncestorsOf (G.parents graph.now) uid.now (names found.items)) }
-    ensures ascending { IfOk result (λ found. IsAscending (names found.items)) }
+    ensures all { IfOk result (λ found. AreAllAncestorsOf (G.parents graph.now) uid.now (referenced found.items)) }
+    ensures ascending { IfOk result (λ found. IsAscending (referenced found.items)) }
 {
     listed(alloc, ancestor_set(alloc, graph, uid)?)
 }

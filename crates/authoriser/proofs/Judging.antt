@@ -10,7 +10,7 @@ use Rattle.std.proofs.lemmas.List.Elements.{All-contains, Contains-push_cases}
 use Rattle.values.specs.declared.entity_uid.EntityUid.{EntityUid}
 use Rattle.values.specs.declared.request.Request.{Request}
 use Rattle.plain.proofs.Members.{Contains-none}
-use Rattle.evaluator.specs.ancestor_search.Hierarchy.{Parents, Path, AreAllAncestorsOf, IsAscending, names, IsIn}
+use Rattle.evaluator.specs.ancestor_search.Hierarchy.{Parents, Path, AreAllAncestorsOf, IsAscending, referenced, IsIn}
 use Rattle.evaluator.specs.ancestor_search.LeastCycle.{HasNoCycle, IsLeastCycle}
 use Rattle.evaluator.specs.ancestor_search.Decided.{Decides}
 use Rattle.grammar_core.specs.declared.expr.Expr.{Expr}
@@ -110,7 +110,7 @@ pub other_scope : OtherScopesGiveFalse → (W : Entities) (above : EntityUid →
 other_scope idle W above D q s p request_entities n = idle W above D q p (λ h. n (scope_back W.parents q s p.scope request_entities h))
 
 placed_itself : {parents : Parents} {uid : EntityUid} {p : KnownEntity} → HasItsAncestors parents uid p → HasItsAncestors parents p.uid.now p
-placed_itself {parents} {uid} {p} h = record { same = refl; all = subst (λ (u : EntityUid). AreAllAncestorsOf parents u (names p.ancestors.items)) (sym h.same) h.all; ascending = h.ascending }
+placed_itself {parents} {uid} {p} h = record { same = refl; all = subst (λ (u : EntityUid). AreAllAncestorsOf parents u (referenced p.ancestors.items)) (sym h.same) h.all; ascending = h.ascending }
 
 pub all_placed : (parents : Parents) (q : Request) (s : RequestEntities) → HasRequestAncestors parents q s → AllHaveTheirAncestors parents s
 all_placed parents q s h = record { principal = placed_itself h.principal; action = placed_itself h.action; resource = placed_itself h.resource }
@@ -186,21 +186,21 @@ none_ascend = tt
 pub placed_alone : (parents : Parents) (uid : Bor EntityUid) (above : Vec (Bor EntityUid) Global) → above.items ≡ [] → parents uid.now ≡ [] → HasItsAncestors parents uid.now (record { uid = uid; ancestors = above; attributes = None })
 placed_alone parents uid above empty alone = record {
   same = refl;
-  all = subst (λ (us : List (Bor EntityUid)). AreAllAncestorsOf parents uid.now (names us)) (sym empty) (nothing_above parents uid.now alone);
-  ascending = subst (λ (us : List (Bor EntityUid)). IsAscending (names us)) (sym empty) none_ascend;
+  all = subst (λ (us : List (Bor EntityUid)). AreAllAncestorsOf parents uid.now (referenced us)) (sym empty) (nothing_above parents uid.now alone);
+  ascending = subst (λ (us : List (Bor EntityUid)). IsAscending (referenced us)) (sym empty) none_ascend;
 }
 
 -- ---- entities beside the request's three
 pub record IsAbove (parents : Parents) (uid : EntityUid) (us : List (Bor EntityUid)) : Type 0 where
-  pub all : AreAllAncestorsOf parents uid (names us)
-  pub ascending : IsAscending (names us)
+  pub all : AreAllAncestorsOf parents uid (referenced us)
+  pub ascending : IsAscending (referenced us)
 
 pub above_other : (parents : Parents) (others : List MemoEntry) (o : MemoEntry) (uid : EntityUid) → All (HasAllAncestors parents) others
     → Contains others o → o.uid ≡ uid → IsAbove parents uid o.ancestors.items
 above_other parents others o uid have there same =
     let right = All-contains (HasAllAncestors parents) others o have there in
     record {
-      all = subst (λ (u : EntityUid). AreAllAncestorsOf parents u (names o.ancestors.items)) same right.all;
+      all = subst (λ (u : EntityUid). AreAllAncestorsOf parents u (referenced o.ancestors.items)) same right.all;
       ascending = right.ascending;
     }
 

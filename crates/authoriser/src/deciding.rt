@@ -1,6 +1,6 @@
 //! Decisions: the answer to a request over policies and stored entities.
 ghost use Rattle.std.specs.Prelude.{◌≡◌, [], IfOk, MatchOption};
-ghost use Rattle.evaluator.specs.ancestor_search.Hierarchy.{names};
+ghost use Rattle.evaluator.specs.ancestor_search.Hierarchy.{referenced};
 ghost use Rattle.evaluator.specs.ancestor_search.LeastCycle.{HasNoCycle};
 ghost use Rattle.evaluator.specs.Operators.{entities_with};
 ghost use Rattle.authoriser.specs.declared.answer.Decision.TheVariants.{Deny};
@@ -23,7 +23,7 @@ const OTHERS_MAX: usize = 64;
 
 /// Copies the uids.
 fn copy_uids(alloc: Global, uids: &[&EntityUid]) -> Result<Items<EntityUid>, NoMemory>
-    ensures { IfOk result (λ copies. copies ≡ names uids.now) }
+    ensures { IfOk result (λ copies. copies ≡ referenced uids.now) }
 {
     let mut copies = Vec::with_capacity(alloc, uids.len())?;
     for uid in uids {
@@ -54,7 +54,7 @@ fn answer_by_policies<L: Lookup>(
 /// Returns a denial that names this cycle and no policies.
 fn denial_by_cycle(alloc: Global, cycle: &[&EntityUid]) -> Result<Answer, NoMemory>
     ensures { IfOk result (λ a. a
-        ≡ record { decision = Deny; reason = []; errors = []; cycle = names cycle.now }) }
+        ≡ record { decision = Deny; reason = []; errors = []; cycle = referenced cycle.now }) }
 {
     let cycle = copy_uids(alloc, cycle)?;
     Ok(Answer {

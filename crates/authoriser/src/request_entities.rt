@@ -1,6 +1,6 @@
 //! A request's three entities, with their ancestors and attributes, looked up once.
 ghost use Rattle.std.specs.Prelude.{◌↔◌, ⊤, IsTrue, IfOk, MatchOption};
-ghost use Rattle.evaluator.specs.ancestor_search.Hierarchy.{Parents, IsAscending, names};
+ghost use Rattle.evaluator.specs.ancestor_search.Hierarchy.{Parents, IsAscending, referenced};
 ghost use Rattle.evaluator.specs.Operators.{Entities, entities_with};
 ghost use Rattle.authoriser.specs.inner.Views.{IsWithin, HasItsAncestors, HasRequestAncestors, AllHaveTheirAncestors};
 ghost use Rattle.authoriser.specs.inner.Views.{HasItsAttributes, HasRequestAttributes, AllHaveTheirAttributes};
@@ -77,7 +77,7 @@ pub(crate) fn request_entities_of<'a, L: Lookup>(
 impl KnownEntity<'_> {
     /// Returns whether this entity is `of` or a descendant of it. O(log n) for n ancestors. Does not allocate.
     pub(crate) fn is_within(&self, of: &EntityUid) -> bool
-        requires { IsAscending (names self.now.ancestors.items) }
+        requires { IsAscending (referenced self.now.ancestors.items) }
         ensures { IsTrue result ↔ IsWithin self.now of.now }
     {
         self.uid.same(of) || is_among(&self.ancestors, of)

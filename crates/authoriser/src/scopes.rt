@@ -1,7 +1,7 @@
 //! Tests whether a policy's scope is true of a request.
 ghost use Rattle.std.specs.Prelude.{◌↔◌, IsTrue, Contains};
 ghost use Rattle.values.specs.declared.entity_uid.EntityUid.{EntityUid};
-ghost use Rattle.evaluator.specs.ancestor_search.Hierarchy.{IsAscending, names};
+ghost use Rattle.evaluator.specs.ancestor_search.Hierarchy.{IsAscending, referenced};
 ghost use Rattle.scope_index.specs.Scopes.{IsEntityScopeTrue, IsActionScopeTrue};
 ghost use Rattle.authoriser.specs.inner.Views.{IsWithin, AreAscending, IsTrueOf};
 
@@ -15,7 +15,7 @@ const FEW: usize = 16;
 
 /// Returns whether `of` is one of `entities`.
 fn is_one_of(entities: &[&EntityUid], of: &EntityUid) -> bool
-    ensures { IsTrue result ↔ Contains (names entities.now) of.now }
+    ensures { IsTrue result ↔ Contains (referenced entities.now) of.now }
 {
     for entity in entities {
         if entity.same(of) {
@@ -27,7 +27,7 @@ fn is_one_of(entities: &[&EntityUid], of: &EntityUid) -> bool
 
 /// Returns whether an entity is `of` or a descendant of it. O(log n) for n ancestors. Does not allocate.
 fn is_within(known: &KnownEntity<'_>, of: &EntityUid) -> bool
-    requires { IsAscending (names known.now.ancestors.items) }
+    requires { IsAscending (referenced known.now.ancestors.items) }
     ensures { IsTrue result ↔ IsWithin known.now of.now }
 {
     if known.ancestors.len() <= FEW {
@@ -39,7 +39,7 @@ fn is_within(known: &KnownEntity<'_>, of: &EntityUid) -> bool
 
 /// Returns whether `scope`, the principal or resource part of a scope, is true of the entity `known`.
 fn is_entity_scope_true(scope: &EntityScope, known: &KnownEntity<'_>) -> bool
-    requires { IsAscending (names known.now.ancestors.items) }
+    requires { IsAscending (referenced known.now.ancestors.items) }
     ensures { IsTrue result ↔ IsEntityScopeTrue (IsWithin known.now) scope.now known.now.uid.now }
 {
     match scope {
@@ -55,7 +55,7 @@ fn is_entity_scope_true(scope: &EntityScope, known: &KnownEntity<'_>) -> bool
 
 /// Returns whether `scope`, the action part of a scope, is true of the action `known`.
 fn is_action_scope_true(scope: &ActionScope, known: &KnownEntity<'_>) -> bool
-    requires { IsAscending (names known.now.ancestors.items) }
+    requires { IsAscending (referenced known.now.ancestors.items) }
     ensures { IsTrue result ↔ IsActionScopeTrue (IsWithin known.now) scope.now known.now.uid.now }
 {
     match scope {
@@ -68,7 +68,7 @@ fn is_action_scope_true(scope: &ActionScope, known: &KnownEntity<'_>) -> bool
 
 /// Returns whether an entity is one of `entities` or a descendant of one.
 fn is_within_any(entities: &[EntityUid], known: &KnownEntity<'_>) -> bool
-    requires { IsAscending (names known.now.ancestors.items) }
+    requires { IsAscending (referenced known.now.ancestors.items) }
     ensures { IsTrue result ↔ ((entity : EntityUid) × Contains entities.now entity × IsWithin known.now entity) }
 {
     for entity in entities {

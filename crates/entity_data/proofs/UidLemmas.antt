@@ -11,7 +11,7 @@ use Rattle.std.proofs.lemmas.List.Kept.{Contains-dedup, Contains-from_dedup}
 use Rattle.std.proofs.lemmas.List.Sorted.{Contains-permutation, IsPermutation-sym, IsPermutation-map}
 use Rattle.values.specs.declared.entity_uid.EntityUid.{EntityUid}
 use Rattle.values.specs.Names.{text_cmp, uid_cmp, uid_cmp-IsTotalOrder}
-use Rattle.evaluator.specs.ancestor_search.Hierarchy.{IsAscending, AscendingListsAreOne, names}
+use Rattle.evaluator.specs.ancestor_search.Hierarchy.{IsAscending, AscendingListsAreOne, referenced}
 use Rattle.evaluator.specs.ancestor_search.Deciding.{Contains-here, Contains-there, Contains-cases}
 use Rattle.entity_data.specs.UidSets.{put_uid, uid_set}
 use Rattle.entity_data.specs.Entities.{Actions, AreActions, uids_with}
@@ -24,26 +24,26 @@ both_ok (Err e) F G f g = tt
 
 -- ---- references, by what they refer to
 
-all_names : (u : EntityUid) (xs : List (Bor EntityUid)) → AllByRecursion (λ (y : Bor EntityUid). uid_cmp u y.now ≡ Less) xs → AllByRecursion (λ w. uid_cmp u w ≡ Less) (names xs)
+all_names : (u : EntityUid) (xs : List (Bor EntityUid)) → AllByRecursion (λ (y : Bor EntityUid). uid_cmp u y.now ≡ Less) xs → AllByRecursion (λ w. uid_cmp u w ≡ Less) (referenced xs)
 all_names u [] a = tt
 all_names u (x ∷ xs) a = (a.0, all_names u xs a.1)
 
-pub ascending_names : (xs : List (Bor EntityUid)) → IsStrictlySortedBy (λ (a b : Bor EntityUid). uid_cmp a.now b.now) xs → IsAscending (names xs)
+pub ascending_names : (xs : List (Bor EntityUid)) → IsStrictlySortedBy (λ (a b : Bor EntityUid). uid_cmp a.now b.now) xs → IsAscending (referenced xs)
 unfolding IsStrictlySortedBy
 ascending_names [] s = tt
 ascending_names (x ∷ xs) s = (all_names x.now xs s.0, ascending_names xs s.1)
 
 module _ (same : EntityUid → EntityUid → Bool) where
-  names_from : (x : Bor EntityUid) (xs : List (Bor EntityUid)) → names (dedup_from (λ (a b : Bor EntityUid). same a.now b.now) x xs) ≡ dedup_from same x.now (names xs)
+  names_from : (x : Bor EntityUid) (xs : List (Bor EntityUid)) → referenced (dedup_from (λ (a b : Bor EntityUid). same a.now b.now) x xs) ≡ dedup_from same x.now (referenced xs)
   names_from x [] = refl
   names_from x (y ∷ xs) =
-      elim (same y.now x.now) as (λ b. names (cond b (dedup_from (λ (a b : Bor EntityUid). same a.now b.now) x xs) (x ∷ dedup_from (λ (a b : Bor EntityUid). same a.now b.now) y xs))
-      ≡ cond b (dedup_from same x.now (names xs)) (x.now ∷ dedup_from same y.now (names xs))) [
+      elim (same y.now x.now) as (λ b. referenced (cond b (dedup_from (λ (a b : Bor EntityUid). same a.now b.now) x xs) (x ∷ dedup_from (λ (a b : Bor EntityUid). same a.now b.now) y xs))
+      ≡ cond b (dedup_from same x.now (referenced xs)) (x.now ∷ dedup_from same y.now (referenced xs))) [
         | true ↦ names_from x xs
         | false ↦ ap (λ us. x.now ∷ us) (names_from y xs)
       ]
 
-  pub names_dedup : (xs : List (Bor EntityUid)) → names (dedup (λ (a b : Bor EntityUid). same a.now b.now) xs) ≡ dedup same (names xs)
+  pub names_dedup : (xs : List (Bor EntityUid)) → referenced (dedup (λ (a b : Bor EntityUid). same a.now b.now) xs) ≡ dedup same (referenced xs)
   names_dedup [] = refl
   names_dedup (x ∷ xs) = names_from x xs
 
@@ -72,27 +72,27 @@ module _ (same : EntityUid → EntityUid → Bool) (is : (a b : EntityUid) → I
     congr = λ a b c h. ap (λ (x : EntityUid). same x c) ((is a b).0 h);
   }
 
-  pub members_of : (xs ys zs : List (Bor EntityUid)) (some others : List EntityUid) → names xs ≡ some ++ others → IsPermutation xs ys
-      → zs ≡ dedup (λ (a b : Bor EntityUid). same a.now b.now) ys → (u : EntityUid) → Contains (names zs) u ↔ Contains some u ⊎ Contains others u
+  pub members_of : (xs ys zs : List (Bor EntityUid)) (some others : List EntityUid) → referenced xs ≡ some ++ others → IsPermutation xs ys
+      → zs ≡ dedup (λ (a b : Bor EntityUid). same a.now b.now) ys → (u : EntityUid) → Contains (referenced zs) u ↔ Contains some u ⊎ Contains others u
   members_of xs ys zs some others pushed moved left u = (into, from)
     where
-      whole : names zs ≡ dedup same (names ys)
-      whole = ap (λ (vs : List (Bor EntityUid)). names vs) left ∙ names_dedup same ys
+      whole : referenced zs ≡ dedup same (referenced ys)
+      whole = ap (λ (vs : List (Bor EntityUid)). referenced vs) left ∙ names_dedup same ys
 
-      moves : IsPermutation (names xs) (names ys)
+      moves : IsPermutation (referenced xs) (referenced ys)
       moves = IsPermutation-map (λ (b : Bor EntityUid). b.now) xs ys moved
 
-      into : Contains (names zs) u → Contains some u ⊎ Contains others u
+      into : Contains (referenced zs) u → Contains some u ⊎ Contains others u
       into h = in_either some others u (subst (λ vs. Contains vs u) pushed
-          (Contains-permutation (names ys) (names xs) u (IsPermutation-sym (names xs) (names ys) moves) (Contains-from_dedup same (names ys) u (subst (λ vs. Contains vs u) whole h))))
+          (Contains-permutation (referenced ys) (referenced xs) u (IsPermutation-sym (referenced xs) (referenced ys) moves) (Contains-from_dedup same (referenced ys) u (subst (λ vs. Contains vs u) whole h))))
 
       given : Contains some u ⊎ Contains others u → Contains (some ++ others) u
       given (inl h) = in_first some others u h
       given (inr h) = in_second some others u h
 
-      from : Contains some u ⊎ Contains others u → Contains (names zs) u
-      from h = subst (λ vs. Contains vs u) (sym whole) (Contains-dedup is_equivalence (λ a b. (is a b).0) (names ys) u
-          (Contains-permutation (names xs) (names ys) u moves (subst (λ vs. Contains vs u) (sym pushed) (given h))))
+      from : Contains some u ⊎ Contains others u → Contains (referenced zs) u
+      from h = subst (λ vs. Contains vs u) (sym whole) (Contains-dedup is_equivalence (λ a b. (is a b).0) (referenced ys) u
+          (Contains-permutation (referenced xs) (referenced ys) u moves (subst (λ vs. Contains vs u) (sym pushed) (given h))))
 
 -- ---- a set of uids ascends, and has no others
 

@@ -1,7 +1,7 @@
 //! Sources of entities.
 ghost use Rattle.std.specs.Prelude.{◌≡◌, List, IfOk, option_map};
 ghost use Rattle.values.specs.declared.entity_uid.EntityUid.{EntityUid};
-ghost use Rattle.evaluator.specs.ancestor_search.Hierarchy.{IsAscending, names};
+ghost use Rattle.evaluator.specs.ancestor_search.Hierarchy.{IsAscending, referenced};
 ghost use Rattle.entity_data.specs.Entities.{EntityMap, AreListed, attributes_of, kept_parents};
 
 use plain::NoMemory;
@@ -26,8 +26,8 @@ pub trait EntitySource {
 
     /// Returns the uids of the stored entities, in ascending order. The only error is `NoMemory`.
     fn kept_uids(&self, alloc: Global) -> Result<Vec<&EntityUid>, NoMemory>
-        ensures all { IfOk result (λ found. names found.items ≡ uids self.now) }
-        ensures ascending { IfOk result (λ found. IsAscending (names found.items)) };
+        ensures all { IfOk result (λ found. referenced found.items ≡ uids self.now) }
+        ensures ascending { IfOk result (λ found. IsAscending (referenced found.items)) };
 
     /// The proof that `uids` are exactly the uids that have data.
     ghost listed: { (s : Self) → AreListed (kept s) (uids s) };

@@ -1,7 +1,7 @@
 //! The uids of entities and of actions.
 ghost use Rattle.std.specs.Prelude.{◌≡◌, ◌↔◌, ◌⊎◌, Contains, IfOk};
 ghost use Rattle.values.specs.declared.entity_uid.EntityUid.{EntityUid as PlainUid};
-ghost use Rattle.evaluator.specs.ancestor_search.Hierarchy.{IsAscending, names};
+ghost use Rattle.evaluator.specs.ancestor_search.Hierarchy.{IsAscending, referenced};
 ghost use Rattle.entity_data.specs.Entities.{uids_with};
 
 use crate::actions::ActionSource;
@@ -14,9 +14,9 @@ fn together<'a>(
     some: Vec<&'a EntityUid>,
     others: &'a [EntityUid],
 ) -> Result<Vec<&'a EntityUid>, NoMemory>
-    ensures ascending { IfOk result (λ all. IsAscending (names all.items)) }
+    ensures ascending { IfOk result (λ all. IsAscending (referenced all.items)) }
     ensures members { IfOk result (λ all. (u : PlainUid)
-        → Contains (names all.items) u ↔ Contains (names some.entry.items) u ⊎ Contains others.now u) }
+        → Contains (referenced all.items) u ↔ Contains (referenced some.entry.items) u ⊎ Contains others.now u) }
 {
     entity_uids_are_ordered();
     let mut all = some;
@@ -34,8 +34,8 @@ pub(crate) fn with_actions<'a, A: ActionSource>(
     actions: &'a A,
 ) -> Result<Vec<&'a EntityUid>, NoMemory>
     ensures all { IfOk result
-        (λ all. names all.items ≡ uids_with (A.uids actions.now) (names kept.entry.items)) }
-    ensures ascending { IfOk result (λ all. IsAscending (names all.items)) }
+        (λ all. referenced all.items ≡ uids_with (A.uids actions.now) (referenced kept.entry.items)) }
+    ensures ascending { IfOk result (λ all. IsAscending (referenced all.items)) }
 {
     ascending_lists_are_one();
     together(kept, actions.actions())

@@ -2,7 +2,7 @@
 ghost use Rattle.std.specs.Prelude.{◌≡◌, ◌⊎◌, ◌↔◌, IsTrue, Contains, IfOk, MatchResult, Ok, Err};
 ghost use Rattle.std.specs.List.{list_all, list_any};
 ghost use Rattle.values.specs.Sets.{has_member};
-ghost use Rattle.ancestor_search.specs.Hierarchy.{IsAscending, names};
+ghost use Rattle.ancestor_search.specs.Hierarchy.{IsAscending, referenced};
 ghost use Rattle.evaluator.specs.Outcomes.{entity_uid_in};
 ghost use Rattle.evaluator.specs.inner.Computing.{decided_entities, demanded, Answers, number_or_fault, apply_unary};
 ghost use Rattle.evaluator.specs.inner.Computing.{sets};
@@ -65,8 +65,8 @@ fn member_entity(member: &Value) -> Result<&EntityUid, EvalFault>
 
 /// Returns whether `a` is `b`, or `b` is among `ancestors`, the ancestors of `a` in ascending order.
 fn is_within(a: &EntityUid, ancestors: &[&EntityUid], b: &EntityUid) -> bool
-    requires { IsAscending (names ancestors.now) }
-    ensures { IsTrue result ↔ ((a.now ≡ b.now) ⊎ Contains (names ancestors.now) b.now) }
+    requires { IsAscending (referenced ancestors.now) }
+    ensures { IsTrue result ↔ ((a.now ≡ b.now) ⊎ Contains (referenced ancestors.now) b.now) }
 {
     a.cmp(b).is_eq() || is_among(ancestors, b)
 }

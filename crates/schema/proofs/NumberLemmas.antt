@@ -17,7 +17,7 @@ use Rattle.schema.specs.declared.spans.NumberSpan.{NumberSpan}
 use Rattle.schema.specs.Spans.{in_span, has_number}
 use Rattle.values.specs.declared.entity_uid.EntityUid.{EntityUid}
 use Rattle.values.specs.Names.{uid_cmp, text_cmp, uid_cmp-IsAntisymmetric}
-use Rattle.ancestor_search.specs.Hierarchy.{Parents, Path, IsAncestor, AreAllAncestorsOf, names}
+use Rattle.ancestor_search.specs.Hierarchy.{Parents, Path, IsAncestor, AreAllAncestorsOf, referenced}
 use Rattle.ancestor_search.specs.Deciding.{Contains-here, Contains-there, Contains-cases, Contains-none}
 use Rattle.schema_names.specs.Qualifying.{ResolvedEntityType}
 use Rattle.schema.specs.LookUps.{has_number_at}
@@ -84,11 +84,11 @@ get_pushed (z ∷ zs) x y (suc i) e = elim (get_pushed zs x y i e) [
   | inr last ↦ inr (ap suc last.0, last.1)
 ]
 
-names_pushed : (xs ys : List (Bor EntityUid)) (b : Bor EntityUid) → ys ≡ xs ++ b ∷ [] → names ys ≡ names xs ++ b.now ∷ []
-names_pushed xs ys b e = ap names e ∙ map-append (λ (x : Bor EntityUid). x.now) xs (b ∷ [])
+names_pushed : (xs ys : List (Bor EntityUid)) (b : Bor EntityUid) → ys ≡ xs ++ b ∷ [] → referenced ys ≡ referenced xs ++ b.now ∷ []
+names_pushed xs ys b e = ap referenced e ∙ map-append (λ (x : Bor EntityUid). x.now) xs (b ∷ [])
 
 -- what stands at a place of a list of references
-name_at : (xs : List (Bor EntityUid)) (i : ℕ) (x : Bor EntityUid) → i < length xs → x ≡ get_or xs i x → slice_get (names xs) i ≡ Some x.now
+name_at : (xs : List (Bor EntityUid)) (i : ℕ) (x : Bor EntityUid) → i < length xs → x ≡ get_or xs i x → slice_get (referenced xs) i ≡ Some x.now
 name_at [] i x lt e = absurd (omega (arith, lt))
 name_at (y ∷ ys) zero x lt e = ap (λ (z : Bor EntityUid). Some z.now) (sym e)
 name_at (y ∷ ys) (suc i) x lt e = name_at ys i x (omega (arith, lt)) e
@@ -104,9 +104,9 @@ had_number n u h = record { keeps = λ k. k; kept = λ q e. e; there = h }
 module _ (old new : Numbered) (b : Bor EntityUid) (key : EntityUid) (number : ℕ) (same : key ≡ b.now) (is : number ≡ length old.listed.items)
     (updates : Updates uid_cmp old.numbers new.numbers key (Some number)) (more : new.listed.items ≡ old.listed.items ++ b ∷ []) where
   abbrev us : List EntityUid
-  us = names old.listed.items
+  us = referenced old.listed.items
 
-  listed : names new.listed.items ≡ us ++ b.now ∷ []
+  listed : referenced new.listed.items ≡ us ++ b.now ∷ []
   listed = names_pushed old.listed.items new.listed.items b more
 
   last : slice_get (us ++ b.now ∷ []) number ≡ Some b.now
@@ -280,21 +280,21 @@ pub none_reached : (parents : Parents) (at : Numbers) (reached : List (List Numb
 none_reached parents at reached none u i spans e f = none_some (sym (ap (λ (ss : List (List NumberSpan)). slice_get ss i) none) ∙ f)
 
 pub reaches_next : (parents : Parents) (at : Numbers) (xs : List (Bor EntityUid)) (x : Bor EntityUid) (reached more : List (List NumberSpan)) (spans : List NumberSpan) (i : ℕ)
-    → IsNumbering at (names xs) → i < length xs → x ≡ get_or xs i x → length reached ≡ i → more ≡ reached ++ spans ∷ [] → HasAncestors parents at x.now spans → KeepsAncestors parents at reached → KeepsAncestors parents at more
+    → IsNumbering at (referenced xs) → i < length xs → x ≡ get_or xs i x → length reached ≡ i → more ≡ reached ++ spans ∷ [] → HasAncestors parents at x.now spans → KeepsAncestors parents at reached → KeepsAncestors parents at more
 reaches_next parents at xs x reached more spans i numbering lt is len added has keeps u j found e f =
     elim (get_pushed reached spans found j (sym (ap (λ (ss : List (List NumberSpan)). slice_get ss j) added) ∙ f)) [
       | inl before ↦ keeps u j found e before
       | inr last ↦
-          let here : slice_get (names xs) i ≡ Some u = subst (λ (k : ℕ). slice_get (names xs) k ≡ Some u) (last.0 ∙ len) (numbering u j e) in
+          let here : slice_get (referenced xs) i ≡ Some u = subst (λ (k : ℕ). slice_get (referenced xs) k ≡ Some u) (last.0 ∙ len) (numbering u j e) in
           let same : x.now ≡ u = some_same x.now u (sym (name_at xs i x lt is) ∙ here) in
           subst (λ (v : EntityUid). HasAncestors parents at v found) same (subst (λ (ss : List NumberSpan). HasAncestors parents at x.now ss) last.1 has)
     ]
 
-module _ (parents : Parents) (at : Numbers) (xs : List (Bor EntityUid)) (numbering : IsNumbering at (names xs)) (reached : List (List NumberSpan)) (i : ℕ) (len : length reached ≡ i) (whole : length xs ≤ i)
+module _ (parents : Parents) (at : Numbers) (xs : List (Bor EntityUid)) (numbering : IsNumbering at (referenced xs)) (reached : List (List NumberSpan)) (i : ℕ) (len : length reached ≡ i) (whole : length xs ≤ i)
     (keeps : KeepsAncestors parents at reached) where
   is_at : (u q : EntityUid) (j k : ℕ) → at u ≡ Some j → at q ≡ Some k → (o : Option (List NumberSpan)) → slice_get reached j ≡ o → IsTrue (has_number_at o k) ↔ IsAncestor parents q u
   is_at u q j k e f None none =
-      let lt = slice_get_within (names xs) j u (numbering u j e) in
+      let lt = slice_get_within (referenced xs) j u (numbering u j e) in
       let names_length = length-map xs (λ (x : Bor EntityUid). x.now) in
       absurd (past reached j none (omega (arith, lt, names_length, len, whole)))
     where
@@ -320,24 +320,24 @@ pub parents_begin : (at : Numbers) (reached : List (List NumberSpan)) (ps : List
 parents_begin at reached ps first last none h = subst (λ (ss : List NumberSpan). AddsParents at reached ps ss last) none h
 
 pub singles_step : (at : Numbers) (xs : List (Bor EntityUid)) (i : ℕ) (x : Bor EntityUid) (old new : List NumberSpan) → i < length xs → x ≡ get_or xs i x → new ≡ old ++ single_of (at x.now)
-    → old ++ singles at (names (drop i xs)) ≡ singles at (names xs) → new ++ singles at (names (drop (i + 1) xs)) ≡ singles at (names xs)
+    → old ++ singles at (referenced (drop i xs)) ≡ singles at (referenced xs) → new ++ singles at (referenced (drop (i + 1) xs)) ≡ singles at (referenced xs)
 singles_step at xs i x old new lt is more before =
-    let rest = singles at (names (drop (i + 1) xs)) in
+    let rest = singles at (referenced (drop (i + 1) xs)) in
     ap (λ (ss : List NumberSpan). ss ++ rest) more ∙ append_assoc old (single_of (at x.now)) rest
-    ∙ sym (ap (λ (zs : List (Bor EntityUid)). old ++ singles at (names zs)) (cut xs i x lt is)) ∙ before
+    ∙ sym (ap (λ (zs : List (Bor EntityUid)). old ++ singles at (referenced zs)) (cut xs i x lt is)) ∙ before
 
-pub singles_end : (at : Numbers) (xs : List (Bor EntityUid)) (i : ℕ) (spans : List NumberSpan) → length xs ≤ i → spans ++ singles at (names (drop i xs)) ≡ singles at (names xs) → spans ≡ singles at (names xs)
-singles_end at xs i spans le h = sym (append-nil spans) ∙ sym (ap (λ (zs : List (Bor EntityUid)). spans ++ singles at (names zs)) (drop_all i xs le)) ∙ h
+pub singles_end : (at : Numbers) (xs : List (Bor EntityUid)) (i : ℕ) (spans : List NumberSpan) → length xs ≤ i → spans ++ singles at (referenced (drop i xs)) ≡ singles at (referenced xs) → spans ≡ singles at (referenced xs)
+singles_end at xs i spans le h = sym (append-nil spans) ∙ sym (ap (λ (zs : List (Bor EntityUid)). spans ++ singles at (referenced zs)) (drop_all i xs le)) ∙ h
 
 pub names_step : (us : List EntityUid) (i : ℕ) (u : EntityUid) (b : Bor EntityUid) (old new : List (Bor EntityUid)) (whole : List EntityUid) → i < length us → u ≡ get_or us i u → b.now ≡ u → new ≡ old ++ b ∷ []
-    → names old ++ drop i us ≡ whole → names new ++ drop (i + 1) us ≡ whole
+    → referenced old ++ drop i us ≡ whole → referenced new ++ drop (i + 1) us ≡ whole
 names_step us i u b old new whole lt is same more before =
-    ap (λ (xs : List EntityUid). xs ++ drop (i + 1) us) (names_pushed old new b more) ∙ append_assoc (names old) (b.now ∷ []) (drop (i + 1) us)
-    ∙ ap (λ (x : EntityUid). names old ++ x ∷ drop (i + 1) us) same
-    ∙ sym (ap (λ (xs : List EntityUid). names old ++ xs) (cut us i u lt is)) ∙ before
+    ap (λ (xs : List EntityUid). xs ++ drop (i + 1) us) (names_pushed old new b more) ∙ append_assoc (referenced old) (b.now ∷ []) (drop (i + 1) us)
+    ∙ ap (λ (x : EntityUid). referenced old ++ x ∷ drop (i + 1) us) same
+    ∙ sym (ap (λ (xs : List EntityUid). referenced old ++ xs) (cut us i u lt is)) ∙ before
 
-pub names_end : (us : List EntityUid) (i : ℕ) (found : List (Bor EntityUid)) (whole : List EntityUid) → length us ≤ i → names found ++ drop i us ≡ whole → names found ≡ whole
-names_end us i found whole le h = sym (append-nil (names found)) ∙ sym (ap (λ (xs : List EntityUid). names found ++ xs) (drop_all i us le)) ∙ h
+pub names_end : (us : List EntityUid) (i : ℕ) (found : List (Bor EntityUid)) (whole : List EntityUid) → length us ≤ i → referenced found ++ drop i us ≡ whole → referenced found ≡ whole
+names_end us i found whole le h = sym (append-nil (referenced found)) ∙ sym (ap (λ (xs : List EntityUid). referenced found ++ xs) (drop_all i us le)) ∙ h
 
 -- ---- entity types
 

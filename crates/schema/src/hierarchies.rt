@@ -1,7 +1,7 @@
 //! The hierarchies of actions and of entity types.
 ghost use Rattle.std.specs.Prelude.{◌≡◌, IfOk, OnOk, map};
 ghost use Rattle.std.specs.BTreeMap.{keys};
-ghost use Rattle.ancestor_search.specs.Hierarchy.{IsAscending, names, no_parents, with_parents};
+ghost use Rattle.ancestor_search.specs.Hierarchy.{IsAscending, referenced, no_parents, with_parents};
 ghost use Rattle.ancestor_search.specs.contracts.searched.SearchedAncestry.TheImpl as searched;
 ghost use Rattle.schema_names.specs.ResolvedViews.{resolved_action_view, resolved_entity_type_view};
 ghost use Rattle.schema.specs.Schemas.{with_actions, with_types, type_uid};
@@ -28,7 +28,7 @@ fn copy_uids(alloc: Global, uids: &[EntityUid]) -> Result<Vec<EntityUid>, NoMemo
 
 /// Returns copies of the uids to which these references point.
 fn copy_all(alloc: Global, uids: &[&EntityUid]) -> Result<Items<EntityUid>, NoMemory>
-    ensures { IfOk result (λ copies. copies ≡ names uids.now) }
+    ensures { IfOk result (λ copies. copies ≡ referenced uids.now) }
 {
     let mut copies = Vec::new(alloc);
     for uid in uids {

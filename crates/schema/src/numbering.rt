@@ -9,7 +9,7 @@ ghost use Rattle.std.specs.List.{slice_get};
 ghost use Rattle.std.specs.BTreeMap.{get};
 ghost use Rattle.values.specs.Names.{uid_cmp};
 ghost use Rattle.values.specs.declared.entity_uid.EntityUid.{EntityUid};
-ghost use Rattle.ancestor_search.specs.Hierarchy.{names};
+ghost use Rattle.ancestor_search.specs.Hierarchy.{referenced};
 ghost use Rattle.ancestor_search.specs.contracts.searched.SearchedAncestry.TheImpl as searched;
 ghost use Rattle.schema.specs.inner.Numbering.{IsApart, IsNumbering, IsNumbered, NumbersAll, AddsNumber, AreAncestors};
 ghost use Rattle.schema.specs.inner.Numbering.{KeepsAncestors, HasAncestors};
@@ -95,7 +95,7 @@ fn those_at<'e>(
 
 /// Appends references to all uids of a list.
 fn append_all<'e>(uids: &'e [EntityUid], found: &mut Vec<&'e EntityUid>) -> Result<(), NoMemory>
-    ensures { OnOk result (names found.new.items ≡ names found.old.items ++ uids.now) }
+    ensures { OnOk result (referenced found.new.items ≡ referenced found.old.items ++ uids.now) }
 {
     for uid in uids {
         found.push(uid)?;
@@ -110,7 +110,7 @@ fn in_order<'e>(
     edges: &Searched,
     uids: &'e [EntityUid],
 ) -> Result<Vec<&'e EntityUid>, NoMemory>
-    ensures { IfOk result (λ found. (u : EntityUid) → Contains uids.now u → Contains (names found.items) u) }
+    ensures { IfOk result (λ found. (u : EntityUid) → Contains uids.now u → Contains (referenced found.items) u) }
 {
     let graph = edges_by_place(alloc, edges, uids)?;
     let order = successors_first(alloc, graph.as_slice())?;
@@ -146,7 +146,7 @@ fn none_numbered<'e>(alloc: Global) -> Numbered<'e>
 /// Numbers the entities of a list, in order.
 fn number_all<'e>(alloc: Global, uids: &[&'e EntityUid]) -> Result<Numbered<'e>, NoMemory>
     ensures numbered { IfOk result (λ n. IsNumbered n) }
-    ensures all { IfOk result (λ n. NumbersAll (names uids.now) (get uid_cmp n.numbers)) }
+    ensures all { IfOk result (λ n. NumbersAll (referenced uids.now) (get uid_cmp n.numbers)) }
 {
     let mut numbered = none_numbered(alloc);
     for uid in uids {
@@ -250,7 +250,7 @@ fn numbers_of(
     numbers: &BTreeMap<EntityUid, usize>,
     uids: &[&EntityUid],
 ) -> Result<Vec<NumberSpan>, NoMemory>
-    ensures { IfOk result (λ spans. spans.items ≡ singles (get uid_cmp numbers.now) (names uids.now)) }
+    ensures { IfOk result (λ spans. spans.items ≡ singles (get uid_cmp numbers.now) (referenced uids.now)) }
 {
     let mut spans = Vec::new(alloc);
     for uid in uids {
@@ -303,7 +303,7 @@ fn all_spans(
     numbers: &BTreeMap<EntityUid, usize>,
     uids: &[&EntityUid],
 ) -> Result<Items<Items<NumberSpan>>, NoMemory>
-    requires { IsNumbering (get uid_cmp numbers.now) (names uids.now) }
+    requires { IsNumbering (get uid_cmp numbers.now) (referenced uids.now) }
     ensures { IfOk result (λ spans.
         AreAncestors (searched.parents-value.it edges.now) (get uid_cmp numbers.now) spans) }
 {

@@ -13,12 +13,12 @@ use Rattle.std.specs.declared.alloc.Global.{Global}
 use Rattle.std.specs.declared.string.String.{String}
 use Rattle.std.specs.Borrow.{Bor}
 use Rattle.std.specs.Map.Iter.{deref_pair}
-use Rattle.ancestor_search.specs.Hierarchy.{Parents, IsIn, AreAllAncestorsOf, names}
+use Rattle.ancestor_search.specs.Hierarchy.{Parents, IsIn, AreAllAncestorsOf, referenced}
 use Rattle.std.proofs.lemmas.List.Elements.{Contains-push, Contains-push_cases, Contains-append_left, All-head, All-tail}
 use Rattle.values.specs.declared.entity_uid.EntityUid.{EntityUid}
 use Rattle.values.specs.Names.{text_cmp, text_cmp-IsAntisymmetric}
 use Rattle.ancestor_search.specs.Deciding.{Contains-none, Contains-here, Contains-there, Contains-cases}
-use Rattle.ancestor_search.proofs.Members.{names-push}
+use Rattle.ancestor_search.proofs.Members.{referenced-push}
 use Rattle.values.specs.declared.request.Request.{Request}
 use Rattle.policy_grammar.specs.declared.policy.Policy.{Policy}
 use Rattle.scope_index.specs.declared.buckets.Buckets.{Buckets}
@@ -189,15 +189,15 @@ lent_ascend w xs whole s =
 
 -- has says of each entity which policies are under it
 pub one_entity_more : (Has : EntityUid → Candidate → Type 0) (xs : List (Bor EntityUid)) (x : Bor EntityUid) (o : Candidate)
-    → (((e : EntityUid) × Contains (names xs) e × Has e o) ⊎ Has x.now o)
-    ↔ ((e : EntityUid) × Contains (names (xs ++ x ∷ [])) e × Has e o)
+    → (((e : EntityUid) × Contains (referenced xs) e × Has e o) ⊎ Has x.now o)
+    ↔ ((e : EntityUid) × Contains (referenced (xs ++ x ∷ [])) e × Has e o)
 one_entity_more Has xs x o =
-    let shown = names-push xs x in (
+    let shown = referenced-push xs x in (
       (λ s. elim s [
-        | inl f ↦ (f.0, subst (λ l. Contains l f.0) (sym shown) ((Contains-pushed (names xs) x.now f.0).1 (inl f.1)), f.2)
-        | inr t ↦ (x.now, subst (λ l. Contains l x.now) (sym shown) ((Contains-pushed (names xs) x.now x.now).1 (inr refl)), t)
+        | inl f ↦ (f.0, subst (λ l. Contains l f.0) (sym shown) ((Contains-pushed (referenced xs) x.now f.0).1 (inl f.1)), f.2)
+        | inr t ↦ (x.now, subst (λ l. Contains l x.now) (sym shown) ((Contains-pushed (referenced xs) x.now x.now).1 (inr refl)), t)
       ]),
-      (λ f. elim ((Contains-pushed (names xs) x.now f.0).0 (subst (λ l. Contains l f.0) shown f.1)) [
+      (λ f. elim ((Contains-pushed (referenced xs) x.now f.0).0 (subst (λ l. Contains l f.0) shown f.1)) [
         | inl m ↦ inl (f.0, m, f.2)
         | inr e ↦ inr (subst (λ z. Has z o) (sym e) f.2)
       ]),

@@ -4,7 +4,7 @@ ghost use Rattle.std.specs.Option.{option_copied};
 ghost use Rattle.std.specs.List.Sorted.{IsPermutation, IsSortedByKey, IsStrictlySortedBy};
 ghost use Rattle.values.specs.declared.entity_uid.EntityUid.{EntityUid as PlainUid};
 ghost use Rattle.values.specs.Names.{text_cmp};
-ghost use Rattle.ancestor_search.specs.Hierarchy.{IsIn, names};
+ghost use Rattle.ancestor_search.specs.Hierarchy.{IsIn, referenced};
 ghost use Rattle.policy_grammar.specs.declared.policy.Policy.{Policy as PlainPolicy};
 ghost use Rattle.scope_index.specs.Keys.{IndexKey, IsMet, Candidate, ids, kept_at, lent};
 ghost use Rattle.scope_index.specs.Buckets.{BucketsHaveOnePolicyPerId, HaveOnePolicyPerIdTogether, HaveOnePolicyPerId};
@@ -86,7 +86,7 @@ fn add_each<'a>(
 ) -> Result<(), NoMemory>
     ensures { OnOk result ((o : Candidate) → Contains (lent found.new.items) o
         ↔ Contains (lent found.old.items) o
-        ⊎ ((e : PlainUid) × Contains (names entities.now) e × (policy_of_uid under.now e o.0 ≡ Some o.1))) }
+        ⊎ ((e : PlainUid) × Contains (referenced entities.now) e × (policy_of_uid under.now e o.0 ≡ Some o.1))) }
 {
     for entity in entities {
         add_bucket(under, entity, found)?;

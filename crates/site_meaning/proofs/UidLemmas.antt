@@ -13,7 +13,7 @@ use Rattle.std.specs.Cmp.{tied_itself}
 use Rattle.std.specs.declared.cmp.Ordering.TheVariants.{Less}
 use Rattle.values.specs.declared.entity_uid.EntityUid.{EntityUid}
 use Rattle.values.specs.Names.{uid_cmp, uid_cmp-IsTotalOrder}
-use Rattle.entity_hierarchy.specs.ancestor_search.Hierarchy.{IsAscending, names}
+use Rattle.entity_hierarchy.specs.ancestor_search.Hierarchy.{IsAscending, referenced}
 use Rattle.entity_hierarchy.specs.entity_data.declared.entity.Entity.{Entity}
 use Rattle.stamped_store.specs.declared.entry.Entry.{Entry}
 use Rattle.stamped_store.specs.declared.entry.ReadText.{ReadText}
@@ -69,11 +69,11 @@ abbrev Uids : Type 0
 Uids = Vec (Bor EntityUid) Global
 
 pub result_is_uids : {E : Type 0} (es : Entries) → IsStrictlySortedBy uid_cmp (keys_of es) → (result : Result Uids E)
-    → IfOk result (λ us. names us.items ≡ uids_with_text es) → IfOk result (λ us. names us.items ≡ uids_read es)
-result_is_uids es h (Ok us) is = texts_are_uids es h (names us.items) is
+    → IfOk result (λ us. referenced us.items ≡ uids_with_text es) → IfOk result (λ us. referenced us.items ≡ uids_read es)
+result_is_uids es h (Ok us) is = texts_are_uids es h (referenced us.items) is
 result_is_uids es h (Err e) is = tt
 
 pub result_ascends : {E : Type 0} (es : Entries) → IsStrictlySortedBy uid_cmp (keys_of es) → (result : Result Uids E)
-    → IfOk result (λ us. names us.items ≡ uids_with_text es) → IfOk result (λ us. IsAscending (names us.items))
-result_ascends es h (Ok us) is = uids_ascend es h (names us.items) is
+    → IfOk result (λ us. referenced us.items ≡ uids_with_text es) → IfOk result (λ us. IsAscending (referenced us.items))
+result_ascends es h (Ok us) is = uids_ascend es h (referenced us.items) is
 result_ascends es h (Err e) is = tt

@@ -1,7 +1,7 @@
 //! The entities of a store as a source of entity data.
 ghost use Rattle.std.specs.Prelude.{◌≡◌, IfOk};
 ghost use Rattle.std.specs.Option.{option_copied};
-ghost use Rattle.entity_hierarchy.specs.ancestor_search.Hierarchy.{IsAscending, names};
+ghost use Rattle.entity_hierarchy.specs.ancestor_search.Hierarchy.{IsAscending, referenced};
 ghost use Rattle.std.specs.List.Sorted.{IsStrictlySortedBy};
 ghost use Rattle.std.specs.Map.{keys_of};
 ghost use Rattle.values.specs.Names.{uid_cmp};
@@ -76,7 +76,7 @@ fn uids_with_text<'s>(
     alloc: Global,
     store: &'s StampedStore<Policy, Entity>,
 ) -> Result<Vec<&'s EntityUid>, NoMemory>
-    ensures found { IfOk result (λ us. names us.items ≡ uids_with_text store.now.entities) }
+    ensures found { IfOk result (λ us. referenced us.items ≡ uids_with_text store.now.entities) }
     ensures ordered { IsStrictlySortedBy uid_cmp (keys_of store.now.entities) }
 {
     let mut found = Vec::new(alloc);
@@ -93,8 +93,8 @@ fn uids_in<'s>(
     alloc: Global,
     store: &'s StampedStore<Policy, Entity>,
 ) -> Result<Vec<&'s EntityUid>, NoMemory>
-    ensures all { IfOk result (λ us. names us.items ≡ uids_read store.now.entities) }
-    ensures ascending { IfOk result (λ us. IsAscending (names us.items)) }
+    ensures all { IfOk result (λ us. referenced us.items ≡ uids_read store.now.entities) }
+    ensures ascending { IfOk result (λ us. IsAscending (referenced us.items)) }
 {
     uids_with_text(alloc, store)
 }

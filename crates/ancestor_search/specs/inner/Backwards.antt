@@ -12,18 +12,18 @@ use Rattle.std.specs.Borrow.{Bor}
 use Rattle.std.specs.BTreeMap.{BTreeMap, get_by}
 use Rattle.values.specs.declared.entity_uid.EntityUid.{EntityUid}
 use Rattle.values.specs.Names.{uid_cmp}
-use Rattle.ancestor_search.specs.Hierarchy.{Parents, Path, names}
+use Rattle.ancestor_search.specs.Hierarchy.{Parents, Path, referenced}
 use Rattle.ancestor_search.specs.Decided.{is_same}
 
 -- ---- reversed edges
--- `names_or_none o` are the entities in `o`, or the empty list if `o` is `None`.
-abbrev pub names_or_none : Option (Vec (Bor EntityUid) Global) → List EntityUid
-names_or_none None = []
-names_or_none (Some v) = names v.items
+-- `referenced_or_none o` are the entities in `o`, or the empty list if `o` is `None`.
+abbrev pub referenced_or_none : Option (Vec (Bor EntityUid) Global) → List EntityUid
+referenced_or_none None = []
+referenced_or_none (Some v) = referenced v.items
 
 -- `children_of m x` are the children of `x` in the map `m`.
 abbrev pub children_of : BTreeMap (Bor EntityUid) (Vec (Bor EntityUid) Global) → EntityUid → List EntityUid
-children_of m x = names_or_none (get_by (λ k. uid_cmp x k.now) m)
+children_of m x = referenced_or_none (get_by (λ k. uid_cmp x k.now) m)
 
 -- `AreChildrenAmong us parents children` holds if `children` maps each entity to exactly those of `us` that have it as
 -- a parent.

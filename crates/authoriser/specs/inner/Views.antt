@@ -5,7 +5,7 @@ use Rattle.std.specs.Borrow.{Bor}
 use Rattle.values.specs.declared.entity_uid.EntityUid.{EntityUid}
 use Rattle.values.specs.declared.request.Request.{Request}
 use Rattle.values.specs.Values.{boolean}
-use Rattle.evaluator.specs.ancestor_search.Hierarchy.{Parents, AreAllAncestorsOf, IsAscending, names}
+use Rattle.evaluator.specs.ancestor_search.Hierarchy.{Parents, AreAllAncestorsOf, IsAscending, referenced}
 use Rattle.grammar_core.specs.declared.expr.Expr.{Expr}
 use Rattle.scope_index.specs.policy_grammar.declared.policy.Scope.{Scope}
 use Rattle.scope_index.specs.policy_grammar.declared.policy.Effect.TheVariants.{Permit, Forbid}
@@ -25,14 +25,14 @@ use Rattle.authoriser.specs.Answers.{PolicyOutcome, fault_of, satisfied, erring}
 
 -- `IsWithin p of` holds if the uid of the looked-up entity `p` is `of`, or `of` is among the ancestors of `p`.
 abbrev pub IsWithin : KnownEntity → EntityUid → Type 0
-IsWithin p of = (p.uid.now ≡ of) ⊎ Contains (names p.ancestors.items) of
+IsWithin p of = (p.uid.now ≡ of) ⊎ Contains (referenced p.ancestors.items) of
 
 -- `HasItsAncestors parents entity p` holds if `p` is `entity` with all its ancestors in the hierarchy `parents`,
 -- ascending.
 pub record HasItsAncestors (parents : Parents) (entity : EntityUid) (p : KnownEntity) : Type 0 where
   pub same : p.uid.now ≡ entity
-  pub all : AreAllAncestorsOf parents entity (names p.ancestors.items)
-  pub ascending : IsAscending (names p.ancestors.items)
+  pub all : AreAllAncestorsOf parents entity (referenced p.ancestors.items)
+  pub ascending : IsAscending (referenced p.ancestors.items)
 
 -- `HasRequestAncestors parents q s` holds if `s` has the three entities of the request `q`, each with all its ancestors
 -- in the hierarchy `parents`.
@@ -75,15 +75,15 @@ pub record AllHaveTheirAttributes (W : Entities) (s : RequestEntities) : Type 0 
 
 -- `AreAscending s` holds if the ancestors of each of the three entities of `s` ascend.
 pub record AreAscending (s : RequestEntities) : Type 0 where
-  pub principal : IsAscending (names s.principal.ancestors.items)
-  pub action : IsAscending (names s.action.ancestors.items)
-  pub resource : IsAscending (names s.resource.ancestors.items)
+  pub principal : IsAscending (referenced s.principal.ancestors.items)
+  pub action : IsAscending (referenced s.action.ancestors.items)
+  pub resource : IsAscending (referenced s.resource.ancestors.items)
 
 -- `HasAllAncestors parents o` holds if the memoized entity `o` has all its ancestors in the hierarchy `parents`,
 -- ascending.
 pub record HasAllAncestors (parents : Parents) (o : MemoEntry) : Type 0 where
-  pub all : AreAllAncestorsOf parents o.uid (names o.ancestors.items)
-  pub ascending : IsAscending (names o.ancestors.items)
+  pub all : AreAllAncestorsOf parents o.uid (referenced o.ancestors.items)
+  pub ascending : IsAscending (referenced o.ancestors.items)
 
 -- `HaveAllAncestors parents others` holds if each entity of the memo `others` has all its ancestors in the hierarchy
 -- `parents`, ascending.

@@ -6,7 +6,7 @@ use Rattle.schema.specs.declared.spans.NumberSpan.{NumberSpan}
 use Rattle.schema.specs.Spans.{has_number}
 use Rattle.values.specs.declared.entity_uid.EntityUid.{EntityUid}
 use Rattle.values.specs.Names.{uid_cmp, text_cmp}
-use Rattle.ancestor_search.specs.Hierarchy.{Parents, IsAncestor, names}
+use Rattle.ancestor_search.specs.Hierarchy.{Parents, IsAncestor, referenced}
 use Rattle.schema_names.specs.Qualifying.{ResolvedEntityType}
 use Rattle.schema.specs.LookUps.{has_number_at}
 use Rattle.schema.specs.declared.numbering.Numbered.{Numbered}
@@ -31,7 +31,7 @@ IsNumbering at us = (u : EntityUid) (i : ℕ) → at u ≡ Some i → slice_get 
 
 -- `IsNumbered n` holds if each entity that has a number in `n` is in the list of `n` at that index.
 abbrev pub IsNumbered : Numbered → Type 0
-IsNumbered n = IsNumbering (get uid_cmp n.numbers) (names n.listed.items)
+IsNumbered n = IsNumbering (get uid_cmp n.numbers) (referenced n.listed.items)
 
 -- `NumbersAll us at` holds if each of the entities `us` has a number in `at`.
 abbrev pub NumbersAll : List EntityUid → Numbers → Type 0

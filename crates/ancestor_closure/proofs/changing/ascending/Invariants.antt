@@ -1,8 +1,8 @@
 use Rattle.std.proofs.Common.{take}
 use Rattle.std.specs.Prelude.{Contains, ◌↔◌}
 use Rattle.values.specs.declared.entity_uid.EntityUid.{EntityUid}
-use Rattle.ancestor_search.specs.Hierarchy.{names}
+use Rattle.ancestor_search.specs.Hierarchy.{referenced}
 use Rattle.ancestor_closure.proofs.changing.ascending.Given as goal
 
 abbrev pub invariant-loop-uid : goal.invariant-loop-uid
-invariant-loop-uid l = (x : EntityUid) → Contains (names l.found.keys) x ↔ Contains (take l.uid-index l.uids) x
+invariant-loop-uid l = (x : EntityUid) → Contains (referenced l.found.keys) x ↔ Contains (take l.uid-index l.uids) x

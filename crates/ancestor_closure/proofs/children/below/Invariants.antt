@@ -1,12 +1,12 @@
 use Rattle.std.proofs.Common.{◌+◌, ◌-◌, ◌^◌, vec_len}
 use Rattle.std.specs.BTreeSet.{btree_set_len}
-use Rattle.ancestor_search.specs.Hierarchy.{names}
+use Rattle.ancestor_search.specs.Hierarchy.{referenced}
 use Rattle.ancestor_search.proofs.Steps.{Searching}
 use Rattle.ancestor_closure.specs.Lists.{children_in}
 use Rattle.ancestor_closure.proofs.children.below.Given as goal
 
 abbrev pub invariant-loop-next : goal.invariant-loop-next
-invariant-loop-next l = Searching (children_in l.relatives) l.uid (names l.seen.keys) (names l.work.items)
+invariant-loop-next l = Searching (children_in l.relatives) l.uid (referenced l.seen.keys) (referenced l.work.items)
 
 -- what can still be seen for the first time, and the work
 abbrev pub decreases-loop-next : goal.decreases-loop-next

@@ -1,14 +1,14 @@
 use Rattle.std.proofs.Common.{◌∙◌, [], ◌∷◌, ◌++◌, ap, sym}
 use Rattle.std.specs.Map.Iter.{deref}
 use Rattle.std.proofs.lemmas.Map.Iter.{iter_end}
-use Rattle.ancestor_search.specs.Hierarchy.{names}
-use Rattle.ancestor_search.proofs.Members.{names-push}
+use Rattle.ancestor_search.specs.Hierarchy.{referenced}
+use Rattle.ancestor_search.proofs.Members.{referenced-push}
 use Rattle.ancestor_closure.proofs.cycles.members.Goals as goal
 
 pub loop-uid-preserved : goal.loop-uid-preserved
 loop-uid-preserved c =
-    ap names c.in_ok-push.ensures.items ∙ names-push c.loop-uid.all.items _ ∙ ap (λ l. l ++ c.deref.result.now ∷ []) c.loop-uid.invariant
-    ∙ ap (λ z. names c.loop-uid.yielded ++ z ∷ []) c.deref.ensures ∙ sym (names-push c.loop-uid.yielded _)
+    ap referenced c.in_ok-push.ensures.items ∙ referenced-push c.loop-uid.all.items _ ∙ ap (λ l. l ++ c.deref.result.now ∷ []) c.loop-uid.invariant
+    ∙ ap (λ z. referenced c.loop-uid.yielded ++ z ∷ []) c.deref.ensures ∙ sym (referenced-push c.loop-uid.yielded _)
 
 pub returns-clause-same : goal.returns-clause-same
 returns-clause-same c =

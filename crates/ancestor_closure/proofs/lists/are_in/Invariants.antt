@@ -1,8 +1,8 @@
 use Rattle.std.proofs.Common.{take}
 use Rattle.std.specs.Prelude.{Contains}
 use Rattle.values.specs.declared.entity_uid.EntityUid.{EntityUid}
-use Rattle.ancestor_search.specs.Hierarchy.{names}
+use Rattle.ancestor_search.specs.Hierarchy.{referenced}
 use Rattle.ancestor_closure.proofs.lists.are_in.Given as goal
 
 abbrev pub invariant-loop-uid : goal.invariant-loop-uid
-invariant-loop-uid l = (x : EntityUid) → Contains (names (take l.uid-index l.uids)) x → Contains l.list x
+invariant-loop-uid l = (x : EntityUid) → Contains (referenced (take l.uid-index l.uids)) x → Contains l.list x

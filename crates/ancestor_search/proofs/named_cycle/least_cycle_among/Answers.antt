@@ -1,6 +1,6 @@
 use Rattle.std.proofs.Common.{subst}
 use Rattle.std.specs.Prelude.{Contains}
-use Rattle.ancestor_search.specs.Hierarchy.{names}
+use Rattle.ancestor_search.specs.Hierarchy.{referenced}
 use Rattle.ancestor_search.specs.Deciding.{Contains-none}
 use Rattle.ancestor_search.proofs.First.{none_first, first_in, first_least, cycle_from_walk}
 use Rattle.ancestor_search.proofs.named_cycle.least_cycle_among.Goals as goal
@@ -15,5 +15,5 @@ returns-in_default-2 g c = λ x above.
     none ((c.requires.all c.in-Some.start.now.now).0 start)
 
 pub returns : goal.returns
-returns g c = cycle_from_walk (g.G.ParentsOf.parents c.args.graph.now) c.in-Some.start.now.now (names c.in_ok-found.found.items) c.in_ok-found.ensures
+returns g c = cycle_from_walk (g.G.ParentsOf.parents c.args.graph.now) c.in-Some.start.now.now (referenced c.in_ok-found.found.items) c.in_ok-found.ensures
     (λ x above. first_least c.args.cyclic.now c.in-Some.start.now c.in-Some.ensures.value c.requires.ascending x ((c.requires.all x).1 above))

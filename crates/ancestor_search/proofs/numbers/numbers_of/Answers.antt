@@ -1,6 +1,6 @@
 use Rattle.std.proofs.Common.{[], ◌∷◌, ◌++◌, take, ap, sym, subst, ◌∙◌}
 use Rattle.std.proofs.lemmas.List.{take_more, take_all}
-use Rattle.ancestor_search.specs.Hierarchy.{names}
+use Rattle.ancestor_search.specs.Hierarchy.{referenced}
 use Rattle.ancestor_search.specs.inner.Numbering.{NumbersAmong}
 use Rattle.ancestor_search.proofs.Bridge.{numbers-take, numbers-skip}
 use Rattle.ancestor_search.proofs.numbers.numbers_of.Goals as goal
@@ -8,7 +8,7 @@ use Rattle.ancestor_search.proofs.numbers.numbers_of.Goals.{in-Some+in_ok-push, 
 
 pub loop-parent-preserved : goal.loop-parent-preserved
 loop-parent-preserved c =
-    let us = names c.args.uids.now in
+    let us = referenced c.args.uids.now in
     let p = c.parent-item.result in
     let ps = take c.loop-parent.parent-index c.args.parents.now in
     let more = take_more c.args.parents.now c.loop-parent.parent-index p c.loop-parent-test.true ∙ ap (λ y. ps ++ y ∷ []) (sym c.parent-item.is) in
@@ -20,4 +20,4 @@ loop-parent-preserved c =
     ])
 
 pub returns : goal.returns
-returns c = subst (λ l. NumbersAmong (names c.args.uids.now) l c.loop-parent.numbers.items) (take_all _ c.args.parents.now c.loop-parent-test.false) c.loop-parent.invariant
+returns c = subst (λ l. NumbersAmong (referenced c.args.uids.now) l c.loop-parent.numbers.items) (take_all _ c.args.parents.now c.loop-parent-test.false) c.loop-parent.invariant

@@ -1,11 +1,11 @@
 use Rattle.std.proofs.Common.{◌+◌, ◌-◌, ◌^◌, vec_len}
 use Rattle.std.specs.BTreeSet.{btree_set_len}
-use Rattle.ancestor_search.specs.Hierarchy.{names}
+use Rattle.ancestor_search.specs.Hierarchy.{referenced}
 use Rattle.ancestor_search.proofs.Steps.{Searching}
 use Rattle.ancestor_search.proofs.search.is_ancestor.Given as goal
 
 abbrev pub invariant-loop-next : goal.invariant-loop-next
-invariant-loop-next g l = Searching (g.G.ParentsOf.parents l.graph) l.b (names l.seen.keys) (names l.work.items)
+invariant-loop-next g l = Searching (g.G.ParentsOf.parents l.graph) l.b (referenced l.seen.keys) (referenced l.work.items)
 
 -- what can still be seen for the first time, and the work
 abbrev pub decreases-loop-next : goal.decreases-loop-next

@@ -1,7 +1,7 @@
 use Rattle.std.proofs.Common.{List, ap, length, sym, subst}
 use Rattle.std.specs.BTreeMap.{get}
 use Rattle.schema.specs.declared.spans.NumberSpan.{NumberSpan}
-use Rattle.ancestor_search.specs.Hierarchy.{names}
+use Rattle.ancestor_search.specs.Hierarchy.{referenced}
 use Rattle.ancestor_search.specs.contracts.searched.SearchedAncestry.TheImpl as searched
 use Rattle.values.specs.Names.{uid_cmp}
 use Rattle.schema.specs.inner.Numbering.{KeepsAncestors}
@@ -15,7 +15,7 @@ loop-uid-init c = record {
 }
 
 pub ancestor_spans-requires-clause-apart : goal.ancestor_spans-requires-clause-apart
-ancestor_spans-requires-clause-apart c = apart (get uid_cmp c.args.numbers.now) (names c.args.uids.now) c.requires
+ancestor_spans-requires-clause-apart c = apart (get uid_cmp c.args.numbers.now) (referenced c.args.uids.now) c.requires
 
 pub ancestor_spans-requires-clause-keeps : goal.ancestor_spans-requires-clause-keeps
 ancestor_spans-requires-clause-keeps c =

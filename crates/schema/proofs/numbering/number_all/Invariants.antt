@@ -1,7 +1,7 @@
 use Rattle.std.proofs.Common.{None, drop}
 use Rattle.std.specs.BTreeMap.{get}
 use Rattle.values.specs.Names.{uid_cmp}
-use Rattle.ancestor_search.specs.Hierarchy.{names}
+use Rattle.ancestor_search.specs.Hierarchy.{referenced}
 use Rattle.schema.specs.inner.Numbering.{Numbers, IsNumbered}
 use Rattle.schema.proofs.NumberLemmas.{Gives}
 use Rattle.schema.proofs.numbering.number_all.Given as goal
@@ -10,5 +10,5 @@ use Rattle.schema.proofs.numbering.number_all.Given as goal
 abbrev pub invariant-loop-uid : goal.invariant-loop-uid
 invariant-loop-uid l = record {
   numbered : IsNumbered l.numbered;
-  given : (last : Numbers) → Gives (names (drop l.uid-index l.uids)) (get uid_cmp l.numbered.numbers) last → Gives (names l.uids) (λ u. None) last;
+  given : (last : Numbers) → Gives (referenced (drop l.uid-index l.uids)) (get uid_cmp l.numbered.numbers) last → Gives (referenced l.uids) (λ u. None) last;
 }

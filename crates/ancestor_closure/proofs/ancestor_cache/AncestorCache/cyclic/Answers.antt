@@ -1,6 +1,6 @@
 use Rattle.std.proofs.Common.{◌≡◌, sym, subst}
 use Rattle.std.proofs.lemmas.Result.{IfOk-weaker}
-use Rattle.ancestor_search.specs.Hierarchy.{Parents, AreOnCycles, IsAscending, names}
+use Rattle.ancestor_search.specs.Hierarchy.{Parents, AreOnCycles, IsAscending, referenced}
 use Rattle.ancestor_closure.specs.CacheOf.{IsCacheOf}
 use Rattle.ancestor_closure.proofs.Whole.{no_member, none_ascends}
 use Rattle.ancestor_closure.proofs.ancestor_cache.AncestorCache.cyclic.Goals as goal
@@ -8,16 +8,16 @@ use Rattle.ancestor_closure.proofs.ancestor_cache.AncestorCache.cyclic.Goals as 
 pub returns-then-are_none-clause-all : goal.returns-then-are_none-clause-all
 returns-then-are_none-clause-all c = λ parents kept.
     let empty = c.are_none.ensures.0 c.if-are_none.true in
-    subst (λ l. AreOnCycles parents (names l)) (sym c.new.ensures.items) (subst (λ l. AreOnCycles parents l) empty kept.on_cycles)
+    subst (λ l. AreOnCycles parents (referenced l)) (sym c.new.ensures.items) (subst (λ l. AreOnCycles parents l) empty kept.on_cycles)
 
 pub returns-clause-all : goal.returns-clause-all
 returns-clause-all c =
-    IfOk-weaker c.members.result (λ v. names v.items ≡ c.args.self.now.cyclic.keys) (λ v. (parents : Parents) → IsCacheOf parents c.args.self.now → AreOnCycles parents (names v.items))
+    IfOk-weaker c.members.result (λ v. referenced v.items ≡ c.args.self.now.cyclic.keys) (λ v. (parents : Parents) → IsCacheOf parents c.args.self.now → AreOnCycles parents (referenced v.items))
     (λ v e parents kept. subst (λ l. AreOnCycles parents l) (sym e) kept.on_cycles) c.members.ensures.same
 
 pub returns-clause-ascending : goal.returns-clause-ascending
 returns-clause-ascending c =
-    IfOk-weaker c.members.result (λ v. names v.items ≡ c.args.self.now.cyclic.keys) (λ v. IsAscending (names v.items)) (λ v e. subst (λ l. IsAscending l) (sym e) c.members.ensures.ascending) c.members.ensures.same
+    IfOk-weaker c.members.result (λ v. referenced v.items ≡ c.args.self.now.cyclic.keys) (λ v. IsAscending (referenced v.items)) (λ v e. subst (λ l. IsAscending l) (sym e) c.members.ensures.ascending) c.members.ensures.same
 
 pub returns-clause-at_once : goal.returns-clause-at_once
 returns-clause-at_once c = λ parents kept none.

@@ -1,6 +1,6 @@
 use Rattle.std.proofs.Common.{◌∙◌, ap, sym, subst}
 use Rattle.std.specs.Prelude.{Contains}
-use Rattle.ancestor_search.specs.Hierarchy.{AreOnCycles, IsAscending, names}
+use Rattle.ancestor_search.specs.Hierarchy.{AreOnCycles, IsAscending, referenced}
 use Rattle.ancestor_search.specs.Deciding.{Contains-none}
 use Rattle.ancestor_closure.proofs.Whole.{no_member}
 use Rattle.ancestor_closure.proofs.ancestor_cache.AncestorCache.least_cycle.Goals as goal
@@ -16,10 +16,10 @@ returns-in_err-cyclic-clause-at_once g c = λ none.
 
 pub least_cycle_among-requires-clause-all : goal.least_cycle_among-requires-clause-all
 least_cycle_among-requires-clause-all g c =
-    subst (λ l. AreOnCycles (g.G.ParentsOf.parents c.args.graph.now) l) (sym (ap names c.deref.ensures.value ∙ c.in_ok-cyclic.ensures.same)) c.requires.on_cycles
+    subst (λ l. AreOnCycles (g.G.ParentsOf.parents c.args.graph.now) l) (sym (ap referenced c.deref.ensures.value ∙ c.in_ok-cyclic.ensures.same)) c.requires.on_cycles
 
 pub least_cycle_among-requires-clause-ascending : goal.least_cycle_among-requires-clause-ascending
-least_cycle_among-requires-clause-ascending g c = subst (λ l. IsAscending l) (sym (ap names c.deref.ensures.value ∙ c.in_ok-cyclic.ensures.same)) c.members.ensures.ascending
+least_cycle_among-requires-clause-ascending g c = subst (λ l. IsAscending l) (sym (ap referenced c.deref.ensures.value ∙ c.in_ok-cyclic.ensures.same)) c.members.ensures.ascending
 
 pub returns-clause-at_once : goal.returns-clause-at_once
 returns-clause-at_once g c = λ none.

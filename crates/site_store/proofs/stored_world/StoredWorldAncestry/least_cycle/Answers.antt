@@ -1,6 +1,6 @@
 use Rattle.std.proofs.Common.{sym, subst, MatchOption}
 use Rattle.std.specs.Prelude.{IfOk}
-use Rattle.ancestor_closure.specs.ancestor_search.Hierarchy.{Parents, names}
+use Rattle.ancestor_closure.specs.ancestor_search.Hierarchy.{Parents, referenced}
 use Rattle.ancestor_closure.specs.ancestor_search.LeastCycle.{HasNoCycle, IsLeastCycle}
 use Rattle.ancestor_closure.specs.CacheOf.{IsCacheOf}
 use Rattle.site_store.proofs.WorldSeen.{ancestors_kept, edges_searched}
@@ -14,10 +14,10 @@ least_cycle-requires c =
 
 pub returns-in-Some : goal.returns-in-Some
 returns-in-Some c =
-    subst (λ (p : Parents). IfOk c.least_cycle.result (λ o. MatchOption o (HasNoCycle p) (λ found. IsLeastCycle p (names found.items))))
+    subst (λ (p : Parents). IfOk c.least_cycle.result (λ o. MatchOption o (HasNoCycle p) (λ found. IsLeastCycle p (referenced found.items))))
     (edges_searched c.self.invariant c.args.self.now c.self.view_is) c.least_cycle.ensures.exact
 
 pub returns-in-None : goal.returns-in-None
 returns-in-None c =
-    subst (λ (p : Parents). IfOk c.least_cycle-in-None.result (λ o. MatchOption o (HasNoCycle p) (λ found. IsLeastCycle p (names found.items))))
+    subst (λ (p : Parents). IfOk c.least_cycle-in-None.result (λ o. MatchOption o (HasNoCycle p) (λ found. IsLeastCycle p (referenced found.items))))
     (edges_searched c.self.invariant c.args.self.now c.self.view_is) c.least_cycle-in-None.ensures
