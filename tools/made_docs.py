@@ -100,9 +100,10 @@ class Item:
     """What a crate gives out: a kind, a name, what its doc comment says, and what stands below it."""
 
     def __init__(self, kind, name, signature, comment):
-        # what gives nothing back and changes nothing is a law
-        is_law = kind == "fn" and not re.search(r"->|&mut", signature)
-        self.kind, self.name, self.says, self.parts = "law" if is_law else kind, name, paragraph(comment), []
+        # what gives nothing back, changes nothing and drops nothing is a law
+        says = paragraph(comment)
+        is_law = kind == "fn" and not re.search(r"->|&mut", signature) and not says.startswith("Drops ")
+        self.kind, self.name, self.says, self.parts = "law" if is_law else kind, name, says, []
         self.value = signature.partition("= ")[2].rstrip(";").replace("_", ",") if kind == "const" else ""
 
 

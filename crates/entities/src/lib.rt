@@ -9,6 +9,7 @@ mod as_stated;
 mod canonical;
 mod canonical_laws;
 mod contexts;
+mod dropping;
 mod environments;
 mod fault;
 mod laws;
@@ -30,6 +31,7 @@ pub use as_stated::{
 pub use canonical::canonical_text;
 pub use canonical_laws::{canonical_texts_are_read, json_texts_are_utf8};
 pub use contexts::read_context;
+pub use dropping::{drop_entity, drop_json, drop_request};
 pub use entity_data::{ActionSource, Entities, Entity, EntitySource, EntityStore, NoActions};
 pub use entity_uids::{
     ActionScope, EntityScope, Policy, Scope, names_read_back, read_name, read_uid,

@@ -17,7 +17,7 @@ use crate::policies::explain_policies;
 use crate::unread::{Lexed, explain_pieces, push_read_fault};
 use grammar_desugaring::{LexFault, Token, tokens};
 use plain::NoMemory;
-use schema_decisions::{Refusal, Schema, policies_of_file, schema_in};
+use schema_decisions::{Refusal, Schema, drop_policies, drop_schema, policies_of_file, schema_in};
 use std::alloc::Global;
 
 /// Returns the tokens of a text; an empty list if at some byte no token begins.
@@ -75,7 +75,9 @@ fn explain_text(
     match policies_of_file(alloc, text.as_bytes()) {
         Ok(policies) => {
             let named = policies.as_slice();
-            explain_policies(alloc, out, schema, file, text, found_pieces, named)
+            let explained = explain_policies(alloc, out, schema, file, text, found_pieces, named);
+            drop_policies(policies);
+            explained
         }
         Err(refusal) => {
             let lexed = Lexed {
@@ -102,7 +104,10 @@ fn explain_no_text(
         (string_bytes out.old) (string_bytes out.new)) }
 {
     match policies_of_file(alloc, source.text) {
-        Ok(_policies) => Ok(()),
+        Ok(policies) => {
+            drop_policies(policies);
+            Ok(())
+        }
         Err(refusal) => {
             let words = format!(in alloc; "the file is not UTF-8 at byte {at} (from 0)")?;
             let whole = Refusal {
@@ -154,7 +159,11 @@ fn explain_given(alloc: Global, out: &mut String, given: &Given<'_, '_>) -> Resu
         return explain_others(alloc, out, None, given);
     };
     match schema_in(alloc, source.text) {
-        Ok(schema) => explain_others(alloc, out, Some(&schema), given),
+        Ok(schema) => {
+            let explained = explain_others(alloc, out, Some(&schema), given);
+            drop_schema(schema);
+            explained
+        }
         Err(refusal) => push_refusal(out, source.name, refusal, ""),
     }
 }

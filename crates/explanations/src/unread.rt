@@ -12,7 +12,7 @@ use explanation_texts::{SourceFinding, push_source};
 use grammar_desugaring::Token;
 use plain::NoMemory;
 use policy_grammar::{ReadFault, parse_policies};
-use schema_decisions::{Refusal, Schema};
+use schema_decisions::{Refusal, Schema, drop_policies};
 use std::alloc::Global;
 use std::slice;
 
@@ -104,9 +104,11 @@ fn explain_piece(
     match parse_policies(alloc, part_of(lexed.text, piece.start, piece.end)) {
         Ok(policies) => {
             let pieces = slice::from_ref(piece);
-            explain_policies(
+            let explained = explain_policies(
                 alloc, out, schema, lexed.file, lexed.text, pieces, &policies,
-            )?;
+            );
+            drop_policies(policies);
+            explained?;
             Ok(false)
         }
         Err(fault) => match fault {

@@ -14,7 +14,7 @@ use grammar_core::Expr;
 use plain::NoMemory;
 use std::alloc::Global;
 use type_checker::{Policy, Schema};
-use validator::{TypeFault, expression_of};
+use validator::{TypeFault, drop_expression, expression_of};
 
 /// Why a policy does not pass validation, in words.
 #[derive(Drop)]
@@ -121,6 +121,6 @@ pub fn explain_fault(
 {
     let whole = expression_of(alloc, policy)?;
     let explained = explain_whole(alloc, schema, policy, &whole);
-    drop(whole);
+    drop_expression(whole);
     explained
 }

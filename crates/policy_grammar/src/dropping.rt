@@ -1,5 +1,7 @@
-//! A function that drops a value after another value was made from it.
+//! Functions that drop a value.
 ghost use Rattle.std.specs.Prelude.{◌≡◌};
+
+use grammar_policies::PolicyTree;
 
 /// Returns `made`, and drops the value from which `made` was made.
 ///
@@ -9,4 +11,11 @@ pub(crate) fn after<T: Drop, U>(_source: T, made: U) -> U
     ensures { result ≡ made }
 {
     made
+}
+
+/// Drops a policy's tree.
+///
+/// The function is not generic, so that a crate that calls it does not prove the drop code of trees again.
+pub fn drop_tree(tree: PolicyTree) {
+    drop(tree);
 }

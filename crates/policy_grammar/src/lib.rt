@@ -18,6 +18,7 @@ mod tree_check;
 mod trees;
 
 pub use annotations::repeated_annotation;
+pub use dropping::drop_tree;
 pub use fault::ReadFault;
 pub use grammar_core::{
     Binary, BinaryCall, Expr, Literal, Named, Pattern, Unary, UnaryCall, Variable,

@@ -5,6 +5,7 @@ mod check_laws;
 mod check_refusals;
 mod checking;
 mod deciding;
+mod dropping;
 mod laws;
 mod lines;
 mod policies;
@@ -20,6 +21,7 @@ pub use decision_texts::{
     Answer, ArrayMembers, Member, Policy, Refusal, Scratch, answer_line, check_entities,
     decide_texts, members_of, policies_of_file, read_uid,
 };
+pub use dropping::{drop_policies, drop_schema};
 pub use laws::texts_have_one_outcome;
 pub use reading::schema_in;
 pub use under_schema::UnderSchema;

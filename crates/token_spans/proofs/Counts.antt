@@ -1,6 +1,7 @@
 -- The count of each form of tree: the equations of `tree_count`.
-use Rattle.std.specs.Prelude.{◌≡◌, refl, ℕ, ◌+◌, Bool, List, [], ◌∷◌, map}
+use Rattle.std.specs.Prelude.{◌≡◌, ◌⊎◌, refl, ℕ, ◌+◌, Bool, List, [], ◌∷◌, map}
 use mathlib.Core.Path.{◌∙◌, ap, sym}
+use Rattle.std.proofs.Common.{inl, inr}
 use Rattle.grammar_trees.specs.grammar_tokens.declared.token.Token.{Token}
 use Rattle.grammar_trees.specs.grammar_tokens.declared.tree.PathTree.{PathTree}
 use Rattle.grammar_trees.specs.grammar_tokens.declared.tree.UidTree.{UidTree}
@@ -103,3 +104,18 @@ count-Or a more = ap tree_count (sym (t.rolls-Or a more)) ∙ fold-roll-ExprTree
 
 pub count-If : (a b c : ExprTree) → tree_count (t.If a b c) ≡ ((1 + tree_count a + 1) + tree_count b + 1) + tree_count c
 count-If a b c = ap tree_count (sym (t.rolls-If a b c)) ∙ fold-roll-ExprTree ℕ count_step (tree.If a b c)
+
+-- forms with equal counts
+pub count-chain : (x a : ExprTree) (more : List ExprTree) → x ≡ t.Product a more ⊎ x ≡ t.And a more ⊎ x ≡ t.Or a more
+    → tree_count x ≡ tree_count a + each_count (map tree_count more)
+count-chain x a more (inl is) = ap tree_count is ∙ count-Product a more
+count-chain x a more (inr (inl is)) = ap tree_count is ∙ count-And a more
+count-chain x a more (inr (inr is)) = ap tree_count is ∙ count-Or a more
+
+pub count-prefix : (x a : ExprTree) → x ≡ t.Not a ⊎ x ≡ t.Minus a → tree_count x ≡ 1 + tree_count a
+count-prefix x a (inl is) = ap tree_count is ∙ count-Not a
+count-prefix x a (inr is) = ap tree_count is ∙ count-Minus a
+
+pub count-postfix : (x a : ExprTree) → ((key : KeyTree) × x ≡ t.Has a key) ⊎ ((token : Token) × x ≡ t.Like a token) → tree_count x ≡ tree_count a + 2
+count-postfix x a (inl (key, is)) = ap tree_count is ∙ count-Has a key
+count-postfix x a (inr (token, is)) = ap tree_count is ∙ count-Like a token

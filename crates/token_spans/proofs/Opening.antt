@@ -1,5 +1,5 @@
 -- A form seen by its tree.
-use Rattle.std.proofs.Common.{◌≡◌, ℕ, ◌-◌, ◌==◌, false, cond, refl, ap, ◌∙◌, sym, List, Option, Some, None, drop, arith}
+use Rattle.std.proofs.Common.{◌≡◌, ◌⊎◌, inl, inr, ℕ, ◌-◌, ◌==◌, false, cond, refl, ap, ◌∙◌, sym, List, Option, Some, None, drop, take, map, length, arith}
 use Rattle.std.proofs.lemmas.Bool.Decides.{nat_tests}
 use Rattle.grammar_trees.specs.grammar_tokens.declared.token.Token.{Token}
 use Rattle.grammar_trees.specs.grammar_tokens.declared.tree.PathTree.{PathTree}
@@ -13,18 +13,39 @@ use Rattle.grammar_trees.specs.declared.tree.ExprTree.{ExprTree, out-ExprTree, r
 use Rattle.grammar_trees.specs.declared.tree.ExprTree.{fold_out-ExprTree}
 use Rattle.grammar_trees.specs.declared.tree.ExprTree.TheVariants as t
 use Rattle.grammar_trees.specs.declared.tree.ExprTree.TheOpen.{ExprTree-F as tree}
-use Rattle.token_spans.specs.TokenCounts.{tree_count, count_step}
+use Rattle.token_spans.specs.TokenCounts.{tree_count, count_step, each_count}
 use Rattle.token_spans.specs.declared.forms.FormNode.{FormNode}
 use Rattle.token_spans.specs.declared.forms.FormNode.TheVariants as part
-use Rattle.token_spans.specs.Forms.{Form, operand_step, tokens_after_step, tokens_after_test, minus_operand, one_at, left_at, chain_at, access_at, member_at, kept}
+use Rattle.token_spans.specs.Forms.{Form, operand_step, tokens_after_step, tokens_after_test, minus_operand, one_at, left_at, chain_at, piece_at, access_at, member_at, kept}
 
 -- an operand of a form whose tree is this one
 pub seen : (x v : ExprTree) (y : tree ExprTree) (f : Form) (i : ℕ) → x ≡ v → out-ExprTree v ≡ y → operand_step y f i ≡ operand_step (out-ExprTree x) f i
 seen x v y f i is outs = ap (λ z. operand_step z f i) (sym (ap out-ExprTree is ∙ outs))
 
+-- the forms that are chains, and those before a word
+pub seen-chain : (x a : ExprTree) (more : List ExprTree) (f : Form) (i : ℕ) → x ≡ t.Product a more ⊎ x ≡ t.And a more ⊎ x ≡ t.Or a more
+    → chain_at f a (piece_at a more f.tokens) (kept f.part (length more)) i ≡ operand_step (out-ExprTree x) f i
+seen-chain x a more f i (inl is) = seen x (t.Product a more) (tree.Product a more) f i is (t.outs-Product a more)
+seen-chain x a more f i (inr (inl is)) = seen x (t.And a more) (tree.And a more) f i is (t.outs-And a more)
+seen-chain x a more f i (inr (inr is)) = seen x (t.Or a more) (tree.Or a more) f i is (t.outs-Or a more)
+
+pub seen-postfix : (x a : ExprTree) (f : Form) (i : ℕ)
+    → ((key : KeyTree) × x ≡ t.Has a key) ⊎ ((token : Token) × x ≡ t.Like a token) ⊎ ((path : PathTree) × x ≡ t.Is a path)
+    → one_at a f.tokens i ≡ operand_step (out-ExprTree x) f i
+seen-postfix x a f i (inl (key, is)) = seen x (t.Has a key) (tree.Has a key) f i is (t.outs-Has a key)
+seen-postfix x a f i (inr (inl (token, is))) = seen x (t.Like a token) (tree.Like a token) f i is (t.outs-Like a token)
+seen-postfix x a f i (inr (inr (path, is))) = seen x (t.Is a path) (tree.Is a path) f i is (t.outs-Is a path)
+
 -- the tokens behind it
 pub seen_behind : (x v : ExprTree) (y : tree ExprTree) (f : Form) → x ≡ v → out-ExprTree v ≡ y → tokens_after_step y f ≡ tokens_after_step (out-ExprTree x) f
 seen_behind x v y f is outs = ap (λ z. tokens_after_step z f) (sym (ap out-ExprTree is ∙ outs))
+
+pub seen_behind-chain : (x a : ExprTree) (more : List ExprTree) (f : Form) → x ≡ t.Product a more ⊎ x ≡ t.And a more ⊎ x ≡ t.Or a more
+    → drop (each_count (map tree_count (take (kept f.part (length more)) more))) (drop (tree_count a) f.tokens)
+    ≡ tokens_after_step (out-ExprTree x) f
+seen_behind-chain x a more f (inl is) = seen_behind x (t.Product a more) (tree.Product a more) f is (t.outs-Product a more)
+seen_behind-chain x a more f (inr (inl is)) = seen_behind x (t.And a more) (tree.And a more) f is (t.outs-And a more)
+seen_behind-chain x a more f (inr (inr is)) = seen_behind x (t.Or a more) (tree.Or a more) f is (t.outs-Or a more)
 
 -- a tree that is no number
 no_number : (y : tree ExprTree) (a : ExprTree) (ts : List Token) (i : ℕ) → ((token : Token) → y ≡ tree.Number token → ⊥) → one_at a ts i ≡ minus_operand y a ts i

@@ -28,9 +28,10 @@ pub(crate) fn tokens_after_tree<'t>(tree: &ExprTree, tokens: &'t [Token]) -> &'t
         ExprTree::Member(inner, accesses) => {
             tokens_after_accesses(accesses.as_slice(), tokens_after_operand(inner, tokens))
         }
-        ExprTree::Not(inner) => tokens_after_operand(inner, skip(tokens, 1)),
-        ExprTree::Minus(inner) => tokens_after_operand(inner, skip(tokens, 1)),
-        ExprTree::Product(first, more) => {
+        ExprTree::Not(inner) | ExprTree::Minus(inner) => {
+            tokens_after_operand(inner, skip(tokens, 1))
+        }
+        ExprTree::Product(first, more) | ExprTree::And(first, more) | ExprTree::Or(first, more) => {
             tokens_after_each(more.as_slice(), tokens_after_operand(first, tokens))
         }
         ExprTree::Sum(first, terms) => {
@@ -39,18 +40,13 @@ pub(crate) fn tokens_after_tree<'t>(tree: &ExprTree, tokens: &'t [Token]) -> &'t
         ExprTree::Compare(left, _, right) => {
             tokens_after_operand(right, tokens_after_piece(left, tokens))
         }
-        ExprTree::Has(inner, _) => skip(tokens_after_operand(inner, tokens), 2),
-        ExprTree::Like(inner, _) => skip(tokens_after_operand(inner, tokens), 2),
+        ExprTree::Has(inner, _) | ExprTree::Like(inner, _) => {
+            skip(tokens_after_operand(inner, tokens), 2)
+        }
         ExprTree::Is(inner, path) => tokens_after_path(path, tokens_after_piece(inner, tokens)),
         ExprTree::IsIn(inner, path, outer) => {
             let tested = tokens_after_path(path, tokens_after_piece(inner, tokens));
             tokens_after_operand(outer, skip(tested, 1))
-        }
-        ExprTree::And(first, more) => {
-            tokens_after_each(more.as_slice(), tokens_after_operand(first, tokens))
-        }
-        ExprTree::Or(first, more) => {
-            tokens_after_each(more.as_slice(), tokens_after_operand(first, tokens))
         }
         ExprTree::If(test, consequent, alternative) => {
             let tested = tokens_after_piece(test, skip(tokens, 1));

@@ -2,7 +2,7 @@
 //!
 //! A written form is an expression of the syntax tree, or the front of a chain, such as `a + b` of `a + b + c`.
 ghost use Rattle.std.specs.Prelude.{◌≡◌, List, drop, take, map, length, option_map, slice_get};
-ghost use Rattle.token_spans.specs.TokenCounts.{path_count, tree_count, each_count};
+ghost use Rattle.token_spans.specs.TokenCounts.{path_count, tree_count};
 ghost use Rattle.grammar_trees.specs.declared.tree.ExprTree.{ExprTree};
 ghost use Rattle.grammar_trees.specs.declared.tree.ExprTree.TheViews.{out-ExprTree};
 ghost use Rattle.token_spans.specs.Forms as spec;
@@ -383,8 +383,9 @@ fn if_operand<'a>(
 fn operand<'a>(form: &Form<'a>, index: usize) -> Option<Form<'a>>
     ensures { option_map spec.form_of result ≡ spec.operand (spec.form_of form.now) index }
 {
+    let tree = form.tree;
     let tokens = form.tokens;
-    match form.tree {
+    match tree {
         ExprTree::Call(path, arguments) => {
             let row = skip(tokens_after_path(path, tokens), 1);
             row_operand(arguments, row, index)
@@ -394,18 +395,18 @@ fn operand<'a>(form: &Form<'a>, index: usize) -> Option<Form<'a>>
         ExprTree::Member(first, accesses) => member_operand(form, first, accesses, index),
         ExprTree::Not(inner) => one_operand(inner, skip(tokens, 1), index),
         ExprTree::Minus(inner) => negated_operand(inner, skip(tokens, 1), index),
-        ExprTree::Product(first, more) => chain_operand(form, first, more, index),
+        ExprTree::Product(first, more) | ExprTree::And(first, more) | ExprTree::Or(first, more) => {
+            chain_operand(form, first, more, index)
+        }
         ExprTree::Sum(first, terms) => sum_operand(form, first, terms, index),
         ExprTree::Compare(left, operator, right) => {
             let negated = is_negation(form.part, *operator);
             compared_operand(form, negated, left, right, index)
         }
-        ExprTree::Has(inner, _) => one_operand(inner, tokens, index),
-        ExprTree::Like(inner, _) => one_operand(inner, tokens, index),
-        ExprTree::Is(inner, _) => one_operand(inner, tokens, index),
-        ExprTree::IsIn(inner, path, outer) => { test_operand(form, inner, path, outer, index) }
-        ExprTree::And(first, more) => chain_operand(form, first, more, index),
-        ExprTree::Or(first, more) => chain_operand(form, first, more, index),
+        ExprTree::Has(inner, _) | ExprTree::Like(inner, _) | ExprTree::Is(inner, _) => {
+            one_operand(inner, tokens, index)
+        }
+        ExprTree::IsIn(inner, path, outer) => test_operand(form, inner, path, outer, index),
         ExprTree::If(test, consequent, alternative) => {
             if_operand(test, consequent, alternative, tokens, index)
         }
@@ -433,40 +434,29 @@ pub(crate) fn node_at<'a>(
     Some(here)
 }
 
-/// Returns the tokens after the pieces of a chain that belong to the form's node.
-fn tokens_after_chain<'a>(
-    form: &Form<'a>,
-    first: &Boxed<ExprTree>,
-    more: &Items<ExprTree>,
-) -> &'a [Token]
-    ensures { let pieces = take (spec.kept form.now.part (length more.now)) more.now in
-        result.now ≡ drop (each_count (map tree_count pieces)) (drop (tree_count first.now) form.now.tokens.now) }
-{
-    let pieces = pieces(more, form.part);
-    tokens_after_each(pieces, tokens_after_operand(first, form.tokens))
-}
-
 /// Returns the tokens after a form.
 fn tokens_after_form<'a>(form: &Form<'a>) -> &'a [Token]
     ensures { result.now ≡ spec.tokens_after_step (out-ExprTree form.now.tree.now) (spec.form_of form.now) }
 {
-    match form.tree {
+    let tree = form.tree;
+    match tree {
         ExprTree::Member(first, accesses) => {
             let pieces = pieces(accesses, form.part);
             tokens_after_accesses(pieces, tokens_after_operand(first, form.tokens))
         }
-        ExprTree::Product(first, more) => tokens_after_chain(form, first, more),
+        ExprTree::Product(first, more) | ExprTree::And(first, more) | ExprTree::Or(first, more) => {
+            let pieces = pieces(more, form.part);
+            tokens_after_each(pieces, tokens_after_operand(first, form.tokens))
+        }
         ExprTree::Sum(first, terms) => {
             let pieces = pieces(terms, form.part);
             tokens_after_terms(pieces, tokens_after_operand(first, form.tokens))
         }
-        ExprTree::And(first, more) => tokens_after_chain(form, first, more),
-        ExprTree::Or(first, more) => tokens_after_chain(form, first, more),
         ExprTree::IsIn(inner, path, _) => match form.part {
             FormNode::Test => tokens_after_test(inner, path, form.tokens),
-            _ => tokens_after_tree(form.tree, form.tokens),
+            _ => tokens_after_tree(tree, form.tokens),
         },
-        _ => tokens_after_tree(form.tree, form.tokens),
+        _ => tokens_after_tree(tree, form.tokens),
     }
 }
 

@@ -23,8 +23,7 @@ pub(crate) fn tokens_after_part<'t>(part: &PartTree, tokens: &'t [Token]) -> &'t
 {
     match part {
         PartTree::Any => skip(tokens, 1),
-        PartTree::Equal(uid) => tokens_after_uid(uid, skip(tokens, 2)),
-        PartTree::In(uid) => tokens_after_uid(uid, skip(tokens, 2)),
+        PartTree::Equal(uid) | PartTree::In(uid) => tokens_after_uid(uid, skip(tokens, 2)),
         PartTree::Is(path) => tokens_after_path(path, skip(tokens, 2)),
         PartTree::IsIn(path, uid) => {
             tokens_after_uid(uid, skip(tokens_after_path(path, skip(tokens, 2)), 1))
@@ -38,8 +37,7 @@ pub(crate) fn tokens_after_action<'t>(part: &ActionTree, tokens: &'t [Token]) ->
 {
     match part {
         ActionTree::Any => skip(tokens, 1),
-        ActionTree::Equal(uid) => tokens_after_uid(uid, skip(tokens, 2)),
-        ActionTree::In(uid) => tokens_after_uid(uid, skip(tokens, 2)),
+        ActionTree::Equal(uid) | ActionTree::In(uid) => tokens_after_uid(uid, skip(tokens, 2)),
         ActionTree::InList(uids) => {
             let row = tokens_after_opened(uids.len(), skip(tokens, 3));
             tokens_after_uids(uids.as_slice(), row)

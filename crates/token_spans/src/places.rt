@@ -69,26 +69,6 @@ fn from_action<'t, 'p>(
     }
 }
 
-/// Returns the place at a path of a policy's expression; `policy` are the tokens from its effect on.
-fn from_effect<'t, 'p>(
-    policy: &'t [Token],
-    tree: &'t PolicyTree,
-    path: &'p [usize],
-) -> NodePlace<'t, 'p>
-    ensures { spec.place_of result ≡ spec.from_effect policy.entry.now tree.entry.now path.entry.now }
-{
-    let tokens = skip(policy, 2);
-    match first_turn(path) {
-        Turn::Stop => NodePlace::Policy(policy),
-        Turn::Left(rest) => NodePlace::Entity(&tree.principal, tokens, rest),
-        Turn::Right(rest) => {
-            let behind = tokens_after_part(&tree.principal, tokens);
-            from_action(policy, tree, skip(behind, 1), rest)
-        }
-        Turn::Off => NodePlace::Nowhere,
-    }
-}
-
 /// Returns the tokens from the one that starts at a byte; an empty slice if no token does.
 pub(crate) fn from_byte(tokens: &[Token], at: usize) -> &[Token]
     ensures { result.now ≡ spec.from_byte at tokens.now }
@@ -111,5 +91,15 @@ pub(crate) fn place_at<'t, 'p>(
 ) -> NodePlace<'t, 'p>
     ensures { spec.place_of result ≡ spec.place_at tokens.entry.now tree.entry.now path.entry.now }
 {
-    from_effect(from_byte(tokens, tree.effect.start), tree, path)
+    let policy = from_byte(tokens, tree.effect.start);
+    let principal = skip(policy, 2);
+    match first_turn(path) {
+        Turn::Stop => NodePlace::Policy(policy),
+        Turn::Left(rest) => NodePlace::Entity(&tree.principal, principal, rest),
+        Turn::Right(rest) => {
+            let behind = tokens_after_part(&tree.principal, principal);
+            from_action(policy, tree, skip(behind, 1), rest)
+        }
+        Turn::Off => NodePlace::Nowhere,
+    }
 }

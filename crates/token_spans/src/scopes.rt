@@ -46,8 +46,7 @@ pub(crate) fn entity_name<'t>(
 {
     match part {
         PartTree::Any => None,
-        PartTree::Equal(uid) => second_uid(path, uid, skip(tokens, 2)),
-        PartTree::In(uid) => second_uid(path, uid, skip(tokens, 2)),
+        PartTree::Equal(uid) | PartTree::In(uid) => second_uid(path, uid, skip(tokens, 2)),
         PartTree::Is(name) => at_end(path, Some(path_tokens(name, skip(tokens, 2)))),
         PartTree::IsIn(name, uid) => {
             let from = skip(tokens, 2);
@@ -93,8 +92,7 @@ pub(crate) fn action_name<'t>(
 {
     match part {
         ActionTree::Any => None,
-        ActionTree::Equal(uid) => second_uid(path, uid, skip(tokens, 2)),
-        ActionTree::In(uid) => second_uid(path, uid, skip(tokens, 2)),
+        ActionTree::Equal(uid) | ActionTree::In(uid) => second_uid(path, uid, skip(tokens, 2)),
         ActionTree::InList(uids) => match first_turn(path) {
             Turn::Right(rest) => item_name(uids.as_slice(), skip(tokens, 3), rest),
             _ => None,

@@ -10,7 +10,7 @@ use crate::places::from_byte;
 use crate::policies::{named_at, written_at};
 use grammar_policies::{LexFault, PolicyTree, Token, tokens};
 use plain::NoMemory;
-use policy_grammar::{ReadFault, policy_tree};
+use policy_grammar::{ReadFault, drop_tree, policy_tree};
 use std::alloc::Global;
 
 /// A span of a text, in bytes.
@@ -104,7 +104,7 @@ fn span_in(
     match policy_tree(alloc, text) {
         Ok(tree) => {
             let span = covering(chosen(tokens, &tree, path, is_name));
-            drop(tree);
+            drop_tree(tree);
             Ok(span)
         }
         Err(fault) => match fault {

@@ -19,7 +19,7 @@ use Rattle.validator.specs.declared.fault.TypeFault.TheVariants.{NoMemory}
 use Rattle.validator.specs.Names.{names_of}
 use Rattle.validator.specs.Passing
 use Rattle.validator.specs.Passing.{environments_of, HasType, HasBooleanType, IsVerdict, IsCheckRefused}
-use Rattle.validator.specs.inner.Checking.{scope_parts, typed_in, IsJudged, AreJudged}
+use Rattle.validator.specs.inner.Checking.{scope_parts, typing_environments, IsJudged, AreJudged}
 use Rattle.validator.specs.inner.Walking.{WalkResult, names_check, parts_check}
 use Rattle.validator.proofs.KnownLemmas.{ReportsNames, names_tell}
 use Rattle.validator.proofs.WalkLemmas.{parts_walked}
@@ -59,22 +59,22 @@ module _ (x : Expr) where
   module _ (s : StatedSchema) (ps : List given.Environment) (i : ℕ) (p : given.Environment) (lt : i < length ps) (is : p ≡ get_or ps i p)
       (before : Bool) where
     pub environment_next : (d q : Bool) → q ≡ (before && d) → IsJudged (typing_environment_of s (environment_view p)) x (Ok d)
-        → (r : Result Bool TypeFault) → AreJudged x q (typed_in s (drop (i + 1) ps)) r → AreJudged x before (typed_in s (drop i ps)) r
+        → (r : Result Bool TypeFault) → AreJudged x q (typing_environments s (drop (i + 1) ps)) r → AreJudged x before (typing_environments s (drop i ps)) r
     environment_next d q e h r g =
-        subst (λ (qs : List given.Environment). AreJudged x before (typed_in s qs) r) (sym (turn ps i p lt is))
-        (one_more before d (typing_environment_of s (environment_view p)) (typed_in s (drop (i + 1) ps)) h r
-        (subst (λ v. AreJudged x v (typed_in s (drop (i + 1) ps)) r) e g))
+        subst (λ (qs : List given.Environment). AreJudged x before (typing_environments s qs) r) (sym (turn ps i p lt is))
+        (one_more before d (typing_environment_of s (environment_view p)) (typing_environments s (drop (i + 1) ps)) h r
+        (subst (λ v. AreJudged x v (typing_environments s (drop (i + 1) ps)) r) e g))
 
     pub environment_faulty : (f : TypeFault) → IsJudged (typing_environment_of s (environment_view p)) x (Err f)
-        → AreJudged x before (typed_in s (drop i ps)) (Err f)
+        → AreJudged x before (typing_environments s (drop i ps)) (Err f)
     environment_faulty f h =
-        subst (λ (qs : List given.Environment). AreJudged x before (typed_in s qs) (Err f)) (sym (turn ps i p lt is))
-        (faulty_now before (typing_environment_of s (environment_view p)) (typed_in s (drop (i + 1) ps)) f h)
+        subst (λ (qs : List given.Environment). AreJudged x before (typing_environments s qs) (Err f)) (sym (turn ps i p lt is))
+        (faulty_now before (typing_environment_of s (environment_view p)) (typing_environments s (drop (i + 1) ps)) f h)
 
   pub environments_end : (s : StatedSchema) (ps : List given.Environment) (i : ℕ) (before : Bool) → length ps ≤ i
-      → AreJudged x before (typed_in s (drop i ps)) (Ok before)
+      → AreJudged x before (typing_environments s (drop i ps)) (Ok before)
   environments_end s ps i before h =
-      subst (λ (qs : List given.Environment). AreJudged x before (typed_in s qs) (Ok before)) (sym (past ps i h)) (none_left before)
+      subst (λ (qs : List given.Environment). AreJudged x before (typing_environments s qs) (Ok before)) (sym (past ps i h)) (none_left before)
 
 -- ---- the policy
 
@@ -93,21 +93,21 @@ module _ (s : StatedSchema) (policy : Policy) (parts : List Expr) (are : parts �
   name_refused f e = Passing.for_name (names_come (Err f) e)
 
   module _ (ps : List given.Environment) (all : map environment_view ps ≡ s.environments) where
-    environments : typed_in s ps ≡ environments_of s
+    environments : typing_environments s ps ≡ environments_of s
     environments = mapped environment_view (typing_environment_of s) ps ∙ ap (map (typing_environment_of s)) all
 
-    moved : (r : Result Bool TypeFault) → AreJudged (expression_of policy) true (typed_in s ps) r
+    moved : (r : Result Bool TypeFault) → AreJudged (expression_of policy) true (typing_environments s ps) r
         → AreJudged (expression_of policy) true (environments_of s) r
     moved r h = subst (λ es. AreJudged (expression_of policy) true es r) environments h
 
     pub type_refused : Ok tt ≡ parts_check s parts policy.condition → (f : TypeFault)
-        → AreJudged (expression_of policy) true (typed_in s ps) (Err f) → f ≢ NoMemory → IsCheckRefused s policy f
+        → AreJudged (expression_of policy) true (typing_environments s ps) (Err f) → f ≢ NoMemory → IsCheckRefused s policy f
     type_refused e f h n =
         let k = moved (Err f) h n in
         subst (IsCheckRefused s policy) (sym k.1) (Passing.for_type (names_come (Ok tt) e) k.2)
 
     pub passed : Ok tt ≡ parts_check s parts policy.condition → (b : Bool)
-        → AreJudged (expression_of policy) true (typed_in s ps) (Ok b)
+        → AreJudged (expression_of policy) true (typing_environments s ps) (Ok b)
         → IsVerdict s policy b
     passed e b h =
         let k = moved (Ok b) h in

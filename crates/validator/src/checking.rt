@@ -4,7 +4,7 @@ ghost use Rattle.type_checker.specs.policy_grammar.PolicyExpression.{expression_
 ghost use Rattle.type_checker.specs.schema.Views.{schema_view, environment_view};
 ghost use Rattle.type_checker.specs.FromSchemas.{typing_environment_of};
 ghost use Rattle.validator.specs.Passing.{IsVerdict, IsCheckRefused};
-ghost use Rattle.validator.specs.inner.Checking.{scope_parts, typed_in, ReportsFalse, IsJudged, AreJudged};
+ghost use Rattle.validator.specs.inner.Checking.{scope_parts, typing_environments, ReportsFalse, IsJudged, AreJudged};
 ghost use Rattle.validator.specs.inner.Walking.{parts_check};
 
 use crate::fault::TypeFault;
@@ -73,7 +73,8 @@ fn is_false_everywhere(
     policy: &Policy,
 ) -> Result<bool, TypeFault>
     requires { parts.now ≡ scope_parts policy.now.scope }
-    ensures { AreJudged (expression_of policy.now) true (typed_in (schema_view schema.now) environments.now) result }
+    ensures { AreJudged (expression_of policy.now) true
+        (typing_environments (schema_view schema.now) environments.now) result }
 {
     let mut all_false = true;
     for environment in environments {

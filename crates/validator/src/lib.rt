@@ -16,7 +16,7 @@ pub use checking::{Verdict, check};
 pub use fault::TypeFault;
 pub use known::{unknown_entity, unknown_tested_type};
 pub use laws::{passing_policies_are_sound, policies_have_one_outcome};
-pub use scope::expression_of;
+pub use scope::{drop_expression, expression_of};
 pub use type_checker::{
     Entity, EntityFault, Schema, SchemaFault, action_type_test_is_exact, bytes_have_one_outcome,
     canonical_text, canonical_texts_are_read, entities_are_read_as_stated, entities_read_back,

@@ -165,3 +165,10 @@ pub fn expression_of(alloc: Global, policy: &Policy) -> Result<Expr, NoMemory>
     )?;
     Expr::and(alloc, principal, rest)
 }
+
+/// Drops an expression.
+///
+/// The function is not generic, so that a crate that calls it does not prove the drop code of expressions again.
+pub fn drop_expression(expression: Expr) {
+    drop(expression);
+}

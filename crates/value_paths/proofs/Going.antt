@@ -1,6 +1,5 @@
 -- The search in the rest of a list, behind what was searched before.
-use Rattle.std.proofs.Common.{◌≡◌, ◌∙◌, ℕ, ◌+◌, ◌<◌, ◌≤◌, drop, get_or, length, Option, Some, None, Result, Ok, Err, IfOk, OnOk, MatchResult, Bool, String, Vec, BTreeMap, Global, string_bytes, List, [], ◌∷◌, refl, sym, ap, subst, rules}
-use Rattle.std.specs.Prelude.{is_some}
+use Rattle.std.proofs.Common.{◌≡◌, ◌∙◌, ℕ, ◌+◌, ◌<◌, ◌≤◌, drop, get_or, length, Option, Some, None, Result, Ok, Err, IfOk, OnOk, MatchResult, String, Vec, BTreeMap, Global, string_bytes, List, [], ◌∷◌, refl, sym, ap, subst, rules}
 use Rattle.std.proofs.lemmas.List.{drop_more, drop_all}
 use Rattle.serde_json.specs.Data.{Data}
 use Rattle.serde_json.specs.Data as json
@@ -121,12 +120,12 @@ pub if_ok : {A E : Type 0} (r : Result A E) (P Q : A → Type 0) → ((x : A) �
 if_ok (Ok x) P Q f h = f x h
 if_ok (Err e) P Q f h = h
 
--- whether a search found something, by what it finds
-pub some_in : {A E F : Type 0} (read : Result (Option A) E) (given : Result Bool F) (o : Option A) → IfOk read (λ x. x ≡ o)
-    → IfOk given (λ yes. MatchResult read (λ x. yes ≡ is_some x) (λ _. ⊥)) → IfOk given (λ yes. yes ≡ is_some o)
-some_in (Ok x) (Ok b) o h e = e ∙ ap is_some h
-some_in (Err f) (Ok b) o h e = absurd e
-some_in read (Err f) o h e = tt
+-- what a search found, with a step in front
+pub under_found : {E F : Type 0} (step : Step) (found : Result (Option (List Step)) E) (out : Result (Option (List Step)) F) (o : Option (List Step)) → IfOk found (λ p. p ≡ o)
+    → IfOk out (λ q. MatchResult found (λ p. q ≡ under step p) (λ _. ⊥)) → IfOk out (λ q. q ≡ under step o)
+under_found step (Ok p) (Ok q) o e h = h ∙ ap (under step) e
+under_found step (Err f) (Ok q) o e h = absurd h
+under_found step found (Err f) o e h = tt
 
 pub on_ok : {A E : Type 0} (r : Result A E) (P Q : Type 0) → (P → Q) → OnOk r P → OnOk r Q
 on_ok (Ok x) P Q f h = f h

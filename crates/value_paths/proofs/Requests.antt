@@ -1,5 +1,5 @@
 -- The part of a request that its error is about is found.
-use Rattle.std.proofs.Common.{◌≡◌, ◌∙◌, List, [], ◌∷◌, Bool, true, false, Option, Some, None, Result, Ok, Err, IfOk, MatchResult, refl, sym, ap, subst, codes}
+use Rattle.std.proofs.Common.{◌≡◌, ◌∙◌, List, [], ◌∷◌, Bool, true, false, Option, Some, None, Result, Ok, Err, IfOk, refl, sym, ap, subst, codes}
 use Rattle.std.specs.Prelude.{is_some}
 use Rattle.serde_json.specs.Data.{Data}
 use Rattle.serde_json.specs.Find.{get, as_object}
@@ -20,6 +20,7 @@ use Rattle.entities.specs.Faults.{with_entity_fault}
 use Rattle.entities.specs.EntityForms.{is_absent_or_object, or_empty}
 use Rattle.entities.specs.Requests.{Asks, RequestRefused, context_asked}
 use Rattle.entities.specs.Requests as request
+use Rattle.value_paths.specs.declared.request_paths.Named.{Named}
 use Rattle.value_paths.specs.declared.steps.Step.{Step}
 use Rattle.value_paths.specs.declared.steps.Step.TheVariants.{Key}
 use Rattle.value_paths.specs.Paths.{RecordFaultAt}
@@ -27,7 +28,7 @@ use Rattle.value_paths.specs.EntityPaths.{to_key, first_unmet}
 use Rattle.value_paths.specs.RequestPaths.{FormFaultAt, context_type, IsContextType, IsInContext, IsRequestPathOf}
 use Rattle.value_paths.specs.RequestPaths as says
 use Rattle.value_paths.specs.inner.FoundPaths.{under, record_path, path_under}
-use Rattle.value_paths.specs.inner.FoundNames.{Names, IsNamed, request_demands, IsFormSearched, context_path, named_type, IsContextSearched, IsPartSearched}
+use Rattle.value_paths.specs.inner.FoundNames.{Names, AreNamed, IsNamed, request_demands, IsFormSearched, context_path, named_type, IsContextSearched, IsPartSearched}
 use Rattle.value_paths.proofs.Going.{made_so}
 use Rattle.value_paths.proofs.Agreeing.{Found, record_is_found}
 
@@ -54,26 +55,24 @@ same_type one s d p a r t hp ha hr e asked asks =
     ∙ ap (λ (x : EntityUid). context_type s (made asked.principal x r)) (names_one one (get (codes "action") d) a asked.action ha asks.action)
     ∙ ap (λ (x : EntityUid). context_type s (made asked.principal asked.action x)) (names_one one (get (codes "resource") d) r asked.resource hr asks.resource)
 
-type_searched : OneName → (s : StatedSchema) (d : Data) (p a r : Option EntityUid) (t : Option Cedar) → IsRead (Names (get (codes "principal") d)) p → IsRead (Names (get (codes "action") d)) a
+pub type_searched : OneName → (s : StatedSchema) (d : Data) (p a r : Option EntityUid) (t : Option Cedar) → IsRead (Names (get (codes "principal") d)) p → IsRead (Names (get (codes "action") d)) a
     → IsRead (Names (get (codes "resource") d)) r → t ≡ named_type s p a r → IsContextType s d t
 type_searched one s d None a r t hp ha hr e = λ asked asks. absurd (hp asked.principal asks.principal)
 type_searched one s d (Some p) None r t hp ha hr e = λ asked asks. absurd (ha asked.action asks.action)
 type_searched one s d (Some p) (Some a) None t hp ha hr e = λ asked asks. absurd (hr asked.resource asks.resource)
 type_searched one s d (Some p) (Some a) (Some r) t hp ha hr e = same_type one s d p a r t hp ha hr e
 
--- the same of the results of reading, of which two are joined in a pair
-pub type_read : {E : Type 0} → OneName → (s : StatedSchema) (d : Data) (p a r : Result (Option EntityUid) E) (ar : Result (Option EntityUid × Option EntityUid) E) (dp da dr : Option Data)
-    (principal : Option EntityUid) (others : Option EntityUid × Option EntityUid) (t : Option Cedar)
-    → dp ≡ get (codes "principal") d → da ≡ get (codes "action") d → dr ≡ get (codes "resource") d
-    → IfOk p (IsRead (Names dp)) → IfOk a (IsRead (Names da)) → IfOk r (IsRead (Names dr))
-    → IfOk ar (λ q. a ≡ Ok q.0) → IfOk ar (λ q. r ≡ Ok q.1) → p ≡ Ok principal → ar ≡ Ok others
-    → t ≡ named_type s principal others.0 others.1 → IsContextType s d t
-type_read one s d p a r ar dp da dr principal others t gp ga gr hp ha hr first second e f is =
-    type_searched one s d principal others.0 others.1 t
-    (subst (λ (x : Option Data). IsRead (Names x) principal) gp (made_so p principal (IsRead (Names dp)) e hp))
-    (subst (λ (x : Option Data). IsRead (Names x) others.0) ga (made_so a others.0 (IsRead (Names da)) (made_so ar others (λ q. a ≡ Ok q.0) f first) ha))
-    (subst (λ (x : Option Data). IsRead (Names x) others.1) gr (made_so r others.1 (IsRead (Names dr)) (made_so ar others (λ q. r ≡ Ok q.1) f second) hr))
-    is
+-- the entities read, of which two are joined in a pair, and then three
+pub names_read : {E : Type 0} (d : Data) (a r : Result (Option EntityUid) E) (ar : Result (Option EntityUid × Option EntityUid) E) (dp da dr : Option Data) (first : Option EntityUid)
+    (principal : Option EntityUid) (others : Option EntityUid × Option EntityUid) → dp ≡ get (codes "principal") d → da ≡ get (codes "action") d → dr ≡ get (codes "resource") d
+    → IsRead (Names dp) first → IfOk a (IsRead (Names da)) → IfOk r (IsRead (Names dr))
+    → IfOk ar (λ q. a ≡ Ok q.0) → IfOk ar (λ q. r ≡ Ok q.1) → principal ≡ first → ar ≡ Ok others
+    → AreNamed d (record { principal = principal; action = others.0; resource = others.1 })
+names_read d a r ar dp da dr first principal others gp ga gr hp ha hr of_action of_resource e f = (
+  subst (λ (x : Option Data). IsRead (Names x) principal) gp (subst (IsRead (Names dp)) (sym e) hp),
+  subst (λ (x : Option Data). IsRead (Names x) others.0) ga (made_so a others.0 (IsRead (Names da)) (made_so ar others (λ q. a ≡ Ok q.0) f of_action) ha),
+  subst (λ (x : Option Data). IsRead (Names x) others.1) gr (made_so r others.1 (IsRead (Names dr)) (made_so ar others (λ q. r ≡ Ok q.1) f of_resource) hr),
+)
 
 pub context_searched : (s : StatedSchema) (d : Data) (t : Option Cedar) (o : Option (List Step)) → IsContextType s d t → o ≡ path_under (codes "context") t d → IsContextSearched s d o
 context_searched s d t o is e asked asks = e ∙ ap (λ (x : Option Cedar). path_under (codes "context") x d) (is asked asks)
@@ -81,13 +80,6 @@ context_searched s d t o is e asked asks = e ∙ ap (λ (x : Option Cedar). path
 named_by : (o : Option Data) (read : Option EntityUid) (given : Bool) → IsRead (Names o) read → given ≡ is_some read → IsNamed o given
 named_by o None given h e = subst (IsNamed o) (sym e) (λ n. h n.0 n.1)
 named_by o (Some u) given h e = subst (IsNamed o) (sym e) (u, h)
-
--- the same of the results of reading and of testing
-pub named_in : {E F : Type 0} (o : Option Data) (read : Result (Option EntityUid) E) (given : Result Bool F) → IfOk read (IsRead (Names o))
-    → IfOk given (λ yes. MatchResult read (λ u. yes ≡ is_some u) (λ _. ⊥)) → IfOk given (IsNamed o)
-named_in o (Ok u) (Ok b) h e = named_by o u b h e
-named_in o (Err f) (Ok b) h e = absurd e
-named_in o read (Err f) h e = tt
 
 -- ---- the form
 
@@ -102,19 +94,11 @@ form_searched_by d true false true true true is e hp ha hr = says.no_context hp 
 form_searched_by d true true true true true is e hp ha hr =
     (record { principal = hp.0; action = ha.0; resource = hr.0 }, record { principal = hp.1; action = ha.1; resource = hr.1; context = e })
 
-form_searched : (d : Data) (p a r : Bool) → IsNamed (get (codes "principal") d) p → IsNamed (get (codes "action") d) a → IsNamed (get (codes "resource") d) r
+pub form_searched : (d : Data) (names : Named) (p a r : Bool) → AreNamed d names → p ≡ is_some names.principal → a ≡ is_some names.action → r ≡ is_some names.resource
     → IsFormSearched d (first_unmet (request_demands d p a r))
-form_searched d p a r hp ha hr = form_searched_by d (is_some (as_object d)) (is_absent_or_object (get (codes "context") d)) p a r refl refl hp ha hr
-
--- the same of the results of testing, of which two are joined in a pair
-pub form_read : {E : Type 0} (d : Data) (p a r : Result Bool E) (ar : Result (Bool × Bool) E) (dp da dr : Option Data) (principal : Bool) (others : Bool × Bool)
-    → dp ≡ get (codes "principal") d → da ≡ get (codes "action") d → dr ≡ get (codes "resource") d → IfOk p (IsNamed dp) → IfOk a (IsNamed da) → IfOk r (IsNamed dr)
-    → IfOk ar (λ q. a ≡ Ok q.0) → IfOk ar (λ q. r ≡ Ok q.1) → p ≡ Ok principal → ar ≡ Ok others → IsFormSearched d (first_unmet (request_demands d principal others.0 others.1))
-form_read d p a r ar dp da dr principal others gp ga gr hp ha hr first second e f =
-    form_searched d principal others.0 others.1
-    (subst (λ (x : Option Data). IsNamed x principal) gp (made_so p principal (IsNamed dp) e hp))
-    (subst (λ (x : Option Data). IsNamed x others.0) ga (made_so a others.0 (IsNamed da) (made_so ar others (λ q. a ≡ Ok q.0) f first) ha))
-    (subst (λ (x : Option Data). IsNamed x others.1) gr (made_so r others.1 (IsNamed dr) (made_so ar others (λ q. r ≡ Ok q.1) f second) hr))
+form_searched d names p a r h hp ha hr =
+    form_searched_by d (is_some (as_object d)) (is_absent_or_object (get (codes "context") d)) p a r refl refl (named_by (get (codes "principal") d) names.principal p h.0 hp)
+    (named_by (get (codes "action") d) names.action a h.1 ha) (named_by (get (codes "resource") d) names.resource r h.2 hr)
 
 told_shape : (r : Result (List Field) ValueFault) → with_entity_fault r ≡ Err BadShape → ⊥
 told_shape (Ok x) e = absurd cc

@@ -9,11 +9,11 @@ ghost use Rattle.value_paths.specs.EntityPaths.{shape_at};
 ghost use Rattle.value_paths.specs.inner.FoundParts.{path_of};
 
 use crate::finding::find_in_record;
-use crate::forms::find_in_form;
-use crate::parents::{find_bad_parent, uid_at};
+use crate::forms::{find_in_form, uid_at};
+use crate::parents::find_bad_parent;
 use crate::placed::{PlacedFault, fault_of, placed};
 use crate::steps::{Trail, at_key, under_key};
-use entities::{EntityFault, Schema, read_entity};
+use entities::{EntityFault, Schema, drop_entity, read_entity};
 use plain::NoMemory;
 use schema_types::CedarType;
 use serde_json::Value;
@@ -54,11 +54,7 @@ pub(crate) fn find_under(
         (λ o. o ≡ path_under key.now (option_map (λ t. cedar_view t.now) ty.entry) (view value.now)) }
 {
     match ty {
-        Some(ty) => match find_in_record(alloc, value.get(key), ty) {
-            Ok(Some(trail)) => under_key(alloc, key, trail),
-            Ok(None) => Ok(None),
-            Err(fault) => Err(fault),
-        },
+        Some(ty) => under_key(alloc, key, find_in_record(alloc, value.get(key), ty)),
         None => Ok(None),
     }
 }
@@ -74,11 +70,9 @@ fn find_part(
 {
     match fault {
         EntityFault::BadShape => find_in_form(alloc, value),
-        EntityFault::UnknownType => at_key(alloc, "uid"),
-        EntityFault::ActionEntity => at_key(alloc, "uid"),
+        EntityFault::UnknownType | EntityFault::ActionEntity => at_key(alloc, "uid"),
         EntityFault::TagsLeftOut => at_key(alloc, "tags"),
-        EntityFault::BadParent => find_bad_parent(alloc, schema, value),
-        EntityFault::SelfParent => find_bad_parent(alloc, schema, value),
+        EntityFault::BadParent | EntityFault::SelfParent => find_bad_parent(alloc, schema, value),
         _ => match shape_at(alloc, schema, value.get("uid")) {
             Ok(shape) => find_under(alloc, value, "attrs", shape),
             Err(fault) => Err(fault),
@@ -103,7 +97,10 @@ pub fn entity_fault(
 ) -> Result<Option<PlacedFault>, NoMemory>
     ensures { IfOk result (IsEntityFault (schema_view schema.now) (view value.now)) }
 {
-    match fault_of(read_entity(alloc, schema, value)) {
+    let read = read_entity(alloc, schema, value);
+    let fault = fault_of(&read);
+    drop_entity(read);
+    match fault {
         Ok(found) => match found {
             Some(fault) => placed(fault, find_part(alloc, schema, value, fault)),
             None => Ok(None),

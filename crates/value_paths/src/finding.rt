@@ -102,7 +102,7 @@ fn find_in_members(
         };
         match find(alloc, member, ty) {
             Ok(found) => match found {
-                Some(trail) => return under_key(alloc, name, trail),
+                Some(trail) => return under_key(alloc, name, Ok(Some(trail))),
                 None => {}
             },
             Err(fault) => return Err(fault),

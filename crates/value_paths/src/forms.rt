@@ -2,24 +2,34 @@
 ghost use Rattle.std.specs.Prelude.{◌≡◌, ◌∷◌, [], IfOk, Some, codes, option_map};
 ghost use Rattle.serde_json.specs.View.{view, items_view};
 ghost use Rattle.value_paths.specs.EntityPaths.{is_uid, to_parent, parent_demands, parents_demands, form_demands};
-ghost use Rattle.value_paths.specs.EntityPaths.{first_unmet};
+ghost use Rattle.value_paths.specs.EntityPaths.{first_unmet, uid_at};
 ghost use Rattle.value_paths.specs.inner.FoundPaths.{or_unmet};
 
-use crate::placed::was_some;
 use crate::steps::{Step, Trail, at_key, under_key};
 use entities::{is_absent_or_object, read_uid};
 use plain::NoMemory;
 use serde_json::Value;
 use std::alloc::Global;
+use values::EntityUid;
 
 /// Returns the path to the parent at an index. Always `Some`.
 pub(crate) fn at_parent(alloc: Global, index: usize) -> Result<Option<Trail>, NoMemory>
     ensures { IfOk result (λ o. o ≡ Some (to_parent index)) }
 {
-    match Trail::here(alloc).under(Step::Index(index)) {
-        Ok(Some(trail)) => under_key(alloc, "parents", trail),
-        Ok(None) => Ok(None),
-        Err(fault) => Err(fault),
+    under_key(
+        alloc,
+        "parents",
+        Trail::here(alloc).under(Step::Index(index)),
+    )
+}
+
+/// Returns the uid that a value describes, if it is present and describes one.
+pub(crate) fn uid_at(alloc: Global, found: Option<&Value>) -> Result<Option<EntityUid>, NoMemory>
+    ensures { IfOk result (λ o. o ≡ uid_at (option_map (λ v. view v.now) found.entry)) }
+{
+    match found {
+        Some(value) => read_uid(alloc, value),
+        None => Ok(None),
     }
 }
 
@@ -27,9 +37,13 @@ pub(crate) fn at_parent(alloc: Global, index: usize) -> Result<Option<Trail>, No
 fn is_uid(alloc: Global, found: Option<&Value>) -> Result<bool, NoMemory>
     ensures { IfOk result (λ yes. yes ≡ is_uid (option_map (λ v. view v.now) found.entry)) }
 {
-    match found {
-        Some(value) => was_some(read_uid(alloc, value)),
-        None => Ok(false),
+    match uid_at(alloc, found) {
+        Ok(uid) => {
+            let is_uid = uid.is_some();
+            drop(uid);
+            Ok(is_uid)
+        }
+        Err(fault) => Err(fault),
     }
 }
 

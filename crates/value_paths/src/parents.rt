@@ -4,26 +4,16 @@ ghost use Rattle.serde_json.specs.View.{view, items_view};
 ghost use Rattle.serde_json.specs.Find.{get};
 ghost use Rattle.entities.specs.Typing.{with_or};
 ghost use Rattle.entities.specs.schema.Views.{schema_view};
-ghost use Rattle.value_paths.specs.EntityPaths.{items_at, uid_at};
+ghost use Rattle.value_paths.specs.EntityPaths.{items_at};
 ghost use Rattle.value_paths.specs.inner.FoundParts.{fits, unfit_path, parents_path};
 
-use crate::forms::at_parent;
+use crate::forms::{at_parent, uid_at};
 use crate::steps::Trail;
 use entities::{Schema, read_uid};
 use plain::NoMemory;
 use serde_json::Value;
 use std::alloc::Global;
 use values::EntityUid;
-
-/// Returns the uid that a value describes, if it is present and describes one.
-pub(crate) fn uid_at(alloc: Global, found: Option<&Value>) -> Result<Option<EntityUid>, NoMemory>
-    ensures { IfOk result (λ o. o ≡ uid_at (option_map (λ v. view v.now) found.entry)) }
-{
-    match found {
-        Some(value) => read_uid(alloc, value),
-        None => Ok(None),
-    }
-}
 
 /// Returns whether an entity may have this parent.
 fn fits(schema: &Schema, uid: &EntityUid, parent: &EntityUid) -> bool

@@ -16,7 +16,7 @@ use crate::pointers::push_steps;
 use crate::request_paths::{asked_type, request_fault};
 use crate::steps::Step;
 use crate::type_paths::type_at;
-use entities::{EntityFault, Schema};
+use entities::{EntityFault, Schema, drop_json};
 use json_words::read_json;
 use plain::{NoMemory, Text};
 use schema_types::CedarType;
@@ -44,9 +44,7 @@ fn is_of_value(fault: EntityFault) -> bool
     ensures { result ≡ is_of_value fault }
 {
     match fault {
-        EntityFault::Undeclared => true,
-        EntityFault::Missing => true,
-        EntityFault::WrongType => true,
+        EntityFault::Undeclared | EntityFault::Missing | EntityFault::WrongType => true,
         _ => false,
     }
 }
@@ -89,13 +87,7 @@ fn push_declared(out: &mut String, ty: Option<&CedarType>) -> Result<(), NoMemor
         ≡ string_bytes out.old ++ declared_words (option_map (λ t. cedar_view t.now) ty.entry)) }
 {
     match ty {
-        Some(ty) => match out.push_str(": ") {
-            Ok(()) => match out.push_str(type_word(ty)) {
-                Ok(()) => out.push_str(" is declared"),
-                Err(fault) => Err(fault),
-            },
-            Err(fault) => Err(fault),
-        },
+        Some(ty) => write!(out, ": {} is declared", type_word(ty)),
         None => Ok(()),
     }
 }
@@ -214,7 +206,7 @@ pub fn entity_part(
     match read_json(alloc, text) {
         Ok(value) => {
             let words = entity_part_words(alloc, schema, item_of(value.as_ref(), index));
-            drop(value);
+            drop_json(value);
             words
         }
         Err(fault) => Err(fault),
@@ -235,7 +227,7 @@ pub fn request_part(alloc: Global, schema: &Schema, text: &[u8]) -> Result<Text,
     match read_json(alloc, text) {
         Ok(value) => {
             let words = request_part_words(alloc, schema, value.as_ref());
-            drop(value);
+            drop_json(value);
             words
         }
         Err(fault) => Err(fault),

@@ -1,5 +1,5 @@
 //! Errors of entities and requests, each with the path to the part at fault.
-ghost use Rattle.std.specs.Prelude.{◌≡◌, IfOk, MatchResult, is_some};
+ghost use Rattle.std.specs.Prelude.{◌≡◌, IfOk, MatchResult};
 ghost use Rattle.value_paths.specs.inner.Placing.{IsFaultOf, IsPlaced};
 
 use crate::steps::{Step, Trail};
@@ -16,19 +16,14 @@ pub struct PlacedFault {
 }
 
 /// Returns the error that parsing gave, or `None` if it gave a value. The only error is `NoMemory`.
-pub(crate) fn fault_of<T: Drop>(
-    read: Result<T, EntityFault>,
-) -> Result<Option<EntityFault>, NoMemory>
-    ensures { IfOk result (IsFaultOf read) }
+pub(crate) fn fault_of<T>(read: &Result<T, EntityFault>) -> Result<Option<EntityFault>, NoMemory>
+    ensures { IfOk result (IsFaultOf read.now) }
 {
     match read {
-        Ok(value) => {
-            drop(value);
-            Ok(None)
-        }
-        Err(fault) => match fault {
+        Ok(_) => Ok(None),
+        Err(fault) => match *fault {
             EntityFault::NoMemory => Err(NoMemory),
-            _ => Ok(Some(fault)),
+            _ => Ok(Some(*fault)),
         },
     }
 }
@@ -47,20 +42,6 @@ pub(crate) fn placed(
             path: trail.into_path(),
         })),
         Ok(None) => Ok(None),
-        Err(memory) => Err(memory),
-    }
-}
-
-/// Returns whether a search found a value, and drops the value. The only error is that of the search.
-pub(crate) fn was_some<T: Drop>(found: Result<Option<T>, NoMemory>) -> Result<bool, NoMemory>
-    ensures { IfOk result (λ yes. MatchResult found (λ o. yes ≡ is_some o) (λ _. ⊥)) }
-{
-    match found {
-        Ok(Some(value)) => {
-            drop(value);
-            Ok(true)
-        }
-        Ok(None) => Ok(false),
         Err(memory) => Err(memory),
     }
 }

@@ -6,18 +6,19 @@ ghost use Rattle.entities.specs.entity_uids.Uids.{IsRead};
 ghost use Rattle.entities.specs.schema.Views.{schema_view};
 ghost use Rattle.entities.specs.Contexts.{context_where, is_place};
 ghost use Rattle.value_paths.specs.Outcomes.{IsRequestFault};
-ghost use Rattle.value_paths.specs.inner.FoundNames.{Names, IsNamed, IsFormSearched, IsPartSearched};
+ghost use Rattle.value_paths.specs.inner.FoundNames.{Names, AreNamed, IsFormSearched, IsPartSearched};
 ghost use Rattle.value_paths.specs.inner.FoundNames.{named_type};
 ghost use Rattle.value_paths.specs.RequestPaths.{IsContextType};
 
 use crate::entity_paths::find_under;
 use crate::forms::or_unmet;
-use crate::placed::{PlacedFault, fault_of, placed, was_some};
+use crate::placed::{PlacedFault, fault_of, placed};
 use crate::steps::{Trail, at_key};
 use entities::{
-    EntityFault, Environment, Schema, is_absent_or_object, names_read_back, read_name, read_request,
+    EntityFault, Environment, Schema, drop_request, is_absent_or_object, names_read_back,
+    read_name, read_request,
 };
-use plain::{NoMemory, both};
+use plain::{NoMemory, both, pair_with};
 use schema_types::CedarType;
 use serde_json::Value;
 use std::alloc::Global;
@@ -33,11 +34,34 @@ fn name_at(alloc: Global, found: Option<&Value>) -> Result<Option<EntityUid>, No
     }
 }
 
-/// Returns whether a value is present and names an entity.
-fn is_named(alloc: Global, found: Option<&Value>) -> Result<bool, NoMemory>
-    ensures { IfOk result (IsNamed (option_map (λ v. view v.now) found.entry)) }
+/// The entities that a request names as its principal, action and resource; `None` for one that is absent or a value
+/// that names no entity.
+#[derive(Drop)]
+struct Named {
+    principal: Option<EntityUid>,
+    action: Option<EntityUid>,
+    resource: Option<EntityUid>,
+}
+
+/// Returns the entities that a request names.
+fn names_in(alloc: Global, value: &Value) -> Result<Named, NoMemory>
+    ensures { IfOk result (AreNamed (view value.now)) }
 {
-    was_some(name_at(alloc, found))
+    match name_at(alloc, value.get("principal")) {
+        Ok(principal) => {
+            let action = name_at(alloc, value.get("action"));
+            let resource = name_at(alloc, value.get("resource"));
+            match pair_with(principal, both(action, resource)) {
+                Ok((principal, others)) => Ok(Named {
+                    principal,
+                    action: others.0,
+                    resource: others.1,
+                }),
+                Err(fault) => Err(fault),
+            }
+        }
+        Err(fault) => Err(fault),
+    }
 }
 
 /// Returns the path to the first part without the form of a request, if there is one.
@@ -48,15 +72,13 @@ fn find_in_request_form(alloc: Global, value: &Value) -> Result<Option<Trail>, N
         return Ok(Some(Trail::here(alloc)));
     }
     let from_context = or_unmet(is_absent_or_object(value.get("context")), "context", None);
-    let principal = is_named(alloc, value.get("principal"));
-    let action = is_named(alloc, value.get("action"));
-    let resource = is_named(alloc, value.get("resource"));
-    let others = both(action, resource);
-    match both(principal, others) {
-        Ok((principal, others)) => {
-            let from_resource = or_unmet(others.1, "resource", from_context);
-            let from_action = or_unmet(others.0, "action", from_resource);
-            match or_unmet(principal, "principal", from_action) {
+    match names_in(alloc, value) {
+        Ok(names) => {
+            let from_resource = or_unmet(names.resource.is_some(), "resource", from_context);
+            let from_action = or_unmet(names.action.is_some(), "action", from_resource);
+            let unmet = or_unmet(names.principal.is_some(), "principal", from_action);
+            drop(names);
+            match unmet {
                 Some(key) => at_key(alloc, key),
                 None => Ok(None),
             }
@@ -102,22 +124,17 @@ fn context_type<'s>(
 
 /// Returns the type of the context of a request with these three entities, if all are present and the action applies to
 /// the types of the other two.
-fn named_type<'s>(
-    schema: &'s Schema,
-    principal: &Option<EntityUid>,
-    action: &Option<EntityUid>,
-    resource: &Option<EntityUid>,
-) -> Option<&'s CedarType>
+fn named_type<'s>(schema: &'s Schema, names: &Named) -> Option<&'s CedarType>
     ensures { option_map (λ t. cedar_view t.now) result
-        ≡ named_type (schema_view schema.now) principal.now action.now resource.now }
+        ≡ named_type (schema_view schema.now) names.now.principal names.now.action names.now.resource }
 {
-    let Some(principal) = principal else {
+    let Some(principal) = &names.principal else {
         return None;
     };
-    let Some(action) = action else {
+    let Some(action) = &names.action else {
         return None;
     };
-    let Some(resource) = resource else {
+    let Some(resource) = &names.resource else {
         return None;
     };
     context_type(schema, principal, action, resource)
@@ -133,15 +150,10 @@ pub(crate) fn asked_type<'s>(
         IsContextType (schema_view schema.now) (view value.now) (option_map (λ t. cedar_view t.now) o)) }
 {
     names_read_back();
-    let principal = name_at(alloc, value.get("principal"));
-    let action = name_at(alloc, value.get("action"));
-    let resource = name_at(alloc, value.get("resource"));
-    let others = both(action, resource);
-    match both(principal, others) {
-        Ok((principal, others)) => {
-            let ty = named_type(schema, &principal, &others.0, &others.1);
-            drop(principal);
-            drop(others);
+    match names_in(alloc, value) {
+        Ok(names) => {
+            let ty = named_type(schema, &names);
+            drop(names);
             Ok(ty)
         }
         Err(fault) => Err(fault),
@@ -180,7 +192,10 @@ pub fn request_fault(
 ) -> Result<Option<PlacedFault>, NoMemory>
     ensures { IfOk result (IsRequestFault (schema_view schema.now) (view value.now)) }
 {
-    match fault_of(read_request(alloc, schema, value)) {
+    let read = read_request(alloc, schema, value);
+    let fault = fault_of(&read);
+    drop_request(read);
+    match fault {
         Ok(found) => match found {
             Some(fault) => placed(fault, find_part(alloc, schema, value, fault)),
             None => Ok(None),

@@ -1,6 +1,7 @@
 //! Paths to the parts of a JSON value, and their steps.
-ghost use Rattle.std.specs.Prelude.{◌≡◌, [], ◌∷◌, IfOk, Some, reverse};
+ghost use Rattle.std.specs.Prelude.{◌≡◌, [], ◌∷◌, IfOk, MatchResult, Some, reverse};
 ghost use Rattle.value_paths.specs.declared.steps.Step.TheVariants as step;
+ghost use Rattle.value_paths.specs.inner.FoundPaths.{under};
 
 use plain::{Items, NoMemory, Text};
 use std::alloc::Global;
@@ -59,12 +60,21 @@ impl Trail {
     }
 }
 
-/// Returns the path with a key in front of it. Always `Some`.
-pub(crate) fn under_key(alloc: Global, key: &str, trail: Trail) -> Result<Option<Trail>, NoMemory>
-    ensures { IfOk result (λ o. o ≡ Some (step.Key key.now ∷ trail)) }
+/// Returns the path that a search found with a key in front of it, if the search found one. The only error is
+/// `NoMemory`, also that of the search.
+pub(crate) fn under_key(
+    alloc: Global,
+    key: &str,
+    found: Result<Option<Trail>, NoMemory>,
+) -> Result<Option<Trail>, NoMemory>
+    ensures { IfOk result (λ o. MatchResult found (λ path. o ≡ under (step.Key key.now) path) (λ _. ⊥)) }
 {
-    match Text::from_str(alloc, key) {
-        Ok(key) => trail.under(Step::Key(key)),
+    match found {
+        Ok(Some(trail)) => match Text::from_str(alloc, key) {
+            Ok(key) => trail.under(Step::Key(key)),
+            Err(fault) => Err(fault),
+        },
+        Ok(None) => Ok(None),
         Err(fault) => Err(fault),
     }
 }
@@ -73,5 +83,5 @@ pub(crate) fn under_key(alloc: Global, key: &str, trail: Trail) -> Result<Option
 pub(crate) fn at_key(alloc: Global, key: &str) -> Result<Option<Trail>, NoMemory>
     ensures { IfOk result (λ o. o ≡ Some (step.Key key.now ∷ [])) }
 {
-    under_key(alloc, key, Trail::here(alloc))
+    under_key(alloc, key, Ok(Some(Trail::here(alloc))))
 }

@@ -1,4 +1,4 @@
--- Defines a step down the path to the blamed expression, and the judgement on an operand on the way.
+-- Defines a step down the path to the blamed expression, and the judgement on an expression: its error, or its type.
 use Rattle.std.specs.Prelude.{◌≡◌, ℕ, zero, suc, ◌+◌, ◌<◌, List, [], ◌∷◌, ◌++◌, map, Option, Some, None, MatchOption}
 use Rattle.grammar_core.specs.Size.{height}
 use Rattle.grammar_core.specs.declared.expr.Expr.{Expr}
@@ -39,8 +39,8 @@ pub record IsTyped (env : Environment) (ps : List Capability) (ts : List StaticT
   pub appended : us ≡ ts ++ kind ∷ []
   pub boolean : MatchOption o (¬ IsBoolean (static_view kind)) (λ b. static_view kind ≡ boolean_view b)
 
--- `IsJudged env ps ts x qs us j` holds if `j` is the error of `x`, as the validator reports it, and
--- `IsUntyped env ps x qs`; or `j` is the boolean type of `x`, or `None` for another type, and `IsTyped` holds of it.
+-- `IsJudged env ps ts x qs us j` holds if `j` is `Faulty f`, `IsUntyped env ps x qs` holds, and `f` is the error of `x`
+-- as the validator reports it; or if `j` is `Typed o` and `IsTyped env ps ts x qs us o` holds.
 abbrev pub IsJudged : Environment → List Capability → List StaticType → Expr → List Capability → List StaticType
     → Judgement → Type 0
 IsJudged env ps ts x qs us (judgement.Faulty f) = (u : IsUntyped env ps x qs) × (f ≡ of_typing u.error)

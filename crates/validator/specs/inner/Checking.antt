@@ -26,9 +26,9 @@ abbrev pub scope_parts : Scope → List Expr
 scope_parts scope =
     entity_part Principal scope.principal ∷ action_part scope.action ∷ entity_part Resource scope.resource ∷ []
 
--- `typed_in s ps` is the list of typing environments of the environments `ps` of the schema `s`.
-abbrev pub typed_in : StatedSchema → List given.Environment → List Environment
-typed_in s ps = map (λ p. typing_environment_of s (environment_view p)) ps
+-- `typing_environments s ps` is the list of typing environments of the environments `ps` of the schema `s`.
+abbrev pub typing_environments : StatedSchema → List given.Environment → List Environment
+typing_environments s ps = map (λ p. typing_environment_of s (environment_view p)) ps
 
 -- `ReportsFalse found r` holds if `r` is whether the type in `found` is False, or the validator's error for the error
 -- in `found`.

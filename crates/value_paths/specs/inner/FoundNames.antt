@@ -4,13 +4,14 @@ use Rattle.serde_json.specs.Data.{Data}
 use Rattle.serde_json.specs.Find.{get, as_object}
 use Rattle.values.specs.declared.entity_uid.EntityUid.{EntityUid}
 use Rattle.schema_types.specs.Cedar.{Cedar}
-use Rattle.entities.specs.entity_uids.Uids.{NamesEntity}
+use Rattle.entities.specs.entity_uids.Uids.{NamesEntity, IsRead}
 use Rattle.entities.specs.Typing.{with_or}
 use Rattle.entities.specs.schema.Schemas.{StatedSchema}
 use Rattle.entities.specs.declared.fault.EntityFault.{EntityFault}
 use Rattle.entities.specs.declared.requests.Asked.{Asked}
 use Rattle.entities.specs.EntityForms.{is_absent_or_object}
 use Rattle.entities.specs.Requests.{Asks, RequestRefused}
+use Rattle.value_paths.specs.declared.request_paths.Named.{Named}
 use Rattle.value_paths.specs.declared.steps.Step.{Step}
 use Rattle.value_paths.specs.EntityPaths.{Demand, to_key}
 use Rattle.value_paths.specs.RequestPaths.{FormFaultAt, context_type, IsRequestPathOf}
@@ -19,6 +20,12 @@ use Rattle.value_paths.specs.inner.FoundPaths.{path_under}
 -- `Names o uid` holds if the value `o` is present and names `uid`.
 abbrev pub Names : Option Data → EntityUid → Type 0
 Names o uid = MatchOption o ⊥ (λ d. NamesEntity d uid)
+
+-- `AreNamed d names` holds if `names` are the entities that the request `d` names as its principal, action and
+-- resource.
+abbrev pub AreNamed : Data → Named → Type 0
+AreNamed d names = IsRead (Names (get (codes "principal") d)) names.principal
+    × IsRead (Names (get (codes "action") d)) names.action × IsRead (Names (get (codes "resource") d)) names.resource
 
 -- `IsNamed o yes` holds if `yes` is true exactly if the value `o` is present and names an entity.
 abbrev pub IsNamed : Option Data → Bool → Type 0

@@ -14,8 +14,8 @@ returns-in-Ok c =
     let given = files_of c.args.given.now in
     let source = file_of c.in-Some.source in
     let old = string_bytes c.args.out.now in
-    let new = string_bytes c.explain_others-in-Ok.new.out in
-    on_ok c.explain_others-in-Ok.result c.explain_others-in-Ok.ensures (λ a. given_as given (Some source) old new (ap (option_map file_of) c.in-Some.is)
+    let new = string_bytes c.explain_others-explained.new.out in
+    on_ok c.explain_others-explained.result c.explain_others-explained.ensures (λ a. given_as given (Some source) old new (ap (option_map file_of) c.in-Some.is)
     (under_schema given old source (schema_view c.in-Ok.schema) new c.in-Ok.ensures.read a))
 
 pub returns-in-Err : goal.returns-in-Err

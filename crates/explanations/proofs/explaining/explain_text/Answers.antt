@@ -6,10 +6,10 @@ use Rattle.explanations.proofs.explaining.explain_text.Goals as goal
 
 pub returns-in-Ok : goal.returns-in-Ok
 returns-in-Ok c =
-    on_ok c.explain_policies.result (rw (c.as_slice-found_pieces.ensures.value, c.as_slice-named.ensures.value) at c.explain_policies.ensures)
+    on_ok c.explain_policies-explained.result (rw (c.as_slice-found_pieces.ensures.value, c.as_slice-named.ensures.value) at c.explain_policies-explained.ensures)
     (text_parses (option_map (λ s. schema_view s.now) c.args.schema) c.args.file.now c.args.text.now c.in_ok-tokens.tokens.items c.in_ok-pieces.pieces.items
     c.in_ok-tokens.ensures (rw c.as_slice-all.ensures.value at c.in_ok-pieces.ensures) (string_bytes c.args.out.now)
-    (string_bytes c.explain_policies.new.out) _ _ (rw c.as_bytes.ensures.value at c.in-Ok.ensures.read))
+    (string_bytes c.explain_policies-explained.new.out) _ _ (rw c.as_bytes.ensures.value at c.in-Ok.ensures.read))
 
 pub returns : goal.returns
 returns c =

@@ -4,7 +4,7 @@ use Rattle.grammar_trees.specs.declared.tree.ExprTree.TheVariants as t
 use Rattle.grammar_trees.specs.declared.tree.ExprTree.TheViews as v
 use Rattle.token_spans.specs.TokenCounts.{tree_count, term_count, entry_count, access_tree_count, each_count, total, lone_count, path_count, uid_count}
 use Rattle.token_spans.proofs.Dropping.{twice, one_more, counted, turned, length-mapped}
-use Rattle.token_spans.proofs.Counts.{count-Uid, count-Call, count-Parentheses, count-Set, count-Record, count-Member, count-Not, count-Minus, count-Product, count-Sum, count-Compare, count-Has, count-Like, count-Is, count-IsIn, count-And, count-Or, count-If}
+use Rattle.token_spans.proofs.Counts.{count-Uid, count-Call, count-Parentheses, count-Set, count-Record, count-Member, count-prefix, count-chain, count-Sum, count-Compare, count-postfix, count-Is, count-IsIn, count-If}
 use Rattle.token_spans.proofs.Opening.{IsLeaf, count-leaf}
 use Rattle.token_spans.proofs.behind.+behind.Goals as goal
 
@@ -62,23 +62,11 @@ tokens_after_tree-returns-in-Member t' c =
 
 pub tokens_after_tree-returns-in-Not : goal.tokens_after_tree-returns-in-Not
 tokens_after_tree-returns-in-Not t' c =
-    counted c.args.tree.now (t.Not c.in-Not.inner) (1 + tree_count c.in-Not.inner) c.args.tokens.now c.tokens_after_operand-in-Not.result.now (twice c.args.tokens.now c.skip-in-Not.result.now c.tokens_after_operand-in-Not.result.now (1) (tree_count c.in-Not.inner) (c.skip-in-Not.ensures) (c.tokens_after_operand-in-Not.ensures)) c.in-Not.is (count-Not c.in-Not.inner)
-
-pub tokens_after_tree-returns-in-Minus : goal.tokens_after_tree-returns-in-Minus
-tokens_after_tree-returns-in-Minus t' c =
-    counted c.args.tree.now (t.Minus c.in-Minus.inner) (1 + tree_count c.in-Minus.inner) c.args.tokens.now c.tokens_after_operand-in-Minus.result.now (twice c.args.tokens.now c.skip-in-Minus.result.now c.tokens_after_operand-in-Minus.result.now (1) (tree_count c.in-Minus.inner) (c.skip-in-Minus.ensures) (c.tokens_after_operand-in-Minus.ensures)) c.in-Minus.is (count-Minus c.in-Minus.inner)
+    counted c.args.tree.now c.args.tree.now (1 + tree_count c.in-Not.inner) c.args.tokens.now c.tokens_after_operand-in-Not.result.now (twice c.args.tokens.now c.skip-in-Not.result.now c.tokens_after_operand-in-Not.result.now (1) (tree_count c.in-Not.inner) (c.skip-in-Not.ensures) (c.tokens_after_operand-in-Not.ensures)) refl (count-prefix c.args.tree.now c.in-Not.inner c.in-Not.is)
 
 pub tokens_after_tree-returns-in-Product : goal.tokens_after_tree-returns-in-Product
 tokens_after_tree-returns-in-Product t' c =
-    counted c.args.tree.now (t.Product c.in-Product.first c.in-Product.more) (tree_count c.in-Product.first + each_count (map tree_count c.in-Product.more)) c.args.tokens.now c.tokens_after_each.result.now (twice c.args.tokens.now c.tokens_after_operand-in-Product.result.now c.tokens_after_each.result.now (tree_count c.in-Product.first) (each_count (map tree_count c.in-Product.more)) (c.tokens_after_operand-in-Product.ensures) (c.tokens_after_each.ensures ∙ ap (λ xs. drop (each_count (map tree_count xs)) c.tokens_after_operand-in-Product.result.now) c.as_slice-in-Product.ensures)) c.in-Product.is (count-Product c.in-Product.first c.in-Product.more)
-
-pub tokens_after_tree-returns-in-And : goal.tokens_after_tree-returns-in-And
-tokens_after_tree-returns-in-And t' c =
-    counted c.args.tree.now (t.And c.in-And.first c.in-And.more) (tree_count c.in-And.first + each_count (map tree_count c.in-And.more)) c.args.tokens.now c.tokens_after_each-in-And.result.now (twice c.args.tokens.now c.tokens_after_operand-in-And.result.now c.tokens_after_each-in-And.result.now (tree_count c.in-And.first) (each_count (map tree_count c.in-And.more)) (c.tokens_after_operand-in-And.ensures) (c.tokens_after_each-in-And.ensures ∙ ap (λ xs. drop (each_count (map tree_count xs)) c.tokens_after_operand-in-And.result.now) c.as_slice-in-And.ensures)) c.in-And.is (count-And c.in-And.first c.in-And.more)
-
-pub tokens_after_tree-returns-in-Or : goal.tokens_after_tree-returns-in-Or
-tokens_after_tree-returns-in-Or t' c =
-    counted c.args.tree.now (t.Or c.in-Or.first c.in-Or.more) (tree_count c.in-Or.first + each_count (map tree_count c.in-Or.more)) c.args.tokens.now c.tokens_after_each-in-Or.result.now (twice c.args.tokens.now c.tokens_after_operand-in-Or.result.now c.tokens_after_each-in-Or.result.now (tree_count c.in-Or.first) (each_count (map tree_count c.in-Or.more)) (c.tokens_after_operand-in-Or.ensures) (c.tokens_after_each-in-Or.ensures ∙ ap (λ xs. drop (each_count (map tree_count xs)) c.tokens_after_operand-in-Or.result.now) c.as_slice-in-Or.ensures)) c.in-Or.is (count-Or c.in-Or.first c.in-Or.more)
+    counted c.args.tree.now c.args.tree.now (tree_count c.in-Product.first + each_count (map tree_count c.in-Product.more)) c.args.tokens.now c.tokens_after_each.result.now (twice c.args.tokens.now c.tokens_after_operand-in-Product.result.now c.tokens_after_each.result.now (tree_count c.in-Product.first) (each_count (map tree_count c.in-Product.more)) (c.tokens_after_operand-in-Product.ensures) (c.tokens_after_each.ensures ∙ ap (λ xs. drop (each_count (map tree_count xs)) c.tokens_after_operand-in-Product.result.now) c.as_slice-in-Product.ensures)) refl (count-chain c.args.tree.now c.in-Product.first c.in-Product.more c.in-Product.is)
 
 pub tokens_after_tree-returns-in-Sum : goal.tokens_after_tree-returns-in-Sum
 tokens_after_tree-returns-in-Sum t' c =
@@ -90,11 +78,7 @@ tokens_after_tree-returns-in-Compare t' c =
 
 pub tokens_after_tree-returns-in-Has : goal.tokens_after_tree-returns-in-Has
 tokens_after_tree-returns-in-Has t' c =
-    counted c.args.tree.now (t.Has c.in-Has.inner c.in-Has.field-1) (tree_count c.in-Has.inner + 2) c.args.tokens.now c.skip-in-Has.result.now (twice c.args.tokens.now c.tokens_after_operand-in-Has.result.now c.skip-in-Has.result.now (tree_count c.in-Has.inner) (2) (c.tokens_after_operand-in-Has.ensures) (c.skip-in-Has.ensures)) c.in-Has.is (count-Has c.in-Has.inner c.in-Has.field-1)
-
-pub tokens_after_tree-returns-in-Like : goal.tokens_after_tree-returns-in-Like
-tokens_after_tree-returns-in-Like t' c =
-    counted c.args.tree.now (t.Like c.in-Like.inner c.in-Like.field-1) (tree_count c.in-Like.inner + 2) c.args.tokens.now c.skip-in-Like.result.now (twice c.args.tokens.now c.tokens_after_operand-in-Like.result.now c.skip-in-Like.result.now (tree_count c.in-Like.inner) (2) (c.tokens_after_operand-in-Like.ensures) (c.skip-in-Like.ensures)) c.in-Like.is (count-Like c.in-Like.inner c.in-Like.field-1)
+    counted c.args.tree.now c.args.tree.now (tree_count c.in-Has.inner + 2) c.args.tokens.now c.skip-in-Has.result.now (twice c.args.tokens.now c.tokens_after_operand-in-Has.result.now c.skip-in-Has.result.now (tree_count c.in-Has.inner) (2) (c.tokens_after_operand-in-Has.ensures) (c.skip-in-Has.ensures)) refl (count-postfix c.args.tree.now c.in-Has.inner c.in-Has.is)
 
 pub tokens_after_tree-returns-in-Is : goal.tokens_after_tree-returns-in-Is
 tokens_after_tree-returns-in-Is t' c =
@@ -154,18 +138,6 @@ tokens_after_tree-tokens_after_operand-requires t' c = (search (rules, v.sized-M
 pub tokens_after_tree-tokens_after_accesses-requires : goal.tokens_after_tree-tokens_after_accesses-requires
 tokens_after_tree-tokens_after_accesses-requires t' c = (search (rules, v.sized-Member), tt)
 
-pub tokens_after_tree-tokens_after_operand-requires-in-Not : goal.tokens_after_tree-tokens_after_operand-requires-in-Not
-tokens_after_tree-tokens_after_operand-requires-in-Not t' c = (search (rules, v.sized-Not), tt)
-
-pub tokens_after_tree-tokens_after_operand-requires-in-Minus : goal.tokens_after_tree-tokens_after_operand-requires-in-Minus
-tokens_after_tree-tokens_after_operand-requires-in-Minus t' c = (search (rules, v.sized-Minus), tt)
-
-pub tokens_after_tree-tokens_after_each-requires : goal.tokens_after_tree-tokens_after_each-requires
-tokens_after_tree-tokens_after_each-requires t' c = (search (rules, v.sized-Product), tt)
-
-pub tokens_after_tree-tokens_after_operand-requires-in-Product : goal.tokens_after_tree-tokens_after_operand-requires-in-Product
-tokens_after_tree-tokens_after_operand-requires-in-Product t' c = (search (rules, v.sized-Product), tt)
-
 pub tokens_after_tree-tokens_after_terms-requires : goal.tokens_after_tree-tokens_after_terms-requires
 tokens_after_tree-tokens_after_terms-requires t' c = (search (rules, v.sized-Sum), tt)
 
@@ -178,12 +150,6 @@ tokens_after_tree-tokens_after_piece-requires-in-Compare t' c = (search (rules, 
 pub tokens_after_tree-tokens_after_operand-requires-in-Compare : goal.tokens_after_tree-tokens_after_operand-requires-in-Compare
 tokens_after_tree-tokens_after_operand-requires-in-Compare t' c = (search (rules, v.sized-Compare), tt)
 
-pub tokens_after_tree-tokens_after_operand-requires-in-Has : goal.tokens_after_tree-tokens_after_operand-requires-in-Has
-tokens_after_tree-tokens_after_operand-requires-in-Has t' c = (search (rules, v.sized-Has), tt)
-
-pub tokens_after_tree-tokens_after_operand-requires-in-Like : goal.tokens_after_tree-tokens_after_operand-requires-in-Like
-tokens_after_tree-tokens_after_operand-requires-in-Like t' c = (search (rules, v.sized-Like), tt)
-
 pub tokens_after_tree-tokens_after_piece-requires-in-Is : goal.tokens_after_tree-tokens_after_piece-requires-in-Is
 tokens_after_tree-tokens_after_piece-requires-in-Is t' c = (search (rules, v.sized-Is), tt)
 
@@ -192,18 +158,6 @@ tokens_after_tree-tokens_after_piece-requires-in-IsIn t' c = (search (rules, v.s
 
 pub tokens_after_tree-tokens_after_operand-requires-in-IsIn : goal.tokens_after_tree-tokens_after_operand-requires-in-IsIn
 tokens_after_tree-tokens_after_operand-requires-in-IsIn t' c = (search (rules, v.sized-IsIn), tt)
-
-pub tokens_after_tree-tokens_after_each-requires-in-And : goal.tokens_after_tree-tokens_after_each-requires-in-And
-tokens_after_tree-tokens_after_each-requires-in-And t' c = (search (rules, v.sized-And), tt)
-
-pub tokens_after_tree-tokens_after_operand-requires-in-And : goal.tokens_after_tree-tokens_after_operand-requires-in-And
-tokens_after_tree-tokens_after_operand-requires-in-And t' c = (search (rules, v.sized-And), tt)
-
-pub tokens_after_tree-tokens_after_each-requires-in-Or : goal.tokens_after_tree-tokens_after_each-requires-in-Or
-tokens_after_tree-tokens_after_each-requires-in-Or t' c = (search (rules, v.sized-Or), tt)
-
-pub tokens_after_tree-tokens_after_operand-requires-in-Or : goal.tokens_after_tree-tokens_after_operand-requires-in-Or
-tokens_after_tree-tokens_after_operand-requires-in-Or t' c = (search (rules, v.sized-Or), tt)
 
 pub tokens_after_tree-tokens_after_piece-tested-requires : goal.tokens_after_tree-tokens_after_piece-tested-requires
 tokens_after_tree-tokens_after_piece-tested-requires t' c = (search (rules, v.sized-If), tt)

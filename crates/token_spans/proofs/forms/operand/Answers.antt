@@ -3,7 +3,7 @@ use Rattle.grammar_trees.specs.declared.tree.ExprTree.{out-ExprTree}
 use Rattle.grammar_trees.specs.declared.tree.ExprTree.TheVariants as t
 use Rattle.grammar_trees.specs.declared.tree.ExprTree.TheOpen.{ExprTree-F as tree}
 use Rattle.token_spans.specs.Forms.{form_of, row_at, entry_at, one_at, minus_operand, compared_at}
-use Rattle.token_spans.proofs.Opening.{seen, operand-leaf}
+use Rattle.token_spans.proofs.Opening.{seen, seen-chain, seen-postfix, operand-leaf}
 use Rattle.token_spans.proofs.forms.operand.Goals as goal
 
 pub returns-in-Call : goal.returns-in-Call
@@ -44,17 +44,7 @@ returns-in-Minus c =
 pub returns-in-Product : goal.returns-in-Product
 returns-in-Product c =
     c.chain_operand.ensures
-    ∙ seen c.args.form.now.tree.now (t.Product c.in-Product.first c.in-Product.more) (tree.Product c.in-Product.first c.in-Product.more) (form_of c.args.form.now) c.args.index c.in-Product.is (t.outs-Product c.in-Product.first c.in-Product.more)
-
-pub returns-in-And : goal.returns-in-And
-returns-in-And c =
-    c.chain_operand-in-And.ensures
-    ∙ seen c.args.form.now.tree.now (t.And c.in-And.first c.in-And.more) (tree.And c.in-And.first c.in-And.more) (form_of c.args.form.now) c.args.index c.in-And.is (t.outs-And c.in-And.first c.in-And.more)
-
-pub returns-in-Or : goal.returns-in-Or
-returns-in-Or c =
-    c.chain_operand-in-Or.ensures
-    ∙ seen c.args.form.now.tree.now (t.Or c.in-Or.first c.in-Or.more) (tree.Or c.in-Or.first c.in-Or.more) (form_of c.args.form.now) c.args.index c.in-Or.is (t.outs-Or c.in-Or.first c.in-Or.more)
+    ∙ seen-chain c.args.form.now.tree.now c.in-Product.first c.in-Product.more (form_of c.args.form.now) c.args.index c.in-Product.is
 
 pub returns-in-Sum : goal.returns-in-Sum
 returns-in-Sum c =
@@ -70,17 +60,7 @@ returns-in-Compare c =
 pub returns-in-Has : goal.returns-in-Has
 returns-in-Has c =
     c.one_operand-in-Has.ensures
-    ∙ seen c.args.form.now.tree.now (t.Has c.in-Has.inner c.in-Has.field-1) (tree.Has c.in-Has.inner c.in-Has.field-1) (form_of c.args.form.now) c.args.index c.in-Has.is (t.outs-Has c.in-Has.inner c.in-Has.field-1)
-
-pub returns-in-Like : goal.returns-in-Like
-returns-in-Like c =
-    c.one_operand-in-Like.ensures
-    ∙ seen c.args.form.now.tree.now (t.Like c.in-Like.inner c.in-Like.field-1) (tree.Like c.in-Like.inner c.in-Like.field-1) (form_of c.args.form.now) c.args.index c.in-Like.is (t.outs-Like c.in-Like.inner c.in-Like.field-1)
-
-pub returns-in-Is : goal.returns-in-Is
-returns-in-Is c =
-    c.one_operand-in-Is.ensures
-    ∙ seen c.args.form.now.tree.now (t.Is c.in-Is.inner c.in-Is.field-1) (tree.Is c.in-Is.inner c.in-Is.field-1) (form_of c.args.form.now) c.args.index c.in-Is.is (t.outs-Is c.in-Is.inner c.in-Is.field-1)
+    ∙ seen-postfix c.args.form.now.tree.now c.in-Has.inner (form_of c.args.form.now) c.args.index c.in-Has.is
 
 pub returns-in-IsIn : goal.returns-in-IsIn
 returns-in-IsIn c =

@@ -1,9 +1,9 @@
 use Rattle.std.proofs.Common.{ap, sym, ◌∙◌, drop, take, map, length}
 use Rattle.grammar_trees.specs.declared.tree.ExprTree.TheVariants as t
 use Rattle.grammar_trees.specs.declared.tree.ExprTree.TheOpen.{ExprTree-F as tree}
-use Rattle.token_spans.specs.TokenCounts.{term_count, access_tree_count, each_count, total}
+use Rattle.token_spans.specs.TokenCounts.{tree_count, term_count, access_tree_count, each_count, total}
 use Rattle.token_spans.specs.Forms.{form_of, kept, tokens_after_test}
-use Rattle.token_spans.proofs.Opening.{seen_behind, behind-other, test-other}
+use Rattle.token_spans.proofs.Opening.{seen_behind, seen_behind-chain, behind-other, test-other}
 use Rattle.token_spans.proofs.forms.tokens_after_form.Goals as goal
 
 pub returns-in-Member : goal.returns-in-Member
@@ -15,18 +15,11 @@ returns-in-Member c =
 
 pub returns-in-Product : goal.returns-in-Product
 returns-in-Product c =
-    c.tokens_after_chain.ensures
-    ∙ seen_behind c.args.form.now.tree.now (t.Product c.in-Product.first c.in-Product.more) (tree.Product c.in-Product.first c.in-Product.more) (form_of c.args.form.now) c.in-Product.is (t.outs-Product c.in-Product.first c.in-Product.more)
-
-pub returns-in-And : goal.returns-in-And
-returns-in-And c =
-    c.tokens_after_chain-in-And.ensures
-    ∙ seen_behind c.args.form.now.tree.now (t.And c.in-And.first c.in-And.more) (tree.And c.in-And.first c.in-And.more) (form_of c.args.form.now) c.in-And.is (t.outs-And c.in-And.first c.in-And.more)
-
-pub returns-in-Or : goal.returns-in-Or
-returns-in-Or c =
-    c.tokens_after_chain-in-Or.ensures
-    ∙ seen_behind c.args.form.now.tree.now (t.Or c.in-Or.first c.in-Or.more) (tree.Or c.in-Or.first c.in-Or.more) (form_of c.args.form.now) c.in-Or.is (t.outs-Or c.in-Or.first c.in-Or.more)
+    let n = kept c.args.form.now.part (length c.in-Product.more) in
+    c.tokens_after_each.ensures
+    ∙ ap (λ ys. drop (each_count (map tree_count ys)) c.tokens_after_operand-in-Product.result.now) c.pieces-pieces-in-Product.ensures
+    ∙ ap (drop (each_count (map tree_count (take n c.in-Product.more)))) c.tokens_after_operand-in-Product.ensures
+    ∙ seen_behind-chain c.args.form.now.tree.now c.in-Product.first c.in-Product.more (form_of c.args.form.now) c.in-Product.is
 
 pub returns-in-Sum : goal.returns-in-Sum
 returns-in-Sum c =

@@ -1,6 +1,7 @@
-use Rattle.std.proofs.Common.{◌≡◌, ◌+◌, sym, ap, ◌∙◌, drop, length, List, map, arith}
+use Rattle.std.proofs.Common.{◌≡◌, ◌⊎◌, inl, inr, ◌+◌, sym, ap, ◌∙◌, drop, length, List, map, arith}
 use Rattle.grammar_trees.specs.grammar_tokens.declared.tree.UidTree.{UidTree}
-use Rattle.grammar_policies.specs.declared.tree.ActionTree.TheVariants.{InList}
+use Rattle.grammar_policies.specs.declared.tree.ActionTree.{ActionTree}
+use Rattle.grammar_policies.specs.declared.tree.ActionTree.TheVariants.{Equal, In, InList}
 use Rattle.token_spans.specs.TokenCounts.{uid_count, each_count, lone_count}
 use Rattle.token_spans.proofs.Dropping.{twice, length-mapped}
 use Rattle.token_spans.specs.Places.{action_count}
@@ -9,15 +10,14 @@ use Rattle.token_spans.proofs.parts.tokens_after_action.Goals as goal
 as_listed : (uids : List UidTree) → (3 + lone_count (length uids)) + each_count (map uid_count uids) ≡ action_count (InList uids)
 as_listed uids = let e = ap lone_count (length-mapped uid_count uids) in omega arith
 
+of_uid : (x : ActionTree) (uid : UidTree) → x ≡ Equal uid ⊎ x ≡ In uid → action_count x ≡ 2 + uid_count uid
+of_uid x uid (inl is) = ap action_count is
+of_uid x uid (inr is) = ap action_count is
+
 pub returns-in-Equal : goal.returns-in-Equal
 returns-in-Equal c =
     twice c.args.tokens.now c.skip-in-Equal.result.now c.tokens_after_uid.result.now 2 (uid_count c.in-Equal.uid) c.skip-in-Equal.ensures c.tokens_after_uid.ensures
-    ∙ ap (λ p. drop (action_count p) c.args.tokens.now) (sym c.in-Equal.is)
-
-pub returns-in-In : goal.returns-in-In
-returns-in-In c =
-    twice c.args.tokens.now c.skip-in-In.result.now c.tokens_after_uid-in-In.result.now 2 (uid_count c.in-In.uid) c.skip-in-In.ensures c.tokens_after_uid-in-In.ensures
-    ∙ ap (λ p. drop (action_count p) c.args.tokens.now) (sym c.in-In.is)
+    ∙ ap (λ k. drop k c.args.tokens.now) (sym (of_uid c.args.part.now c.in-Equal.uid c.in-Equal.is))
 
 pub returns-in-InList : goal.returns-in-InList
 returns-in-InList c =

@@ -10,12 +10,12 @@ returns-in-Some c =
     let s = schema_view c.args.schema.now in
     let d = view c.args.value.now in
     entity_told s d c.in-Some.fault c.find_part.result c.placed.result
-    (entity_refused s d c.read_entity.result c.in-Some.fault c.read_entity.ensures.read (subst (IsFaultOf c.read_entity.result) c.in-Some.is c.in-Ok.ensures))
+    (entity_refused s d c.read_entity-read.result c.in-Some.fault c.read_entity-read.ensures.read (subst (IsFaultOf c.read_entity-read.result) c.in-Some.is c.in-Ok.ensures))
     c.find_part.ensures c.placed.ensures
 
 pub returns-in-None : goal.returns-in-None
 returns-in-None c =
-    entity_read (schema_view c.args.schema.now) (view c.args.value.now) c.read_entity.result c.read_entity.ensures.read (subst (IsFaultOf c.read_entity.result) c.in-None.is c.in-Ok.ensures)
+    entity_read (schema_view c.args.schema.now) (view c.args.value.now) c.read_entity-read.result c.read_entity-read.ensures.read (subst (IsFaultOf c.read_entity-read.result) c.in-None.is c.in-Ok.ensures)
 
 pub returns-in-Err : goal.returns-in-Err
 returns-in-Err c = tt

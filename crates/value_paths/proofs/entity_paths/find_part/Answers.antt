@@ -1,4 +1,4 @@
-use Rattle.std.proofs.Common.{◌≡◌, ◌∙◌, List, Option, Result, IfOk, option_map, codes, sym, ap, subst}
+use Rattle.std.proofs.Common.{◌≡◌, ◌∙◌, ◌⊎◌, inl, inr, List, Option, Result, IfOk, option_map, codes, sym, ap, subst}
 use Rattle.serde_json.specs.View.{view}
 use Rattle.schema_types.specs.Cedar.{Cedar}
 use Rattle.schema_types.specs.CedarViews.{cedar_view}
@@ -19,23 +19,24 @@ use Rattle.value_paths.proofs.entity_paths.find_part.Goals as goal
 of_known : {E : Type 0} (s : StatedSchema) (d : Data) (f g : EntityFault) (r : Result (Option (List Step)) E) → f ≡ g → IfOk r (λ o. o ≡ path_of s d g) → IfOk r (λ o. o ≡ path_of s d f)
 of_known s d f g r e h = subst (λ (k : EntityFault). IfOk r (λ o. o ≡ path_of s d k)) (sym e) h
 
+of_either : {E : Type 0} (s : StatedSchema) (d : Data) (f g h : EntityFault) (r : Result (Option (List Step)) E) → (f ≡ g) ⊎ (f ≡ h) → IfOk r (λ o. o ≡ path_of s d g)
+    → IfOk r (λ o. o ≡ path_of s d h) → IfOk r (λ o. o ≡ path_of s d f)
+of_either s d f g h r (inl e) k l = of_known s d f g r e k
+of_either s d f g h r (inr e) k l = of_known s d f h r e l
+
 pub returns-in-BadShape : goal.returns-in-BadShape
 returns-in-BadShape c = of_known (schema_view c.args.schema.now) (view c.args.value.now) c.args.fault BadShape c.find_in_form.result c.in-BadShape.is c.find_in_form.ensures
 
 pub returns-in-UnknownType : goal.returns-in-UnknownType
-returns-in-UnknownType c = of_known (schema_view c.args.schema.now) (view c.args.value.now) c.args.fault UnknownType c.at_key.result c.in-UnknownType.is c.at_key.ensures
-
-pub returns-in-ActionEntity : goal.returns-in-ActionEntity
-returns-in-ActionEntity c = of_known (schema_view c.args.schema.now) (view c.args.value.now) c.args.fault ActionEntity c.at_key-in-ActionEntity.result c.in-ActionEntity.is c.at_key-in-ActionEntity.ensures
+returns-in-UnknownType c =
+    of_either (schema_view c.args.schema.now) (view c.args.value.now) c.args.fault UnknownType ActionEntity c.at_key.result c.in-UnknownType.is c.at_key.ensures c.at_key.ensures
 
 pub returns-in-TagsLeftOut : goal.returns-in-TagsLeftOut
 returns-in-TagsLeftOut c = of_known (schema_view c.args.schema.now) (view c.args.value.now) c.args.fault TagsLeftOut c.at_key-in-TagsLeftOut.result c.in-TagsLeftOut.is c.at_key-in-TagsLeftOut.ensures
 
 pub returns-in-BadParent : goal.returns-in-BadParent
-returns-in-BadParent c = of_known (schema_view c.args.schema.now) (view c.args.value.now) c.args.fault BadParent c.find_bad_parent.result c.in-BadParent.is c.find_bad_parent.ensures
-
-pub returns-in-SelfParent : goal.returns-in-SelfParent
-returns-in-SelfParent c = of_known (schema_view c.args.schema.now) (view c.args.value.now) c.args.fault SelfParent c.find_bad_parent-in-SelfParent.result c.in-SelfParent.is c.find_bad_parent-in-SelfParent.ensures
+returns-in-BadParent c =
+    of_either (schema_view c.args.schema.now) (view c.args.value.now) c.args.fault BadParent SelfParent c.find_bad_parent.result c.in-BadParent.is c.find_bad_parent.ensures c.find_bad_parent.ensures
 
 pub returns-in-Ok : goal.returns-in-Ok
 unfolding attributes_path

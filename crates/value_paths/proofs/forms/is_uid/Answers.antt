@@ -1,7 +1,17 @@
+use Rattle.std.proofs.Common.{◌≡◌, ◌∙◌, Option, Some, None, option_map, refl, ap}
+use Rattle.std.specs.Prelude.{is_some}
+use Rattle.values.specs.declared.entity_uid.EntityUid.{EntityUid}
+use Rattle.serde_json.specs.Data.{Data}
 use Rattle.serde_json.specs.View.{view}
-use Rattle.entities.specs.entity_uids.Uids.{uid_in}
-use Rattle.value_paths.proofs.Going.{some_in}
+use Rattle.value_paths.specs.EntityPaths.{uid_at, is_uid}
 use Rattle.value_paths.proofs.forms.is_uid.Goals as goal
 
-pub returns-in-Some : goal.returns-in-Some
-returns-in-Some c = rw c.in-Some.is (some_in c.read_uid.result c.was_some.result (uid_in (view c.in-Some.value.now)) c.read_uid.ensures.found c.was_some.ensures)
+some_uid : (o : Option Data) → is_some (uid_at o) ≡ is_uid o
+some_uid None = refl
+some_uid (Some d) = refl
+
+pub returns-in-Ok : goal.returns-in-Ok
+returns-in-Ok c = c.is_some-is_uid.ensures ∙ ap (λ (o : Option EntityUid). is_some o) c.in-Ok.ensures ∙ some_uid (option_map (λ v. view v.now) c.args.found)
+
+pub returns-in-Err : goal.returns-in-Err
+returns-in-Err c = tt

@@ -10,12 +10,12 @@ returns-in-Some c =
     let s = schema_view c.args.schema.now in
     let d = view c.args.value.now in
     request_told s d c.in-Some.fault c.find_part.result c.placed.result
-    (request_refused s d c.read_request.result c.in-Some.fault c.read_request.ensures.refused (subst (IsFaultOf c.read_request.result) c.in-Some.is c.in-Ok.ensures))
+    (request_refused s d c.read_request-read.result c.in-Some.fault c.read_request-read.ensures.refused (subst (IsFaultOf c.read_request-read.result) c.in-Some.is c.in-Ok.ensures))
     c.find_part.ensures c.placed.ensures
 
 pub returns-in-None : goal.returns-in-None
 returns-in-None c =
-    request_read (schema_view c.args.schema.now) (view c.args.value.now) c.read_request.result c.read_request.ensures.read (subst (IsFaultOf c.read_request.result) c.in-None.is c.in-Ok.ensures)
+    request_read (schema_view c.args.schema.now) (view c.args.value.now) c.read_request-read.result c.read_request-read.ensures.read (subst (IsFaultOf c.read_request-read.result) c.in-None.is c.in-Ok.ensures)
 
 pub returns-in-Err : goal.returns-in-Err
 returns-in-Err c = tt
