@@ -42,7 +42,7 @@ call_text call.Merge = codes "POST /v1/merge"
 
 -- `status_text status` reports a reply with `status`; for 413, a request that is too large, it says what to do instead.
 unfoldable pub status_text : ℕ → List ℕ
-status_text status = if nat_eq status 413 then codes "status 413, larger than a site takes: merge the two as files"
+status_text status = if nat_eq status 413 then codes "status 413, larger than a site takes: merge both state files"
     else codes "status " ++ decimal status
 
 -- `fault_text fault` is the cause, as it is reported, of a failed call with the error `fault`.
@@ -54,33 +54,33 @@ fault_text (cause.Network network.Write) = codes "writing failed"
 fault_text (cause.Network network.BadReply) = codes "no HTTP reply"
 fault_text (cause.Network network.Ended) = codes "closed before the reply ended"
 fault_text (cause.Network network.NoHost) = codes "no host"
-fault_text (cause.Network network.TooLarge) = codes "larger than a site takes: merge the two as files"
+fault_text (cause.Network network.TooLarge) = codes "larger than a site takes: merge both state files"
 fault_text (cause.Network (network.OtherStatus status)) = status_text status
 
--- `call_report at why` is the report of the call `at` with the cause `why`: its address, number and request, and the
+-- `call_report c why` is the report of the call `c` with the cause `why`: its address, number and request, and the
 -- cause.
 unfoldable pub call_report : RoundCall → List ℕ → List ℕ
-call_report at why = at.address.now ++ codes ": call " ++ decimal at.number ++ codes " of 6, " ++ call_text at.call
+call_report c why = c.address.now ++ codes ": call " ++ decimal c.number ++ codes " of 6, " ++ call_text c.call
     ++ codes ": " ++ why
 
 module _ {L : Type 0} where
-  -- `IsCallReported at fault`: the error `fault` of the call `at` is reported, and the run ends with status 3; or out
+  -- `IsCallReported c fault`: the error `fault` of the call `c` is reported, and the run ends with status 3; or out
   -- of memory is reported.
   abbrev pub IsCallReported : RoundCall → CallFault → Course L
-  IsCallReported at fault events end = IsFailureReported (call_report at (fault_text fault)) events end
+  IsCallReported c fault events end = IsFailureReported (call_report c (fault_text fault)) events end
       ⊎ IsMemoryReported events end
 
-  -- `IsCallErrorReported at fault`: the error `fault`, which came in place of a reply to the call `at`, is reported;
+  -- `IsCallErrorReported c fault`: the error `fault`, which came in place of a reply to the call `c`, is reported;
   -- `Refused` is out of memory.
   abbrev pub IsCallErrorReported : RoundCall → PullFault → Course L
-  IsCallErrorReported at (Network fault) = IsCallReported at (cause.Network fault)
-  IsCallErrorReported at (Refused refusal) = IsMemoryReported
+  IsCallErrorReported c (Network fault) = IsCallReported c (cause.Network fault)
+  IsCallErrorReported c (Refused refusal) = IsMemoryReported
 
-  -- `WritesTaken at line goes_on`: the count `line` is written to standard output, and the run goes on by `goes_on`; or
-  -- it is reported that `line`, the reply to the call `at`, is not a count.
+  -- `WritesTaken c line goes_on`: the count `line` is written to standard output, and the run goes on by `goes_on`; or
+  -- it is reported that `line`, the reply to the call `c`, is not a count.
   abbrev pub WritesTaken : RoundCall → List ℕ → Course L → Course L
-  WritesTaken at line goes_on events end = (IsTakenLine line × Announces line goes_on events end)
-      ⊎ ((IsTakenLine line → ⊥) × IsCallReported at cause.NoCount events end)
+  WritesTaken c line goes_on events end = (IsTakenLine line × Announces line goes_on events end)
+      ⊎ ((IsTakenLine line → ⊥) × IsCallReported c cause.NoCount events end)
 
   -- `IsOver`: the run ends with status 0.
   abbrev pub IsOver : Course L
@@ -89,50 +89,50 @@ module _ {L : Type 0} where
 -- ---- calls
 
 module _ {R W : Type 0} (reader : Source R) (writer : Sink W) where
-  -- `IsCalled at body link reply left` holds if the request of the call `at` with `body` was written over `link`, and
+  -- `IsCalled c body link reply left` holds if the request of the call `c` with `body` was written over `link`, and
   -- what was read begins with a reply of status 200 and the body `reply`. No read or write failed, and a site accepts a
   -- body of this size. `left` is the connection afterwards.
   abbrev pub IsCalled : RoundCall → List ℕ → Link R W → List ℕ → Link R W → Type 0
-  IsCalled at body link reply left =
-      IsAsked reader writer (call_request at.call at.address.now body) link reply left
+  IsCalled c body link reply left =
+      IsAsked reader writer (call_request c.call c.address.now body) link reply left
       × NoReadFailed reader writer link left × NoWriteFailed reader writer link left
-      × (call_size at.call body ≤ MAX_BODY)
+      × (call_size c.call body ≤ MAX_BODY)
 
-  -- `IsNotCalled at body link fault left` holds if `fault` is why the call `at` with `body` got no reply of status 200
+  -- `IsNotCalled c body link fault left` holds if `fault` is why the call `c` with `body` got no reply of status 200
   -- over `link`; a prefix of the request was written, possibly empty or whole. `left` is the connection afterwards.
   abbrev pub IsNotCalled : RoundCall → List ℕ → Link R W → PullFault → Link R W → Type 0
-  IsNotCalled at body link (Network fault) left =
+  IsNotCalled c body link (Network fault) left =
       IsUnanswered reader.left reader.reads reader.failed reader.fails writer.holds writer.failed writer.fails
-      (call_request at.call at.address.now body) link.reader left.reader link.writer left.writer fault
-      × ReportsNoHost at.address.now fault × ReportsTooLarge at.address.now (call_size at.call body) fault
+      (call_request c.call c.address.now body) link.reader left.reader link.writer left.writer fault
+      × ReportsNoHost c.address.now fault × ReportsTooLarge c.address.now (call_size c.call body) fault
       × (fault ≢ network.Read → NoReadFailed reader writer link left)
       × (fault ≢ network.Write → NoWriteFailed reader writer link left)
-  IsNotCalled at body link (Refused refusal) left = (refusal ≡ no_memory)
-      × IsRequestBegun reader.left writer.holds (call_request at.call at.address.now body) link.reader left.reader
+  IsNotCalled c body link (Refused refusal) left = (refusal ≡ no_memory)
+      × IsRequestBegun reader.left writer.holds (call_request c.call c.address.now body) link.reader left.reader
       link.writer left.writer
       × NoReadFailed reader writer link left × NoWriteFailed reader writer link left
 
-  -- `CallsOver at body goes_on link`: the call `at` with `body` is made over `link`, `link` is closed, and the run goes
+  -- `CallsOver c body goes_on link`: the call `c` with `body` is made over `link`, `link` is closed, and the run goes
   -- on by `goes_on` with the reply; or it is reported why there is no reply.
   abbrev pub CallsOver : RoundCall → List ℕ → (List ℕ → Course (Link R W)) → Link R W → Course (Link R W)
-  CallsOver at body goes_on link events end =
+  CallsOver c body goes_on link events end =
       ((reply : List ℕ) × (left : Link R W) × (rest : List (Event (Link R W)))
-      × IsCalled at body link reply left × (events ≡ closed left ∷ rest) × goes_on reply rest end)
+      × IsCalled c body link reply left × (events ≡ closed left ∷ rest) × goes_on reply rest end)
       ⊎ ((fault : PullFault) × (left : Link R W) × (rest : List (Event (Link R W)))
-      × IsNotCalled at body link fault left × (events ≡ closed left ∷ rest) × IsCallErrorReported at fault rest end)
+      × IsNotCalled c body link fault left × (events ≡ closed left ∷ rest) × IsCallErrorReported c fault rest end)
 
-  -- `CallsIfReached at body goes_on came`: like `CallsOver at body goes_on` over the connection in `came`; without one,
+  -- `CallsIfReached c body goes_on came`: like `CallsOver c body goes_on` over the connection in `came`; without one,
   -- it is reported that there is no connection.
   abbrev pub CallsIfReached : RoundCall → List ℕ → (List ℕ → Course (Link R W)) → Option (Link R W)
       → Course (Link R W)
-  CallsIfReached at body goes_on (Some link) = CallsOver at body goes_on link
-  CallsIfReached at body goes_on None = IsCallReported at cause.NotReached
+  CallsIfReached c body goes_on (Some link) = CallsOver c body goes_on link
+  CallsIfReached c body goes_on None = IsCallReported c cause.NotReached
 
-  -- `Calls at body goes_on`: the call `at` with `body` is made over a connection that the run opens, and the run goes
+  -- `Calls c body goes_on`: the call `c` with `body` is made over a connection that the run opens, and the run goes
   -- on by `goes_on` with the reply, or reports the error and ends.
   abbrev pub Calls : RoundCall → List ℕ → (List ℕ → Course (Link R W)) → Course (Link R W)
-  Calls at body goes_on events end = (came : Option (Link R W)) × (rest : List (Event (Link R W)))
-      × (events ≡ connected at.address.now came ∷ rest) × CallsIfReached at body goes_on came rest end
+  Calls c body goes_on events end = (came : Option (Link R W)) × (rest : List (Event (Link R W)))
+      × (events ≡ connected c.address.now came ∷ rest) × CallsIfReached c body goes_on came rest end
 
   -- ---- rounds
 
@@ -146,9 +146,9 @@ module _ {R W : Type 0} (reader : Source R) (writer : Sink W) where
       Calls (record { number = first + 2; call = call.Merge; address = to }) delta (λ line.
       WritesTaken (record { number = first + 2; call = call.Merge; address = to }) line goes_on)))
 
-  -- `IsRound between and`: first the site at `between` is brought up to date, then the one at `and`.
+  -- `IsRound one other`: first the site at `one` is brought up to date, then the one at `other`.
   abbrev pub IsRound : Bor (List ℕ) → Bor (List ℕ) → Course (Link R W)
-  IsRound between and = Direction 1 between and (Direction 4 and between IsOver)
+  IsRound one other = Direction 1 one other (Direction 4 other one IsOver)
 
   -- `IsExchanged options schema`: the bytes `schema` are a schema, and a round between the sites of `options` is made;
   -- or the error of `schema`, or out of memory, is reported, and nothing is sent.

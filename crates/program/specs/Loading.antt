@@ -26,8 +26,9 @@ load_files options schema policies entities = record {
 
 module _ {L : Type 0} where
   -- `IsPutOrRefused options site schema policies entities`: the state of `site` after the puts of `policies` and
-  -- `entities` is printed; or the error of one of these files or of a put, or out of memory, is reported. After an
-  -- error, `--explain` explains what is rejected in the `load_files` or, if nothing is, the error's code.
+  -- `entities` is printed; or it is reported that a file does not parse, that a put is rejected, or that memory ran
+  -- out. After an error, `--explain` explains what is rejected in the `load_files` or, if nothing is rejected there,
+  -- the code of the error.
   abbrev pub IsPutOrRefused : LoadOptions → SiteView → List ℕ → Option (List ℕ) → Option (List ℕ) → Course L
   IsPutOrRefused options site schema policies entities =
       IsLineOrErrorExplained options.explain (load_files options schema policies entities)
@@ -35,8 +36,8 @@ module _ {L : Type 0} where
       (loads.IsRefused (schema_of site) site.name (store_in site) policies entities)
 
   -- `IsLoadedOrRefused options schema state policies entities`: the initial site of `schema` and `state` is created,
-  -- and `IsPutOrRefused` holds of it; or, whatever `policies` and `entities` contain, the error of `schema` or `state`,
-  -- or out of memory, is reported and, if `options` have `--explain`, explained.
+  -- and `IsPutOrRefused` holds of it; or, whatever `policies` and `entities` contain, an error is reported: that of
+  -- `schema` or `state`, or out of memory. With `--explain` it is explained too.
   abbrev pub IsLoadedOrRefused : LoadOptions → List ℕ → Option (List ℕ) → Option (List ℕ) → Option (List ℕ) → Course L
   IsLoadedOrRefused options schema state policies entities events end =
       ((site : SiteView) × IsInitialSite schema options.site state site

@@ -74,7 +74,7 @@ fn status_text(alloc: Global, status: u16) -> Result<String, NoMemory>
     if status == TOO_LARGE {
         return owned(
             alloc,
-            "status 413, larger than a site takes: merge the two as files",
+            "status 413, larger than a site takes: merge both state files",
         );
     }
     format!(in alloc; "status {status}")
@@ -93,7 +93,7 @@ fn fault_text(alloc: Global, fault: CallFault) -> Result<String, NoMemory>
         CallFault::Network(NetworkFault::Ended) => owned(alloc, "closed before the reply ended"),
         CallFault::Network(NetworkFault::NoHost) => owned(alloc, "no host"),
         CallFault::Network(NetworkFault::TooLarge) => {
-            owned(alloc, "larger than a site takes: merge the two as files")
+            owned(alloc, "larger than a site takes: merge both state files")
         }
         CallFault::Network(NetworkFault::OtherStatus(status)) => status_text(alloc, status),
     }
@@ -111,7 +111,7 @@ fn call_report(alloc: Global, round_call: &RoundCall<'_>, why: &str) -> Result<S
 }
 
 /// Reports a failed call: writes a line with its address, number and request, and the cause, to standard error; if
-/// memory runs out, writes the error line of out of memory. Returns the status of the run.
+/// memory runs out, writes the line of error 1 instead. Returns the status of the run.
 fn report_call<H: Host>(
     alloc: Global,
     host: &mut H,
@@ -200,7 +200,7 @@ fn call_at<H: Host>(
     }
 }
 
-/// Writes `line`, the reply to a merge, to standard output. If `line` is not `{"taken":n}`, reports that instead.
+/// Writes `line`, the reply to a merge, to standard output. If `line` is not `{"taken":n}`, reports an error instead.
 /// In this case, and if writing fails, returns the status of the run as the error.
 fn write_taken<H: Host>(
     alloc: Global,
