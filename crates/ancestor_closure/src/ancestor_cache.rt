@@ -54,8 +54,7 @@ fn is_self_or_ancestor(
     is_in(ancestors_at(relatives, parent), uid)
 }
 
-// Returns whether one of `parents` is `uid` or a descendant of `uid`: with these parents `uid` would be its own
-// ancestor.
+// Returns whether `parents` would make `uid` its own ancestor: whether one of them is `uid` or a descendant of `uid`.
 fn leads_back(
     relatives: &BTreeMap<EntityUid, Relatives>,
     uid: &EntityUid,
@@ -138,8 +137,8 @@ impl AncestorCache {
         Ok(())
     }
 
-    /// Returns whether `a` is an ancestor of `b`. Looks up the entry of `b`, and `a` in the entry's list. Does not
-    /// allocate.
+    /// Returns whether `a` is an ancestor of `b`. Looks up the entry of `b`, then `a` in that entry's ancestors. Does
+    /// not allocate.
     pub fn has_ancestor(&self, a: &EntityUid, b: &EntityUid) -> bool
         ensures { (parents : Parents) → IsCacheOf parents self.now → (IsTrue result ↔ IsAncestor parents a.now b.now) }
     {
@@ -191,8 +190,8 @@ impl AncestorCache {
         least_cycle_among(self.alloc, graph, &cyclic)
     }
 
-    /// Returns whether `uid` would be its own ancestor if it had these parents. For each parent, looks up at most one
-    /// entry, and `uid` in the entry's list. Does not allocate.
+    /// Returns whether `uid` would be its own ancestor if `parents` were its parents. Looks up at most one entry for
+    /// each parent, then `uid` in that entry's ancestors. Does not allocate.
     pub fn would_cycle(&self, uid: &EntityUid, parents: &[EntityUid]) -> bool
         ensures { (before : Parents) → IsCacheOf before self.now →
             (IsTrue result ↔ IsAncestor (with_parents before uid.now parents.now) uid.now uid.now) }

@@ -1,6 +1,6 @@
--- Defines the grammar of expressions: which syntax trees a list of tokens derives.
--- The comment above a definition of a `Lang`, or of a function from kinds to an `Option`, is its production, without
--- the limit of nesting.
+-- Defines the grammar of expressions: which lists of tokens form an expression, and its syntax tree.
+-- A comment in the notation of a grammar, such as `Key = Ident | String`, states what the definition below it accepts,
+-- except for the limit of nesting.
 -- Source: Cedar reference guide 4.0, "Grammar specification for Cedar policy syntax".
 -- Rules of this product: the nesting of expressions is limited.
 use Rattle.std.specs.Prelude.{◌≡◌, ℕ, zero, suc, Bool, true, false, List, [], ◌∷◌, Option, Some, None, is_some}

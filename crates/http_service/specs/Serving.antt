@@ -26,9 +26,9 @@ pub record Served : Type 0 where
 abbrev pub before_requests : SiteView → Served
 before_requests site = record { site = site; inputs = []; replies = [] }
 
--- `Continues old a status text new` holds if a request that asks for `a` may get the reply `status` with the body
--- `text`, and `new` is the next `Served` after `old`. If `a` gives an input, the site makes one step, whose input
--- and reply are added. For `rejects` and `unserved` the site is not called, and nothing is added.
+-- `Continues old a status text new` holds if the `SiteRequest` `a` may get the reply `status` with the body `text`, and
+-- `new` is the next `Served` after `old`. For `gives i` the site makes one step, and `i` and its reply are added. For
+-- `rejects` and `unserved` the site is not called, and nothing is added.
 abbrev pub Continues : Served → SiteRequest → StatusCode → List ℕ → Served → Type 0
 Continues old (gives i) status text new =
     (r : Reply) × Step (schema_of old.site) old.site.name (store_in old.site) i r (store_in new.site)
@@ -50,12 +50,12 @@ ContinuesRequest old method target body status text new =
 module _ {R W : Type 0} (left : R → Option (List ℕ)) (read_failures : R → ℕ) (reads : R → ℕ → List ℕ → R → Type 0)
     (read_fails : R → R → Type 0) (holds : W → Option (List ℕ)) (write_failures : W → ℕ)
     (write_fails : W → W → Type 0) where
-  -- `IsServed first last before after old new result` holds if in one call the site went from the state `old` to
-  -- `new`, the reader from `first` to `last`, and the writer from `before` to `after`. The call handled requests, or
-  -- none; the last HTTP reply may be cut off or unsent. `inputs` are the inputs of these requests in order, `replies`
-  -- the site's replies to these inputs, and the run of `inputs` with `replies` leads from `old` to `new`. If `result`
-  -- is `Ok`, no bytes were left to read, or an HTTP reply ended the stream; else `result` is the call's error (`EndsAs`
-  -- of http_streams).
+  -- `IsServed first last before after old new result` holds if in one call the site went from the state `old` to `new`,
+  -- the reader from `first` to `last`, and the writer from `before` to `after`. The call handled zero or more requests;
+  -- the last HTTP reply may be cut off or unsent. `inputs` are the inputs of these requests in order, `replies` the
+  -- site's replies to these inputs, and the run of `inputs` with `replies` leads from `old` to `new`. If `result` is
+  -- `Ok`, no bytes were left to read, or an HTTP reply ended the stream; else `result` is the call's error (`EndsAs` of
+  -- http_streams).
   -- An example: the call reads `PUT /v1/policies/a` and `GET /nowhere`, and then the stream ends. The one input is the
   -- put of the first request's body under `a`, and the site's reply to it has a stamp. The call writes the HTTP reply
   -- 200 with the stamp, then the HTTP reply 404. The new store is the join of this put and the updates that the site

@@ -10,8 +10,7 @@ use Rattle.schema_names.specs.schema_file.FileForm.{EntityTypeOf, AppliesToOf, A
 use Rattle.schema.specs.NamesResolved.{IsCommon, IsEntityType, Means, MeansNone, IsPrimitive}
 
 -- `IsNoRecord ns own r` holds if the type `r`, of the namespace `own`, is not a record: it has another form, or it is a
--- name that leads to a type of another form. (It does not hold of a name that means nothing, unless the form is
--- `Entity`.)
+-- name that leads to a type of another form. (It does not hold of a name that leads to nothing or in a circle.)
 pub data IsNoRecord (ns : List NamespaceOf) : Option (List ℕ) → Raw → Type 0 where
   text : (own : Option (List ℕ)) → IsNoRecord ns own raw.text
   long : (own : Option (List ℕ)) → IsNoRecord ns own raw.long

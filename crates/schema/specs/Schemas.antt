@@ -177,7 +177,7 @@ pub record HasContent (bytes : List ℕ) (ns : List NamespaceOf) : Type 0 where
   pub states : DescribesNamespaces value ns
 
 -- `HasDeclarations bytes s` holds if `bytes` are a schema file, `s` are its declarations with their names resolved, and
--- no shape or context is, or leads by name to, a type other than a record.
+-- no shape or context resolves to a type that is not a record.
 pub record HasDeclarations (bytes : List ℕ) (s : ResolvedSchema) : Type 0 where
   pub namespaces : List NamespaceOf
   pub content : HasContent bytes namespaces
@@ -186,9 +186,8 @@ pub record HasDeclarations (bytes : List ℕ) (s : ResolvedSchema) : Type 0 wher
 
 -- `IsSchemaOf bytes v` holds if `bytes` describe the schema `v`. The bytes are a schema file (`HasDeclarations`) where
 -- no action is its own ancestor and each type has an expansion within the limits. `v` has the label of `bytes`, and
--- its lists and look-ups have what the file declares. In the file, no common type has two definitions, and no entity
--- type or action is declared twice: `declarations_are_read_as_stated` and `files_are_in_order` (of `schema_names`)
--- prove that.
+-- its lists and look-ups have what the file declares. `declarations_are_read_as_stated`, with `files_are_in_order` of
+-- `schema_names`, proves that the file declares no common type, entity type or action twice.
 pub record IsSchemaOf (bytes : List ℕ) (v : StatedSchema) : Type 0 where
   pub named : ResolvedSchema
   pub states : HasDeclarations bytes named

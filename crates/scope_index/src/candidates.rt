@@ -23,7 +23,7 @@ use values::{EntityUid, Request};
 // then the other candidates are added. The candidates do not depend on this number.
 const MANY: usize = 64;
 
-// The greatest number of candidates, other than the candidates of every request, that are inserted one by one. The
+// The other candidates are inserted one by one only if there are at most this many of them (see `are_few`). The
 // candidates do not depend on this number.
 const FEW: usize = 128;
 

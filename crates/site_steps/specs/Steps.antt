@@ -1,5 +1,5 @@
 -- Defines the steps of a site, each from a store `s` to a store `t` with a result, and the results of two queries.
--- Rules of this product: `ClockFull` is the last error that a local command is checked for; the count of a command's
+-- Rules of this product: a local command is checked for `ClockFull` after all other errors; the count of a command's
 -- stamp is one more than the greatest in the whole store; updates from another site are applied in their order; queries
 -- and rejected inputs leave the store unchanged.
 use Rattle.std.specs.Prelude.{◌≡◌, ◌↔◌, ◌<◌, ℕ, List, [], ◌∷◌, ◌++◌, length, take, Option, Some, None, IsSome}

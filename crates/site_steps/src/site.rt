@@ -145,8 +145,8 @@ impl Site {
         write_summary(self.alloc, self.store.schema().label(), self.store.store())
     }
 
-    /// Returns a delta: the entries whose names `since` lacks or has with a smaller stamp, as a message. Other sites of
-    /// the schema parse the message as the updates of those entries.
+    /// Returns a delta: the entries whose names the summary `since` lacks or has with a smaller stamp, as a message.
+    /// Other sites of the schema parse the message as the updates of those entries.
     ///
     /// # Errors
     ///
@@ -193,13 +193,14 @@ impl Site {
         Ok(answered?)
     }
 
-    /// Rebuilds the index if it is absent, and the ancestor cache if it is absent and would not be too large, as each
-    /// applied put, deletion or message does. Either stays absent if an allocation for it fails. No entry changes.
+    /// Rebuilds the index if it is absent, and the ancestor cache if it is absent and would not be too large. Each
+    /// applied put, deletion or message does this too. The index or the cache stays absent if its allocation fails. No
+    /// entry changes.
     ///
-    /// If the last build of the ancestor cache found too many ancestors, the cache stays absent during many further
-    /// updates of entities (`RebuildRule` of site_store counts them).
+    /// If the last build of the ancestor cache found too many ancestors, this call builds the cache only after many
+    /// further updates of entities (`RebuildRule` of site_store counts them).
     ///
-    /// A new site has no ancestor cache: call this if queries come before the first put or message.
+    /// A new site has no ancestor cache: call this to speed up queries before the first put or message.
     pub fn rebuild(&mut self)
         ensures { self.new ≡ self.old }
     {

@@ -1,5 +1,5 @@
--- Defines the type of an expression, and the capabilities that it gains: the fields that a true expression shows to be
--- present. Each typing rule is one case.
+-- Defines the type of an expression, and the capabilities that it gains: the fields that are present if the expression
+-- evaluates to true. Each constructor is one typing rule.
 -- Source: Cedar reference guide 4.0, "Policy validation"; cedar-spec, cedar-lean/Cedar/Validation/Typechecker.lean
 -- (`typeOf`).
 -- Rules of this product: those at the head of Literals.antt and of Rows.antt; and if `b` has the type False, but `a`
