@@ -67,8 +67,7 @@ ArePolicyOutcomes W q [] (j ∷ js) = ⊥
 ArePolicyOutcomes W q (p ∷ ps) [] = ⊥
 ArePolicyOutcomes W q (p ∷ ps) (j ∷ js) = IsPolicyOutcome W q p j × ArePolicyOutcomes W q ps js
 
--- `id_if wanted effect outcome id` is the list of `id` alone if `outcome` is `Satisfied` and `effect` is `wanted`, else
--- `[]`.
+-- `id_if wanted effect outcome id` is `id ∷ []` if `outcome` is `Satisfied` and `effect` is `wanted`, else `[]`.
 abbrev id_if : Effect → Effect → Outcome → List ℕ → List (List ℕ)
 id_if Permit Permit Satisfied id = id ∷ []
 id_if Forbid Forbid Satisfied id = id ∷ []
@@ -81,8 +80,7 @@ error_of (Errs error) id = record { policy = id; error = error } ∷ []
 error_of Satisfied id = []
 error_of NotSatisfied id = []
 
--- `if_satisfied wanted j` is the list of the id of `j` alone if `j` is satisfied and has the effect `wanted`; else
--- `[]`.
+-- `if_satisfied wanted j` is the one-item list of `j`'s id if `j` is satisfied and has the effect `wanted`, else `[]`.
 abbrev pub if_satisfied : Effect → PolicyOutcome → List (List ℕ)
 if_satisfied wanted j = id_if wanted j.effect j.outcome j.id
 

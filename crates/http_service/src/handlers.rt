@@ -244,8 +244,8 @@ fn answer_logged(
 
 /// Answers a request as [`answer`] does, and puts its log line into `line`. If the end of a decision's line can't be
 /// allocated, the reply is error 1 instead. If the route or the beginning of the log line (method and target) can't be
-/// allocated, the site makes no step, and the line has null for method and target. The reply is then error 1, or 404 or
-/// 405 if the route is not an operation.
+/// allocated, the site makes no step, and the line has null for method and target. The reply is then 404 or 405 if the
+/// route is not an operation, else error 1.
 pub(crate) fn answer_with_line(
     alloc: Global,
     scratch: &mut Scratch,

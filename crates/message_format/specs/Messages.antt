@@ -131,8 +131,8 @@ updates_in label d = do
   updates_by (entries_in version) label d
 
 -- `updates_stated label bytes` is the list of the updates that `bytes` describe for the schema with the label `label`,
--- in order, or the first error of JSON, version, shape or label. Updates.antt adds the checks of the ranges of
--- counts, of the ids of policies, and of bodies.
+-- in order, or the first error of JSON, version, shape or label. Updates.antt also checks the ranges of counts, the
+-- ids of policies, and the bodies.
 unfoldable pub updates_stated : List ℕ → List ℕ → Result (List Update) MessageFault
 updates_stated label bytes = do
   d ← or_fault NotJson (json_of bytes)

@@ -186,8 +186,8 @@ pub record HasDeclarations (bytes : List ℕ) (s : ResolvedSchema) : Type 0 wher
 
 -- `IsSchemaOf bytes v` holds if `bytes` describe the schema `v`. The bytes are a schema file (`HasDeclarations`) where
 -- no action is its own ancestor and each type has an expansion within the limits. `v` has the label of `bytes`, and
--- its lists and look-ups have what the file declares. `declarations_are_read_as_stated`, with `files_are_in_order` of
--- `schema_names`, proves that the file declares no common type, entity type or action twice.
+-- its lists and look-ups have what the file declares. The theorems `declarations_are_read_as_stated` and, in
+-- `schema_names`, `files_are_in_order` prove that the file declares no common type, entity type or action twice.
 pub record IsSchemaOf (bytes : List ℕ) (v : StatedSchema) : Type 0 where
   pub named : ResolvedSchema
   pub states : HasDeclarations bytes named

@@ -174,8 +174,8 @@ fn sound_schema(alloc: Global, bytes: &[u8], found: &ResolvedFile) -> Result<Sch
 /// In this order; `NoMemory` is possible at any point:
 ///
 /// - `NotJson` (20): the bytes are not JSON.
-/// - `BadShape` (21): the JSON does not have the form of a schema, or, checked after the whole form, a shape or a
-///   context is not a record.
+/// - `BadShape` (21): the JSON does not have the form of a schema; or it has this form, but a shape or a context is
+///   not a record.
 /// - `UnknownName` (22): a name does not resolve.
 /// - `TypeCycle` (23): a common type refers to itself, directly or indirectly.
 /// - `ActionCycle` (24): an action is its own ancestor.

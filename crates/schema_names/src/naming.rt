@@ -65,8 +65,8 @@ fn read_parts(alloc: Global, bytes: &[u8]) -> Result<Items<ResolvedFile>, Schema
 /// In this order:
 ///
 /// - `NotJson` (20): the bytes are not JSON.
-/// - `BadShape` (21): the JSON does not have the form of a schema, or, checked after the whole form, a shape or a
-///   context is not a record.
+/// - `BadShape` (21): the JSON does not have the form of a schema; or it has this form, but a shape or a context is
+///   not a record.
 /// - `UnknownName` (22): a name does not resolve.
 /// - `NoMemory` (1): an allocation failed; possible at any point.
 pub fn read_named(alloc: Global, bytes: &[u8]) -> Result<ResolvedFile, SchemaFault>

@@ -144,8 +144,8 @@ fn unsorted_candidates<'a, A: Ancestry>(
     Ok(found)
 }
 
-// Sorts candidates by their ids. Those of a bucket are a sorted run already; the stable sort merges long sorted runs as
-// they are. If it cannot allocate, the candidates are sorted in place.
+// Sorts candidates by their ids. Those of a bucket are a sorted run already; the stable sort merges long sorted runs
+// without sorting them again. If it cannot allocate, the candidates are sorted in place.
 fn sort_by_id<'a>(policies: &mut Vec<(&'a str, &'a Policy)>)
     ensures permutation { IsPermutation policies.old.items policies.new.items }
     ensures sorted { IsSortedByKey (λ p. p.0.now) text_cmp policies.new.items }

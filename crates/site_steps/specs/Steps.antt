@@ -77,7 +77,7 @@ PutsEntity schema n s json (Err fault.ClockFull) t =
 PutsEntity schema n s json (Err _) t = ⊥
 
 -- `Deletes n s name r t` holds if, at the site named `n`, deleting `name` may lead from `s` to `t` with the result `r`.
--- If the deletion gets a stamp, `name` has a text in `s`, and a tombstone is recorded under `name`.
+-- `r` is a stamp only if `name` has a text in `s`; a tombstone is then recorded under `name`.
 abbrev pub Deletes : List ℕ → Store → Name → Result Stamp SiteFault → Store → Type 0
 Deletes n s name (Ok stamp) t = IsSome (text_under s name) × Records n s name None stamp t
 Deletes n s name (Err fault.NoMemory) t = t ≡ s

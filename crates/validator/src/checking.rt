@@ -26,7 +26,7 @@ pub struct Verdict {
 }
 
 /// Checks that the entity types and actions that a policy names are declared: those in `parts` (the expressions of its
-/// scope), then those in its conditions. Returns the error of the first that is not.
+/// scope), then those in its conditions. Returns the error of the first undeclared name.
 fn check_names(schema: &Schema, parts: &[Expr], policy: &Policy) -> Result<(), TypeFault>
     ensures { result ≡ parts_check (schema_view schema.now) parts.now policy.now.condition }
 {

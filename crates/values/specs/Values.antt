@@ -65,9 +65,9 @@ pub pairs_of-fields_of : (fs : List (List ℕ × PlainValue)) → pairs_of (fiel
 pairs_of-fields_of [] = refl
 pairs_of-fields_of (f ∷ fs) = ap (λ w. f ∷ w) (pairs_of-fields_of fs)
 
--- `height v` is a measure for recursion over `v` and its parts: 1 more than `heights` of a set's members or
--- `field_heights` of a record's fields, and 0 for all other kinds. `heights vs` and `field_heights fs` are 1 more than
--- the greatest height of the members `vs` or of the values of the fields `fs`, and 0 for an empty list.
+-- `height v` is a measure for recursion over `v` and its parts. For a set it is 1 + `heights` of its members, for a
+-- record 1 + `field_heights` of its fields, for others 0. `heights vs` and `field_heights fs` are 1 more than the
+-- greatest height of the members `vs` or of the values of the fields `fs`, and 0 for an empty list.
 abbrev mutual
   pub height : PlainValue → ℕ
   height (boolean b) = 0

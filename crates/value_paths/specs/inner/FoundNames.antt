@@ -22,7 +22,7 @@ abbrev pub Names : Option Data → EntityUid → Type 0
 Names o uid = MatchOption o ⊥ (λ d. NamesEntity d uid)
 
 -- `AreNamed d names` holds if `names` are the entities that the request `d` names as its principal, action and
--- resource.
+-- resource, each `None` if the request names none.
 abbrev pub AreNamed : Data → Named → Type 0
 AreNamed d names = IsRead (Names (get (codes "principal") d)) names.principal
     × IsRead (Names (get (codes "action") d)) names.action × IsRead (Names (get (codes "resource") d)) names.resource
