@@ -109,8 +109,8 @@ fn with_one(
     Ok(all)
 }
 
-// Returns the only item of `after`, the new parents of `uid`, if it is not `uid`, and `uid` has no descendant other
-// than itself. The list `entities` (`uid` and its descendants) then has one item. Returns `None` otherwise.
+// Returns the only item of `after`, if that item is not `uid`, and `uid` is the only item of `entities`; else `None`.
+// `after` are the new parents of `uid`, `entities` are `uid` and its descendants.
 fn only_parent<'a>(
     uid: &Shared<EntityUid>,
     after: &'a [Shared<EntityUid>],

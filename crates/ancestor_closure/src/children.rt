@@ -15,7 +15,7 @@ use std::alloc::Global;
 use std::collections::{BTreeMap, BTreeSet};
 use values::EntityUid;
 
-// Adds each child in `found` that is not in `seen` to `seen` and to `work`.
+// Adds each child in `found` to `seen` and to `work`, unless the child is in `seen`.
 fn add_members<'a>(
     found: &'a BTreeSet<Shared<EntityUid>>,
     seen: &mut BTreeSet<&'a EntityUid>,

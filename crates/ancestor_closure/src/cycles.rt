@@ -58,7 +58,7 @@ fn leave(
     cyclic.remove(entity);
 }
 
-/// Removes from `cyclic` each of the entities whose own list of ancestors does not contain it.
+/// Removes from `cyclic` each of these entities that its own list of ancestors does not contain.
 pub(crate) fn leave_all(
     cyclic: &mut BTreeSet<Shared<EntityUid>>,
     relatives: &BTreeMap<EntityUid, Relatives>,

@@ -55,8 +55,7 @@ fn add_edges<G: ParentsOf>(
     add_to_parents(alloc, relatives, uid, &parents)
 }
 
-// Returns entries with the children of each entity, by the edges that begin at the entities `uids`; the lists of
-// ancestors are empty.
+// Returns entries that have, for each entity, its children among `uids`; the lists of ancestors are empty.
 fn children_among<G: ParentsOf>(
     alloc: Global,
     graph: &G,
@@ -93,8 +92,8 @@ fn write_lists<G: ParentsOf>(
     Ok(())
 }
 
-/// Returns the entries of a cache: the ancestors of each of these entities, within the budget, and the children by the
-/// edges that begin at these entities.
+/// Returns the entries of a cache: the ancestors of each of the entities `uids`, within the budget, and, for each
+/// entity, its children among `uids`.
 pub(crate) fn relatives_among<G: ParentsOf>(
     alloc: Global,
     graph: &G,

@@ -170,9 +170,9 @@ fn leads_in(numbers: &[usize], place: &[usize]) -> bool
     false
 }
 
-// Marks as cyclic each member from which an edge leads to a number that is not done. The edges of a completed group
-// lead only to done numbers and to its own members, which reach one another. So a member is cyclic if and only if it
-// has such an edge.
+// Marks as cyclic each member from which an edge leads to a number that is not done. Once the last group has no edge
+// left to visit, its edges lead only to done numbers and to its own members, which reach one another. So a member is
+// cyclic if and only if it has such an edge.
 fn find(edges: &[Vec<usize>], members: &[usize], place: &[usize], found: &mut Vec<bool>)
     ensures { FindsOpen (edges_of edges.now) place.now members.now found.old.items found.new.items }
 {

@@ -24,8 +24,8 @@ pub struct ErringPolicy {
 pub struct Answer {
     /// Whether the request is allowed.
     pub decision: Decision,
-    /// The ids of the determining policies: the satisfied permits of an allow, else the satisfied forbids. They are in
-    /// the order in which the caller passed the policies.
+    /// The ids of the determining policies: the satisfied permits if the decision is `Allow`, else the satisfied
+    /// forbids. The ids are in the order in which the caller passed the policies.
     pub reason: Items<Text>,
     /// The erroring policies, in the same order.
     pub errors: Items<ErringPolicy>,

@@ -17,7 +17,8 @@ pub enum PolicyError {
     /// The result of arithmetic is outside signed 64 bits.
     #[error("integer overflow")]
     ArithBoundsError,
-    /// The operand of `decimal` is not a decimal, or that of `ip` is not an IP address.
+    /// The string operand of `decimal` does not denote a decimal, or the string operand of `ip` does not denote an IP
+    /// address.
     #[error("invalid decimal or IP address")]
     ExtensionError,
 }

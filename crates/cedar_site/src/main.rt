@@ -1,5 +1,5 @@
 //! The program `cedar_site`. Its commands check policies, decide requests, load and serve sites, pull from one,
-//! exchange between two, merge states, execute scripts, and explain what is rejected.
+//! exchange between two, merge states and deltas, execute scripts, and explain codes and what is rejected.
 #![tactic(auto)]
 
 use program::{LineFault, SystemHost, report_words, run};

@@ -1,4 +1,4 @@
--- Defines the theorems that three texts have exactly one outcome, a line or an error.
+-- Defines the theorems that the three texts of a decision have exactly one outcome, a line or an error.
 -- Rules of this product: the outcome depends only on the texts and on the setting, except that a call may return
 -- `NoMemory` whatever the texts.
 use Rattle.std.specs.Prelude.{◌≡◌, ◌⊎◌, ℕ, List, map}

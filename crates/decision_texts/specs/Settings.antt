@@ -8,7 +8,7 @@ use Rattle.entity_data.specs.Entities.{Actions}
 use Rattle.answer_lines.specs.policy_grammar.declared.policy.Policy.{Policy}
 use Rattle.answer_lines.specs.declared.refusal.Refusal.{Refusal}
 
--- A `Reading` says what a setting parses each text as, and which errors it has.
+-- A `Reading` says what a setting parses each text as, which errors a text has, and which actions are declared.
 pub record Reading : Type 1 where
   -- the policies of a file are admitted
   pub admits : List Policy → Type 0

@@ -66,8 +66,8 @@ fn if_json(alloc: Global, members: &mut ArrayMembers<'_>, refusal: Refusal) -> R
     }
 }
 
-/// Returns the entities of an array, whose uids are distinct, or the first error. One member's JSON is in memory at a
-/// time. `members` has fewer than 2^63 JSON tokens left, so that the index of an entity does not overflow.
+/// Returns the entities of an array, or the first error; a repeated uid is an error. One member's JSON is in memory at
+/// a time. `members` has fewer than 2^63 JSON tokens left, so that the index of an entity does not overflow.
 fn read_array<S: Setting>(
     alloc: Global,
     setting: &S,

@@ -34,11 +34,11 @@ pub trait Setting {
         ensures refused { IfErr result
             (OrNoMemory no_memory ((reading self.now).rejects (map (λ p. p.1) policies.now))) };
 
-    /// Returns the entity that a value describes, or its error, which has no place.
+    /// Returns the entity that a value describes, or its error, with neither an offset nor an index.
     fn read_entity(&self, alloc: Global, value: &Value) -> Result<Entity, Refusal>
         ensures { ReadsAs no_memory (λ e. e) result ((reading self.now).entity (view value.now)) };
 
-    /// Returns the request that a value describes, or its error, which has no place.
+    /// Returns the request that a value describes, or its error, with neither an offset nor an index.
     fn read_request(&self, alloc: Global, value: &Value) -> Result<Request, Refusal>
         ensures read { IfOk result ((reading self.now).states (view value.now)) }
         ensures refused { IfErr result (OrNoMemory no_memory ((reading self.now).faults (view value.now))) };

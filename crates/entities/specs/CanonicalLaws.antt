@@ -32,7 +32,8 @@ abbrev pub CanonicalTextsReadBack : Type 0
 CanonicalTextsReadBack = (s : StatedSchema) (bytes : List ℕ) (e : Entity) → IsWellFormed s → IsReadFrom s bytes e
     → IsReadFrom s (canonical_text e) e
 
--- `CanonicalTextsAreOne`: two entities parsed under one well-formed schema are equal if their canonical texts are.
+-- `CanonicalTextsAreOne`: two entities parsed under one well-formed schema are equal if their canonical texts are
+-- equal.
 abbrev pub CanonicalTextsAreOne : Type 0
 CanonicalTextsAreOne = (s : StatedSchema) (bytes other : List ℕ) (e f : Entity) → IsWellFormed s
     → IsReadFrom s bytes e → IsReadFrom s other f → canonical_text e ≡ canonical_text f → e ≡ f

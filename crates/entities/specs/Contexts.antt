@@ -17,9 +17,9 @@ use Rattle.entities.specs.declared.fault.EntityFault.{EntityFault}
 use Rattle.entities.specs.declared.fault.EntityFault.TheVariants.{BadShape, NotApplicable}
 use Rattle.entities.specs.Faults.{with_entity_fault}
 
--- `context_where passes es` is the type of the context in the first of the environments `es` whose place `passes`
--- accepts; `None` if it accepts none. The place of an environment, an `EnvironmentKey`, is its action, its principal
--- type and its resource type. All environments of an action have the same type of context.
+-- `context_where passes es` is the type of the context in the first of the environments `es` with a place that `passes`
+-- accepts; `None` if `passes` accepts none of their places. The place of an environment, an `EnvironmentKey`, is its
+-- action, its principal type and its resource type. All environments of an action have the same type of context.
 abbrev pub context_where : (EnvironmentKey → Bool) → List EnvironmentOf → Option Cedar
 context_where passes [] = None
 context_where passes (e ∷ es) = if passes e.place then Some e.context else context_where passes es

@@ -34,7 +34,7 @@ abbrev pub CanonicalEntityNests : Type 0
 CanonicalEntityNests = (s : StatedSchema) (d : Data) (e : Entity) → IsWellFormed s → entity_stated_in s d ≡ Ok e
     → depth (canonical_json e) ≤ max_depth
 
--- `CanonicalIsOne`: two entities parsed under one schema are equal if their canonical JSON is.
+-- `CanonicalIsOne`: two entities parsed under one schema are equal if their canonical JSON is equal.
 abbrev pub CanonicalIsOne : Type 0
 CanonicalIsOne = (s : StatedSchema) (d other : Data) (e f : Entity) → entity_stated_in s d ≡ Ok e
     → entity_stated_in s other ≡ Ok f

@@ -1,5 +1,5 @@
--- Defines the theorems that parsing agrees with the relations on JSON: each relation holds of the result of the parsing
--- function, and of no other.
+-- Defines the theorems that parsing agrees with the relations on JSON: each relation holds of the result of parsing,
+-- and of no other result.
 use Rattle.std.specs.Prelude.{◌≡◌, ◌↔◌, List, Ok, Err}
 use Rattle.serde_json.specs.Data.{Data, Members, object}
 use Rattle.values.specs.Values.{PlainValue, record_of, fields_of}
@@ -74,12 +74,14 @@ abbrev pub ContextsHaveOneOutcome : Type 0
 ContextsHaveOneOutcome = (s : StatedSchema) (action : EntityUid) (d : Data)
     → HasOneOutcome (DescribesContext s action d) (RefusesContext s action d)
 
--- `RequestIsRead s d` holds if parsing gives exactly the request that `d` describes under the schema `s`, or its error.
+-- `RequestIsRead s d` holds if parsing gives exactly the request that `d` describes under the schema `s`, or the error
+-- if `d` describes none.
 pub record RequestIsRead (s : StatedSchema) (d : Data) : Type 0 where
   pub states : (q : Request) → ParsesRequest s d q ↔ DescribesRequest s d q
   pub refuses : (f : EntityFault) → RequestRefused s d f ↔ RefusesRequest s d f
 
--- `RequestsAreRead`: parsing gives the request that JSON describes, or its error, under each schema.
+-- `RequestsAreRead`: under each schema, parsing gives the request that JSON describes, or the error if JSON describes
+-- none.
 abbrev pub RequestsAreRead : Type 0
 RequestsAreRead = (s : StatedSchema) (d : Data) → RequestIsRead s d
 

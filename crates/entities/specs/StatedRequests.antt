@@ -42,8 +42,8 @@ pub data HasContext (IsPlace : EnvironmentKey → Type 0) : List EnvironmentOf �
   later_place : (e : EnvironmentOf) (more : List EnvironmentOf) (t : Cedar) → (IsPlace e.place → ⊥)
       → HasContext IsPlace more t → HasContext IsPlace (e ∷ more) t
 
--- `ReadsContext IsPlace s ms fields` holds if the object with the members `ms` describes the context `fields`, by the
--- type in the first environment of the schema `s` for whose place `IsPlace` holds.
+-- `ReadsContext IsPlace s ms fields` holds if the object with the members `ms` describes the context `fields` by the
+-- type of the context in the first environment of the schema `s` for whose place `IsPlace` holds.
 pub record ReadsContext (IsPlace : EnvironmentKey → Type 0) (s : StatedSchema) (ms : Members) (fields : List Field)
     : Type 0 where
   pub shape : Cedar
@@ -90,7 +90,7 @@ pub record DescribesRequest (s : StatedSchema) (d : Data) (q : Request) : Type 0
   pub reads : ReadsContext (AppliesTo (asked_by q)) s members q.context
 
 -- `RefusesRequest s d fault` holds if `d` describes no request under the schema `s`, and `fault` is the first error:
--- that of the form, else that the action does not apply, else that of the context.
+-- `BadShape` for the form, else `NotApplicable` for the action, else the error of the context.
 pub data RefusesRequest (s : StatedSchema) (d : Data) : EntityFault → Type 0 where
   no_request : ((asked : Asked) (ms : Members) → HasRequestForm d asked ms → ⊥) → RefusesRequest s d BadShape
   bad_request : (asked : Asked) (ms : Members) (fault : EntityFault) → HasRequestForm d asked ms

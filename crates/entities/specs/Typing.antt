@@ -39,8 +39,8 @@ plain_call name d = do
   same ← demand WrongType (bytes_eq given name)
   Ok argument
 
--- `call_in name d` is the argument of the call of `name` that `d` is, or that is the value of the only key `__extn` of
--- `d`; `WrongType` if there is no such call.
+-- `call_in name d` is the argument of the call if `d` is a call of `name`, or has such a call under its only key
+-- `__extn`; else `WrongType`.
 unfoldable pub call_in : List ℕ → Data → Result (List ℕ) ValueFault
 call_in name d = do
   inner ← under_key (codes "__extn") d (get (codes "__extn") d)
@@ -127,7 +127,7 @@ abbrev pub with_or : {A B : Type 0} → Option A → (A → B) → B → B
 with_or (Some a) f b = f a
 with_or None f b = b
 
--- `inside r` is `r` with any error as `WrongType`: a value with an error inside it is a value of the wrong type.
+-- `inside r` is `r`, with `WrongType` for any error: a value with an error inside it is a value of the wrong type.
 abbrev pub inside : {A : Type 0} → Result A ValueFault → Result A ValueFault
 inside (Ok x) = Ok x
 inside (Err f) = Err WrongType

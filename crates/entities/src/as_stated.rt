@@ -1,4 +1,4 @@
-//! Theorems that parsing agrees with the relations on JSON of specs/StatedValues, specs/StatedEntities and
+//! Theorems that parsing JSON agrees with the relations in specs/StatedValues, specs/StatedEntities and
 //! specs/StatedRequests. The functions are no-ops.
 ghost use Rattle.entities.specs.ParsingLaws.{ValuesAreRead, OneValue, OtherJsonIsOfWrongType};
 ghost use Rattle.entities.specs.ParsingLaws.{RecordsAreRead, RecordsAreRefused};

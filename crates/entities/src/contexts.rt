@@ -55,8 +55,8 @@ fn context_in(
 ///
 /// - `BadShape` (30): the value is not an object.
 /// - `NotApplicable` (39): no environment has the action.
-/// - Of the first faulty member, ascending by key: `Undeclared` (33), the member is not declared; `WrongType` (35), its
-///   value is of another type.
+/// - The error of the first faulty member, in ascending order of keys: `Undeclared` (33), the member is not declared;
+///   `WrongType` (35), the member's value is of another type.
 /// - `Missing` (34): a required member is missing.
 /// - `NoMemory` (1): an allocation failed; possible at any point.
 pub fn read_context(

@@ -12,7 +12,7 @@ use schema::{Environment, EnvironmentKey, Schema, stated_schemas_are_well_formed
 use schema_types::CedarType;
 use std::cmp::Ordering;
 
-/// The environments that a search seeks, given by how each environment compares with them.
+/// A search for environments, given by a comparison of each environment with those sought.
 pub(crate) trait Sought {
     /// The comparison of an environment's action and types with those sought: equal if the environment is sought.
     ghost order: { Self → PlainPlace → PlainOrdering };

@@ -82,8 +82,8 @@ impl Sought for Asked {
     }
 }
 
-/// Returns the context of the request `asked`, as `value`, the JSON of the whole request, describes it. Returns
-/// `NotApplicable` if no environment is that of the request, else the first error of the context.
+/// Returns the context that `value`, the JSON of the request `asked`, describes. The error is `NotApplicable` if the
+/// schema has no environment of the request, else the first error of the context.
 #[tactic(auto, unfolding(crate::specs::Requests::context_asked))]
 fn read_context_of(
     alloc: Global,
@@ -132,8 +132,8 @@ fn request_in(alloc: Global, schema: &Schema, value: &Value) -> Result<Request, 
 ///
 /// - `BadShape` (30): the value does not have the form of a request (docs/formats.md).
 /// - `NotApplicable` (39): the action is not declared, or does not apply to the types of principal and resource.
-/// - Of the first faulty member of the context, ascending by key: `Undeclared` (33), the member is not declared;
-///   `WrongType` (35), its value is of another type.
+/// - The error of the first faulty member of the context, in ascending order of keys: `Undeclared` (33), the member is
+///   not declared; `WrongType` (35), the member's value is of another type.
 /// - `Missing` (34): a required member of the context is missing.
 /// - `NoMemory` (1): an allocation failed; possible at any point.
 pub fn read_request(alloc: Global, schema: &Schema, value: &Value) -> Result<Request, EntityFault>

@@ -343,8 +343,8 @@ pub fn is_of_type(alloc: Global, value: &Json, ty: &CedarType) -> Result<bool, N
 /// In this order:
 ///
 /// - `WrongType` (35): the value is not an object, or the type is not a record.
-/// - Of the first faulty member, ascending by key: `Undeclared` (33), the type has no such field; `WrongType` (35), the
-///   member's value is not of the field's type.
+/// - The error of the first faulty member, in ascending order of keys: `Undeclared` (33), the type has no such field;
+///   `WrongType` (35), the member's value is not of the field's type.
 /// - `Missing` (34): a required field is missing.
 /// - `NoMemory` (1): an allocation failed; possible at any point.
 #[tactic(auto, unfolding(crate::specs::Typing::record_in))]

@@ -7,8 +7,8 @@ use Rattle.evaluator.specs.ancestor_search.Hierarchy.{Parents}
 use Rattle.evaluator.specs.ancestor_search.LeastCycle.{HasNoCycle}
 use Rattle.entity_data.specs.Entities.{Actions}
 
--- `stated_parents o` are the parents in `o`, or `[]` if `o` is `None`. Here `o` has the parents of a declared action;
--- it is `None` for any other uid.
+-- `stated_parents o` are the parents in `o`, or `[]` if `o` is `None`. Here `o` has the parents of a declared action,
+-- or is `None` for a uid that no declared action has.
 abbrev pub stated_parents : Option (List EntityUid) → List EntityUid
 stated_parents None = []
 stated_parents (Some parents) = parents

@@ -1,5 +1,5 @@
 -- Defines the proof that a test over listed uids decides the ancestor relation. The list has the uids of the stored
--- entities and of the declared actions, and so each uid with parents.
+-- entities and of the declared actions, since only these can have parents.
 use Rattle.std.proofs.Common.{◌≡◌, ◌↔◌, List, [], ◌∷◌, ◌++◌, Option, Some, None, Less, Equal, Greater, Bool, true}
 use Rattle.std.proofs.Common.{false, cond, map, refl, sym, subst, inl, inr}
 use Rattle.std.specs.Prelude.{Contains, IsSome, ◌⊎◌}

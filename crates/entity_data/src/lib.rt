@@ -1,4 +1,4 @@
-//! Entity data, stored once for evaluation, decisions and queries of ancestors.
+//! Entity data, of which one copy serves evaluation, decisions and queries of ancestors.
 //!
 //! Sources of entities and of actions implement one small trait each, so that nothing here depends on schemas.
 #![tactic(auto)]

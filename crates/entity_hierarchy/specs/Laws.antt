@@ -1,6 +1,6 @@
 -- Defines the theorems about actions. An action's parents are those that its `memberOf` lists. If all its ancestors
 -- were its parents, the ancestor relation, the outcome of each expression and each answer would be the same, since no
--- cycle contains an action. Putting an entity would make it cyclic in the same cases.
+-- cycle contains an action. An entity that is put would be cyclic in the same cases.
 use Rattle.std.specs.Prelude.{◌≡◌, ◌↔◌, ℕ, List, Option, None, Ok, option_map}
 use Rattle.serde_json.specs.Data.{Data}
 use Rattle.values.specs.declared.entity_uid.EntityUid.{EntityUid}

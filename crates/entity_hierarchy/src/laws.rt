@@ -16,8 +16,8 @@ pub fn reach_decides()
 /// instead. No-op.
 ///
 /// The ancestor relation and the cyclic entities would be the same, each expression would have the same outcome, and
-/// each request the same answer, whatever entities are stored. Whether an entity is cyclic after it is put would be the
-/// same too, under any uid and with any parents.
+/// each request the same answer, whatever entities are stored. An entity that is put, under any uid and with any
+/// parents, would be cyclic in the same cases.
 pub fn actions_may_be_closed()
     ensures kept { MemberOfIsKept }
     ensures alike { MemberOfLeadsAlike }

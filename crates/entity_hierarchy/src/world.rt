@@ -10,7 +10,7 @@ use std::alloc::Global;
 /// Contracts see the source and the schema; `entities_under` defines the entities of both.
 pub type Entities<'a, S> = entities::Entities<'a, S, SchemaActions<'a>>;
 
-/// Creates the entity data of a source and the actions of this schema. Does not allocate.
+/// Creates the entity data that has the entities of a source and the actions of this schema. Does not allocate.
 pub fn entity_data_under<'a, S: EntitySource>(
     alloc: Global,
     source: &'a S,

@@ -19,7 +19,7 @@ tokens_of_all [] = []
 tokens_of_all (d ∷ ds) = tokens_of d ++ tokens_of_all ds
 
 -- `AppendsTokens old new ts` holds if the output `new` is `old` with the tokens `ts` appended, and the bytes before the
--- first token are unchanged.
+-- first token of the output are unchanged.
 pub record AppendsTokens (old new : Written) (ts : List Token) : Type 0 where
   pub before : new.before ≡ old.before
   pub tokens : new.tokens ≡ old.tokens ++ ts

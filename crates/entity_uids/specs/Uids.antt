@@ -39,7 +39,7 @@ NamesEntity d uid = MatchOption (as_str d) (IsUid d uid) (λ text. IsUidText tex
 abbrev pub IsRead : (EntityUid → Type 0) → Option EntityUid → Type 0
 IsRead Names read = MatchOption read ((uid : EntityUid) → Names uid → ⊥) Names
 
--- ---- the same as functions, for contracts about JSON that contains uids
+-- ---- `IsPlainUid` and `IsUid` as functions, for contracts about JSON that contains uids
 
 -- `uid_made_of name id` is the uid with the type `name` and the id `id`, if both are present and the type is a Path;
 -- else `None`.

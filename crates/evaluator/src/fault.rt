@@ -20,8 +20,8 @@ pub enum EvalFault {
     /// The result of arithmetic is outside signed 64 bits.
     #[error("integer overflow")]
     ArithBoundsError,
-    /// The operand of `decimal` is a string that does not denote a decimal, or that of `ip` one that does not denote an
-    /// IP address.
+    /// The string operand of `decimal` does not denote a decimal, or the string operand of `ip` does not denote an IP
+    /// address.
     #[error("invalid decimal or IP address")]
     ExtensionError,
     /// An allocation failed.

@@ -54,7 +54,8 @@ pub(crate) fn variable_field<'a, L: EvalEnv>(
     attribute_at(env.fields_of(variable), name)
 }
 
-/// Returns the integer in a field or an attribute of a variable, or `None` if its value is of another kind.
+/// Returns the integer in a field or an attribute of a variable, or `None` if the field or attribute has a value of
+/// another kind.
 pub(crate) fn variable_number<L: EvalEnv>(
     env: &L,
     variable: Variable,

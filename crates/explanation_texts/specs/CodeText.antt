@@ -1,5 +1,5 @@
 -- Defines the explanation of an error code.
--- Source: docs/codes.md, whose table is compared with the rows here.
+-- Source: docs/codes.md, whose table is compared with the rows of src/table.rt.
 -- Rules of this product: four lines: the code with its name, its meaning, an example, and what to do.
 use Rattle.std.specs.Prelude.{ℕ, ◌==◌, nat_lt, if◌then◌else◌, List, ◌++◌, Option, map, codes, decimal}
 use Rattle.std.specs.List.{find}
@@ -8,8 +8,8 @@ use Rattle.explanation_texts.specs.declared.table.CodeWords.{CodeWords}
 use Rattle.explanation_texts.specs.declared.table.TheConstants.{ANY_CALL, POLICIES, SCHEMAS, ENTITIES}
 use Rattle.explanation_texts.specs.declared.table.TheConstants.{TYPES, MESSAGES, COMMANDS, HTTP}
 
--- `Texts` has the texts on an error code: its number and name, its meaning, an example, what the first line of an
--- explanation says of it, and what to do.
+-- `Texts` has the texts on an error code: its number and name, its meaning, an example, what an explanation of an error
+-- with this code says first (ExplanationText.antt), and what to do.
 pub record Texts : Type 0 where
   pub code : ℕ
   pub name : List ℕ

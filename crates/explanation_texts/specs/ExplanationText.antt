@@ -32,7 +32,7 @@ part before (c ∷ cs) most after = before ++ cut_text (c ∷ cs) most ++ after
 abbrev pub cause_part : List ℕ → List ℕ
 cause_part cause = part (codes " `") cause 60 (codes "`")
 
--- `says_line code says cause` is the line `error CODE: SAYS`, with `cause`, in backticks, at its end if it is not
+-- `says_line code says cause` is the line `error CODE: SAYS`, with `cause` in backticks at its end, unless `cause` is
 -- empty.
 abbrev pub says_line : ℕ → List ℕ → List ℕ → List ℕ
 says_line code says cause = codes "error " ++ decimal code ++ codes ": " ++ says ++ cause_part cause ++ 10 ∷ []

@@ -73,8 +73,8 @@ pub(crate) fn mark_if(is_cut: bool, mark: &str) -> &str
     if is_cut { mark } else { "" }
 }
 
-// Appends `count` characters of `text`, after its first `skipped`: blanks as wide as they are if `are_blank`, else the
-// characters as they are shown.
+// Appends `count` characters of `text`, after its first `skipped`: if `are_blank`, blanks as wide as the characters,
+// else the characters as they are shown.
 fn push_chars(
     out: &mut String,
     text: &str,

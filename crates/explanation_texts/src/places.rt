@@ -31,7 +31,7 @@ impl TextPosition {
     }
 }
 
-// Returns the line and the column of the place that follows `before`, the text from its beginning.
+// Returns the line and the column of the place after `before`, the part of a text that precedes the place.
 fn line_and_column(before: &str) -> (usize, usize)
     ensures line { result.0 ≡ line_after (chars before.now) }
     ensures column { result.1 ≡ column_after (chars before.now) }

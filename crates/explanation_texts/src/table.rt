@@ -15,7 +15,7 @@ pub struct CodeWords<T> {
     pub meaning: T,
     /// An example of what is rejected with this code.
     pub example: T,
-    /// What the first line of an explanation says is wrong. The cause follows it, if there is one.
+    /// What is wrong, in the words of the first line of an explanation. The cause follows, if there is one.
     pub says: T,
     /// What to do.
     pub advice: T,
@@ -290,7 +290,7 @@ static TYPES: [CodeWords<&str>; 7] = [
     CodeWords {
         code: 43,
         name: "no common type",
-        meaning: "two types have no common type; two literals, or two entity types, under `==` are unequal instead",
+        meaning: "two types have no common type; `==` of two literals, or of two entity types, is False instead",
         example: "`principal == 1`",
         says: "two types have no common type",
         advice: "compare values of one type, and write members of a set and the branches of an if of one type",
@@ -394,9 +394,9 @@ static COMMANDS: [CodeWords<&str>; 4] = [
     CodeWords {
         code: 60,
         name: "not there",
-        meaning: "the name has no text",
+        meaning: "no policy or entity has this name",
         example: "`DELETE /v1/policies/teams` a second time",
-        says: "the name has no text",
+        says: "no policy or entity has this name",
         advice: "look at the ids that `GET /v1/state` shows",
     },
     CodeWords {

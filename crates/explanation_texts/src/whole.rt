@@ -1,4 +1,4 @@
-//! Explanations of an error that show no line of its text: of a text as a whole, or of an item of an array.
+//! Explanations of an error of a text as a whole, or of an item of an array; they show no line of the text.
 ghost use Rattle.std.specs.Prelude.{◌≡◌, ◌++◌, OnOk, string_bytes, ℕ, List};
 ghost use Rattle.explanation_texts.specs.ExplanationText.{IsWholeText};
 

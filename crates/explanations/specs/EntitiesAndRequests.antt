@@ -35,7 +35,7 @@ abbrev pub AreEntitiesRead : Option StatedSchema → List ℕ → Type 0
 AreEntitiesRead None text = AreBareTextsRead text any_request
 AreEntitiesRead (Some s) text = (es : List Entity) × (entities_of (reading_under s) text ≡ Ok es)
 
--- `AreEntitiesRefused s text r` holds if `text` is not such an array, with the error `r`.
+-- `AreEntitiesRefused s text r` holds if the entities of `text` are rejected with `r`, under the schema `s` if any.
 abbrev pub AreEntitiesRefused : Option StatedSchema → List ℕ → Refusal → Type 0
 AreEntitiesRefused None text r = AreBareTextsRefused text any_request r
 AreEntitiesRefused (Some s) text r = entities_of (reading_under s) text ≡ Err r
@@ -70,7 +70,7 @@ IsCheckOutcome name Read Refused IsDetail bytes =
     (Read × (bytes ≡ [])) ⊎ ((r : Refusal) × Refused r × IsWholeAt name r.code r.place (IsDetail r.place) bytes)
 
 -- `AreEntitiesExplained s file bytes` holds if `bytes` explain why the entities of `file` are rejected; `bytes` are
--- empty if no entity is rejected, or without a file.
+-- empty if the entities are accepted, or without a file.
 abbrev pub AreEntitiesExplained : Option StatedSchema → Option File → List ℕ → Type 0
 AreEntitiesExplained s None bytes = bytes ≡ []
 AreEntitiesExplained s (Some file) bytes =

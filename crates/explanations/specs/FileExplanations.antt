@@ -93,8 +93,8 @@ IsExplainedUnder schema given bytes =
     ((s : StatedSchema) × IsSchemaOf schema.text s × AreOthersExplained (Some s) given bytes)
     ⊎ ((r : Refusal) × IsSchemaRefused schema.text r × IsWholeAt schema.name r.code r.place IsNothing bytes)
 
--- `IsExplainedAs schema given bytes` holds if `bytes` explain what is rejected, under the schema of a file if there is
--- one.
+-- `IsExplainedAs schema given bytes` is the same relation if there is a file `schema`; else `bytes` explain what is
+-- rejected without a schema.
 abbrev pub IsExplainedAs : Option File → Files → List ℕ → Type 0
 IsExplainedAs None given bytes = AreOthersExplained None given bytes
 IsExplainedAs (Some schema) given bytes = IsExplainedUnder schema given bytes

@@ -1,7 +1,7 @@
--- Defines parts of a text, and the texts of errors by their code and place.
+-- Defines parts of a text, and the texts that explain an error of a given code and place.
 -- Rules of this product: an error in a part of a text is shown at that part, with a cause and a note, which may be
--- empty; another error is shown by its file, and by its index if it is in an array; the error of a message is shown by
--- its file, with the entry at fault and the inner error if they are known.
+-- empty; the error of a whole file, or of an item in its array, is shown with the file's name and the item's index; the
+-- error of a message, with the file's name, and with the entry at fault and the inner error if they are known.
 use Rattle.std.specs.Prelude.{◌≡◌, ◌⊎◌, ℕ, List, [], ◌++◌, Option, None, Some, take, drop, codes, decimal}
 use Rattle.std.specs.Str.{IsCharBoundary}
 use Rattle.explanation_texts.specs.declared.finding.SourceFinding.{SourceFinding}
@@ -36,9 +36,9 @@ pub record IsSourceAt (file text note : List ℕ) (code start end : ℕ) (IsCaus
 abbrev pub IsNothing : List ℕ → Type 0
 IsNothing words = words ≡ []
 
--- `IsWholeAt file code index IsDetail bytes` holds if `bytes` explain an error of this code, at the item with this
--- index in the array of `file`, or of the whole file if there is no index, with words on the error for which `IsDetail`
--- holds.
+-- `IsWholeAt file code index IsDetail bytes` holds if `bytes` explain an error of this code, with a detail for which
+-- `IsDetail` holds: the error of the item with this index in the array of `file`, or of the whole file if there is no
+-- index.
 pub record IsWholeAt (file : List ℕ) (code : ℕ) (index : Option ℕ) (IsDetail : List ℕ → Type 0) (bytes : List ℕ) :
     Type 0
   where
@@ -59,8 +59,8 @@ abbrev pub inner_words : Option ℕ → List ℕ
 inner_words None = []
 inner_words (Some code) = codes ", error " ++ decimal code ++ codes ": " ++ name_in (words_on code)
 
--- `entry_words index code` are the words on the entry at fault of a message: its index, and its own error, the inner
--- error of this code. Without an index there are no words.
+-- `entry_words index code` are the words on the entry at fault of a message: its index, then the words on its own
+-- (inner) error of this code. Without an index there are no words.
 abbrev pub entry_words : Option ℕ → Option ℕ → List ℕ
 entry_words None code = []
 entry_words (Some index) code = codes "entry " ++ decimal index ++ codes " (from 0)" ++ inner_words code

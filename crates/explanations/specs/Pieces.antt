@@ -23,7 +23,8 @@ piece from to = record { start = from; end = to }
 abbrev pub open_after : Option ℕ → Token → Option ℕ
 open_after open_at t = if is_end t.kind then None else Some (unwrap_or open_at t.start)
 
--- `pieces_after ps open_at t` are the complete pieces after `t`, where `ps` and `open_at` are those before `t`.
+-- `pieces_after ps open_at t` are the complete pieces after `t`, where `ps` are those before `t`, and `open_at` is the
+-- start of the piece that is open before `t`.
 abbrev pub pieces_after : List Piece → Option ℕ → Token → List Piece
 pieces_after ps open_at t = if is_end t.kind then ps ++ piece (unwrap_or open_at t.start) t.end ∷ [] else ps
 

@@ -1,9 +1,9 @@
 -- Defines the explanation of the policies of a file that do not pass validation.
--- Rules of this product: each policy that `check` reports as rejected is explained, in the order of the file, once,
--- with the code that `check` reports, and no other policy is. A policy of at most 10,000 bytes, whose condition has at
--- most 10,000 nodes, is explained with the cause and the details that fault_paths gives, at the name or the expression
--- at fault; a larger one without a cause, at the whole policy. A note says so if the whole policy is shown. Without a
--- schema no policy is rejected.
+-- Rules of this product: exactly the policies that `check` reports as rejected are explained, once each, in the order
+-- of the file, with the code that `check` reports. A policy of at most 10,000 bytes, whose condition has at most 10,000
+-- nodes, is explained with the cause and the details that fault_paths gives, at the name or the expression at fault; a
+-- larger one without a cause, at the whole policy. A note says so if the whole policy is shown. Without a schema no
+-- policy is rejected.
 use Rattle.std.specs.Prelude.{◌≡◌, ℕ, ◌+◌, ◌-◌, min, nat_le, Bool, true, false, ◌&&◌, List, [], ◌∷◌, ◌++◌, length}
 use Rattle.std.specs.Prelude.{Option, Some, None}
 use Rattle.std.specs.Prelude.{string_bytes, codes}
@@ -42,7 +42,7 @@ abbrev pub IsNameOrExpressionSpan : Bool → List ℕ → List ℕ → Option Sp
 IsNameOrExpressionSpan true part path found = IsNameSpanOf part path found
 IsNameOrExpressionSpan false part path found = IsSpanOf part path found
 
--- `IsSpanFound text place f found` holds if `found` is the span of what the error `f` blames of the policy at `place`.
+-- `IsSpanFound text place f found` holds if `found` is the span of what the error `f` blames in the policy at `place`.
 abbrev pub IsSpanFound : List ℕ → Piece → PolicyFault → Option Span → Type 0
 IsSpanFound text place f found =
     (part : List ℕ) × IsPartOf text place.start place.end part

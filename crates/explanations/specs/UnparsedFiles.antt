@@ -1,9 +1,9 @@
 -- Defines the explanation of the policies of a file that does not parse.
 -- Rules of this product: each part of the file that ends with a `;`, or with the file, is parsed as a file of its own,
--- in order. A part that does not parse is explained by its first error, and a policy that does not pass like one of a
--- parsed file. The error of a part is that of the file if both have the same code at the same byte, or the same code 18
--- or 19, whose errors have no byte of their own. An error is shown at the token at its byte; an error of the grammar
--- has that token as its cause.
+-- in order. A part that does not parse is explained by its first error; if a part parses, its policy is explained as in
+-- a file that parses. The error of a part is that of the file if both have the same code at the same byte, or the same
+-- code 18 or 19, whose errors have no byte of their own. An error is shown at the token at its byte; an error of the
+-- grammar has that token as its cause.
 use Rattle.std.specs.Prelude.{◌==◌, ◌&&◌, nat_le, ◌<◌, ◌≤◌, ◌⊎◌, codes, length}
 use Rattle.std.specs.Prelude.{◌≡◌, ℕ, ◌+◌, min, Bool, true, false, ◌||◌, List, [], ◌∷◌, ◌++◌, Option, unwrap_or}
 use Rattle.std.specs.Prelude.{find, option_map}
@@ -18,8 +18,8 @@ use Rattle.explanations.specs.declared.pieces.Piece.{Piece}
 use Rattle.explanations.specs.Parts.{IsPartOf, IsSourceAt}
 use Rattle.explanations.specs.Policies.{ArePoliciesExplained}
 
--- `byte_in piece fault` is the offset in the whole text of an error of a piece. (At most 2^64 - 1, which is no
--- restriction: no text is so long.)
+-- `byte_in piece fault` is the byte of the whole text at which `piece` has the error `fault`. (At most 2^64 - 1, which
+-- is no restriction: no text is so long.)
 abbrev pub byte_in : Piece → ReadFault → ℕ
 byte_in piece fault = min (piece.start + unwrap_or (place_of fault) 0) 18446744073709551615
 
@@ -41,23 +41,23 @@ abbrev pub names_token : ℕ → Bool
 names_token code = nat_le 11 code && nat_le code 16
 
 -- `IsCauseAt text code at end cause` holds if `cause` is the cause of an error of this code at the token between the
--- bytes `at` and `end` of `text`: that token, or `end of the text` if `at` is the end of `text`; nothing for an error
--- that names no token.
+-- bytes `at` and `end` of `text`: that token, or `end of the text` if `at` is not before the end of `text`; nothing for
+-- an error that names no token.
 abbrev pub IsCauseAt : List ℕ → ℕ → ℕ → ℕ → List ℕ → Type 0
 IsCauseAt text code at end cause =
     ((names_token code ≡ false) × (cause ≡ []))
     ⊎ ((names_token code ≡ true) × (at < length text) × IsPartOf text at end cause)
     ⊎ ((names_token code ≡ true) × (length text ≤ at) × (cause ≡ codes "end of the text"))
 
--- `IsReadErrorText file text tokens code at bytes` holds if `bytes` explain an error of this code, for which `text`,
--- with these tokens, does not parse, at the byte `at`.
+-- `IsReadErrorText file text tokens code at bytes` holds if `bytes` explain an error of this code at the byte `at` of
+-- `text`, the text of the file `file`, with these tokens.
 abbrev pub IsReadErrorText : List ℕ → List ℕ → List Token → ℕ → ℕ → List ℕ → Type 0
 IsReadErrorText file text tokens code at =
     IsSourceAt file text [] code at (end_of_token tokens at) (IsCauseAt text code at (end_of_token tokens at))
 
--- `IsPieceExplained s file text tokens r piece told bytes` holds if `bytes` explain a piece of a file, with the text
--- `text` and these tokens, that is rejected with `r`; `told` says whether the piece by itself does not parse and has
--- the error `r`.
+-- `IsPieceExplained s file text tokens r piece told bytes` holds if `bytes` explain what is rejected in the piece
+-- `piece` of the file `file`, where the file has the text `text`, these tokens and the error `r`; `told` says whether
+-- the piece by itself does not parse and has the error `r`.
 pub data IsPieceExplained (s : Option StatedSchema) (file text : List ℕ) (tokens : List Token) (r : Refusal)
     (piece : Piece) : Bool → List ℕ → Type 0 where
   is_read : (part : List ℕ) (names : List (List ℕ)) (cores : List Policy) (bytes : List ℕ)

@@ -34,7 +34,7 @@ fn tokens_of(alloc: Global, text: &str) -> Result<Vec<Token>, NoMemory>
 }
 
 /// Appends why a file of policies does not parse: the error of each of its pieces, and then that of the file, unless a
-/// piece has it. Returns `NoMemory` if the error of the file is out of memory.
+/// piece has it. Returns `NoMemory` if the error of the file is `NoMemory`.
 fn explain_unread(
     alloc: Global,
     out: &mut String,
@@ -91,8 +91,7 @@ fn explain_text(
     }
 }
 
-/// Appends that a file of policies is not UTF-8, where `at` is the length of its longest part from the beginning that
-/// is.
+/// Appends that a file of policies is not UTF-8, where `at` is the length of the file's longest prefix that is UTF-8.
 fn explain_no_text(
     alloc: Global,
     out: &mut String,

@@ -20,7 +20,7 @@ pub(crate) fn part_of(text: &str, from: usize, to: usize) -> &str
     }
 }
 
-/// Checks that the error is not out of memory.
+/// Checks that the error is not `NoMemory`.
 ///
 /// # Errors
 ///
@@ -34,8 +34,8 @@ pub(crate) fn unless_no_memory(refusal: Refusal) -> Result<(), NoMemory>
     Ok(())
 }
 
-/// Appends the text of an error in the file `file`: at the index of an item in its array, if the error has one, with
-/// the words `detail` on the error.
+/// Appends the text that explains an error in the file `file`: with the index of the item at fault, if the error has an
+/// index, and with the detail `detail`.
 ///
 /// # Errors
 ///

@@ -15,8 +15,8 @@ pub(crate) struct Piece {
     pub end: usize,
 }
 
-/// Appends the piece that a token ends, if it ends one. Returns the byte at which the piece that is open after the
-/// token begins, if one is.
+/// Appends the piece that a token ends, if it ends one. Returns the start of the piece that is open after the token, if
+/// one is open.
 fn take_token(
     pieces: &mut Vec<Piece>,
     begun: Option<usize>,

@@ -115,7 +115,7 @@ fn explain_large(
     }
 }
 
-/// Appends why a policy does not pass validation, if there is a schema and it does not.
+/// Appends why a policy does not pass validation; nothing if the policy passes, or without a schema.
 fn explain_policy(
     alloc: Global,
     out: &mut String,

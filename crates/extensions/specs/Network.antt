@@ -2,7 +2,7 @@
 -- Source: RFC 4632, section 3.1, and RFC 4291, section 2.3, for the prefix; Cedar reference guide 4.0, the functions
 -- `isInRange`, `isLoopback` and `isMulticast`; RFC 1122, section 3.2.1.3, RFC 5771 and RFC 4291, sections 2.5.3 and
 -- 2.7, for the four ranges.
--- Rules of this product: loopback and multicast require the whole range.
+-- Rules of this product: a network is loopback or multicast only if all of it lies in such a range.
 use Rattle.std.specs.Prelude.{◌≡◌, ℕ, ◌+◌, ◌-◌, ◌*◌, ◌/◌, ◌^◌, ◌<◌, ◌≤◌}
 use Rattle.extensions.specs.declared.ip_net.Version.{Version}
 use Rattle.extensions.specs.declared.ip_net.Version.TheVariants.{V4, V6}

@@ -1,8 +1,8 @@
 -- Defines the report on a policy that does not pass validation, in words.
 -- Source: docs/codes.md.
 -- Rules of this product: the error is that of `check`; an undeclared name is named, for an undeclared action with the
--- declared ones; a typing error is reported with the first environment that has an error and the types there or, for an
--- attribute (44), whether it is declared and, if not, with those that are.
+-- declared ones; a typing error is reported with the first environment that has an error, and with the types there or,
+-- for error 44, whether the attribute is declared, and if not, which attributes are.
 use Rattle.std.specs.Prelude.{◌≡◌, ℕ, List, string_bytes}
 use Rattle.type_checker.specs.policy_grammar.declared.policy.Policy.{Policy}
 use Rattle.type_checker.specs.schema.Schemas.{StatedSchema}

@@ -67,8 +67,8 @@ abbrev pub field_names : FieldTypes → List (List ℕ)
 field_names types.no_field_types = []
 field_names (types.field_type k t r fs) = k ∷ field_names fs
 
--- `fields_of attributes t` are the fields of the record type `t`, or the attributes of the entity type `t`, which
--- `attributes` gives by its name; another type has none.
+-- `fields_of attributes t` are the fields of the record type `t`, or the attributes that `attributes` gives for the
+-- name of the entity type `t`; another type has none.
 abbrev pub fields_of : (List ℕ → FieldTypes) → StaticType → FieldTypes
 fields_of attributes (types.record_type fs) = fs
 fields_of attributes (types.entity_type n) = attributes n
@@ -138,8 +138,8 @@ typing_cause f x = if is_missing f then attribute_of x else []
 abbrev pub what_words : Environment → TypeFault → Expr → List StaticType → List ℕ
 what_words env f x ts = if is_missing f then declared_words env (attribute_of x) ts else types_words ts
 
--- `detail_in s o f x ts` are the words for the environment `o` of the schema `s`, followed by the details there of the
--- error `f` of the form `x`, which is about the types `ts`; empty if `o` is `None`.
+-- `detail_in s o f x ts` are the words for the environment `o` of the schema `s`, then the details there of the error
+-- `f` of the form `x`, where `ts` are the types that the error is about; empty if `o` is `None`.
 abbrev pub detail_in : StatedSchema → Option EnvironmentOf → TypeFault → Expr → List StaticType → List ℕ
 detail_in s None f x ts = []
 detail_in s (Some e) f x ts = environment_words e ++ what_words (typing_environment_of s e) f x ts

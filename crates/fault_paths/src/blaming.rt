@@ -61,8 +61,8 @@ fn blame_at<'a>(
 /// `whole` is the policy's expression, as [`expression_of`](validator::expression_of) builds it: paths begin at its
 /// root.
 ///
-/// Types the policy once in each environment up to the first with an error. In this one, types parts of the policy once
-/// more for each level of the path to the blamed expression.
+/// Types the policy once in each environment up to the first with an error. In this environment, parts of the policy
+/// are typed once more for each level of the path to the blamed expression.
 ///
 /// # Errors
 ///

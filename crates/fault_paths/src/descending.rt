@@ -22,8 +22,8 @@ pub struct BlamedForm<'a> {
     pub types: Vec<StaticType<'a>>,
 }
 
-/// Returns the form whose demand is not met in the expression `whole`, which has an error. Writes the path to the
-/// blamed expression to `path`, and the types that the demand is about to `types`.
+/// Returns the form whose demand is not met in the expression `whole`, which has an error. Writes to `path` the path to
+/// the blamed expression, and to `types` the types that the demand is about.
 ///
 /// `known` and `path` are empty at first.
 pub(crate) fn descend<'a>(

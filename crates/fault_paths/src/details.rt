@@ -44,8 +44,9 @@ fn push_attributes(
     }
 }
 
-/// Appends whether the first of `types` declares the attribute `name`, and if not, which attributes it has; nothing
-/// without types. Of a declared one, appends that it is optional: only such a one may be missing.
+/// Appends whether the first of `types` declares the attribute `name`, and if not, which attributes this type has;
+/// nothing without types. Of a declared attribute, appends that it is optional: only an optional attribute may be
+/// missing.
 fn push_declared<'a>(
     out: &mut String,
     schema: &'a Schema,
@@ -73,7 +74,7 @@ fn push_declared<'a>(
 
 /// Appends the environment of a typing error, and the details of the error there: for 44 (an attribute that is
 /// undeclared or may be missing), whether the attribute is declared, and if not, which attributes are; for any other
-/// error, the types that the demand is about.
+/// error, the types that the form's demand is about.
 pub(crate) fn push_detail<'a>(
     out: &mut String,
     schema: &'a Schema,

@@ -21,7 +21,7 @@ pub(crate) enum Judgement {
 
 /// Returns the judgement on an expression under the capabilities `known`.
 ///
-/// Appends the type to `types`, and the capabilities that the expression gains to `known`. An expression with an error
+/// Appends the type to `types`, and to `known` the capabilities that the expression gains. An expression with an error
 /// leaves `known` unchanged.
 pub(crate) fn judge<'a>(
     alloc: Global,

@@ -1,12 +1,12 @@
-//! The place of a rejected policy's error, that is, the blamed expression or the undeclared name with its path, and the
-//! report on it in words: the cause, the environment and the types; for an undeclared attribute or action, the declared
-//! ones.
+//! The place of a rejected policy's error, that is, the blamed expression or the undeclared name, each with its path,
+//! and the report on the error in words: the cause, the environment and the types; for an undeclared attribute or
+//! action, the declared ones.
 //!
 //! Each core expression is a *form* with operands. A typing error *blames* the form whose demand is not met, or the
 //! operand that does not meet it. A *path* leads from the whole expression to a part of it by the indexes of operands.
 //!
-//! This is a pass of its own, which also finds the place; of a policy that passes [`check`](validator::check) it
-//! reports nothing.
+//! This crate searches for the error apart from [`check`](validator::check), and also finds the place; for a policy
+//! that passes `check`, nothing is reported.
 #![tactic(auto)]
 
 mod attributes;

@@ -69,8 +69,8 @@ fn own_name<'a>(schema: &Schema, expr: &'a Expr) -> Option<NameFault<'a>>
     }
 }
 
-/// Returns the first name of an expression that the schema does not declare, and appends the path from the expression
-/// to the name to `path`. If the schema declares all names, returns `None` and leaves `path` unchanged.
+/// Returns the first name of an expression that the schema does not declare, and appends to `path` the path from the
+/// expression to the name. If the schema declares all names, returns `None` and leaves `path` unchanged.
 fn find<'a>(
     schema: &Schema,
     expr: &'a Expr,

@@ -23,12 +23,12 @@ pub(crate) struct Step<'a> {
 pub(crate) enum Next {
     /// The form blames the operand.
     Blamed,
-    /// The operand of this index is next. So many of the known capabilities and of the types are kept.
+    /// The index of the next operand, and the numbers of the known capabilities and of the types that are kept.
     Operand(usize, usize, usize),
 }
 
-/// Returns what follows the operand at the index `at` of an `&&` or `||`: its type is `truth`, or is not boolean.
-/// Behind the left operand `known` capabilities are kept.
+/// Returns what follows the operand at the index `at` of an `&&` or `||`. The operand has the boolean type `truth`, or
+/// another type if `truth` is `None`. After the left operand `known` capabilities are kept.
 fn after_left(at: usize, truth: Option<BooleanType>, known: usize) -> Next
     ensures { result ≡ after_left at truth known }
 {
@@ -44,7 +44,8 @@ fn after_left(at: usize, truth: Option<BooleanType>, known: usize) -> Next
     }
 }
 
-/// Returns what follows the operand at the index `at` of the form `expr`: its type is `truth`, or is not boolean.
+/// Returns what follows the operand at the index `at` of the form `expr`. The operand has the boolean type `truth`, or
+/// another type if `truth` is `None`.
 ///
 /// `start` capabilities are known before the form, `known` behind the operand, and `types` types are collected.
 fn after(

@@ -51,7 +51,7 @@ impl Listed for (Text, CedarType, bool) {
 impl<'r, 'a> Listed for (&'r str, StaticType<'a>, bool) {
     ghost words = { λ field. field.0.now };
 
-    /// Appends the name of the field, which an expression built.
+    /// Appends the name of the field of a record type that an expression built.
     fn push_to(&self, out: &mut String) -> Result<(), NoMemory> {
         out.push_str(self.0)
     }

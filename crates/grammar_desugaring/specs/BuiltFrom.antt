@@ -5,7 +5,7 @@ use Rattle.grammar_trees.specs.grammar_tokens.declared.token.Token.{Token}
 use Rattle.grammar_trees.specs.grammar_tokens.Lexing.{IsSpelledIn}
 
 -- `IsBuiltFrom text WellFormed` holds if `WellFormed ts` holds for some tokens `ts`, each spelled in `text`.
--- `WellFormed ts` states that some tree is made of the tokens `ts`.
+-- `WellFormed ts` states that a given tree is made of the tokens `ts`.
 pub record IsBuiltFrom (text : List ℕ) (WellFormed : List Token → Type 0) : Type 0 where
   pub tokens : List Token
   pub spelled : AllByRecursion (IsSpelledIn text) tokens

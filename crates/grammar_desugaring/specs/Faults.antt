@@ -1,6 +1,6 @@
--- Defines the errors of a syntax tree over the text that its tokens are in (`text` in each definition). A list of
--- errors has those of a function call or of a record itself before those of its parts, and those of an expression
--- before those of each access to it.
+-- Defines the errors of a syntax tree over the text that its tokens are in (`text` in each definition). In a list of
+-- errors, a function call's or a record's own errors come before the errors of its parts, and the errors of an
+-- expression come before the errors of each access to it.
 -- Source: Cedar reference guide 4.0, "Data types: Long", "Data types: Record", "Operators and functions". The offsets
 -- are a rule of this product.
 use Rattle.std.specs.Prelude.{ℕ, Bool, List, [], ◌∷◌, ◌++◌, map, length, Option, Some, None, nat_eq, if◌then◌else◌}

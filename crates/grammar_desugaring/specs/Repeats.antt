@@ -1,4 +1,4 @@
--- Defines the list of the offsets at which a name occurs that also occurs earlier, and the errors at these offsets.
+-- Defines the list of the offsets of names that repeat an earlier name, and the errors at these offsets.
 -- Source: Cedar reference guide 4.0, "Data types: Record": the keys of a record are distinct.
 use Rattle.std.specs.Prelude.{◌≡◌, ◌↔◌, ℕ, List, [], ◌∷◌, ◌++◌, map, filter, Contains}
 use Rattle.std.specs.Str.{bytes_eq}
@@ -11,8 +11,8 @@ pub use Rattle.grammar_trees.specs.Repeats.{NameAt, IsRepeatedAt, abstract_names
 abbrev pub places_of : List ℕ → List NameAt → List ℕ
 places_of name marks = map (λ m. m.at) (filter (λ m. bytes_eq name m.name) marks)
 
--- `repeats marks` are the offsets at which a name of `marks` occurs that also occurs earlier. An offset is listed once
--- for each earlier occurrence.
+-- `repeats marks` are the offsets of the names of `marks` that repeat an earlier name. An offset is listed once for
+-- each earlier occurrence.
 abbrev pub repeats : List NameAt → List ℕ
 repeats [] = []
 repeats (mark ∷ behind) = places_of mark.name behind ++ repeats behind

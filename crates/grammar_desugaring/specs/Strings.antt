@@ -5,7 +5,7 @@ use Rattle.std.specs.Prelude.{◌≡◌, ℕ, List}
 use Rattle.grammar_trees.specs.grammar_tokens.Strings.{IsStringOf, IsPatternOf}
 use Rattle.grammar_desugaring.specs.inner.StringReading.{string_meaning}
 
--- `value_of spelling` is the value of the string `spelling`, which has no `\*`.
+-- `value_of spelling` is the value of `spelling`, a string without `\*`.
 abbrev pub value_of : List ℕ → List ℕ
 value_of = string_meaning.value
 

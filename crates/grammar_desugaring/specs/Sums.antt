@@ -43,8 +43,8 @@ abbrev pub paired : Measure → Measure → Measure
 paired i j = node_measure (side_by_side i j)
 
 -- `called fault operands` is the measure of a call. `fault` is the call's own error, and `operands` is the measure of
--- its operands side by side, whose errors include `fault`. A call with an error of its own has a placeholder, a leaf,
--- as its core expression.
+-- the operands side by side, with the earliest of `fault` and the operands' errors. A call with an error of its own has
+-- a placeholder, a leaf, as its core expression.
 abbrev pub called : Option DesugarFault → Measure → Measure
 called None operands = node_measure operands
 called (Some fault) operands = leaf operands.fault

@@ -1,5 +1,5 @@
 -- Defines the measure of a tree over the text that its tokens are in (`text` in each definition): the size of the
--- tree's core expression, and its reported error. The measure is computed before the core expression is built.
+-- tree's core expression, and the tree's reported error. The code computes the measure without the core expression.
 use Rattle.std.specs.Prelude.{ℕ, List, map, Option}
 use Rattle.grammar_core.specs.declared.expr.Expr.{Expr}
 use Rattle.grammar_core.specs.Size.{height, node_count, capped, greatest, total}

@@ -24,7 +24,7 @@ fn single(arguments: Items<Expr>) -> Option<Expr>
 }
 
 /// Returns a call of a function; or the placeholder, if the function is unknown or the number of arguments is not one;
-/// or the error of its arguments.
+/// or the error of `arguments`.
 pub(crate) fn call(
     alloc: Global,
     function: Option<UnaryCall>,
@@ -75,7 +75,7 @@ fn call_alone(
 }
 
 /// Returns a call of a method; or the placeholder, if the method is unknown or takes another number of arguments; or
-/// the error of its arguments.
+/// the error of `arguments`.
 pub(crate) fn call_with_row(
     alloc: Global,
     method: Option<Method>,

@@ -36,7 +36,8 @@ impl DesugarFault {
     }
 }
 
-/// Returns the present error with the lesser offset, `one` if the offsets are equal, or `None` if neither is present.
+/// Returns the earlier of the errors `one` and `other` that are present, `one` if both are at one offset, or `None` if
+/// neither is present.
 pub fn earlier_of(one: Option<DesugarFault>, other: Option<DesugarFault>) -> Option<DesugarFault>
     ensures { result ≡ spec.earlier_of one other }
 {

@@ -12,7 +12,7 @@ pub struct Measure {
     pub height: u32,
     /// The number of nodes.
     pub node_count: u32,
-    /// The error at the least offset; `None` if the tree has a core expression.
+    /// The error at the least offset; `None` if the tree has no error.
     pub fault: Option<DesugarFault>,
 }
 
@@ -70,8 +70,9 @@ impl Measure {
         self.side_by_side(other).node_measure()
     }
 
-    /// Returns the measure of a call. `fault` is the call's own error, and `self` is the measure of its operands, whose
-    /// errors include `fault`. A call with an error of its own has a placeholder, a leaf, as its core expression.
+    /// Returns the measure of a call. `fault` is the call's own error, and `self` is the measure of the operands, with
+    /// the earliest of `fault` and the operands' errors. A call with an error of its own has a placeholder, a leaf, as
+    /// its core expression.
     pub(crate) fn called(self, fault: Option<DesugarFault>) -> Measure
         ensures { result ≡ spec.called fault self }
     {

@@ -1,5 +1,5 @@
-//! Functions that measure a tree: whether it has a core expression, and the size of that expression, without building
-//! it. They allocate only for the keys of records.
+//! Functions that measure a tree: the size of its core expression, which is not built, and its error at the least
+//! offset. They allocate only for the keys of records.
 ghost use Rattle.std.specs.Prelude.{◌≡◌, IfOk};
 ghost use Rattle.std.specs.List.{AllByRecursion, fold};
 ghost use Rattle.grammar_trees.specs.grammar_tokens.declared.token.TokenKind.TheVariants as k;
@@ -279,7 +279,7 @@ fn measure_entries(alloc: Global, text: &str, entries: &[RecordEntry<ExprTree>])
     Ok(row)
 }
 
-/// Returns the measure of the operands `first` and `more` of a chain.
+/// Returns the measure of the chain of the operands `first` and `more`.
 #[cycle(measuring)]
 fn measure_chain(
     alloc: Global,

@@ -94,8 +94,8 @@ indexed = do
   token k.RBracket
   pure (access.Field (Quoted word))
 
--- `variable_at first more` is the variable that the Path of the words `first` and `more` names, if it names one: only a
--- Path of one word can.
+-- `variable_at first more` is the variable named by the Path of the words `first` and `more`, if there is one: only a
+-- Path of one word names a variable.
 abbrev pub variable_at : Token → List Token → Option RequestKeyword
 variable_at first [] = variable_of first.kind
 variable_at first (t ∷ ts) = None
@@ -105,7 +105,8 @@ abbrev pub variable_by : Option RequestKeyword → Parser ExprTree
 variable_by (Some variable) = pure (tree.Variable variable)
 variable_by None = refuse
 
--- `alone p` is `variable_by` of the variable that the Path `p` names, if it names one.
+-- `alone p` consumes no token, and has the variable that the Path `p` names as its value; it stops with an error if `p`
+-- names none.
 unfoldable pub alone : PathTree → Parser ExprTree
 alone p = variable_by (variable_at p.first p.more)
 

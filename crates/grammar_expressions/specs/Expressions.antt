@@ -96,8 +96,8 @@ abbrev pub joined : {A : Type 0} → (ExprTree → List A → ExprTree) → Expr
 joined make x [] = x
 joined make x (next ∷ more) = make x (next ∷ more)
 
--- `accessed name arguments` is an access by a dot: a call of the method `name` if `arguments` is a list, even an empty
--- one; the field `name` if it is `None`.
+-- `accessed name arguments` is an access by a dot: a call of the method `name` for a list `arguments`, even an empty
+-- one; the field `name` for `None`.
 abbrev pub accessed : Token → Option (List ExprTree) → Access (List ExprTree)
 accessed name None = access.Field (Word name)
 accessed name (Some arguments) = access.Method name arguments

@@ -79,7 +79,8 @@ impl<F: Fn(Global, &mut Cursor<'_>, usize) -> Result<ExprTree, StopCause>> Reade
         self.conditional_tail(tokens, test)
     }
 
-    /// Parses "if" Expr "then" Expr "else" Expr | Or. If no level is left, a conditional gives the error `TooDeep`.
+    /// Parses "if" Expr "then" Expr "else" Expr | Or. If no level of nesting is left, a conditional gives the error
+    /// `TooDeep`.
     #[tactic(auto, unfolding(crate::specs::ExpressionParsing::level))]
     fn level(&self, tokens: &mut Cursor<'_>) -> Result<ExprTree, StopCause>
         requires { Nests self.now.levels (F.pre self.now.expr) (F.post self.now.expr) }

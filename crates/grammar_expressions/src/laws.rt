@@ -2,9 +2,9 @@
 ghost use Rattle.grammar_expressions.specs.Expressions.{expr, any_expr, nesting_limit};
 ghost use Rattle.grammar_trees.specs.grammar_tokens.ParseResults.{HasOneTree, HasOneAnswerWithin, OpensNextLevel};
 
-/// Proves that each list of tokens has exactly one result as an expression, a tree or an error, and derives at most one
-/// tree without the limit on nesting. Proves also that a token with the error `TooDeep` opens the first level past the
-/// limit. No-op.
+/// Proves that each list of tokens, parsed as an expression, has exactly one result (a tree or an error), and derives
+/// at most one tree without the limit on nesting. Proves also that the token at the index of a `TooDeep` opens the
+/// first level past the limit. No-op.
 pub fn expression_is_unique()
     ensures one_tree { HasOneTree (expr nesting_limit) }
     ensures one_tree_at_any_depth { HasOneTree any_expr }

@@ -52,8 +52,8 @@ fn under(alloc: Global, prefix: Prefix, x: ExprTree) -> Result<ExprTree, AllocEr
 }
 
 impl<F: Fn(Global, &mut Cursor<'_>, usize) -> Result<ExprTree, StopCause>> Reader<F> {
-    /// Parses "(" Arguments ")" if "(" comes next, else returns `None`. If "(" comes next and no level is left, the
-    /// error is `TooDeep`.
+    /// Parses "(" Arguments ")" if "(" comes next, else returns `None`. If "(" comes next and no level of nesting is
+    /// left, the error is `TooDeep`.
     #[tactic(auto, unfolding(crate::specs::ExpressionParsing::maybe_called))]
     fn maybe_called(&self, tokens: &mut Cursor<'_>) -> Result<Option<Items<ExprTree>>, StopCause>
         requires { Nests self.now.levels (F.pre self.now.expr) (F.post self.now.expr) }
@@ -121,7 +121,7 @@ impl<F: Fn(Global, &mut Cursor<'_>, usize) -> Result<ExprTree, StopCause>> Reade
         Ok(under(self.alloc, sign, x)?)
     }
 
-    /// Parses up to four "!" Member | up to four "-" Member.
+    /// Parses up to four "!" or four "-", and a Member.
     #[tactic(auto, unfolding(crate::specs::ExpressionParsing::unary, crate::specs::ExpressionParsing::signed))]
     fn unary(&self, tokens: &mut Cursor<'_>) -> Result<ExprTree, StopCause>
         requires { Nests self.now.levels (F.pre self.now.expr) (F.post self.now.expr) }

@@ -224,8 +224,8 @@ impl<F: Fn(Global, &mut Cursor<'_>, usize) -> Result<ExprTree, StopCause>> Reade
         self.rest_of_entries(tokens, first)
     }
 
-    /// Parses what follows a Path: the arguments of a call, or nothing if the Path names a variable. If "(" comes next
-    /// and no level is left, the error is `TooDeep`.
+    /// Parses the arguments of a call of `path` if "(" comes next; else `path` must name a variable. If "(" comes next
+    /// and no level of nesting is left, the error is `TooDeep`.
     #[tactic(auto, unfolding(crate::specs::ExpressionParsing::call_or_variable))]
     fn call_or_variable(
         &self,
@@ -318,7 +318,7 @@ impl<F: Fn(Global, &mut Cursor<'_>, usize) -> Result<ExprTree, StopCause>> Reade
     }
 
     /// Parses Variable | Uid | Call | "(" Expr ")" | "[" Arguments "]" | "{" .. "}" | Literal. If an opening bracket
-    /// comes next and no level is left, the error is `TooDeep`.
+    /// comes next and no level of nesting is left, the error is `TooDeep`.
     #[tactic(auto, unfolding(crate::specs::ExpressionParsing::primary))]
     pub(crate) fn primary(&self, tokens: &mut Cursor<'_>) -> Result<ExprTree, StopCause>
         requires { Nests self.now.levels (F.pre self.now.expr) (F.post self.now.expr) }

@@ -60,7 +60,7 @@ equal_uid = one k.Equal >> uid
 abbrev pub in_uid : Lang UidTree
 in_uid = one k.In >> uid
 
--- `is_in type_name entity` is the constraint `is T`, or `is T in E` if there is an `entity`, where T is `type_name`.
+-- `is_in type_name entity` is the constraint `is T`, or `is T in E` if `entity` is `Some E`, where T is `type_name`.
 abbrev pub is_in : PathTree → Option UidTree → PartTree
 is_in type_name None = part.Is type_name
 is_in type_name (Some entity) = part.IsIn type_name entity
@@ -77,7 +77,7 @@ type_test = do
 abbrev pub entity_constraint : Lang PartTree
 entity_constraint = (equal_uid giving part.Equal) or (in_uid giving part.In) or type_test or empty part.Any
 
--- `entity_part variable`: the word `variable` and a constraint. The production Principal is `entity_part` of
+-- `entity_part variable`: a token of the kind `variable` and a constraint. The production Principal is `entity_part` of
 -- "principal", and Resource is `entity_part` of "resource".
 abbrev pub entity_part : TokenKind → Lang PartTree
 entity_part variable = one variable >> entity_constraint

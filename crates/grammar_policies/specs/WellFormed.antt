@@ -27,7 +27,8 @@ abbrev pub WellFormedAnnotation : List Token → Annotation → Type 0
 WellFormedAnnotation ts a = WellFormedToken (only k.At) ts a.at × WellFormedToken words ts a.key
     × WellFormedValue ts a.value
 
--- `WellFormedPart ts part` holds if `part`, a constraint on the principal or the resource, is made of tokens of `ts`.
+-- `WellFormedPart ts part` holds if `part`, a constraint on the principal or the resource, is well formed over the
+-- tokens `ts`.
 abbrev pub WellFormedPart : List Token → PartTree → Type 0
 WellFormedPart ts part.Any = Unit {0}
 WellFormedPart ts (part.Equal u) = WellFormedUid ts u
@@ -35,18 +36,18 @@ WellFormedPart ts (part.In u) = WellFormedUid ts u
 WellFormedPart ts (part.Is p) = WellFormedPath ts p
 WellFormedPart ts (part.IsIn p u) = WellFormedPath ts p × WellFormedUid ts u
 
--- `WellFormedAction ts part` holds if `part`, a constraint on the action, is made of tokens of `ts`.
+-- `WellFormedAction ts part` holds if `part`, a constraint on the action, is well formed over the tokens `ts`.
 abbrev pub WellFormedAction : List Token → ActionTree → Type 0
 WellFormedAction ts action.Any = Unit {0}
 WellFormedAction ts (action.Equal u) = WellFormedUid ts u
 WellFormedAction ts (action.In u) = WellFormedUid ts u
 WellFormedAction ts (action.InList us) = AllByRecursion (WellFormedUid ts) us
 
--- `WellFormedCondition ts c` holds if the condition `c` is made of tokens of `ts`.
+-- `WellFormedCondition ts c` holds if the condition `c` is well formed over the tokens `ts`.
 abbrev pub WellFormedCondition : List Token → Condition → Type 0
 WellFormedCondition ts c = WellFormedExpr ts c.expression
 
--- `WellFormedPolicy ts p` holds if the policy `p` is made of tokens of `ts`.
+-- `WellFormedPolicy ts p` holds if the policy `p` is well formed over the tokens `ts`.
 pub record WellFormedPolicy (ts : List Token) (p : PolicyTree) : Type 0 where
   pub annotations : AllByRecursion (WellFormedAnnotation ts) p.annotations
   pub effect : WellFormedToken effects ts p.effect

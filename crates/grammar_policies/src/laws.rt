@@ -8,7 +8,7 @@ ghost use Rattle.grammar_expressions.specs.grammar_tokens.ParseResults.{HasOneTr
 ghost use Rattle.grammar_expressions.specs.grammar_tokens.ParseResults.{OpensNextLevel};
 
 /// Proves that each list of tokens has exactly one result, a tree or an error, as a policy, as a list of policies and
-/// as a uid. Proves also that a token with the error `TooDeep` opens the first level past the limit. No-op.
+/// as a uid. Proves also that a token rejected as `TooDeep` opens the first level past the limit. No-op.
 pub fn reading_is_unique()
     ensures one_policy { HasOneTree (policy nesting_limit) }
     ensures one_list { HasOneTree (policies nesting_limit) }

@@ -1,7 +1,7 @@
 //! The parser of policies, from tokens to trees.
 //!
 //! Unless an allocation fails, a list of tokens that derives a tree in the grammar is parsed as that tree, which is the
-//! only one. Any other list is rejected at the first token that cannot follow those before it, or at its end.
+//! only one. Any other list is rejected at the first token that cannot follow those before it, or at the list's end.
 #![tactic(auto)]
 
 mod laws;

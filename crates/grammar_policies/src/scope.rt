@@ -59,7 +59,7 @@ fn entity_constraint(alloc: Global, tokens: &mut Cursor<'_>) -> Result<PartTree,
     Ok(PartTree::Any)
 }
 
-/// Parses the word `variable` and its constraint: a Principal or a Resource.
+/// Parses a token of the kind `variable` and a constraint: a Principal or a Resource.
 #[tactic(auto, unfolding(crate::specs::inner::Parsing::entity_part))]
 fn entity_part(
     alloc: Global,

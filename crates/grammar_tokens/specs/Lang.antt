@@ -63,7 +63,7 @@ many L ts (x ∷ xs) = (front : List Token) × (back : List Token) × (ts ≡ fr
 abbrev pub never : {A : Type 0} → Lang A
 never ts x = ⊥
 
--- `at_any L`: tokens of `L n` for some limit `n`, at least 1, on the levels of nesting; so nesting has no limit
+-- `at_any L`: tokens of `L n` for some `n` of at least 1, a limit on the levels of nesting; so nesting has no limit
 abbrev pub at_any : {A : Type 0} → (ℕ → Lang A) → Lang A
 at_any L ts x = (levels : ℕ) × L (suc levels) ts x
 

@@ -123,7 +123,7 @@ quote = code "\""
 abbrev pub backslash : ℕ
 backslash = code "\\"
 
--- `escapes` are the characters of the first of these forms, each with its meaning after a backslash.
+-- `escapes` are the characters of the first form above, each with its meaning after a backslash.
 abbrev pub escapes : List (ℕ × ℕ)
 escapes = (code "n", code "\n") ∷ (code "r", code "\r") ∷ (code "t", code "\t") ∷ (code "\\", code "\\")
     ∷ (code "0", code "\0") ∷ (code "'", code "'") ∷ (code "\"", code "\"") ∷ []

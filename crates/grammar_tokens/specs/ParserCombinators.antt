@@ -11,7 +11,7 @@ use Rattle.grammar_tokens.specs.ParseResults.{sees}
 pub data StopReason : Type 0 where
   Unexpected TooDeep : StopReason
 
--- A `ParseResult A` is a value with the tokens after it, or the reason why parsing stops with the remaining tokens.
+-- A `ParseResult A` is a value or the reason why parsing stops, each with the remaining tokens.
 pub data ParseResult (A : Type 0) : Type 0 where
   Read : A → List Token → ParseResult A
   Stop : StopReason → List Token → ParseResult A
@@ -25,8 +25,8 @@ abbrev pub and_then : {A B : Type 0} → ParseResult A → (A → Parser B) → 
 and_then (Read a rest) f = f a rest
 and_then (Stop w rest) f = Stop w rest
 
--- `p >>= f` parses by `p`, and then by `f` of the value of `p`; `p >> q` parses by `p`, and then by `q`. The notation
--- `do` uses both.
+-- `p >>= f` parses by `p`, and then by `f a`, where `a` is the value of `p`; `p >> q` parses by `p`, and then by `q`.
+-- The notation `do` uses both.
 infixl 10 ◌>>=◌
 abbrev pub ◌>>=◌ : {A B : Type 0} → Parser A → (A → Parser B) → Parser B
 p >>= f = λ ts. and_then (p ts) f

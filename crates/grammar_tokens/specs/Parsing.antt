@@ -47,7 +47,7 @@ goes_on true = λ kind. false
 unfoldable pub piece : Parser Token
 piece = token k.Colons >> take pieces
 
--- `ends ended ts` tests whether the last of the pieces `ts` is a String; it is `ended` if `ts` is empty.
+-- `ends ended ts` tests whether the last of the pieces `ts` is a String; `ended` if `ts` is empty.
 abbrev pub ends : Bool → List Token → Bool
 ends ended [] = ended
 ends ended (t ∷ ts) = ends (is_text t) ts

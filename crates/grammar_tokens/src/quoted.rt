@@ -57,7 +57,7 @@ fn hex_value(byte: u8) -> Option<u32>
     (byte as char).to_digit(16)
 }
 
-/// Returns the escape `\x` with two hexadecimal digits up to 7F, where `text` is what follows the `x` (byte 120).
+/// Returns the escape `\x` with two hexadecimal digits up to 7F, where `text` is what follows the `x` (code 120).
 fn short_escape(text: &[u8]) -> Option<Escape>
     ensures { ReportsEscape (backslash ∷ 120 ∷ text.now) result }
 {
@@ -87,7 +87,7 @@ fn hex_number(digits: &[u8]) -> u32
     number
 }
 
-/// Returns the escape `\u` with one to six hexadecimal digits in braces, where `text` is what follows the `u` (byte
+/// Returns the escape `\u` with one to six hexadecimal digits in braces, where `text` is what follows the `u` (code
 /// 117).
 fn long_escape(text: &[u8]) -> Option<Escape>
     ensures { ReportsEscape (backslash ∷ 117 ∷ text.now) result }
@@ -139,7 +139,7 @@ pub(crate) fn escape(text: &[u8]) -> Option<Escape>
     }
 }
 
-/// Returns the kind of a string that has this piece and, without it, would have the kind `kind`.
+/// Returns the kind of a string: `StarText` if this piece is `\*`, else `kind`, the kind by the other pieces.
 fn kind_with(kind: TokenKind, piece: Piece) -> TokenKind
     ensures { result ≡ kind_with kind piece }
 {

@@ -28,13 +28,15 @@ fn refusal(tokens: &[Token], cursor: &Cursor<'_>, halt: StopCause) -> SyntaxFaul
 
 /// Returns the result of parsing all of `tokens`, given the result `read` of a parser and the cursor that it leaves.
 ///
+/// The function is generic: its proof has one step for dropping the value, and not one for each kind of tree.
+///
 /// # Errors
 ///
-/// - `NoMemory`, `TooDeep`: the error of `read`; `TooDeep` has the index of the first remaining token.
+/// - `NoMemory`, `TooDeep`: the error of `read`.
 /// - `Slot` if the first remaining token is a slot, else `Unexpected`: the parser stopped there, or tokens remain after
-///   the value. The error has the index of the first remaining token, or the number of tokens if none remains.
+///   the value.
 ///
-/// The function is generic, so that dropping the value is one step of its proof, and not one for each kind of tree.
+/// Each error but `NoMemory` has the index of the first remaining token, or the number of tokens if none remains.
 pub fn read_to_end<T: Drop>(
     tokens: &[Token],
     cursor: &Cursor<'_>,

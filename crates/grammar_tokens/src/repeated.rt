@@ -11,7 +11,7 @@ use crate::kind_sets::KindSet;
 use plain::{Items, NoMemory};
 use std::alloc::Global;
 
-/// Returns an empty list, with a capacity of one item if `wanted` is true: most lists of pieces have one item or none.
+/// Returns an empty list, with a capacity of one item if `wanted` is true: few lists of pieces have more than one item.
 fn empty_list<T>(alloc: Global, wanted: bool) -> Result<Items<T>, NoMemory>
     ensures { IfOk result (λ found. found ≡ []) }
 {

@@ -99,8 +99,8 @@ pub fn decode_string(alloc: Global, text: &str, token: Token) -> Result<Text, No
     Ok(value)
 }
 
-/// Returns the pattern that the string at `token`, after `like`, denotes: its literal texts, with a wildcard between
-/// adjacent ones.
+/// Returns the pattern that the string at `token` denotes after `like`: the literal texts before, between and after the
+/// wildcards.
 ///
 /// An unescaped `*` is a wildcard; an escaped one, `\*`, is a literal star. A pattern without a wildcard is one text.
 /// The only error is `NoMemory`.

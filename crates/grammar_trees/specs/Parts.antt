@@ -41,8 +41,8 @@ abbrev pub uid_parts : UidTree → List Part
 uid_parts uid = part (only k.Text) uid.id ∷ path_parts uid.path
 
 -- `access_parts access`, `entry_parts entry` and `term_parts term` are the parts of the access `access`, of the entry
--- `entry` of a record and of the term `term` of a sum. In the arguments, each expression is replaced by the list of its
--- parts.
+-- `entry` of a record and of the term `term` of a sum. In `access`, `entry` and `term`, each expression is replaced by
+-- the list of its parts.
 abbrev pub access_parts : Access (List (List Part)) → List Part
 access_parts (access.Field key) = key_part key ∷ []
 access_parts (access.Method name arguments) = part identifiers name ∷ flat_map (λ parts. parts) arguments

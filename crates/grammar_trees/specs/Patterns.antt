@@ -4,7 +4,7 @@ use Rattle.std.specs.Prelude.{true, false}
 use Rattle.grammar_tokens.specs.declared.token.TokenKind.TheVariants as k
 use Rattle.grammar_tokens.specs.Kinds.{Kinds}
 
--- `patterns` are the kinds of a Pattern: a String in which `\*` may occur.
+-- `patterns` are the kinds of a Pattern: a string in which `\*` may occur.
 abbrev pub patterns : Kinds
 patterns k.Text = true
 patterns k.StarText = true

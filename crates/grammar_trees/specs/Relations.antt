@@ -6,12 +6,12 @@ use Rattle.grammar_tokens.specs.declared.token.Token.{Token}
 use Rattle.grammar_tokens.specs.Lang.{Lang, ◌>>=◌}
 use Rattle.grammar_trees.specs.declared.tree.ExprTree.{ExprTree}
 
--- `relation operand tailed` is the language of tokens that derive an operand `x` in `operand`, followed by tokens of
--- `tailed x`.
+-- `relation operand tailed` is the language of relations: tokens that derive an operand `x` in `operand`, then tokens
+-- that derive the relation in `tailed x`.
 abbrev pub relation : Lang ExprTree → (ExprTree → Lang ExprTree) → Lang ExprTree
 relation operand tailed = operand >>= tailed
 
--- `DerivesFront L ts a rest` holds if `ts` are tokens that derive `a` in `L`, and then the tokens `rest`.
+-- `DerivesFront L ts a rest` holds if `ts` are tokens that derive `a` in `L`, followed by the tokens `rest`.
 pub record DerivesFront {A : Type 0} (L : Lang A) (ts : List Token) (a : A) (rest : List Token) : Type 0 where
   pub front : List Token
   pub whole : ts ≡ front ++ rest

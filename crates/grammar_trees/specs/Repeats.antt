@@ -17,7 +17,7 @@ pub record IsRepeatedAt (marks : List NameAt) (at : ℕ) : Type 0 where
   pub again : Contains (map (λ m. m.name) before) mark.name
   pub place : at ≡ mark.at
 
--- `abstract_names marks` are the names with offsets `marks` of the code, each as a `NameAt` of this file.
+-- `abstract_names marks` is the list `marks` of the code, with each element as a `NameAt` of this file.
 abbrev pub abstract_names : List code.NameAt → List NameAt
 abstract_names = map (λ m. record { name = m.name.now; at = m.at })
 

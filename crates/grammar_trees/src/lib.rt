@@ -1,8 +1,8 @@
 //! Syntax trees of expressions: trees over tokens, and the tokens that a tree contains.
 //!
 //! The crate `grammar_expressions` builds these trees, and `grammar_desugaring` defines their meaning; neither depends
-//! on the other. This crate also parses the form of relations, an operand with at most one tail, and finds repeated
-//! names.
+//! on the other. This crate also finds repeated names, and parses relations, each an operand with at most one tail, by
+//! given parsers of operand and tail.
 #![tactic(auto)]
 
 mod relations;

@@ -17,7 +17,8 @@ pub trait Related {
     /// The language of an operand.
     ghost operands: { Self → Lang trees.ExprTree };
 
-    /// The language of the tail of a given operand. The tail may be empty, and its value is the whole relation.
+    /// The language of the tail of a given operand. The tail may be empty; its tokens derive the tree of the whole
+    /// relation.
     ghost tailed: { Self → trees.ExprTree → Lang trees.ExprTree };
 
     /// The parsing function of an operand.

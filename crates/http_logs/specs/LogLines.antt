@@ -135,9 +135,9 @@ log_line method target body status reply =
 abbrev pub unread_line : StatusCode → List ℕ
 unread_line status = head_text None None ++ plain_tail status
 
--- `IsUndone route status reply` holds if `status` and `reply`, sent to a request for `route`, report that an allocation
--- failed and nothing was done. They are 503 and the error line of code 1, without a place. A request for no operation
--- gets the status 404 or 405 even then, and the error line of this number.
+-- `IsUndone route status reply` holds if the status `status` and the body `reply` are the reply to a request for
+-- `route` if an allocation failed and nothing was done: 503 and the error line of code 1, without a place; or, if there
+-- is no such operation, 404 (`Unknown`) or 405 (`OtherMethod`) and the error line of this status.
 abbrev pub IsUndone : Route → StatusCode → List ℕ → Type 0
 IsUndone Unknown status reply = (status ≡ 404) × (reply ≡ error_line 404)
 IsUndone OtherMethod status reply = (status ≡ 405) × (reply ≡ error_line 405)

@@ -78,8 +78,8 @@ pub fn put_plain_tail(line: &mut Vec<u8>, status: StatusCode)
     append(line, b"}\n");
 }
 
-/// Ends the line of a change with the body of its reply, which has the stamp. A body of over 128 bytes, which no change
-/// has, is left out. Does not allocate.
+/// Ends the line of a change with the body of its reply, which has the stamp. A body of over 128 bytes, which no reply
+/// to a change has, is left out. Does not allocate.
 fn put_stamp_tail(line: &mut Vec<u8>, status: StatusCode, reply: &[u8])
     requires { vec_len line.old + MOST_TAIL ≤ vec_capacity line.old }
     ensures items { line.new.items ≡ line.old.items ++ stamp_tail status reply.now }

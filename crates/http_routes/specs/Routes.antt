@@ -70,8 +70,8 @@ policy_route method segment =
     else if bytes_eq method (codes "DELETE") then DeletePolicy (id_of segment)
     else OtherMethod
 
--- `route_at method path segment` is the route of `method` for `path`, where `segment` is the segment that names a
--- policy, if `path` is that of a policy.
+-- `route_at method path segment` is the route of `method` for `path`, where `segment` is the segment of `path` that
+-- names a policy, or `None` if `path` is not that of a policy.
 abbrev pub route_at : List ℕ → List ℕ → Option (List ℕ) → Route
 route_at method path None = plain_route method path
 route_at method path (Some segment) = policy_route method segment

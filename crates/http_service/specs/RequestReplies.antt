@@ -11,8 +11,8 @@ use Rattle.http_service.specs.RequestInputs.{request_of}
 use Rattle.http_service.specs.declared.site_service.LoggedService.{LoggedService}
 use Rattle.http_service.specs.declared.site_service.SiteService.{SiteService}
 
--- `answers old method target body status line new` holds if the site `old` may answer the request with this method,
--- target and body with `status` and the body `line`, and then become `new`.
+-- `answers old method target body status line new` holds if `status` with the body `line` may be the answer of the site
+-- `old` to the request of this method, target and body, and `new` the site afterwards.
 abbrev pub answers : SiteView → List ℕ → List ℕ → List ℕ → StatusCode → List ℕ → SiteView → Type 0
 answers old method target body status line new =
     Replies old (request_of (route_stated method target) body) status line new

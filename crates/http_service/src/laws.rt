@@ -47,8 +47,8 @@ pub fn streams_leave_runs()
 
 /// Proves the parts of `IsServed`, the promise of a call that served a site. No-op.
 ///
-/// - `answered`: the first requests that were read were answered, each by the site as it was then, the replies were
-///   written, and the stream ended as the result says.
+/// - `answered`: the first requests in the bytes read were answered, each by the site as it was then. The replies were
+///   written, of which the last may be cut off or unsent, and the call ended as the result says.
 /// - `asked`: the inputs of the run are those that the first requests in the bytes read ask for.
 /// - `run`: the site's store is the join of the updates that the site had and those that the run applied.
 pub fn served_streams_are_answered<R: Source, W: Sink>()
@@ -66,8 +66,8 @@ pub fn served_streams_are_answered<R: Source, W: Sink>()
     runs_leave_what_they_took();
 }
 
-/// Proves that sites with one schema, which some bytes describe, one name and equal stores answer each request with the
-/// same status and body, and hold equal stores afterwards, except when out of memory (503). No-op.
+/// Proves that, under one schema that some bytes describe, sites with the same name and equal stores answer each
+/// request with the same status and body, and hold equal stores afterwards, except when out of memory (503). No-op.
 pub fn requests_have_one_reply()
     ensures { HasOneAnswer (in_memory answers) IsAlike }
 {

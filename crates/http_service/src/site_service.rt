@@ -27,7 +27,7 @@ impl Answers for SiteService<'_> {
     ghost answers = { answers_over };
 }
 
-/// A site as theorems on streams see it: by its view in contracts alone. No value of this type is created.
+/// A site, which theorems on streams see only by its view in contracts. No value of this type is created.
 #[derive(Drop)]
 pub struct ViewedSite {
     site: Site,

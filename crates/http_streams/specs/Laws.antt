@@ -52,8 +52,8 @@ module _ {S : Type 0} (answers : Answering S) where
       same new new2
       × ((out ≡ more) ⊎ DiffersInBadTarget old stream out more new ⊎ DiffersInBadTarget old2 stream more out new2)
 
-  -- `StopsIn old stream out new` holds if a device failed after a prefix of the stream: `out` are all replies to this
-  -- prefix, or the last reply was cut off.
+  -- `StopsIn old stream out new` holds if `out` are the replies to all requests in a prefix of the stream, or to some
+  -- requests in the prefix, the last reply cut off.
   abbrev pub StopsIn : S → List ℕ → List ℕ → S → Type 0
   StopsIn old stream out new =
       (front : List ℕ) × (rest : List ℕ) × (stream ≡ front ++ rest)

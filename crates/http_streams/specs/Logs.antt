@@ -65,8 +65,8 @@ module _ {L : Type 0} (lines : LineRelation) (refusal : StatusCode → List ℕ)
       ((reply rest : List ℕ) × (last : Bool) × Exchanges (cuts lines logged) old bytes last reply new rest)
       ⊎ IsRefusalCut old bytes new
 
-  -- `IsLastNoted result old bytes out new` describes the end of a stream after its whole replies: `out` is what was
-  -- sent of one more reply. By the result:
+  -- `IsLastNoted result old bytes out new` describes the end of a stream after replies that do not end the stream:
+  -- `out` is what was sent of one more reply. By the result:
   -- - Ok: there is no further reply, or the line of the reply was written, and the reply was sent whole.
   -- - Write: the line of the reply was written, and a proper prefix of the reply was sent.
   -- - Log: a proper prefix of the line was written, and nothing of the reply was sent.

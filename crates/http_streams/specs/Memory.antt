@@ -3,9 +3,9 @@
 use Rattle.std.specs.Prelude.{◌≡◌, ◌≢◌, ℕ, ◌-◌, ◌^◌, min, max, Option, Some, List, [], ◌∷◌, ◌++◌, length, take}
 use Rattle.http_streams.specs.Devices.{counted}
 
--- A `Planned` is the plan of a device and its progress. `pieces` are the most bytes that each further call moves: the
--- last number applies from then on, 0 counts as 1, and an empty list has no limit. `fails_at` is the number, from 0, of
--- the call that fails, if one does; this call uses up no piece. `calls` is the number of calls so far.
+-- A `Planned` is the plan of a device and its progress. `pieces` lists, for each further call, the most bytes that the
+-- call moves: the last number applies from then on, 0 counts as 1, and an empty list has no limit. `fails_at` is the
+-- number, from 0, of the call that fails, if one does; this call uses up no piece. `calls` counts the calls so far.
 pub record Planned : Type 0 where
   pub pieces : List ℕ
   pub fails_at : Option ℕ
@@ -23,13 +23,13 @@ later_pieces [] = []
 later_pieces (n ∷ []) = n ∷ []
 later_pieces (n ∷ m ∷ ns) = m ∷ ns
 
--- `MakesCall old new` holds if a call that does not fail by the plan led from the plan `old` to `new`.
+-- `MakesCall old new` holds if a call led from the plan `old` to `new`, and `old` does not make this call fail.
 abbrev pub MakesCall : Planned → Planned → Type 0
 MakesCall old new =
     (old.fails_at ≢ Some old.calls)
     × (new ≡ record { pieces = later_pieces old.pieces; fails_at = old.fails_at; calls = counted old.calls })
 
--- `FailsByPlan old new` holds if the call that fails by the plan led from the plan `old` to `new`.
+-- `FailsByPlan old new` holds if a call led from the plan `old` to `new`, and `old` makes this call fail.
 abbrev pub FailsByPlan : Planned → Planned → Type 0
 FailsByPlan old new =
     (old.fails_at ≡ Some old.calls)

@@ -1,6 +1,7 @@
 -- Defines which bytes may be the method, the target and the host of a request that is sent.
 -- Source: RFC 9110, section 5.6.2; RFC 9112, section 3.2.
--- Rules of this product: target and host are visible ASCII bytes, so that no byte ends its part or the line.
+-- Rules of this product: target and host are visible ASCII bytes, so that no such byte ends the target, the host or
+-- the line.
 use Rattle.std.specs.Prelude.{ℕ, Bool, ◌&&◌, List, length, nat_lt}
 use Rattle.std.specs.Char.{is_ascii_graphic}
 use Rattle.std.specs.List.{list_all}

@@ -50,8 +50,8 @@ pub record ReadsReply (bytes : List ℕ) (status : ℕ) (body rest : List ℕ) :
   pub framed : length_of head ≡ Size (length body)
   pub status_is : status ≡ status_code head
 
--- `HasNoLength bytes` holds if `bytes` begin with the head of a reply without a valid length, or with one over the
--- limit.
+-- `HasNoLength bytes` holds if `bytes` begin with an admitted head, and the length of the reply's body is not valid or
+-- is over the limit.
 pub record HasNoLength (bytes : List ℕ) : Type 0 where
   pub head : ResponseHead
   pub rest : List ℕ
@@ -65,8 +65,8 @@ IsTooLargeReply bytes =
     ((h : ResponseHead) × (rest : List ℕ) × ReadsResponse bytes h rest × (MAX_FIELDS < length h.fields))
     ⊎ (MAX_HEAD < length bytes)
 
--- `IsBadReply bytes` holds if `bytes` do not begin with a reply of one length within the limits, and cannot, whatever
--- follows.
+-- `IsBadReply bytes` holds if `bytes` do not begin with a reply that has a valid length and is within the limits, and
+-- cannot, whatever follows.
 abbrev pub IsBadReply : List ℕ → Type 0
 IsBadReply bytes =
     HasNoLength bytes ⊎ (HasNoAdmittedReply bytes × (IsTooLargeReply bytes ⊎ NeverHasResponse bytes))
@@ -97,8 +97,8 @@ pub record IsReplyAt (bytes : List ℕ) (p : ReplyParts) : Type 0 where
   pub ordered : (p.body ≤ p.end) × (p.end ≤ length bytes)
   pub reads : ReadsReply bytes p.code (span_bytes bytes (record { start = p.body; end = p.end })) (drop p.end bytes)
 
--- `StaysUnfinishedReply bytes needed` holds if `bytes`, with any bytes after them, are less than a reply as long as
--- there are fewer than `needed` bytes in all.
+-- `StaysUnfinishedReply bytes needed` holds if `bytes` followed by any bytes, fewer than `needed` in all, are less than
+-- a reply.
 abbrev pub StaysUnfinishedReply : List ℕ → ℕ → Type 0
 StaysUnfinishedReply bytes needed =
     (more : List ℕ) → length (bytes ++ more) < needed → IsUnfinishedReply (bytes ++ more)

@@ -106,14 +106,15 @@ pub record IsCutOff (bytes : List ℕ) : Type 0 where
   pub framed : framing_of head ≡ Body size
   pub short : length rest < size
 
--- `IsPartOfHead bytes` holds if `bytes` are less than a head, and may become a head if more bytes follow.
+-- `IsPartOfHead bytes` holds if `bytes` are at most `MAX_HEAD` bytes, have no whole head at the front, and begin a head
+-- or end inside a request target.
 pub record IsPartOfHead (bytes : List ℕ) : Type 0 where
   pub none : HasNoRequest bytes
   pub short : length bytes ≤ MAX_HEAD
   pub open_still : MayBecomeRequest bytes
 
--- `IsUnfinished bytes` holds if `bytes` are less than a request, and get no reply: an admitted head with an incomplete
--- body, or a part of a head.
+-- `IsUnfinished bytes` holds if `bytes` are less than a request: an admitted head with an incomplete body, or a part of
+-- a head.
 abbrev pub IsUnfinished : List ℕ → Type 0
 IsUnfinished bytes = IsCutOff bytes ⊎ IsPartOfHead bytes
 
@@ -128,8 +129,8 @@ pub record IsWholeAt (bytes : List ℕ) (p : Parts) : Type 0 where
   pub target : span_bytes bytes p.target ≡ head.target
   pub closes : p.closes ≡ closes_of head
 
--- `StaysUnfinished bytes needed` holds if `bytes`, with any bytes after them, are less than a request as long as there
--- are fewer than `needed` bytes in all.
+-- `StaysUnfinished bytes needed` holds if `bytes` followed by any bytes, fewer than `needed` in all, are less than a
+-- request.
 abbrev pub StaysUnfinished : List ℕ → ℕ → Type 0
 StaysUnfinished bytes needed = (more : List ℕ) → length (bytes ++ more) < needed → IsUnfinished (bytes ++ more)
 

@@ -35,8 +35,8 @@ IsAsked ask (Cuts.Whole p) = AreAsked ask p
 IsAsked ask (Cuts.Refused status) = ⊥
 IsAsked ask (Cuts.Unfinished needed) = ⊥
 
--- `IsReadBack ask` holds if cutting the text of `ask` off a stream gives one request with the parts and the host of
--- `ask`, and cutting any proper prefix of the text gives an unfinished one.
+-- `IsReadBack ask` holds if the text of `ask` is parsed only as one request with the parts and the host of `ask`, and
+-- any proper prefix of the text only as an unfinished request.
 pub record IsReadBack (ask : Ask) : Type 0 where
   pub whole : (cut : Cut) → IsCut (request_text ask) cut → IsAsked ask cut
   pub host :

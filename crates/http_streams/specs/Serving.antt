@@ -26,8 +26,8 @@ module _ {S R W : Type 0} (answers : Answering S) (left : R → Option (List ℕ
   -- - NoMemory: neither device failed, and all requests in `bytes` are answered: memory is allocated before a read.
   -- - Write: the last write failed, and the reader did not fail. Some requests are answered, and a proper prefix of one
   --   more reply may have been sent. All requests that were complete before the last read are answered.
-  -- - Log: as Write, but neither the reader nor the writer failed. Logs states that the log did (`HasLogFailed`), and
-  --   that nothing of the last reply was sent (`IsLastNoted`).
+  -- - Log: as Write, but neither the reader nor the writer failed. specs/Logs.antt states that the log failed
+  --   (`HasLogFailed`), and that nothing of the last reply was sent (`IsLastNoted`).
   abbrev pub EndsAs : R → R → W → W → S → S → List ℕ → List ℕ → Result (Unit {0}) StreamFault → Type 0
   EndsAs first last before after old new bytes out (Ok done) =
       ((AnswersAllRequests answers old bytes out new × IsAtEnd (left last)

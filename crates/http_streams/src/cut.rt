@@ -41,8 +41,8 @@ pub enum Cut {
     Whole(Parts),
     /// The bytes are rejected with this status.
     Refused(StatusCode),
-    /// The bytes are less than a request, and stay so, whatever follows, while there are fewer bytes than this number.
-    /// It is the length of head and body if the head is whole, else 0.
+    /// The bytes are less than a request, and remain so, whatever follows, until there are at least this many in all.
+    /// The number is the length of head and body if the head is whole, else 0.
     Unfinished(usize),
 }
 

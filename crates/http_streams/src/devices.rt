@@ -42,7 +42,7 @@ pub trait Source {
         ensures { result ≡ failed self.now };
 }
 
-/// A writer that counts its failures. Accepting none of some bytes is a failure.
+/// A writer that counts its failures. A call that accepts no byte is a failure.
 pub trait Sink {
     // The accepted bytes, if they are known.
     ghost holds: { Self → Option (List ℕ) };
@@ -155,7 +155,7 @@ impl<W: Write> Sink for Counted<W> {
 ///
 /// # Errors
 ///
-/// - `DeviceFailed`: a call failed, and no call was made after it. The writer then accepted a proper prefix of the
+/// - `DeviceFailed`: a call failed, and no call was made after it. The writer accepted only a proper prefix of the
 ///   bytes.
 pub fn write_all<W: Sink>(writer: &mut W, bytes: &[u8]) -> Result<(), DeviceFailed>
     ensures ok { OnOk result (Appends (W.holds writer.old) (W.holds writer.new) bytes.now) }

@@ -25,7 +25,7 @@ pub enum FetchFault {
     /// The writer failed.
     #[error("network 71: writing failed")]
     Write,
-    /// The received bytes cannot begin a reply of one length within the limits.
+    /// The received bytes cannot begin a reply that has a valid length and is within the limits.
     #[error("network 72: no HTTP reply of one length within the limits")]
     BadReply,
     /// The input ended before the reply did.
@@ -38,15 +38,15 @@ pub enum FetchFault {
 
 /// Writes one request, and reads the reply to it: its status and its body. Bytes after the reply are not checked.
 ///
-/// If `ask` is within the limits of `cut_request` and a PUT or a POST has a body, the written bytes parse as exactly
-/// the request `ask` ([`requests_read_back`](crate::framing_laws::requests_read_back)).
+/// If `ask` is within the limits of `cut_request`, and is not a PUT or a POST without a body, the written bytes parse
+/// as exactly the request `ask` ([`requests_read_back`](crate::framing_laws::requests_read_back)).
 ///
 /// # Errors
 ///
 /// - [`FetchFault::Write`] (71): the writer failed; nothing was read.
 /// - [`FetchFault::Read`] (70): the reader failed before a reply was complete.
 /// - [`FetchFault::Ended`] (73): the input ended before a reply was complete.
-/// - [`FetchFault::BadReply`] (72): the bytes cannot begin a reply of one length within the limits.
+/// - [`FetchFault::BadReply`] (72): the bytes cannot begin a reply that has a valid length and is within the limits.
 /// - [`FetchFault::NoMemory`] (1): an allocation failed, at any point.
 pub fn fetch<R: Source, W: Sink>(
     alloc: Global,
@@ -62,8 +62,8 @@ pub fn fetch<R: Source, W: Sink>(
         × ReadsReply bytes reply.0 reply.1.items rest
         × IsUnfinishedReply front × EndsByOneRead R.left R.reads reader.old reader.new bytes front) }
 
-    // The request was written, and the bytes read cannot begin a reply of one length within the limits. Those before
-    // the last read were less than a reply.
+    // The request was written, and the bytes read cannot begin a reply that has a valid length and is within the
+    // limits. The bytes before the last read were less than a reply.
     ensures bad { result ≡ Err FetchFault.BadReply → (bytes : List ℕ) × (front : List ℕ)
         × Consumes (R.left reader.old) (R.left reader.new) bytes
         × Appends (W.holds writer.old) (W.holds writer.new) (request_text ask.now)

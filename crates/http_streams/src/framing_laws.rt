@@ -15,8 +15,8 @@ pub fn one_reply()
 {}
 
 /// Proves the round trip of requests, for an `Ask` that is within the limits and, if it is a PUT or a POST, has a body.
-/// In its text `cut_request` finds one request with exactly the method, target, host and body of the `Ask`, and nothing
-/// left over. A proper prefix of the text is unfinished. No-op.
+/// In the text of the `Ask`, `cut_request` finds one request with exactly the method, target, host and body of the
+/// `Ask`, and nothing left over. A proper prefix of the text is unfinished. No-op.
 pub fn requests_read_back()
     ensures { (ask : Ask) → FitsLimits ask → IsReadBack ask }
 {}

@@ -26,9 +26,9 @@ impl<'a> Model for Plan<'a> {
 impl<'a> Plan<'a> {
     /// Creates a plan; no call has been made.
     ///
-    /// `pieces` are the most bytes that each call moves: the last one applies from then on, an empty list has no limit,
-    /// and 0 counts as 1. `fails_at` is the number, from 0, of the call that fails, if one does; this call uses up no
-    /// piece.
+    /// `pieces` lists, for each call, the most bytes that the call moves: the last number applies from then on, an
+    /// empty list has no limit, and 0 counts as 1. `fails_at` is the number, from 0, of the call that fails, if one
+    /// does; this call uses up no piece.
     pub fn new(pieces: &'a [usize], fails_at: Option<u64>) -> Plan<'a>
         ensures { result ≡ record { pieces = pieces.entry.now; fails_at = fails_at; calls = 0 } }
     {

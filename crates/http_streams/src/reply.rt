@@ -116,8 +116,8 @@ fn put_error(room: &mut [u8], end: usize, code: u16) -> usize
     put_piece(room, digits, b"{\"error\":{\"code\":")
 }
 
-/// Writes at the end of `room`, which must have `REFUSAL_ROOM` bytes, a whole reply that ends the stream, with the
-/// error line of `status`; returns where the reply begins.
+/// Writes a whole reply that ends the stream, with the error line of `status`, at the end of `room`; returns where the
+/// reply begins. `room` must have `REFUSAL_ROOM` bytes.
 pub fn put_refusal(room: &mut [u8], status: StatusCode) -> usize
     requires fits { length room.old ≡ REFUSAL_ROOM }
     ensures order { result ≤ length room.new }

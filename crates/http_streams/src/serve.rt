@@ -38,8 +38,7 @@ pub enum StreamFault {
     /// The log failed: the line of a reply was not written whole, and nothing of that reply was sent.
     #[error("network 76: writing the log failed")]
     Log,
-    /// An allocation failed, before anything was read or before the next read. A reply allocates only what its service
-    /// allocates.
+    /// An allocation failed, before the first or a later read. A reply allocates only what its service allocates.
     #[error("network 1: out of memory")]
     NoMemory,
 }
@@ -53,7 +52,7 @@ pub enum StreamFault {
 ///
 /// # Errors
 ///
-/// - [`StreamFault::NoMemory`] (1): an allocation failed, before anything was read or before the next read.
+/// - [`StreamFault::NoMemory`] (1): an allocation failed, before the first or a later read.
 /// - [`StreamFault::Read`] (70): the reader failed, or gave `u64::MAX` bytes or more; all complete requests are
 ///   answered.
 /// - [`StreamFault::Write`] (71): the writer failed; perhaps a part of the last reply was sent.
@@ -78,7 +77,7 @@ pub fn serve<S: Service, R: Source, W: Sink>(
 ///
 /// # Errors
 ///
-/// Those of [`serve`], and before `Write`:
+/// Those of [`serve`], and this one, checked before `Write`:
 ///
 /// - [`StreamFault::Log`] (76): the line of a reply was not written whole; nothing of that reply was sent.
 pub fn serve_logged<S: Service, R: Source, W: Sink, L: Sink>(
@@ -126,7 +125,7 @@ fn rooms(alloc: Global) -> Result<(Vec<HeaderSpan>, Vec<u8>, Vec<u8>), AllocErro
     Ok((heads, reads, replies))
 }
 
-/// The rest of some bytes after the whole requests that they begin with.
+/// The rest of some bytes after the whole requests at the front.
 #[derive(Clone, Copy)]
 struct Unanswered {
     /// The index of its first byte.

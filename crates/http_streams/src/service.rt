@@ -32,8 +32,8 @@ pub trait Service: Answers {
     /// the status.
     ///
     /// `text` has spare capacity for a short reply (`REPLY_ROOM` bytes). So a service that cannot allocate a longer
-    /// reply can report that without allocating. `line` is empty, and has capacity for a short line (`line_room`
-    /// bytes). Both keep their memory for the next reply.
+    /// reply can report the failure without allocating. `line` is empty, and has capacity for a short line
+    /// (`line_room` bytes). Both keep their memory for the next reply.
     ///
     /// Each reply announces a body, so a service should not return a status 1xx, 204 or 304 (RFC 9112, section 6.3);
     /// the contract does not demand this.

@@ -1,7 +1,7 @@
 -- Defines states and deltas of version 1, whose sites are numbers.
 -- Rules of this product: such a message differs from one of version 2 in its `version`, 1, and in each `site`, a
--- number from 1 to 65,535. It is parsed as the raise of its updates, in which each number is replaced by its five
--- digits. It is never written.
+-- number from 1 to 65,535. It is parsed as its updates with each site's number replaced by its five digits. It is
+-- never written.
 use Rattle.std.specs.Prelude.{◌≡◌, ℕ, List, map, codes, Option, Some, Result, Ok}
 use Rattle.serde_json.specs.Data.{Data, number, unsigned, string, array, object, no_members, member}
 use Rattle.serde_json.specs.View.{items_of}

@@ -1,6 +1,6 @@
 -- Defines summaries of version 1, whose sites are numbers.
 -- Rules of this product: such a summary is {"kind":"summary","schema":label,"stamps":[{"count":n,"name":N,"site":m},
--- ..],"version":1}, with m from 1 to 65,535. It is parsed as the summary in which each number is replaced by its five
+-- ..],"version":1}, with m from 1 to 65,535. It is parsed as the summary with each site's number replaced by its five
 -- digits. It is never written.
 use Rattle.std.specs.Prelude.{ℕ, List, map, codes}
 use Rattle.std.specs.List.{AllByRecursion}

@@ -39,10 +39,10 @@ impl From<plain::NoMemory> for BodyFault {
 /// rejected. If each text is parsed as one value or rejected with one error, and never both, then a message has one
 /// outcome too, by [`crate::messages_have_one_outcome`].
 pub trait Bodies<P, E>: Readings<P, E> {
-    /// The errors of a text as the policy with an id: a relation of the id, the text and the error.
+    /// The errors of parsing a text as the policy with an id: a relation of the id, the text and the error.
     ghost refuses_policy: { Self → List ℕ → List ℕ → BodyFault → Type 0 };
 
-    /// The errors of a text as the entity with a uid: a relation of the uid, the text and the error.
+    /// The errors of parsing a text as the entity with a uid: a relation of the uid, the text and the error.
     ghost refuses_entity: { Self → EntityUid → List ℕ → BodyFault → Type 0 };
 
     /// Parses the text of the policy with this id.

@@ -91,8 +91,8 @@ pub fn messages_have_one_outcome<P: Drop, E: Drop, B: Bodies<P, E>>()
 /// Proves that a message of version 1 is parsed as the raise of its updates: each site's number, from 1 to 65,535, is
 /// replaced by its five digits. No-op.
 ///
-/// Bytes of version 1 that are parsed as updates are a message of version 1. Numbered updates in their ranges, as JSON
-/// of version 1, are parsed as their raise.
+/// Bytes of version 1 that are parsed as updates are a message of version 1 with numbered updates. Numbered updates in
+/// their ranges, as JSON of version 1, are parsed as their raise.
 pub fn messages_are_raised()
     ensures raised { (label bytes : List ℕ) (ns : List NumberedUpdate) → IsVersion1Message label bytes ns
         → updates_stated label bytes ≡ Ok (raise ns) }

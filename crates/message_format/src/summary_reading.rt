@@ -145,8 +145,8 @@ fn read_site(version: MessageVersion, value: &Value) -> Result<SiteName, Message
 
 /// Returns the name and the stamp that an object has at its keys `count`, `name` and `site`, and ignores other keys.
 ///
-/// A count is an integer in unsigned 64 bits, a name a policy's id or an entity's uid. In version 1 a site is a number
-/// from 1 to 65,535, whose five digits are the site's name; in version 2 a site is its name.
+/// A count is an integer in unsigned 64 bits; a name is a policy's id or an entity's uid. In version 1 a site is a
+/// number from 1 to 65,535, whose five digits are the site's name; in version 2 a site is its name.
 ///
 /// # Errors
 ///

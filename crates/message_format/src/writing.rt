@@ -74,7 +74,8 @@ fn from_name<'a, N: Lent>(
     (left, None)
 }
 
-/// Returns whether an entry is missing, given the known stamp of its name: no stamp is known, or a smaller one.
+/// Returns whether a summary lacks an entry's name or has it with a smaller stamp; `known` is the stamp of the name in
+/// the summary.
 fn is_unseen<P>(known: Option<Stamp>, entry: &Entry<P>) -> bool
     ensures { result ≡ is_news_where known (Some (plain_entry entry.now)) }
 {
@@ -122,8 +123,8 @@ fn push_all<'a, N: Lent + Drop, P: Drop>(
     Ok(left)
 }
 
-/// Writes as an array, in the order of the names, the entries of a store whose names `known` lacks or has with a
-/// smaller stamp. The names of `known` ascend. Takes one walk over the names of the store and of `known`.
+/// Writes an array, in ascending order of names, of a store's entries whose names `known` lacks or has with a smaller
+/// stamp. The names of `known` ascend. Takes one walk over the names of the store and of `known`.
 fn write_entries<P: Drop, E: Drop>(
     out: &mut Writer,
     store: &StampedStore<P, E>,
@@ -205,9 +206,9 @@ pub fn write_state<P: Drop, E: Drop>(
 
 /// Returns a delta of the schema with this label: the entries whose names `since` lacks or has with a smaller stamp.
 ///
-/// The text is compact, with keys and names ascending. If each of these names and stamps is in its range, the message
-/// describes these entries. Takes one walk over the names of the store and of `since`. Allocates only the returned
-/// bytes.
+/// The text is compact, with keys and names ascending. If the name and stamp of each entry are in their ranges, the
+/// message describes these entries. Takes one walk over the names of the store and of `since`. Allocates only the
+/// returned bytes.
 ///
 /// # Errors
 ///

@@ -1,4 +1,4 @@
-//! Functions that pair a value with the value of a result, or the values of two results.
+//! Functions that pair the values of two results, or a value with the value of one result.
 ghost use Rattle.std.specs.Prelude.{◌≡◌, IfOk, IfErr, Ok, Err};
 
 /// Returns `kept` with the value of `made`, or drops `kept` and returns the error of `made`.

@@ -1,5 +1,5 @@
--- Defines the policy of a syntax tree, and its name, over the text that the tree's tokens are in (`text` in each
--- definition).
+-- Defines the policy of a syntax tree, and the policy's name. In each definition `text` is the text that the tree's
+-- tokens are in.
 -- Source: Cedar reference guide 4.0, "Basic policy construction": effect, scope, conditions and annotations; "Grammar
 -- specification for Cedar policy syntax". That a policy is named by its `@id` follows the Cedar command line; the names
 -- of policies without one are a rule of this product.
@@ -86,7 +86,7 @@ IsNameBy text place None name = name ≡ codes "policy" ++ decimal place
 IsNameBy text place (Some annotation) name = IsValueOf text annotation.value name
 
 -- `IsNameOf text place tree name` holds if `name` is the name of the policy `tree` at the index `place`, counted from
--- 0: by its first `@id`, or by its index if it has none.
+-- 0: the value of the first `@id` of `tree`, or the name by index if `tree` has no `@id`.
 abbrev pub IsNameOf : List ℕ → ℕ → PolicyTree → List ℕ → Type 0
 IsNameOf text place tree name = IsNameBy text place (find (is_id text) tree.annotations) name
 

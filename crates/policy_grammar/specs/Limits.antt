@@ -52,7 +52,7 @@ part_shape (part.Is name) = over leaf
 part_shape (part.IsIn name uid) = both (over leaf) (both leaf leaf)
 
 -- `action_shape action` is the shape of `action`, a scope's part on the action. A part without a constraint is `true`,
--- `action in []` is `false`, and `action in [E, ..]` is `action in` that set.
+-- `action in []` is `false`, and `action in [E, ..]` is `in` over `action` and the set `[E, ..]`.
 abbrev pub action_shape : ActionTree → Shape
 action_shape action.Any = leaf
 action_shape (action.Equal uid) = both leaf leaf

@@ -1,6 +1,6 @@
 -- Defines what a text is parsed as: a uid, a policy, a file of policies, or the error of a rejected text. The length
--- and the tokens of a text are checked first, then the grammar, then the core expressions, then the limits. In the
--- definitions of trees, `text` is the text that the trees' tokens are in.
+-- and the tokens of a text are checked first, then the grammar, then the core expressions, then the limits. Where a
+-- definition has trees, `text` is the text that the trees' tokens are in.
 -- Source: Cedar reference guide 4.0, "Grammar specification for Cedar policy syntax". The errors and their order are
 -- rules of this product.
 use Rattle.std.specs.Prelude.{◌≡◌, ◌⊎◌, ℕ, List, [], Some, All, ◌++◌}
@@ -71,7 +71,7 @@ pub record IsPolicyFile (text : List ℕ) (names : List (List ℕ)) (policies : 
 -- The following definitions have the errors in the order in which they are checked: each is reported only if the text
 -- has none of the earlier ones. `NoMemory` is not among them, since it does not depend on the text.
 
--- `IsReportedOf faults why` holds if `why` is the error that is reported of `faults`: the first of those at the least
+-- `IsReportedOf faults why` holds if `why` is the reported error of `faults`: the first of the errors at the least
 -- offset.
 pub record IsReportedOf (faults : List DesugarFault) (why : ReadFault) : Type 0 where
   pub fault : DesugarFault

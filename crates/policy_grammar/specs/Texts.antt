@@ -1,5 +1,5 @@
--- Defines the tree that a text is parsed into, or the error of a text without a tree: of its length, of its tokens, or
--- of the grammar.
+-- Defines the tree that a text is parsed into, or the error of a text without a tree: an error in the text's length,
+-- tokens or grammar.
 -- Source: Cedar reference guide 4.0, "Grammar specification for Cedar policy syntax". The limits, the errors and
 -- their order are rules of this product.
 use Rattle.std.specs.Prelude.{◌≡◌, ℕ, ◌≤◌, ◌<◌, List, length, Option, Some, None, slice_get}

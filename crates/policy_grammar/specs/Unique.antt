@@ -23,7 +23,7 @@ pub record HasOneReading {A : Type 0} (Holds : List ℕ → A → Type 0) (Refus
 abbrev pub IsFileOf : List ℕ → (List (List ℕ) × List Policy) → Type 0
 IsFileOf text file = IsPolicyFile text file.0 file.1
 
--- `ReportedIsLeast`: the reported error is one of the errors, with its offset, and no other has a lesser offset.
+-- `ReportedIsLeast`: the reported error has the offset of one of the errors, and none of these has a lesser offset.
 abbrev pub ReportedIsLeast : Type 0
 ReportedIsLeast = (faults : List DesugarFault) (why : ReadFault) → IsReportedOf faults why →
     (fault : DesugarFault) × IsLeastOf faults fault × (place_of why ≡ Some (at fault))

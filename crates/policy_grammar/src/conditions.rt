@@ -129,8 +129,9 @@ fn shared_truth(alloc: Global, known: Option<&Shared<Expr>>) -> Result<Shared<Ex
     }
 }
 
-/// Returns the core expression of conditions that have no errors. If there are no conditions, the expression is `true`;
-/// it shares `known`, such as the condition of the previous policy, if that is `true` too.
+/// Returns the core expression of conditions that have no errors. If there are no conditions, the expression is `true`,
+/// and is shared with `known` if `known` is `true`. `known` is another core expression, such as the condition of the
+/// previous policy.
 pub(crate) fn conditions_like(
     alloc: Global,
     text: &str,

@@ -60,8 +60,8 @@ fn uids_of(alloc: Global, text: &str, trees: &Items<UidTree>) -> Result<Items<En
     Ok(Items::from_vec(uids))
 }
 
-/// Returns the constraint on the principal or the resource, or `NoMemory`. Names are shared with `known` as `uid_like`
-/// describes.
+/// Returns the constraint on the principal or the resource, or `NoMemory`. Strings are shared with `known` as
+/// `uid_like` describes.
 fn entity_scope_of(
     alloc: Global,
     text: &str,
@@ -93,7 +93,7 @@ fn entity_scope_of(
     }
 }
 
-/// Returns the constraint on the action, or `NoMemory`. The names of a single uid are shared with `known` as `uid_like`
+/// Returns the constraint on the action, or `NoMemory`. A single uid shares its strings with `known` as `uid_like`
 /// describes.
 fn action_scope_of(
     alloc: Global,
@@ -133,7 +133,8 @@ fn effect_of(kind: TokenKind) -> Effect
     }
 }
 
-/// Returns the scope of a tree, or `NoMemory`. Names are shared with the same part of `known` as `uid_like` describes.
+/// Returns the scope of a tree, or `NoMemory`. Each part but a list of actions shares strings with the same part of
+/// `known`, as `uid_like` describes.
 fn scope_of(
     alloc: Global,
     text: &str,
@@ -166,7 +167,7 @@ fn scope_of(
     })
 }
 
-/// Returns the policy of a tree, or `NoMemory`. `known` is another policy, such as the previous one. Names of the
+/// Returns the policy of a tree, or `NoMemory`. `known` is another policy, such as the previous one. Strings of the
 /// policy's scope are shared with the scope of `known` as in `scope_of`. The policy's condition is shared with `known`
 /// if `tree` has no conditions and the condition of `known` is `true`.
 pub(crate) fn core_like(

@@ -19,8 +19,8 @@ pub fn texts_have_one_reading()
     least_fault_is_reported();
 }
 
-/// Proves that the reported error of a policy's tree, or of a file's trees, is one of their errors at the least offset.
-/// No-op.
+/// Proves that the reported error of a list of errors has the offset of one of these errors, and that none of these has
+/// a lesser offset. No-op.
 pub fn reported_fault_is_least()
     ensures { ReportedIsLeast }
 {

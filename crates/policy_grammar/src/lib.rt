@@ -1,4 +1,4 @@
-//! The parser of policies, files of policies and uids, from a text to a tree and then to core expressions.
+//! The parser of uids, policies and files of policies, from a text to a tree and then to core expressions.
 #![tactic(auto)]
 
 mod annotations;

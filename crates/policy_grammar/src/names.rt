@@ -102,7 +102,7 @@ fn last_policy(named: &[(String, Policy)]) -> Option<&Policy> {
 }
 
 /// Returns the policies of a file's trees, each with its name, or `NoMemory`. Each policy shares its condition and
-/// names of its scope with the previous policy, as `core_like` describes.
+/// strings of its scope with the previous policy, as `core_like` describes.
 ///
 /// Each tree is dropped before the next policy is built, so that the allocator can reuse the tree's memory for that
 /// policy.

@@ -56,8 +56,8 @@ fn may_repeat(text: &str, wide: bool, tree: &PolicyTree) -> bool
     wide || has_id(text, tree)
 }
 
-/// Returns the names that may equal another policy's name, each with the offset of its policy's first token: those of
-/// an `@id`, or all names if `wide` is true.
+/// Returns the names that may equal another policy's name: the values of `@id`, or all names if `wide` is true. Each
+/// has the offset of its policy's first token.
 fn names_to_compare<'a>(
     alloc: Global,
     text: &str,

@@ -15,8 +15,8 @@ use Rattle.program.specs.Reports.{IsFailureReported}
 abbrev pub Course : Type 0 → Type 1
 Course L = List (Event L) → ℕ → Type 0
 
--- An example: `drill` reads the files `s` and `t`, a schema and a script, and prints their lines, or the error:
--- `Reads s (λ schema. Reads t (λ script. IsLineOrRefusal ..))`. Such runs are, with their status:
+-- An example: `drill` reads the files `s` and `t`, a schema and a script, and prints the output of the script, or the
+-- error: `Reads s (λ schema. Reads t (λ script. IsLineOrRefusal ..))`. Such runs are, with their status:
 --   read s (Ok schema) ∷ read t (Ok script) ∷ wrote Answers (ended line) true ∷ [], 0: the lines are printed
 --   the same with false, 3: standard output failed
 --   read s (Ok schema) ∷ read t (Ok script) ∷ wrote Faults (ended (error_line refusal)) true ∷ [], 1: rejected

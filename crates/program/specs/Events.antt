@@ -18,7 +18,8 @@ pub data Event (L : Type 0) : Type 0 where
   opened : List ℕ → Bool → Event L
   -- all of these bytes were written to a stream, or the stream failed
   wrote : Stream → List ℕ → Bool → Event L
-  -- all of the text of an error of the command line, or of the help, was written to a stream, or the stream failed
+  -- all of the text of the help, the version or an error of the command line was written to a stream, or the stream
+  -- failed
   printed : Stream → LineFault → Bool → Event L
   -- this connection to this address was opened, or none could be
   connected : List ℕ → Option L → Event L
@@ -48,8 +49,8 @@ module _ {L H : Type 0} (does : H → Event L → H → Type 0) where
 -- `err` to `new_out` and `new_err`: `wrote` and `printed` leave the other stream unchanged, and every other event
 -- leaves both unchanged. `held` and `told` give the bytes that the streams accepted, if they are known. `Changes` does
 -- not constrain the content of a file, the text of an error, how much a stream accepted before it failed, or what is
--- read from a connection. Nor does it constrain the lines of a log on standard output: the log has a second writer, so
--- its lines leave `out` unchanged, and may occur on standard output between the bytes of `out`.
+-- read from a connection. Nor does it constrain the lines of a log on standard output: the log has its own writer of
+-- standard output, so the log's lines leave `out` unchanged, and may occur there between the bytes of `out`.
 abbrev pub Changes : {L O E : Type 0} → (O → Option (List ℕ)) → (E → Option (List ℕ)) → O → E → Event L → O → E
     → Type 0
 Changes held told out err (read name bytes) new_out new_err = (new_out ≡ out) × (new_err ≡ err)

@@ -2,9 +2,9 @@
 -- lines.
 -- Source: docs/operating.md, "Exchange updates between sites".
 -- Rules of this product: the schema is checked before anything is sent; each call opens its own connection; the second
--- and the third call for a site send the body of the reply to the call before; the count in the reply to a merge is
--- printed as received; the first call that fails ends the run, and a line reports the address, the number and the
--- request of this call, and the cause.
+-- and the third call for a site send the body of the previous reply; the count in the reply to a merge is printed as
+-- received; the first call that fails ends the run, and a line reports the address, the number and the request of this
+-- call, and the cause, or only out of memory.
 use Rattle.std.specs.Prelude.{◌≡◌, ◌≢◌, ◌≤◌, ◌⊎◌, ℕ, ◌+◌, ◌++◌, List, [], ◌∷◌, Option, None, Some, codes}
 use Rattle.std.specs.Prelude.{decimal, if◌then◌else◌, nat_eq}
 use Rattle.std.specs.Borrow.{Bor}
@@ -77,7 +77,7 @@ module _ {L : Type 0} where
   IsCallErrorReported c (Refused refusal) = IsMemoryReported
 
   -- `WritesTaken c line goes_on`: the count `line` is written to standard output, and the run goes on by `goes_on`; or
-  -- it is reported that `line`, the reply to the call `c`, is not a count.
+  -- it is reported that `line`, the reply to the call `c`, is not a count (`IsCallReported`).
   abbrev pub WritesTaken : RoundCall → List ℕ → Course L → Course L
   WritesTaken c line goes_on events end = (IsTakenLine line × Announces line goes_on events end)
       ⊎ ((IsTakenLine line → ⊥) × IsCallReported c cause.NoCount events end)
@@ -90,8 +90,8 @@ module _ {L : Type 0} where
 
 module _ {R W : Type 0} (reader : Source R) (writer : Sink W) where
   -- `IsCalled c body link reply left` holds if the request of the call `c` with `body` was written over `link`, and
-  -- what was read begins with a reply of status 200 and the body `reply`. No read or write failed, and a site accepts a
-  -- body of this size. `left` is the connection afterwards.
+  -- what was read begins with a reply of status 200 and the body `reply`. No read or write failed, and the body of the
+  -- request has at most `MAX_BODY` bytes. `left` is the connection afterwards.
   abbrev pub IsCalled : RoundCall → List ℕ → Link R W → List ℕ → Link R W → Type 0
   IsCalled c body link reply left =
       IsAsked reader writer (call_request c.call c.address.now body) link reply left
@@ -122,7 +122,7 @@ module _ {R W : Type 0} (reader : Source R) (writer : Sink W) where
       × IsNotCalled c body link fault left × (events ≡ closed left ∷ rest) × IsCallErrorReported c fault rest end)
 
   -- `CallsIfReached c body goes_on came`: like `CallsOver c body goes_on` over the connection in `came`; without one,
-  -- it is reported that there is no connection.
+  -- it is reported that there is no connection (`IsCallReported`).
   abbrev pub CallsIfReached : RoundCall → List ℕ → (List ℕ → Course (Link R W)) → Option (Link R W)
       → Course (Link R W)
   CallsIfReached c body goes_on (Some link) = CallsOver c body goes_on link
@@ -137,8 +137,8 @@ module _ {R W : Type 0} (reader : Source R) (writer : Sink W) where
   -- ---- rounds
 
   -- `Direction first to from goes_on`: the run brings the site at `to` up to date from the one at `from`. The calls
-  -- `first`, `first` + 1 and `first` + 2 get the summary of `to`, post it to `from`, and post the delta in the reply to
-  -- `to`. Then the run writes the count in the last reply, and goes on by `goes_on`.
+  -- `first`, `first` + 1 and `first` + 2 get the summary of `to`, post the summary to `from`, which replies with a
+  -- delta, and post the delta to `to`. Then the run writes the count in the last reply, and goes on by `goes_on`.
   abbrev pub Direction : ℕ → Bor (List ℕ) → Bor (List ℕ) → Course (Link R W) → Course (Link R W)
   Direction first to from goes_on =
       Calls (record { number = first; call = call.Summary; address = to }) [] (λ summary.

@@ -3,8 +3,8 @@
 -- Source: docs/operating.md, "Find out why a text is rejected".
 -- Rules of this product: the command's own report comes first, and its status is unchanged; then come the lines that
 -- `explain` prints for the same files. If `explain` rejects nothing in them, the rejected message is explained, with
--- the name of its file; if no message is rejected, the reported code is. If nothing is rejected, the option changes
--- nothing. If an explanation cannot be allocated, a line says so in its place.
+-- the name of its file; if no message is rejected, the reported code is explained. If nothing is rejected, the option
+-- changes nothing. If an explanation cannot be allocated, a line says so in its place.
 use Rattle.std.specs.Prelude.{◌≡◌, ◌⊎◌, ℕ, ◌==◌, if◌then◌else◌, Bool, true, false, List, [], ◌∷◌, ◌++◌, codes}
 use Rattle.std.specs.Prelude.{Option, None, Some, unwrap_or}
 use Rattle.explanations.specs.explanation_texts.CodeText.{Texts, code_text, words_on}
@@ -28,8 +28,8 @@ file_with_content name text = record { name = name; text = text }
 abbrev pub policies_of : Option File → File
 policies_of file = unwrap_or file (file_with_content [] [])
 
--- `schema_files name schema` are the files that a command over messages explains as `explain` does: the schema alone,
--- with the file name `name` and the content `schema`.
+-- `schema_files name schema` are the files for the explanation of a rejected schema or message: the schema alone, with
+-- the file name `name` and the content `schema`.
 abbrev pub schema_files : List ℕ → List ℕ → Files
 schema_files name schema = record {
   schema = Some (file_with_content name schema);

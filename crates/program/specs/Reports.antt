@@ -30,7 +30,7 @@ abbrev pub no_memory_line : List ℕ
 no_memory_line = codes "{\"error\":{\"code\":1,\"place\":null,\"within\":null}}"
 
 -- The last two arguments of each relation are the events of the rest of a run, over connections of type `L`, and its
--- status. The sentences do not name them. If writing fails, the status is 3 instead of the one that a sentence gives.
+-- status. The comments do not name them. If writing fails, the status is 3 instead of the one that a comment gives.
 module _ {L : Type 0} where
   -- `IsReported stream line status`: `line` is written to `stream`, and the run ends with `status`, or with 3 if
   -- writing fails.

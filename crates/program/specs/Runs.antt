@@ -88,9 +88,9 @@ module _ {L : Type 0} where
       ⊎ IsErrorExplained options.explain (check_files options schema policies) (checks.AreChecksRefused schema policies)
       events end
 
-  -- `AreMerged options schema first second`: the state with the updates of both messages of `schema`, `first` and
-  -- `second`, is printed, or the error is reported. If `options` have `--explain`, the error is then explained, with
-  -- the name of the file of the message at fault.
+  -- `AreMerged options schema first second`: the state with the updates of `first` and `second`, two messages of
+  -- `schema`, is printed, or the error is reported. If `options` have `--explain`, the error is then explained
+  -- (`IsMergeText`).
   abbrev pub AreMerged : MergeOptions → List ℕ → List ℕ → List ℕ → Course L
   AreMerged options schema first second = IsLineOrErrorThenText options.explain
       (IsMergeText (schema_files options.schema.now schema) options schema first)

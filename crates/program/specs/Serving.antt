@@ -1,9 +1,9 @@
 -- Defines a run of `serve`, which serves a site.
 -- Source: docs/operating.md.
 -- Rules of this product: schema and state are checked before the network is used; connections are served one after
--- another, each from the site that the previous one left. If accepting one fails, the run warns of the first of
+-- another, each by the site as the previous one left it. If accepting one fails, the run warns of the first of
 -- consecutive failures, pauses and tries again. With a log, the line of a reply is written before the reply is sent; if
--- that fails, the connection ends, and the next is served.
+-- writing the line fails, the connection ends, and the next is served.
 use Rattle.std.specs.Prelude.{◌≡◌, ◌≢◌, ◌⊎◌, ℕ, zero, suc, ◌*◌, ◌<◌, min, Bool, List, [], ◌∷◌, ◌++◌, Option, None, Some}
 use Rattle.std.specs.Prelude.{Result, Err, codes, option_map}
 use Rattle.state_exchanges.specs.http_streams.declared.devices.Source.{Ghosts as Source}
@@ -84,7 +84,7 @@ module _ {R W G : Type 0} (reader : Source R) (writer : Sink W) (log : Sink G) w
       × IsLoggedOver old.log link end left new.log
 
   -- `IsNextServed address old events new` holds if, with `events`, a connection was accepted after any number of
-  -- failures (`AreFailures address`), and was served from `old` and closed. `new` has the site and its log afterwards.
+  -- failures (`AreFailures address`), and was served by `old` and closed. `new` has the site and its log afterwards.
   abbrev pub IsNextServed : List ℕ → Serving G → List (Event (Link R W)) → Serving G → Type 0
   IsNextServed address old events new = (number : ℕ) × (failures : List (Event (Link R W))) × (link left : Link R W)
       × (end : Result (Unit {0}) StreamFault) × AreFailures address number failures
@@ -92,21 +92,21 @@ module _ {R W G : Type 0} (reader : Source R) (writer : Sink W) (log : Sink G) w
       × IsServedOver old link end left new
 
   -- `AreServed address n old events new` holds if, with `events`, `n` connections were served (`IsNextServed address`),
-  -- the first from `old`, and each other one from the site that the previous one left. `new` has the site and its log
+  -- the first by `old`, and each other one by the site as the previous one left it. `new` has the site and its log
   -- afterwards.
   abbrev pub AreServed : List ℕ → ℕ → Serving G → List (Event (Link R W)) → Serving G → Type 0
   AreServed address zero old events new = (events ≡ []) × (new ≡ old)
   AreServed address (suc n) old events new = (first rest : List (Event (Link R W))) × (mid : Serving G)
       × IsNextServed address old first mid × AreServed address n mid rest new × (events ≡ first ++ rest)
 
-  -- `AreCutShort address most old events new` holds if, with `events`, fewer than `most` connections were served from
+  -- `AreCutShort address most old events new` holds if, with `events`, fewer than `most` connections were served by
   -- `old` (`AreServed address`), and then accepting one failed as often as the run tries (`IsGivenUp address`). `new`
   -- has the site and its log afterwards.
   abbrev pub AreCutShort : List ℕ → ℕ → Serving G → List (Event (Link R W)) → Serving G → Type 0
   AreCutShort address most old events new = (n : ℕ) × (first rest : List (Event (Link R W))) × (n < most)
       × AreServed address n old first new × IsGivenUp address rest × (events ≡ first ++ rest)
 
-  -- `AreAllServed address most site`: `most` connections are served from `site`, and the run ends with 0; or the run
+  -- `AreAllServed address most site`: `most` connections are served by `site`, and the run ends with 0; or the run
   -- gives up before (`IsGivenUp`) and reports `address`.
   abbrev pub AreAllServed : List ℕ → ℕ → Serving G → Course (Link R W)
   AreAllServed address most site events end =
@@ -119,7 +119,7 @@ module _ {R W G : Type 0} (reader : Source R) (writer : Sink W) (log : Sink G) w
   IsServedListening options site = Announces (codes "listening " ++ options.listen.now)
       (AreAllServed options.listen.now (most_of options.connections) site)
 
-  -- `IsServedAt options site`: the run warns if `site` begins with stamps of its own name. It then opens the log, if
+  -- `IsServedAt options site`: the run warns if `site` has stamps of its own name. It then opens the log, if
   -- `options` name one, listens, with the time limit, if they give one, and serves.
   abbrev pub IsServedAt : ServeOptions → SiteView → Course (Link R W)
   IsServedAt options site = WarnsIf (has_stamps_of options.site (store_in site)) (own_stamps_line options.site)

@@ -36,7 +36,7 @@ pub(crate) fn policies_of<'n, 't>(source: Option<NamedText<'n, 't>>) -> NamedTex
     }
 }
 
-/// Returns the files for the explanation of a rejected schema or state: the schema alone.
+/// Returns the files for the explanation of a rejected schema or message: the schema alone.
 pub(crate) fn schema_given<'n, 't>(name: &'n str, schema: &'t [u8]) -> Given<'n, 't>
     ensures { files_of result ≡ schema_files name.entry.now schema.entry.now }
 {
@@ -88,8 +88,8 @@ fn rejected_in(message: Option<&str>, code: u8) -> Option<&str>
     if code == 1 { None } else { message }
 }
 
-/// Returns the text that explains an error: as that of the message in the file `message`, if there is one and the error
-/// is not out of memory, else the text on its code.
+/// Returns the text that explains `refusal` as the error of the message in the file `message` or, without a file or if
+/// `refusal` is out of memory, by the text on its code.
 fn error_text(alloc: Global, message: Option<&str>, refusal: Refusal) -> Result<String, NoMemory>
     ensures { IfOk result
         (λ text. IsErrorText (option_map (λ m. m.now) message.entry) refusal (string_bytes text)) }
@@ -100,8 +100,8 @@ fn error_text(alloc: Global, message: Option<&str>, refusal: Refusal) -> Result<
     }
 }
 
-/// Returns the text that explains what is rejected in the given files; if nothing is, the text that explains `refusal`,
-/// the error of the message in the file `message`, if there is one.
+/// Returns the text that explains what is rejected in the given files or, if nothing is, `refusal`, as [`error_text`]
+/// does with the file `message`.
 pub(crate) fn refusal_text(
     alloc: Global,
     given: &Given<'_, '_>,
@@ -118,8 +118,8 @@ pub(crate) fn refusal_text(
     error_text(alloc, message, refusal)
 }
 
-/// Explains on standard error what is rejected in the given files or, if nothing is, `refusal`, the error of the
-/// message in the file `message`, if there is one.
+/// Explains on standard error what is rejected in the given files or, if nothing is, `refusal`, by [`refusal_text`]
+/// with the file `message`.
 fn explain_refusal<H: Host>(
     alloc: Global,
     host: &mut H,
@@ -141,8 +141,8 @@ fn explain_given<H: Host>(alloc: Global, host: &mut H, given: &Given<'_, '_>)
     write_explanation(host, explain_texts(alloc, given))
 }
 
-/// Reports an error and then, if that is requested, explains it: what is rejected in the given files or, if nothing is,
-/// the error of the message in the file `message`, if there is one, else the code.
+/// Reports an error and then, if that is requested, explains what is rejected in the given files or, if nothing is, the
+/// error, by [`refusal_text`] with the file `message`.
 pub(crate) fn report_rejected<H: Host>(
     alloc: Global,
     host: &mut H,

@@ -1,4 +1,4 @@
-//! The machine of the operating system.
+//! The machine of a run: the files, standard streams, network and clock of the operating system.
 ghost use Rattle.std.specs.Prelude.{◌++◌, OnOk};
 ghost use Rattle.std.specs.Io.KnownBytes.{Appends};
 ghost use Rattle.program.specs.Events.{Changes, closed};
@@ -23,7 +23,7 @@ pub struct SystemHost<'a, R, O, E> {
     pub answers: O,
     /// The writer of standard error.
     pub faults: E,
-    /// A second writer of standard output, for a log that goes there; `None` once such a log is open.
+    /// A second writer of standard output, for a log that goes there; `None` once such a log was opened.
     pub lines: Option<O>,
 }
 
@@ -50,19 +50,20 @@ impl<F: Write, O: Write> Write for LogDevice<F, O> {
     }
 }
 
-/// The lines of a log, each on a line of its own: if a failure cut off the line before, in this run or an earlier one,
-/// a line feed is written first.
+/// A writer of a log, which begins each line on a line of its own: if a failure cut off the previous line, in this run
+/// or an earlier one, a line feed is written before the next line.
 #[derive(Drop)]
 pub struct LogLines<D> {
     device: D,
-    /// Whether the last accepted write left a line open: it was accepted in part, or does not end in a line feed.
+    /// Whether a line is open: the last accepted write was accepted in part, or does not end in a line feed. Before the
+    /// first write: whether the file ended in a line that was cut off.
     open: bool,
-    /// Whether the next write first ends the open line, since a write of that line failed, or the file ended in a line
-    /// that was cut off when the log was opened.
+    /// Whether the next write first ends the open line, since a write of that line failed or, when the log was opened,
+    /// the file ended in a line that was cut off.
     torn: bool,
 }
 
-/// A listener, with the time limit of a read or a write of its connections.
+/// A listener, with a time limit for a read or a write of its connections, if one is given.
 #[derive(Drop)]
 pub struct Listening<L> {
     listener: L,
@@ -159,7 +160,7 @@ fn last_byte<R: Files>(files: &R, name: &str) -> io::Result<u8> {
     Ok(last[0])
 }
 
-/// Returns whether the log of this name ends in a line that was cut off, as far as it can be read.
+/// Returns whether the log of this name is a regular file that can be read and ends in a line that was cut off.
 fn ends_cut<R: Files>(files: &R, name: &str) -> bool {
     if name == "-" {
         return false;
@@ -171,7 +172,7 @@ fn ends_cut<R: Files>(files: &R, name: &str) -> bool {
 }
 
 /// Returns where the lines of the log of this name go: for `-` standard output, else a file. Fails if the file cannot
-/// be opened or, for `-`, if a log on standard output is already open.
+/// be opened or, for `-`, if `lines` is `None` (a log on standard output was opened before).
 fn log_device<R: Files, O: Write>(
     files: &R,
     lines: &mut Option<O>,

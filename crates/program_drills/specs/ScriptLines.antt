@@ -61,8 +61,8 @@ policy_put (Some id) (Some text) = Some (plain (operation.PutPolicy id text))
 abbrev pub policy_deleted : List ℕ → ScriptOperation
 policy_deleted id = plain (operation.DeletePolicy id)
 
--- `entity_deleted o` is the deletion of the entity `o`. For JSON that is not a uid (`None`) it is a put of no bytes,
--- which has the same error, `BadShape` (30).
+-- `entity_deleted o` is the deletion of the entity `o`; or, for JSON that is not a uid (`None`), a put of no bytes,
+-- which is rejected as a deletion with such JSON is: with `BadShape` (30).
 abbrev pub entity_deleted : Option EntityUid → ScriptOperation
 entity_deleted None = plain (operation.PutEntity [])
 entity_deleted (Some uid) = plain (operation.DeleteEntity uid)

@@ -42,16 +42,16 @@ fn drill_under(
     Ok(play(alloc, schema, count, &events)?)
 }
 
-/// Executes a script at `count` empty sites of a schema, and returns its lines: one for each event, then the state of
-/// each site, joined by line feeds. `count` is from 1 to 64. The sites are named `00001`, `00002` and so on.
+/// Executes a script at `count` empty sites of a schema, and returns the output lines: one for each event, then the
+/// state of each site, joined by line feeds. `count` is from 1 to 64. The sites are named `00001`, `00002` and so on.
 ///
 /// A line of the script is a JSON object with the number of a site at `site` and an operation at `do`, with its
 /// arguments at further keys: `put_policy` (`id`, `text`), `delete_policy` (`id`), `put_entity` (`entity`),
 /// `delete_entity` (`uid`), `authorize` (`request`), `summary`, `offer`, `offer_delta` (`summary`, a number), `deliver`
 /// (`message`, a number).
 ///
-/// The line of an event is the body of the service's reply, or the error line. If an event makes a message or a
-/// summary, its line has the number of that message or summary, from 0.
+/// The line of an event is the body of the service's reply. For `summary`, `offer` and `offer_delta` the line is
+/// instead the number of the summary or message that the event makes, from 0, as in `{"message":0}`, or the error line.
 ///
 /// # Errors
 ///

@@ -93,8 +93,8 @@ fn entity_put(alloc: Global, value: &Value) -> Result<Option<Operation>, NoMemor
     }
 }
 
-/// Returns the deletion of an entity, if the uid is present. JSON that is not a uid gives a put of no bytes, which has
-/// the same error, `BadShape` (30).
+/// Returns the deletion of an entity, if the uid is present. JSON that is not a uid gives a put of no bytes, which is
+/// rejected as a deletion with such JSON is: with `BadShape` (30).
 fn entity_deleted(alloc: Global, value: &Value) -> Result<Option<Operation>, NoMemory>
     ensures { IfOk result (IsReadAs
         (option_map (λ uid. entity_deleted (uid_in uid)) (get (codes "uid") (view value.now)))) }

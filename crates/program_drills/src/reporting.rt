@@ -145,8 +145,8 @@ fn append_reply(alloc: Global, text: &mut Vec<u8>, reply: &Reply) -> Result<(), 
 ///
 /// # Errors
 ///
-/// - `NoMemory`: an allocation failed; or an earlier one failed, so that the message or summary that the event names
-///   was not made.
+/// - `NoMemory`: an allocation failed; or the message or summary that the event names was not made, because an earlier
+///   line ran out of memory.
 fn append_event(alloc: Global, text: &mut Vec<u8>, answer: &EventReply) -> Result<(), NoMemory>
     ensures { OnOk result (AppendsEventLine answer.now text.old.items text.new.items) }
 {

@@ -2,7 +2,7 @@
 ghost use Rattle.std.specs.Prelude.{◌≡◌, ◌<◌, ◌∷◌, length};
 ghost use Rattle.program_drills.specs.Lines.{lines};
 
-/// Returns the first line of bytes, which are not empty, and the bytes after its line feed; no bytes if it has none.
+/// Returns the first line of bytes, which are not empty, and the bytes after its line feed (`[]` without a line feed).
 pub(crate) fn first_line(bytes: &[u8]) -> (&[u8], &[u8])
     requires { 0 < length bytes.now }
     ensures lines { lines bytes.now ≡ result.0.now ∷ lines result.1.now }

@@ -1,5 +1,5 @@
--- Defines why arguments are not a command: the first error of parsing them, a request for help, an invalid site name, a
--- missing option or an invalid number, or out of memory.
+-- Defines why arguments are not a command: an error that clap may report for them, a request for help, an invalid site
+-- name, a missing option or an invalid number, or out of memory.
 -- Source: the contracts of the crate clap.
 -- Rules of this product: the site name is checked after all that clap checks.
 use Rattle.std.specs.Prelude.{◌≡◌, Bool, true, false, List, [], ⊤}

@@ -17,8 +17,8 @@ use clap::ArgMatches;
 use stamped_store::SiteName;
 use std::alloc::Global;
 
-/// The options of `check`: the names of a schema's file and of a file of policies, and whether what is rejected is
-/// explained.
+/// The options of `check`: the names of a schema's file and of a file of policies, and whether to explain what is
+/// rejected.
 #[derive(Clone, Copy)]
 pub struct CheckOptions<'a> {
     pub schema: &'a str,
@@ -26,8 +26,8 @@ pub struct CheckOptions<'a> {
     pub explain: bool,
 }
 
-/// The options of `decide`: the names of the files with policies, with entities and with a request, and whether what is
-/// rejected is explained. The name of a schema's file is optional.
+/// The options of `decide`: the names of the files with policies, with entities and with a request, and whether to
+/// explain what is rejected. The name of a schema's file is optional.
 #[derive(Clone, Copy)]
 pub struct DecideOptions<'a> {
     pub schema: Option<&'a str>,
@@ -37,7 +37,7 @@ pub struct DecideOptions<'a> {
     pub explain: bool,
 }
 
-/// The options of `load`: the name of a schema's file, a site's name, and whether what is rejected is explained.
+/// The options of `load`: the name of a schema's file, a site's name, and whether to explain what is rejected.
 /// The names of files with policies, with entities and with an initial state are optional.
 #[derive(Clone, Copy)]
 pub struct LoadOptions<'a> {
@@ -49,8 +49,8 @@ pub struct LoadOptions<'a> {
     pub explain: bool,
 }
 
-/// The options of `serve`: the name of a schema's file, a site's name, an address, and whether what is rejected is
-/// explained. These are optional: the name of a file with an initial state, the number of connections, the seconds that
+/// The options of `serve`: the name of a schema's file, a site's name, an address, and whether to explain what is
+/// rejected. These are optional: the name of a file with an initial state, the number of connections, the seconds that
 /// each connection may be idle (1 to 86,400), and the name of the log.
 #[derive(Clone, Copy)]
 pub struct ServeOptions<'a> {
@@ -82,8 +82,8 @@ pub struct ExchangeOptions<'a> {
     pub and: &'a str,
 }
 
-/// The options of `merge`: the names of a schema's file and of two files, each of a state or a delta, and whether what
-/// is rejected is explained.
+/// The options of `merge`: the names of a schema's file and of two files, each of a state or a delta, and whether to
+/// explain what is rejected.
 #[derive(Clone, Copy)]
 pub struct MergeOptions<'a> {
     pub schema: &'a str,
@@ -121,7 +121,7 @@ pub enum Line<'a> {
     Load(LoadOptions<'a>),
     /// Serves a site at an address.
     Serve(ServeOptions<'a>),
-    /// Fetches the entries that a state lacks from the site at an address, and writes the new state.
+    /// Fetches from the site at an address the entries that a state lacks, and writes the new state.
     Pull(PullOptions<'a>),
     /// Brings two sites up to date with each other.
     Exchange(ExchangeOptions<'a>),

@@ -24,8 +24,8 @@ is_numbered_at spans place None = false
 is_numbered_at spans place (Some i) = has_number_at (slice_get spans place) i
 
 -- `is_ancestor_at numbers spans o n` tests whether the type `n` is an ancestor of the type with the number `o`; false
--- if `o` is `None`. `numbers` has the number of each type, and `spans` has, at the index of each number, the numbers of
--- the type's ancestors.
+-- if `o` is `None`. `numbers` has the number of each type, and `spans` has, at the index that is a type's number, the
+-- spans of the numbers of the type's ancestors.
 abbrev pub is_ancestor_at : List (List ℕ × ℕ) → List (List NumberSpan) → Option ℕ → List ℕ → Bool
 is_ancestor_at numbers spans None n = false
 is_ancestor_at numbers spans (Some place) n = is_numbered_at spans place (lookup (is_at (text_cmp n)) numbers)

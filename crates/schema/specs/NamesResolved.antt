@@ -2,11 +2,11 @@
 -- nothing.
 -- Source: Cedar reference guide 4.0, "Schema JSON format": namespaces, `EntityOrCommon`, `memberOfTypes`, `memberOf`,
 -- `appliesTo`.
--- Rules of this product: a name without `::` is looked up in the namespace that uses it, then in the empty one; a
--- common type of either takes precedence over an entity type, and an entity type over a primitive or an extension type;
--- an action of the empty namespace has the type `Action`, one of a namespace NS the type `NS::Action`; a member of
--- `memberOf` without a type means an action of the same namespace; a name that means nothing is the error `UnknownName`
--- (code 22).
+-- Rules of this product: a name without `::` is looked up in the namespace that uses it, then in the empty one; for an
+-- `EntityOrCommon` a common type of either namespace takes precedence over an entity type, and an entity type over a
+-- primitive or an extension type; an action of the empty namespace has the type `Action`, one of a namespace NS the
+-- type `NS::Action`; a member of `memberOf` without a type means an action of the same namespace; a name that means
+-- nothing is the error `UnknownName` (code 22).
 use Prim.Native.Char.{code}
 use Rattle.std.specs.Prelude.{◌≡◌, ℕ, List, Bool, Option, Some, None, Contains, codes}
 use Rattle.std.specs.List.{AllZip}

@@ -68,7 +68,7 @@ with_actions parents (a ∷ rest) = with_actions (with_parents parents a.uid a.p
 abbrev pub action_parents : ResolvedSchema → Parents
 action_parents s = with_actions no_parents s.actions
 
--- `type_uid name` is the entity type `name` as a node of a hierarchy: the uid of this type whose id is empty.
+-- `type_uid name` is the entity type `name` as a node of a hierarchy: the uid of this type with an empty id.
 abbrev pub type_uid : List ℕ → EntityUid
 type_uid name = record { type_name = name; id = [] }
 

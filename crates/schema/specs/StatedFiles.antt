@@ -30,8 +30,8 @@ pub record IsName (d : Data) (name : List ℕ) : Type 0 where
 abbrev pub IsNoName : Data → Type 0
 IsNoName d = (name : List ℕ) → IsName d name → ⊥
 
--- `IsNamespace key name` holds if `key` names the namespace `name`: a Path, or the empty string, which names the empty
--- namespace, `None`.
+-- `IsNamespace key name` holds if `key` names the namespace `name`: `key` is the Path `name`, or `key` is empty and
+-- `name` is `None`, the empty namespace.
 pub data IsNamespace : List ℕ → Option (List ℕ) → Type 0 where
   empty_namespace : IsNamespace [] None
   named : (key : List ℕ) → IsPath key → IsNamespace key (Some key)

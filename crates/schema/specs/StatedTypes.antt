@@ -58,9 +58,9 @@ pub data IsExtension : List ℕ → Raw → Type 0 where
   ipaddr : IsExtension (codes "ipaddr") raw.ipaddr
   decimal : IsExtension (codes "decimal") raw.decimal
 
--- `IsEither name t` holds if an `EntityOrCommon` with the name `name` is the type `t`, before names are resolved: after
--- `__cedar::` a primitive or an extension type; else the name itself, if it is a Path. (No Path contains the word
--- `__cedar`.)
+-- `IsEither name t` holds if an `EntityOrCommon` with the name `name` is the type `t`, before names are resolved:
+-- `name` is `__cedar::` and the name of the primitive or extension type `t`, or `name` is a Path, to which `t` refers.
+-- (No Path contains the word `__cedar`.)
 pub data IsEither : List ℕ → Raw → Type 0 where
   of_string : IsEither (codes "__cedar::String") raw.text
   of_long : IsEither (codes "__cedar::Long") raw.long

@@ -29,7 +29,8 @@ pub record IsWellFormed (v : StatedSchema) : Type 0 where
   -- the places of the environments ascend strictly, and their actions are declared
   pub environments_ascend : IsStrictlySortedBy place_cmp (map (λ e. e.place) v.environments)
   pub places : (e : EnvironmentOf) → Contains v.environments e → Contains v.actions e.place.action
-  -- an action is listed if and only if its ancestors are found, and if and only if its parents are; the list ascends
+  -- `actions` has an action if and only if `ancestors` has a value for the action, and if and only if `member_of` has
+  -- one; `actions` ascends
   pub actions : (u : EntityUid) → Contains v.actions u ↔ IsSome (v.ancestors u)
   pub actions_stated : (u : EntityUid) → Contains v.actions u ↔ IsSome (v.member_of u)
   pub actions_ascend : IsAscending v.actions

@@ -58,7 +58,7 @@ impl Schema {
     ghost use Rattle.schema.specs.Schemas.{ActionHasAncestor};
     ghost use Rattle.schema.specs.Views.{environment_view, schema_view, action_has_ancestor, IsStated};
 
-    /// Proves the schema's invariant: some bytes describe it. No-op.
+    /// Proves the schema's invariant: some bytes describe the schema. No-op.
     pub fn is_stated(&self)
         ensures { IsStated self.now }
     {

@@ -99,7 +99,7 @@ fn add_use(
     Ok(())
 }
 
-/// Adds the environments of an action, with the errors of [`add_use`]. An action without `appliesTo` has none.
+/// Adds the environments of an action (none without `appliesTo`), with the errors of [`add_use`].
 fn add_action(
     alloc: Global,
     action: &ResolvedAction,

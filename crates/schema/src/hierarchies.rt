@@ -37,7 +37,7 @@ fn copy_all(alloc: Global, uids: &[&EntityUid]) -> Result<Items<EntityUid>, NoMe
     Ok(Items::from_vec(copies))
 }
 
-/// Returns an entity type as a node of a hierarchy: the uid of that type whose id is empty.
+/// Returns an entity type as a node of a hierarchy: the uid of that type with an empty id.
 pub(crate) fn type_uid(alloc: Global, name: &TypeName) -> Result<EntityUid, NoMemory>
     ensures { IfOk result (λ u. u ≡ type_uid name.now) }
 {

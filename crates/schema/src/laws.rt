@@ -89,10 +89,10 @@ pub fn bytes_have_one_outcome()
 
 /// Proves the invariants of a schema that bytes describe. No-op.
 ///
-/// Attributes and contexts are records, within the limits and with ascending keys. Environments, actions and ancestors
+/// Shapes and contexts are records, within the limits and with ascending keys. Environments, actions and ancestors
 /// ascend. No action is its own ancestor, and the ancestor relation is transitive. Each named entity type is declared,
-/// and so is each ancestor of an action. The type of each action has the last word `Action`, and no declared entity
-/// type has.
+/// and so is each ancestor of an action. The last word of each action's type is `Action`; no declared entity type has
+/// this last word.
 pub fn stated_schemas_are_well_formed()
     ensures { StatedSchemasAreWellFormed }
 {

@@ -275,8 +275,8 @@ fn spans_found(
     joined(alloc, spans)
 }
 
-/// Returns the numbers of the ancestors of an entity. If `reached` has the ancestors of each parent, they give these
-/// numbers; otherwise a search does.
+/// Returns the numbers of the ancestors of an entity: by its parents if `reached` has the ancestors of each, else by a
+/// search.
 fn ancestor_spans(
     alloc: Global,
     edges: &Searched,

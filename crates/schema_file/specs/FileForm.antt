@@ -1,7 +1,8 @@
 -- Defines the content of a schema file, before names are resolved.
 -- Source: Cedar reference guide, "Schema JSON format": namespaces, `commonTypes`, `entityTypes`, `actions`.
--- Rules of this product: a namespace may lack any of the last three; null at an optional key counts as missing;
--- `annotations` has any value; an action's `attributes` is an object without keys; other keys are rejected.
+-- Rules of this product: a namespace may lack any of `commonTypes`, `entityTypes`, `actions`; null at an optional key
+-- counts as missing; `annotations` has any value; an action's `attributes` is an object without keys; other keys are
+-- rejected.
 use Rattle.std.specs.Prelude.{ℕ, List, [], ◌∷◌, Bool, true, false, not, codes, Option, Some, None, Result, Ok}
 use Rattle.std.specs.Str.{bytes_eq}
 use Rattle.serde_json.specs.Data.{Data, Items, Members, no_members}
@@ -144,7 +145,7 @@ entity_type_of k d = do
 
 -- ---- actions
 
--- `parent_of d` is a parent of an action: its id, and its type if `d` has one; or the first error.
+-- `parent_of d` is an action's parent: its id, and its type if `d` has one; or the first error.
 unfoldable pub parent_of : Data → Result StatedParent SchemaFault
 parent_of d = do
   keys ← demand BadShape (has_only (codes "id" ∷ codes "type" ∷ codes "annotations" ∷ []) d)

@@ -1,4 +1,4 @@
--- Defines the theorems about the content of a schema file, if the keys of each object ascend, as in parsed JSON.
+-- Defines the theorems about the content of a schema file in which the keys of each object ascend, as in parsed JSON.
 use Rattle.std.specs.Prelude.{◌≡◌, ℕ, List, Contains, Some, Ok}
 use Rattle.serde_json.specs.Data.{Data}
 use Rattle.schema_types.specs.Raw.{Raw}

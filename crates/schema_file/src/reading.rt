@@ -127,7 +127,7 @@ fn read_optional_actions(
     }
 }
 
-/// Returns the namespace that a value describes at a key.
+/// Returns the namespace at the key `key` that a value describes.
 #[tactic(auto, unfolding(crate::specs::FileForm::namespace_of))]
 fn read_namespace(alloc: Global, key: &str, value: &Value) -> Result<StatedNamespace, SchemaFault>
     ensures { ReadsAs SchemaFault.NoMemory namespace_view result (namespace_of key.now (view value.now)) }

@@ -16,7 +16,7 @@ use schema_types::{SchemaFault, optional, required_text};
 use serde_json::Value;
 use std::alloc::Global;
 
-/// Returns the parent of an action that a value describes.
+/// Returns the parent that a value in the `memberOf` of an action describes.
 #[tactic(auto, unfolding(crate::specs::FileForm::parent_of))]
 fn read_parent(alloc: Global, value: &Value) -> Result<StatedParent, SchemaFault>
     ensures { ReadsAs SchemaFault.NoMemory (λ p. p) result (parent_of (view value.now)) }

@@ -30,7 +30,7 @@ pub struct StatedAppliesTo {
     pub context: Option<RawType>,
 }
 
-/// A parent of an action: its id, and its type if the file has one.
+/// An action's parent: its id, and its type if the file has one.
 #[derive(Drop)]
 pub struct StatedParent {
     /// The type of the parent; `None` means the type of the actions of the same namespace.

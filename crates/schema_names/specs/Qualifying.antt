@@ -154,8 +154,8 @@ qualified_use s own u = do
   context ← type_named s own u.context
   Ok (record { principals = principals; resources = resources; context = context })
 
--- `applies_to_named s own o` is what an action of the namespace `own` applies to, given as written in `o`, with
--- resolved names, or the first error; `None` if the action applies to nothing (`None`).
+-- `applies_to_named s own o` is the value in `o`, what an action of the namespace `own` applies to, with resolved
+-- names, or the first error; `None` if `o` is `None`: the action applies to nothing.
 abbrev pub applies_to_named : Scope → Option (List ℕ) → Option AppliesToOf
     → Result (Option ResolvedAppliesTo) SchemaFault
 applies_to_named s own None = Ok None

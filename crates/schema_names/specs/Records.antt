@@ -1,6 +1,6 @@
 -- Defines when shapes and contexts are records, directly or by the names of common types.
 -- Source: Cedar reference guide, "Schema JSON format": `shape`, `context`.
--- Rules of this product: names are followed as far as they are declared; a name that is not declared is another error.
+-- Rules of this product: names are followed as far as they are declared; a name that does not resolve is another error.
 use Rattle.std.specs.Prelude.{◌≡◌, ◌⊎◌, ℕ, List, Contains, Bool, true, false, Option, Some, None, is_some}
 use Rattle.schema_types.specs.Raw as raw
 use Rattle.schema_types.specs.Raw.{Raw}
@@ -23,8 +23,8 @@ common_meant s own (raw.common w) = found s.commons own w
 common_meant s own (raw.entity_or_common w) = found s.commons own w
 
 -- `is_no_record s own r` tests whether `r`, a type written in the namespace `own`, is of a form other than a record. It
--- is used if `r` does not refer to a declared common type of `s`. For an undeclared name, which is another error, the
--- result is false, unless `r` says that the name is an entity type's.
+-- is used if `r` does not refer to a declared common type of `s`. For a name that does not resolve, which is another
+-- error, the result is false unless the form is `Entity`.
 abbrev pub is_no_record : Scope → Option (List ℕ) → Raw → Bool
 is_no_record s own raw.text = true
 is_no_record s own raw.long = true

@@ -1,5 +1,6 @@
-//! The common types of a file, in an order in which one pass finds all that are not records (records.rt). A common type
-//! whose definition is only the name of another comes after that other, unless the other leads back to it.
+//! The common types of a file, in an order in which one pass finds all that are not records (records.rt) if no name is
+//! declared twice. A common type whose definition is only the name of another comes after that other, unless the other
+//! leads back to it.
 ghost use Rattle.std.specs.Prelude.{◌≡◌, ◌++◌, ℕ, List, IfOk, OnOk, map};
 ghost use Rattle.std.specs.BTreeMap.{get_by_text};
 ghost use Rattle.schema_written_types.specs.Orders.{graph_of, IsSuccessorsFirst};

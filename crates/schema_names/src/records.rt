@@ -52,8 +52,8 @@ pub(crate) fn find_common(
     }
 }
 
-/// Returns whether a type that does not name a declared common type is of a form other than a record. For an undeclared
-/// name, which is another error, the result is `false` unless the form is `Entity`.
+/// Returns whether a type that does not name a declared common type is of a form other than a record. For a name that
+/// does not resolve, which is another error, the result is `false` unless the form is `Entity`.
 fn is_no_record(
     alloc: Global,
     names: &Names,
@@ -75,7 +75,7 @@ fn is_no_record(
     }
 }
 
-/// Returns whether a type is not a record, where `known` has the common types that are known not to be records.
+/// Returns whether a type is, by `known`, not a record. `known` has the common types that are known not to be records.
 fn knows_non_record(
     alloc: Global,
     names: &Names,

@@ -1,5 +1,5 @@
--- Defines the theorems that the keys of each record in a type ascend: as written in JSON, with resolved names, and
--- expanded.
+-- Defines the theorems on when the keys of each record in a type ascend, for a type that JSON describes, one with
+-- resolved names, and an expanded one.
 use Rattle.std.specs.Prelude.{◌≡◌, ℕ, List, Bool, Option, Ok}
 use Rattle.serde_json.specs.Data.{Data}
 pub use Rattle.json_words.specs.Ascending.{JsonAscends}
@@ -11,7 +11,7 @@ use Rattle.schema_types.specs.TypeShape.{type_of}
 use Rattle.schema_types.specs.Expansions.{Declarations, Declares, IsExpansion}
 use Rattle.schema_types.specs.Ascending.{DataAscends, RawAscends, QualifiedAscends, KeysAscend}
 
--- `StatedTypesAscend`: if the keys of each object of JSON ascend, so do the keys in the type that the JSON describes.
+-- `StatedTypesAscend`: if the keys of each object in the JSON of a type ascend, so do the keys in the type.
 abbrev pub StatedTypesAscend : Type 0
 StatedTypesAscend =
     (is_attribute : Bool) (d : Data) (r : Raw) → type_of is_attribute d ≡ Ok r → DataAscends d → RawAscends r

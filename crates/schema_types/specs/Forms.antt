@@ -1,4 +1,4 @@
--- Defines the forms that the JSON of a type may have, each by the word at the key `type`, and the keys of each form.
+-- Defines the forms of the JSON of a type, which the word at the key `type` selects, and the keys of each form.
 -- Source: Cedar reference guide 4.0, "Schema JSON format".
 -- Rules of this product: other keys are rejected.
 use Rattle.std.specs.Prelude.{ℕ, List, [], ◌∷◌, Bool, codes, if◌then◌else◌}
@@ -7,8 +7,8 @@ use Rattle.schema_types.specs.declared.forms.Form.{Form}
 use Rattle.schema_types.specs.declared.forms.Form.TheVariants.{Text, Long, Boolean, Set, Record, Entity, Extension}
 use Rattle.schema_types.specs.declared.forms.Form.TheVariants.{EntityOrCommon, Common}
 
--- `form_named w` is the form that the word `w` selects. A word that selects no other form is the name of a common type,
--- the form `Common`.
+-- `form_named w` is the form that the word `w` selects. A word that selects no other form selects `Common`, as the name
+-- of a common type.
 unfoldable pub form_named : List ℕ → Form
 form_named w =
     if bytes_eq w (codes "String") then Text else

@@ -30,8 +30,8 @@ CyclesHaveNoExpansion =
 abbrev pub AreClosed : Declarations → Type 0
 AreClosed commons = (q : List ℕ) (r : Qualified) → Declares commons q r → IsClosed commons r
 
--- `WhatHasNoExpansionLeadsBack`: conversely, if `AreClosed` holds, a common type without an expansion refers to itself,
--- directly or not, or leads to a common type that does.
+-- `WhatHasNoExpansionLeadsBack`: conversely, if `AreClosed` holds, a declared common type without an expansion refers
+-- to itself, directly or not, or leads to a common type that does.
 abbrev pub WhatHasNoExpansionLeadsBack : Type 0
 WhatHasNoExpansionLeadsBack =
     (commons : Declarations) → AreClosed commons → (q : List ℕ) (r : Qualified) → Declares commons q r

@@ -1,6 +1,6 @@
 -- Defines the result of expanding the types of a schema, and its errors. In this file `commons` are the declared common
 -- types, each with its definition.
--- Rules of this product: the limits, and the order of errors.
+-- Rules of this product: the limits, and the errors.
 use Rattle.std.specs.Prelude.{ℕ, List}
 use Rattle.schema_types.specs.Qualified.{Qualified, common}
 use Rattle.schema_types.specs.Cedar.{Cedar, IsTooLarge}

@@ -50,7 +50,8 @@ or_path None w = do
   n ← type_name w
   Ok (raw.entity_or_common n)
 
--- `entity_or_common w` is the type with the name `w` at an `EntityOrCommon`, before it is resolved, or `BadShape`.
+-- `entity_or_common w` is the type with the name `w` at an `EntityOrCommon`, before the name is resolved, or
+-- `BadShape`.
 abbrev pub entity_or_common : List ℕ → Result Raw SchemaFault
 entity_or_common w = or_path (reserved_type w) w
 
@@ -65,8 +66,8 @@ abbrev pub there : {A : Type 0} → Option (Result A SchemaFault) → Result A S
 there None = Err BadShape
 there (Some read) = read
 
--- `by_form form w d element fields` is the type that `d` describes, or the first error, where `form` is its form and
--- `w` its word at `type`. The types within `d` are already read: `element` is the result at the key `element`, and
+-- `by_form form w d element fields` is the type that `d` describes, or the first error, where `form` is the form of `d`
+-- and `w` its word at `type`. The types within `d` are already read: `element` is the result at the key `element`, and
 -- `fields` that at the key `attributes`; each is `None` if the key is missing.
 abbrev pub by_form : Form → List ℕ → Data → Option (Result Raw SchemaFault) → Option (Result RawFields SchemaFault)
     → Result Raw SchemaFault

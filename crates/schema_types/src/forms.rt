@@ -30,8 +30,8 @@ pub enum Form {
     Common,
 }
 
-/// Returns the form that a word selects. A word that selects no other form is the name of a common type,
-/// [`Form::Common`].
+/// Returns the form that a word selects. A word that selects no other form selects [`Form::Common`], as the name of a
+/// common type.
 #[tactic(auto, unfolding(crate::specs::Forms::form_named))]
 pub fn form_named(word: &str) -> Form
     ensures { result ≡ form_of word.now }

@@ -17,14 +17,14 @@ pub fn cycles_have_no_expansion()
     ensures { CyclesHaveNoExpansion }
 {}
 
-/// Proves that a common type without an expansion refers to itself, directly or not, or leads to one that does, if each
-/// common type that a declaration mentions is declared. No-op.
+/// Proves that a declared common type without an expansion refers to itself, directly or not, or leads to one that
+/// does, if each common type that a declaration mentions is declared. No-op.
 pub fn what_has_no_expansion_leads_back()
     ensures { WhatHasNoExpansionLeadsBack }
 {}
 
-/// Proves that, if each common type that is mentioned is declared, with one definition, each type has an expansion, or
-/// some declared common type has none. No-op.
+/// Proves that, if each common type that is mentioned is declared, with one definition, then each type has an
+/// expansion, or some declared common type has none. No-op.
 pub fn types_expand_or_some_common_does_not()
     ensures { TypesExpandOrSomeCommonDoesNot }
 {

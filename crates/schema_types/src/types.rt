@@ -27,7 +27,8 @@ pub fn read_type_name(alloc: Global, word: &str) -> Result<TypeName, SchemaFault
     }
 }
 
-/// Returns the name at the key `name`, or `BadShape` (21) if there is no string at the key, or it is not a Path.
+/// Returns the name at the key `name`, or `BadShape` (21) if there is no string at the key, or the string is not a
+/// Path.
 fn name_in(alloc: Global, value: &Value) -> Result<TypeName, SchemaFault>
     ensures { ReadsAs SchemaFault.NoMemory (λ t. t) result (name_in (view value.now)) }
 {
@@ -150,7 +151,7 @@ fn read_formed(alloc: Global, value: &Value, is_attribute: bool) -> Result<RawTy
     }
 }
 
-/// Returns the fields of a record that a value describes.
+/// Returns the fields that `value`, the value at the key `attributes`, describes.
 #[cycle(read_type)]
 #[tactic(auto, unfolding(crate::specs::TypeShape::type_of))]
 fn read_attributes(

@@ -23,7 +23,7 @@ pub record TableEntry : Type 0 where
   pub size : Extent
   pub whole : Option Cedar
 
--- `TypeTable` is the type of tables: each has an entry for some names.
+-- `TypeTable` is the type of tables: a table gives the entry for each name that has one.
 abbrev pub TypeTable : Type 0
 TypeTable = List ℕ → Option TableEntry
 

@@ -77,7 +77,7 @@ fn add_at(
     Ok(())
 }
 
-/// Adds entries for the declarations at these indices, in order, as far as they are ready.
+/// Adds, in one pass over these indices, an entry for each declaration that is ready when the pass reaches it.
 fn add_in_order(
     alloc: Global,
     commons: &[ResolvedCommon],

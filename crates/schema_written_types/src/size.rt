@@ -60,7 +60,7 @@ fn known_size(name: &str, table: &Table) -> Option<Size>
     }
 }
 
-/// Returns the size of a type's expansion, if the table has each common type in it.
+/// Returns the size of a type's expansion, if the table has an entry for each common type that the type mentions.
 #[cycle(size_of)]
 #[tactic(auto, unfolding(crate::specs::inner::Table::size_in))]
 pub(crate) fn size_of(ty: &QualifiedType, table: &Table) -> Option<Size>
@@ -85,7 +85,7 @@ pub(crate) fn size_of(ty: &QualifiedType, table: &Table) -> Option<Size>
     }
 }
 
-/// Returns the size of the fields together, if the table has each common type in them.
+/// Returns the size of the fields together, if the table has an entry for each common type that the fields mention.
 #[cycle(size_of)]
 #[tactic(auto, unfolding(crate::specs::inner::Table::size_in))]
 fn size_of_fields(fields: &Vec<(String, QualifiedType, bool)>, table: &Table) -> Option<Size>

@@ -24,7 +24,7 @@ fn known_type(name: &str, table: &Table) -> Result<Option<CedarType>, NoMemory>
     }
 }
 
-/// Returns the expansion of a type, or `None` if the table lacks the expansion of a common type in it.
+/// Returns the expansion of a type, or `None` if the table lacks the expansion of a common type that the type mentions.
 ///
 /// The size of the expansion must be within the limits, so that no type that is too large is built.
 pub(crate) fn write(
@@ -38,7 +38,7 @@ pub(crate) fn write(
     write_type(alloc, ty, table)
 }
 
-/// Returns the expansion of a type, or `None` if the table lacks the expansion of a common type in it.
+/// Returns the expansion of a type, or `None` if the table lacks the expansion of a common type that the type mentions.
 #[cycle(write_type)]
 #[tactic(auto, unfolding(crate::specs::inner::Table::written_in))]
 fn write_type(
@@ -67,7 +67,8 @@ fn write_type(
     }
 }
 
-/// Returns the expansions of the fields, or `None` if the table lacks the expansion of a common type in them.
+/// Returns the expansions of the fields, or `None` if the table lacks the expansion of a common type that the fields
+/// mention.
 #[cycle(write_type)]
 #[tactic(auto, unfolding(crate::specs::inner::Table::written_in))]
 fn write_fields(

@@ -1,8 +1,8 @@
 //! An index of policies by scope: finds the candidates of a request without visiting the other policies.
 //!
-//! If the scope of a policy names an entity for the principal (or else for the resource), the policy is a candidate
-//! only of some requests: those whose principal (or resource) is that entity or a descendant of it. Every other policy
-//! is a candidate of each request.
+//! A policy whose scope names an entity for the principal is a candidate only of the requests whose principal is that
+//! entity or a descendant of it. If the scope names an entity for the resource alone, the same holds of the resource.
+//! Every other policy is a candidate of each request.
 #![tactic(auto)]
 
 mod buckets;

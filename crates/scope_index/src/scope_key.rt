@@ -31,7 +31,8 @@ fn entity_named(part: &EntityScope) -> Option<&EntityUid>
     }
 }
 
-/// Returns the key of a policy with this scope: by the principal if the scope names one, else by the resource.
+/// Returns the key of a policy with this scope: by the entity for the principal, else by the entity for the resource,
+/// else `Always`.
 pub(crate) fn key_of(scope: &Scope) -> ScopeKey<'_>
     ensures { represented_key result ≡ index_key scope.now }
 {

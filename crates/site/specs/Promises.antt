@@ -51,8 +51,8 @@ module _ (Steps : SiteName → Store → Input → Reply → Store → Type 0) (
     -- Messages are faithful: a state has the updates of the store that it was made from, and a delta has those updates
     -- whose names its summary lacks or has with a smaller stamp.
     pub read : (k : ℕ) (m : SentMessage) → slice_get w.messages k ≡ Some m → Describes m.bytes (updates (content m))
-    -- Messages are understood: at any site and over any store, a message or a summary that was made is rejected only
-    -- for `NoMemory`.
+    -- Messages are understood: at any site with any store, a message or a summary that was made is rejected only for
+    -- `NoMemory`.
     pub taken : (k : ℕ) (m : SentMessage) (n : SiteName) (s t : Store) (f : SiteFault)
         → slice_get w.messages k ≡ Some m → Steps n s (input.Take m.bytes) (reply.Taken (Err f)) t → f ≡ NoMemory
     pub answered : (k : ℕ) (m : SentSummary) (n : SiteName) (s t : Store) (f : SiteFault)
@@ -91,6 +91,7 @@ WorldKeepsPromises schema sites es rs =
 abbrev pub WorldsKeepPromises : StatedSchema → Type 0
 WorldsKeepPromises schema = SystemsKeepPromises (Step schema) (DescribesBy schema) (IssuesBy schema)
 
--- `AllWorldsKeepPromises`: the promises hold for all sites, with distinct names, of each schema that bytes describe.
+-- `AllWorldsKeepPromises`: the promises hold for all sites, with distinct names, of each schema that some bytes
+-- describe.
 abbrev pub AllWorldsKeepPromises : Type 0
 AllWorldsKeepPromises = (schema : SchemaEntries) → IsStated schema → WorldsKeepPromises (schema_view schema)

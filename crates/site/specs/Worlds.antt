@@ -48,8 +48,8 @@ input_of w d =
     (λ k. option_map (λ m. m.bytes) (slice_get w.summaries k)) d
 
 -- `answer_among m n d r` is the event's reply for the operation `d` with the site's reply `r`, where `m` messages and
--- `n` summaries were made before. For an operation that makes a message or summary, it has the number of the one made,
--- or the error; otherwise it is the site's reply.
+-- `n` summaries were made before. For an operation that makes a message or summary, the event's reply has the number of
+-- this message or summary, or the error; otherwise the event's reply is the site's reply.
 abbrev pub answer_among : ℕ → ℕ → Operation → Reply → EventReply
 answer_among m n operation.Summary (reply.Written (Ok bytes)) = Summary (Ok n)
 answer_among m n operation.Summary (reply.Written (Err f)) = Summary (Err f)
@@ -63,13 +63,13 @@ answer_among m n _ r = Replied r
 abbrev pub answer_of : World → Operation → Reply → EventReply
 answer_of w d r = answer_among (length w.messages) (length w.summaries) d r
 
--- `message_bytes d r` is the list of the bytes of the message that the operation `d` with the reply `r` made, if any.
+-- `message_bytes d r` is the list of the one message, as bytes, that the operation `d` with the reply `r` made, if any.
 abbrev pub message_bytes : Operation → Reply → List (List ℕ)
 message_bytes operation.Offer (reply.Written (Ok bytes)) = bytes ∷ []
 message_bytes (operation.OfferDelta k) (reply.Written (Ok bytes)) = bytes ∷ []
 message_bytes _ r = []
 
--- `summary_bytes d r` is the list of the bytes of the summary that the operation `d` with the reply `r` made, if any.
+-- `summary_bytes d r` is the list of the one summary, as bytes, that the operation `d` with the reply `r` made, if any.
 abbrev pub summary_bytes : Operation → Reply → List (List ℕ)
 summary_bytes operation.Summary (reply.Written (Ok bytes)) = bytes ∷ []
 summary_bytes _ r = []

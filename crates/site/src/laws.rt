@@ -11,7 +11,7 @@ use site_steps::{
     valid_messages_are_read,
 };
 
-/// Proves what holds in each system of sites with distinct names under a schema that bytes describe. No-op.
+/// Proves what holds in each system of sites with distinct names under a schema that some bytes describe. No-op.
 ///
 /// Whatever was delivered, in whatever order and however often:
 ///

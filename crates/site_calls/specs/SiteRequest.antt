@@ -1,7 +1,7 @@
 -- Defines what bytes ask of a site: an input, or a reply for which the site is not called.
 -- Source: docs/formats.md, "Routes of a site".
--- Rules of this product: a policy's id is checked before its text, and the length of a text before whether it is UTF-8;
--- if a body should name an entity and does not, the error is `BadShape` (30).
+-- Rules of this product: a policy's id is checked before its text, and the length of a text before its bytes (UTF-8);
+-- if the bytes that ask to delete an entity name none, the error is `BadShape` (30).
 use Rattle.std.specs.Prelude.{ℕ, Bool, ◌&&◌, List, length, Option, Some, None, if◌then◌else◌, nat_le}
 use Rattle.std.specs.Str.{is_utf8}
 use Rattle.values.specs.declared.entity_uid.EntityUid.{EntityUid}
@@ -34,8 +34,8 @@ abbrev pub not_text : List ℕ → List ℕ → ReadFault
 not_text id text =
     if is_policy_id id then if nat_le (length text) most_policy_bytes then BadToken 0 else TooLong else BadId
 
--- `put_asked text id` asks to put `text` under `id`; if `text` is not UTF-8, it is the rejection with the first error
--- (`not_text`).
+-- `put_asked text id` is the put of `text` under `id`, or the rejection with the first error (`not_text`) if `text` is
+-- not UTF-8.
 abbrev pub put_asked : List ℕ → List ℕ → SiteRequest
 put_asked text id =
     if is_utf8 text then gives (input.PutPolicy id text) else rejects (fault.Policy (not_text id text))

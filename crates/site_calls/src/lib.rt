@@ -1,8 +1,8 @@
 //! The calls of a site over bytes, each answered by a status and a body; and the reply to each outcome of a request.
 //!
 //! A call is at most one step of the site, and has the same reply as the HTTP route for it. Routes and streams are not
-//! in this crate. A body is one line of compact JSON. The bodies of replies to changes, and of errors of any kind, need
-//! no allocation: they are appended to a text with enough spare capacity.
+//! in this crate. The body of a reply is one line of compact JSON. The bodies of replies to changes, and of errors of
+//! any kind, need no allocation: they are appended to a text with enough spare capacity.
 #![tactic(auto)]
 
 mod answering;

@@ -4,8 +4,8 @@ ghost use Rattle.site_calls.specs.Statuses.{refusal_status};
 
 use http::StatusCode;
 
-/// Returns the status of an error code: 404 for a name without a text (60), 409 for a put that would make a cycle (61)
-/// or if no stamp is left (62), 503 for out of memory (1), else 422.
+/// Returns the status of an error code: 404 if a name has no text (60), 409 for a put that would make a cycle (61) or
+/// if no stamp is left (62), 503 for out of memory (1), else 422.
 pub(crate) fn refusal_status(code: u8) -> StatusCode
     ensures { result ≡ refusal_status code }
 {

@@ -1,7 +1,8 @@
 -- Defines the load of a file of policies and an array of entities into a site, and its errors.
 -- Rules of this product: the policies are put first, each under its name in the file and with its own text from the
 -- file; then the entities, in their order. The whole file is parsed before any of its policies is put, and the whole
--- array before any of its entities is put. A parsing error is the one that a decision reports.
+-- array before any of its entities is put. A parsing error is the one that a decision over the same file or array
+-- reports.
 use Rattle.std.specs.Prelude.{◌≡◌, ℕ, List, [], ◌∷◌, length, map, Option, None, Some, option_and_then, option_map}
 use Rattle.std.specs.Prelude.{Ok, Err}
 use Rattle.serde_json.specs.Data.{Data}
@@ -93,7 +94,7 @@ module _ (schema : StatedSchema) (n : List ℕ) where
         → RefusesEntities s bytes refusal
 
   -- `IsLoadedState s policies entities bytes` holds if the site, from the store `s`, accepts the file `policies` and
-  -- then the array `entities`, if they are present, and `bytes` are the state of the store at the end. This message is
+  -- then the array `entities`, if they are present, and `bytes` are the state of the store at the end. These bytes are
   -- parsed as the updates of that store.
   pub record IsLoadedState (s : Store) (policies entities : Option (List ℕ)) (bytes : List ℕ) : Type 0 where
     pub between : Store

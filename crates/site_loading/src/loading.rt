@@ -56,7 +56,7 @@ fn load_entities_if_named(
 /// state as a message.
 ///
 /// Each policy is put under its name in the file with its own text from the file; then each entity is put. The result
-/// is that of [`Site::state`] after these puts, and is parsed as the store's updates.
+/// is that of [`Site::state`] after these puts. Sites of the schema parse this message as the store's updates.
 ///
 /// # Errors
 ///

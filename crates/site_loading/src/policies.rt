@@ -1,4 +1,4 @@
-//! Puts of the policies of a file, each with its own text.
+//! Puts the policies of a file, each with its own text.
 ghost use Rattle.std.specs.Prelude.{◌≡◌, length, map, string_bytes, IfOk, IfErr, OnOk};
 ghost use Rattle.grammar_files.specs.Cuts.{AreTextsOf};
 ghost use Rattle.site_steps.specs.SiteViews.{schema_of, store_in, IsSameSite};

@@ -59,12 +59,12 @@ pub fn requests_have_one_answer<R: Readings<Policy, Entity>>()
     contents_are_the_texts();
 }
 
-/// Proves that answers and cycles over a store are those over the entity data in which each action has only the parents
+/// Proves that answers and cycles over a store are those over the same store where each action has only the parents
 /// that its `memberOf` names. No-op.
 ///
-/// Under a schema that bytes describe, an answer over a store is an answer over that data, and conversely. Putting an
-/// entity, whatever its uid, makes the entity cyclic over the store if and only if it does over that data. Both hold
-/// whatever the texts are parsed as.
+/// Under a schema that bytes describe, an answer over a store is an answer where actions have only these parents, and
+/// conversely. An entity that is put, whatever its uid, becomes cyclic if and only if it becomes cyclic where actions
+/// have only these parents. Both hold whatever the texts are parsed as.
 pub fn stored_actions_answer_alike<R: Readings<Policy, Entity>>()
     ensures answers { (r : R) → StoredActionsAnswerAlike (R.reads_policy r) (R.reads_entity r) }
     ensures cycles { (r : R) → StoredActionsCycleAlike (R.reads_entity r) }

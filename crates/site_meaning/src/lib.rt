@@ -1,7 +1,7 @@
 //! The meaning of a store of stamped texts: its policies, its entities, and the one answer to each request.
 //!
 //! The store has each text with its parsed value. The relation between a text and its value is a parameter of the
-//! contracts. `site_store` answers requests by these definitions.
+//! contracts. `site_store` answers requests by the definitions of this crate.
 #![tactic(auto)]
 
 mod laws;

@@ -29,7 +29,7 @@ use Rattle.site_meaning.specs.StoreMeaning.{ArePolicies, AreEntities, IsAnswerOv
 abbrev pub HasPermittedErrors : Answer → Type 0
 HasPermittedErrors a = (e : ErringPolicy) → Contains a.errors e → IsPermittedError (fault_of e.error)
 
--- `StoredPoliciesAreSound`: let `schema` be a schema that `bytes` describe, and let each text of a store and a request
+-- `StoredPoliciesAreSound`: let `schema` be a schema that `bytes` describe, and let a request and each text of a store
 -- be parsed under `schema`. For this request each policy of the store gives a boolean, `EntityDoesNotExist` or
 -- `ArithBoundsError`; an impossible policy never gives true.
 abbrev pub StoredPoliciesAreSound : Type 0
@@ -41,7 +41,7 @@ StoredPoliciesAreSound = (bytes : List ℕ) (schema : StatedSchema) → IsSchema
     → EvaluatesTo (entity_data_under schema entities) q (expression_of p.policy) r
     → Fits boolean_type r × (IsImpossible schema p.policy → r ≢ Ok (boolean true))
 
--- `StoredAnswersAreSound`: let `schema` be a schema that `bytes` describe, and let each text of a store and a request
+-- `StoredAnswersAreSound`: let `schema` be a schema that `bytes` describe, and let a request and each text of a store
 -- be parsed under `schema`. An answer to this request over the store has no errors other than `EntityDoesNotExist` and
 -- `ArithBoundsError`.
 abbrev pub StoredAnswersAreSound : Type 0

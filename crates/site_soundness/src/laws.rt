@@ -26,8 +26,8 @@ pub fn what_is_read_is_of_its_type()
     sets_hold_their_members();
 }
 
-/// Proves that entities and a request that were parsed under a schema, which bytes describe, conform to an environment
-/// of the schema, with the schema's actions added to the entities. This is a premise of the soundness of validation.
+/// Proves that entities and a request that were parsed under a schema that bytes describe conform to an environment of
+/// the schema, with the schema's actions added to the entities. This is a premise of the soundness of validation.
 /// No-op.
 pub fn parsed_data_conforms()
     ensures { ParsedDataConforms }
@@ -55,10 +55,10 @@ pub fn validation_is_sound()
 
 /// Proves that answers over a store are sound. No-op.
 ///
-/// If each text of the store and the request were parsed under a schema that bytes describe, each policy of the store
-/// gives a boolean, `EntityDoesNotExist` or `ArithBoundsError`, and an impossible policy never gives true. (The text of
-/// a policy that does not pass validation is not parsed.) So no answer over the store reports an error of type, of an
-/// attribute or of an extension function.
+/// If the request and each text of the store were parsed under a schema that bytes describe, each policy of the store
+/// gives a boolean, `EntityDoesNotExist` or `ArithBoundsError`, and an impossible policy never gives true. (A policy's
+/// text is parsed under a schema only if the policy passes validation.) So no answer over the store reports an error of
+/// type, of an attribute or of an extension function.
 pub fn stored_answers_are_sound()
     ensures policies { StoredPoliciesAreSound }
     ensures answers { StoredAnswersAreSound }

@@ -1,5 +1,5 @@
--- Defines an example: the text of a schema, an entity and a request that are parsed under it, a policy that passes
--- validation, and one that does not.
+-- Defines an example: a schema and its text, an entity and a request that are parsed under the schema, a policy that
+-- passes validation, and one that does not.
 use Rattle.std.specs.Prelude.{ℕ, List, [], ◌∷◌, ◌++◌, pos, false, codes, Some, None, if◌then◌else◌}
 use Rattle.std.specs.Str.{bytes_eq}
 use Rattle.sha2.specs.Sha256.{sha256}

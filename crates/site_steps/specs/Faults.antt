@@ -16,8 +16,8 @@ use Rattle.site_steps.specs.declared.fault.SiteFault.{SiteFault}
 use Rattle.site_steps.specs.declared.fault.SiteFault.TheVariants as fault
 
 -- `code_of f` is the code of the error `f`. An error of a policy, of validation, of an entity or of a message has the
--- code of the parser's or validator's error in `f`. An error of a request has 63, and the code of the error in `f` is
--- reported within (`within_of f`).
+-- code of the error that `f` holds. An error of a request has 63, and the code of the error in `f` is reported within
+-- (`within_of f`).
 abbrev pub code_of : SiteFault → ℕ
 code_of fault.NoMemory = 1
 code_of (fault.Policy f) = policy_faults.code_of f

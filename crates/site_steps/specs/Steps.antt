@@ -62,7 +62,7 @@ PutsPolicy schema n s id text (Err f) t = IsNotAdmitted schema id text f × (t �
 
 -- `PutsEntity schema n s json r t` holds if, at the site `n` of `schema`, a put of the entity that `json`
 -- describes may lead from `s` to `t` with the result `r`. The entity's canonical text is stored. A cycle is reported
--- before a full clock. `None` stands for bytes that are not JSON.
+-- before a full clock. `json` is `None` for bytes not in JSON.
 abbrev pub PutsEntity : StatedSchema → List ℕ → Store → Option Data → Result Stamp SiteFault → Store → Type 0
 PutsEntity schema n s json (Ok stamp) t =
     (e : Entity) × (entity_stated schema json ≡ Ok e) × MakesNoCycle (IsEntityUnder schema) schema s e

@@ -9,7 +9,7 @@ use site_store::{EntityFault, ReadFault};
 use std::alloc::AllocFailed;
 use thiserror::Error;
 
-/// The error of a rejected input. The site is then unchanged.
+/// The error of an operation. The site is then unchanged.
 #[derive(Clone, Copy, Debug, Error)]
 pub enum SiteFault {
     /// Code 1: an allocation failed, or a count of references would overflow.
@@ -36,7 +36,7 @@ pub enum SiteFault {
     /// Code 62: no stamp is left; the greatest count in the store is 10^18.
     #[error("site 62: no stamp left; the greatest count in the store is 10^18")]
     ClockFull,
-    /// Code 63: the JSON does not describe a request under the schema; the code of the inner error is within.
+    /// Code 63: the JSON does not describe a request under the schema; [`Self::within`] returns the inner error's code.
     #[error("site 63: invalid request ({0})")]
     Request(EntityFault),
 }

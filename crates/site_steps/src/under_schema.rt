@@ -1,4 +1,4 @@
-//! A theorem of a lower crate about any parser of texts, instantiated at the parser of one schema.
+//! A theorem of a lower crate about any parser of texts, instantiated at the parser under a schema.
 ghost use Rattle.std.specs.Prelude.{[], String, string_bytes};
 ghost use Rattle.std.specs.String.{string_cmp};
 ghost use Rattle.std.specs.declared.alloc.Global.{Global};

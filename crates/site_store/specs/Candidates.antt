@@ -1,4 +1,4 @@
--- Defines candidates: policies that suffice for the answer to a request, by their scopes.
+-- Defines candidates: policies that include each whose scope is true for a request, and so suffice for the answer.
 -- Source: Cedar reference guide 4.0, "Authorization": a policy whose scope is false is neither satisfied nor
 -- erroring.
 use Rattle.std.specs.Prelude.{◌↔◌, List, map, Contains, Bool}

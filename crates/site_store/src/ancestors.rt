@@ -62,8 +62,8 @@ fn update_cache(
 
 /// Returns the cache, updated after the entity `uid` changed, or `None` if there was no cache or the update failed.
 ///
-/// The cache is also dropped if its updates for one message have cost so much that a rebuild after the message is
-/// cheaper (`RebuildRule::costs_more_than_rebuild`).
+/// The cache is also dropped if its updates for one put or message have cost much more than a rebuild
+/// (`RebuildRule::costs_more_than_rebuild`).
 fn updated_cache(
     alloc: Global,
     ancestors: Option<AncestorCache>,

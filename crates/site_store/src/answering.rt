@@ -28,8 +28,8 @@ pub(crate) fn is_in_order(store: &StampedStore<Policy, Entity>)
 impl StoredWorld<'_, '_> {
     /// Returns the policies to evaluate, in ascending order of ids: the candidates of the index or all policies.
     ///
-    /// The candidates are returned if the index is present, the candidates may be fewer than all policies, and there is
-    /// memory to list them.
+    /// The candidates are returned if three conditions hold: the index is present, the candidates may be fewer than all
+    /// policies, and there is memory to list the candidates.
     ///
     /// # Errors
     ///

@@ -3,9 +3,9 @@
 //!
 //! With the index, a request can be decided over only the index's candidates, which include every policy whose scope
 //! is true for the request. With the ancestor cache, nothing is searched if the hierarchy has no cycle. A change is
-//! first joined into the store. Then the cache that it concerns is updated for the entry that won, or is dropped, for
-//! example if an allocation fails. A dropped cache changes no answer: without the index every policy is evaluated, and
-//! without the ancestor cache the hierarchy is searched in place.
+//! first joined into the store. Then the cache that the change concerns is updated for the entry that won, or is
+//! dropped, for example if an allocation fails. A dropped cache changes no answer: without the index every policy is
+//! evaluated, and without the ancestor cache the hierarchy is searched in place.
 #![tactic(auto)]
 
 mod ancestors;

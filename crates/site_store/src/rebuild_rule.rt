@@ -10,19 +10,19 @@ const ANCESTORS_PER_ENTITY: usize = 64;
 const EXTRA_ANCESTORS: usize = 1_000_000;
 
 /// The number of updates of entities, in addition to one for each entity, between a build that found too many ancestors
-/// and the next attempt: 15,625. A build ends once it has found too many ancestors, so its cost is that of some 64
-/// ancestors for each update in between.
+/// and the next attempt: 15,625. A build ends once it has found too many ancestors, so it writes some 64 ancestors for
+/// each of these updates.
 const CHANGES_BEFORE_RETRY: usize = EXTRA_ANCESTORS / ANCESTORS_PER_ENTITY;
 
-/// The number of ancestors that the incremental updates for a put or a message may write or visit, in addition to those
-/// that a rebuild writes, before the cache is dropped.
+/// The number of ancestors that may be written or visited after [`RebuildRule::begin`], in addition to those that a
+/// rebuild writes, before the cache is dropped.
 const EXTRA_WRITES: usize = 10_000;
 
 /// The counts that decide when the ancestor cache is rebuilt or dropped. No contract and no answer depends on them.
 #[derive(Clone, Copy)]
 pub(crate) struct RebuildRule {
-    /// How many ancestors the cache has, how many it may have, and how many the current put or message has written or
-    /// visited.
+    /// How many ancestors the cache has, how many it may have, and how many were written or visited since the last
+    /// [`Self::begin`].
     pub(crate) budget: CacheBudget,
     /// The number of updates of entities before the next attempt to build the cache.
     pause: usize,
@@ -37,7 +37,7 @@ impl RebuildRule {
         }
     }
 
-    /// Begins a put or ends a message, and returns whether to build the cache now.
+    /// Prepares the counts when a put begins or a message ends, and returns whether to build the cache now.
     ///
     /// `is_present` is whether the cache is present; if it is, the result is false. `entities` is the number of the
     /// store's entries of entities, including tombstones.
@@ -68,8 +68,8 @@ impl RebuildRule {
         self.pause = self.pause.saturating_sub(1);
     }
 
-    /// Returns whether the incremental updates have written or visited over [`EXTRA_WRITES`] ancestors more than a
-    /// rebuild would write.
+    /// Returns whether over [`EXTRA_WRITES`] ancestors more were written or visited since the last [`Self::begin`] than
+    /// a rebuild would write.
     pub(crate) fn costs_more_than_rebuild(&self, entities: usize) -> bool {
         let anew = self.budget.kept().saturating_add(entities);
         self.budget.written() > anew.saturating_add(EXTRA_WRITES)

@@ -245,8 +245,8 @@ impl IndexedStore {
     /// Rebuilds the absent caches, if there is memory, with one attempt for each. No entry changes.
     ///
     /// Intended for the end of a message. After a build of the ancestor cache that found too many ancestors, the next
-    /// build waits for as many updates of entities as the store had entries of entities, and 15,625 more. Updates that
-    /// lose count too.
+    /// build waits for as many updates of entities as the store had entries of entities, and 15,625 more. An update is
+    /// counted even if it loses.
     pub fn rebuild(&mut self)
         ensures { self.new ≡ self.old }
     {

@@ -30,12 +30,12 @@ Issues schema (operation.PutEntity bytes) (reply.Stamped (Ok stamp)) u =
 Issues schema (operation.DeleteEntity uid) (reply.Stamped (Ok stamp)) u = u ≡ (entity_name uid, issued stamp None)
 Issues schema _ _ u = ⊥
 
--- `WorldsKeepPromises schema` holds if all systems of sites of `schema` keep the promises, by the steps, messages and
--- issued updates that bytes describe.
+-- `WorldsKeepPromises schema` holds if all systems of sites of `schema` keep the promises, with the relations `IsStep`,
+-- `DescribesUpdates` and `Issues` as parameters.
 abbrev pub WorldsKeepPromises : StatedSchema → Type 0
 WorldsKeepPromises schema = SystemsKeepPromises (IsStep schema) (DescribesUpdates schema.label) (Issues schema)
 
--- `AllWorldsKeepPromises`: under each schema that bytes describe, all systems of sites keep the promises.
+-- `AllWorldsKeepPromises`: under each schema that some bytes describe, all systems of sites keep the promises.
 abbrev pub AllWorldsKeepPromises : Type 0
 AllWorldsKeepPromises = (bytes : List ℕ) (schema : SchemaEntries) → IsSchemaOf bytes (schema_view schema)
     → WorldsKeepPromises (schema_view schema)

@@ -2,8 +2,8 @@
 -- stores that runs leave.
 -- Source: docs/formats.md, "Messages between sites".
 -- Rules of this product: a command applies an update if its reply has a stamp; a message applies its updates in their
--- order, all or the first ones that its reply counts, including those that lose to a greater entry; other inputs and
--- replies apply none.
+-- order, all, or the first `k` if its reply is `Short(k)`, including those that lose to a greater entry; other inputs
+-- and replies apply none.
 use Rattle.std.specs.Prelude.{◌≡◌, ◌↔◌, ℕ, List, [], ◌∷◌, ◌++◌, take, Some, None, Ok, Contains}
 use Rattle.json_words.specs.Json.{json_of}
 use Rattle.site.specs.site_steps.schema.Schemas.{StatedSchema, IsSchemaOf}
@@ -98,7 +98,7 @@ abbrev pub EqualUpdatesLeaveEqualStores : Type 0
 EqualUpdatesLeaveEqualStores = (schema : StatedSchema) (us vs : List Update) (s t : Store) → Holds schema us s
     → Holds schema vs t → ((u : Update) → Contains us u ↔ Contains vs u) → s ≡ t
 
--- `RunsHavePermittedErrors`: under a schema that bytes describe, each error of a policy in an answer of a run is
+-- `RunsHavePermittedErrors`: under a schema that some bytes describe, each error of a policy in an answer of a run is
 -- `EntityDoesNotExist` or `ArithBoundsError`.
 abbrev pub RunsHavePermittedErrors : Type 0
 RunsHavePermittedErrors = (bytes : List ℕ) (schema : StatedSchema) → IsSchemaOf bytes schema → (n : List ℕ) (s : Store)

@@ -55,7 +55,7 @@ JsonRefused Refuses (Some d) f = Refuses d f
 -- ---- commands
 
 -- `PutsEntity schema n s json r t` holds if, at the site of `schema` named `n`, putting the entity that `json`
--- describes, as its canonical text, may lead from the store `s` to the store `t` with the result `r`.
+-- describes may lead from the store `s` to the store `t` with the result `r`. The entity's canonical text is stored.
 abbrev pub PutsEntity : StatedSchema → List ℕ → Store → Option Data → Result Stamp SiteFault → Store → Type 0
 PutsEntity schema n s json (Ok stamp) t =
     (e : Entity) × JsonDescribes (DescribesEntity schema) json e × MakesNoCycle (DescribesText schema) schema s e

@@ -11,8 +11,8 @@ use site::{
     summaries_are_read_as_stated, updates_are_read_as_stated, worlds_keep_promises,
 };
 
-/// Proves that the contracts of a site cite exactly the steps that bytes describe: `Step`, of the contracts, and
-/// `IsStep`, over bytes, relate the same inputs, replies and stores. No-op.
+/// Proves that `Step`, which the contracts of a site cite, and `IsStep`, which rests on relations between bytes and
+/// what they describe, relate the same inputs, replies and stores. No-op.
 ///
 /// So each answer is over the entities and the request that JSON describes, and each update applied from a message is
 /// one that the message describes. Each error of an entity, a request, a message or a summary is the first that its
@@ -34,8 +34,8 @@ pub fn steps_are_as_stated()
 ///   site had and the applied ones: at each name the greatest entry.
 /// - `equal`: sites of one schema that had and applied equal sets of updates hold equal stores, whatever the order, the
 ///   repeats and the grouping of the updates.
-/// - `permitted`: under a schema that bytes describe, each error of a policy in an answer is `EntityDoesNotExist` or
-///   `ArithBoundsError`: none is of a type, of an attribute or of an extension function.
+/// - `permitted`: under a schema that some bytes describe, each error of a policy in an answer is `EntityDoesNotExist`
+///   or `ArithBoundsError`: none is of a type, of an attribute or of an extension function.
 pub fn runs_leave_what_was_applied()
     ensures leave { RunsLeaveApplied }
     ensures equal { EqualUpdatesLeaveEqualStores }
@@ -49,7 +49,7 @@ pub fn runs_leave_what_was_applied()
 }
 
 /// Proves that in each system of sites, at every moment, each site's store is the join of the updates that the site
-/// applied. What bytes describe determines exactly one list of these updates. No-op.
+/// applied. The events with their replies determine exactly one list of these updates. No-op.
 pub fn sites_hold_what_they_applied()
     ensures { SitesHoldApplied }
 {
@@ -61,8 +61,8 @@ pub fn sites_hold_what_they_applied()
 
 /// Proves the promises of [`worlds_keep_promises`] over relations between bytes and what they describe. No-op.
 ///
-/// They hold in each system of sites with distinct names under a schema that bytes describe, whatever was delivered, in
-/// whatever order and however often.
+/// They hold in each system of sites with distinct names under a schema that some bytes describe, whatever was
+/// delivered, in whatever order and however often.
 pub fn worlds_keep_promises_as_stated()
     ensures { AllWorldsKeepPromises }
 {

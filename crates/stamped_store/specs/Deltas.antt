@@ -1,7 +1,7 @@
 -- Defines the summary of a store, and the delta of a store against a summary: the entries that the summary lacks or
 -- has with a smaller stamp.
--- Source: "Delta state replicated data types" (Almeida, Shoker, Baquero 2018), for joining states and parts of them
--- alike, so that a part may replace the whole.
+-- Source: "Delta state replicated data types" (Almeida, Shoker, Baquero 2018), for deltas that are joined as states
+-- are, so that a site may send a delta instead of its whole store.
 -- Rules of this product: summaries and deltas.
 use Rattle.std.specs.Prelude.{◌≡◌, Bool, true, List, map, Option, Some, None}
 use Rattle.std.specs.FinMap as store_map
@@ -31,7 +31,7 @@ abbrev pub summary_of : Store → Summary
 summary_of s = map (λ u. (u.0, stamp_of u.1)) (updates s)
 
 -- `is_unseen known e` tests whether the entry `e` has a greater stamp than `known`, the summary's stamp of the same
--- name; it is true if either is missing.
+-- name; true if `known` or `e` is `None`.
 abbrev pub is_unseen : Option Stamp → Option PlainEntry → Bool
 is_unseen known None = true
 is_unseen None (Some e) = true

@@ -1,5 +1,5 @@
--- Defines a map whose values are joined, as the list of its entries in the order of the keys. In this file `cmp` is the
--- order of the keys, `join v w` the join of two values, and `below v w` tests whether `v` is at most `w`.
+-- Defines a map whose values can be joined. The map is the list of its entries in the order of the keys. In this file
+-- `cmp` is the order of the keys, `join v w` the join of two values, and `below v w` tests whether `v` is at most `w`.
 use Rattle.std.specs.Prelude.{◌≡◌, ◌≢◌, Bool, true, List, [], ◌∷◌, Option, Some, None, ℕ, string_bytes}
 use Rattle.std.specs.BTreeMap.{insert_entry, is_at}
 use Rattle.std.specs.Map.{lookup}

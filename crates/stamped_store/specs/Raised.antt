@@ -30,7 +30,7 @@ numbered_cmp a b = entry_cmp_by nat_cmp a b
 abbrev pub NumberedStore : Type 0
 NumberedStore = StoreAt ℕ
 
--- `numbered_updates s` are the updates of the store `s`, in the order of the names.
+-- `numbered_updates s` are the updates of the store `s`, in the order of their policies' and entities' names.
 abbrev pub numbered_updates : NumberedStore → List NumberedUpdate
 numbered_updates s = store_map.entries s
 

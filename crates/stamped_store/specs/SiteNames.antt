@@ -31,7 +31,7 @@ SiteTestIsExact = (name : List ℕ) → (is_site_name name ≡ true) ↔ IsSiteN
 abbrev pub SiteNamesAreTexts : Type 0
 SiteNamesAreTexts = (name : List ℕ) → IsSiteName name → IsUtf8 name
 
--- ---- the name of a site that had a number
+-- ---- names of sites from numbers
 
 -- `five_digits n` is the number `n`, below 100,000, in decimal with leading zeros up to five digits.
 abbrev pub five_digits : ℕ → List ℕ

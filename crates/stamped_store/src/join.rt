@@ -2,8 +2,8 @@
 ghost use Rattle.std.specs.Prelude.{◌≡◌, Bool, true};
 ghost use Rattle.stamped_store.specs.Joins.{IsJoin};
 
-/// A value with a join: the least upper bound of two values. Values that are at most each other count as equal. Neither
-/// method may allocate.
+/// A value that can be joined. The join of two values is their least upper bound, where values that are at most each
+/// other count as equal. Neither method may allocate.
 pub trait Join {
     /// Whether a value is at most another.
     ghost is_below: { Self → Self → Bool };

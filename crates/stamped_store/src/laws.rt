@@ -80,8 +80,8 @@ pub fn updates_have_one_store()
     ensures union { (us vs : List Update) → IsStoreJoin (store_of us) (store_of vs) (store_of (us ++ vs)) }
 {}
 
-/// Proves that the join of stores over names is associative, commutative and idempotent, and the only least upper
-/// bound; and that stores that are at most each other are equal. No-op.
+/// Proves that the join of stores is associative, commutative and idempotent, and the only least upper bound; and that
+/// stores that are at most each other are equal. No-op.
 pub fn stores_are_joined()
     ensures associative { (s t u : Store) → joined_stores (joined_stores s t) u ≡ joined_stores s (joined_stores t u) }
     ensures commutative { (s t : Store) → joined_stores s t ≡ joined_stores t s }

@@ -214,7 +214,7 @@ impl Ord for SiteName {
 
     ghost matches_eq = { λ s t. refl };
 
-    // Not inlined: most callers find unequal counts and then do not call this.
+    // Not inlined: the counts of two stamps mostly differ, and then this is not called.
     #[inline(never)]
     fn cmp(&self, other: &SiteName) -> Ordering {
         let first = self.word_cmp(other, 0);

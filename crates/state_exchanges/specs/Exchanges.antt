@@ -61,8 +61,8 @@ module _ {R W : Type 0} (left : R → Option (List ℕ)) (reads : R → ℕ → 
   -- - NoHost, TooLarge: nothing was sent, and nothing was read.
   -- - Read: the last read failed, before the reply was complete.
   -- - Write: the last write failed, and nothing was read.
-  -- - BadReply: the bytes read cannot begin a reply of one length within the limits; those before the last read were
-  --   less than a reply.
+  -- - BadReply: the bytes read cannot begin a reply with a valid length within the limits; those before the last read
+  --   were less than a reply.
   -- - Ended: the last read reported the end of the input, before the reply was complete.
   -- - OtherStatus: the reply has this status, which is not 200.
   abbrev pub IsUnanswered : List ℕ → R → R → W → W → NetworkFault → Type 0

@@ -37,8 +37,8 @@ pub record Joins (s : StatedSchema) (m : Store) (bytes : List ℕ) (t : Store) (
   pub store_is : t ≡ store_of (updates m ++ plain_updates received_updates)
   pub count_is : count ≡ length received_updates
 
--- `IsSendable s m` holds if each update of the store `m` is in its ranges and valid under the schema `s`, and so may
--- occur in a message of `s`.
+-- `IsSendable s m` holds if each update of the store `m` has its name, count and site in their ranges and is valid
+-- under the schema `s`, and so may occur in a message of `s`.
 pub record IsSendable (s : StatedSchema) (m : Store) : Type 0 where
   pub in_range : AreInRange (updates m)
   pub valid : AreValid (λ id. ReadsPolicy s) (ReadsEntity s) (updates m)

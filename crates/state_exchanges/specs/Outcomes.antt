@@ -26,14 +26,14 @@ abbrev pub OrderDoesNotMatter : Type 0
 OrderDoesNotMatter = (schema f g text other : List ℕ) → IsMerged schema f g text → IsMerged schema g f other
     → other ≡ text
 
--- `RepeatsDoNotMatter`: if the result of a merge is parsed back (`IsMergedBack`), merging it again with the first or
--- the second message gives the same result.
+-- `RepeatsDoNotMatter`: if the result of a merge is parsed as the merged updates (`IsMergedBack`), merging it again
+-- with the first or the second message gives the same result.
 abbrev pub RepeatsDoNotMatter : Type 0
 RepeatsDoNotMatter = (schema f g text other : List ℕ) (m : IsMerged schema f g text) → IsMergedBack m
     → (IsMerged schema text f other → other ≡ text) × (IsMerged schema text g other → other ≡ text)
 
--- `GroupsDoNotMatter`: if the merge of `f` and `g` and that of `g` and `h` are parsed back (`IsMergedBack`), merging
--- `h` into the first gives the same as merging the second into `f`.
+-- `GroupsDoNotMatter`: if the merge of `f` and `g` and that of `g` and `h` are each parsed as the merged updates
+-- (`IsMergedBack`), merging `h` into the first gives the same as merging the second into `f`.
 abbrev pub GroupsDoNotMatter : Type 0
 GroupsDoNotMatter = (schema f g h left right text other : List ℕ) (a : IsMerged schema f g left)
     (b : IsMerged schema g h right) → IsMergedBack a → IsMergedBack b → IsMerged schema left h text

@@ -75,7 +75,8 @@ pub struct Joined {
 }
 
 /// Joins the updates of a state or a delta into a store, in order: at each name the greater entry wins. If each update
-/// of `store` is in its ranges and valid under the schema, so is each update of the joined store.
+/// of `store` has its name, count and site in their ranges and is valid under the schema, the same holds of each update
+/// of the joined store.
 ///
 /// # Errors
 ///
@@ -106,8 +107,8 @@ pub fn join_message(
     Ok(Joined { store, taken })
 }
 
-/// Returns a store as a state of the schema. If each of its updates is in its ranges and valid under the schema, the
-/// state is parsed again as exactly these updates.
+/// Returns a store as a state of the schema. If each update of the store has its name, count and site in their ranges
+/// and is valid under the schema, the state is parsed again as exactly these updates.
 ///
 /// # Errors
 ///

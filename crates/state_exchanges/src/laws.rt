@@ -14,8 +14,8 @@ use sync_messages::{
 };
 
 /// Proves that two messages merge to the same state in either order, that merging either again changes nothing, and
-/// that a third may be merged in any grouping. The last two assume that the state of each merge on the way is parsed
-/// back (`IsMergedBack`). Each state that `merge_texts` returns is parsed back. No-op.
+/// that a third may be merged in any grouping. The last two claims assume that the state of each merge on the way is
+/// parsed back (`IsMergedBack`). Each state that `merge_texts` returns is parsed back. No-op.
 pub fn order_and_repeats_do_not_matter()
     ensures order { OrderDoesNotMatter }
     ensures repeats { RepeatsDoNotMatter }

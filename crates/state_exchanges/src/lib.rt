@@ -3,7 +3,7 @@
 //! - A merge takes the bytes of a schema and of two messages, and gives the state of the join of their updates, or the
 //!   first error.
 //! - A pull asks another site over HTTP for the entries that a state lacks, and joins them into the state.
-//! - An exchange between two sites is made of calls, each one request and its reply.
+//! - An exchange between two sites is made of calls: a call is one request and its reply.
 //!
 //! Nothing here opens a socket or a file: the reader and the writer are of any types that implement `Source` and
 //! `Sink`, and the state is bytes.

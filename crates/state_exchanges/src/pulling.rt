@@ -117,7 +117,7 @@ fn fetch_missing_entries<R: Source, W: Sink>(
     }
 }
 
-/// Pulls under a parsed schema, into a store whose updates are in their ranges and valid.
+/// Pulls under a parsed schema, into a store whose updates may occur in a message (`IsSendable`).
 fn pull_under<R: Source, W: Sink>(
     alloc: Global,
     schema: &Schema,

@@ -1,7 +1,7 @@
 -- Defines which bytes are a state or a delta of a schema, and the first error of other bytes.
--- Rules of this product: a message belongs to a schema if it has the schema's label, and each update is in its ranges
--- and valid. The ranges are those of count, name and site. A valid update is a tombstone, or has a text that can be
--- parsed under the schema and the update's name.
+-- Rules of this product: a message belongs to a schema if it has the schema's label, and each update is valid, with its
+-- count, name and site in their ranges. A valid update is a tombstone, or has a text that can be parsed under the
+-- schema and the update's name.
 use Rattle.std.specs.Prelude.{ℕ, List}
 use Rattle.message_format.specs.policy_grammar.declared.policy.Policy.{Policy}
 use Rattle.validator.specs.entities.schema.Schemas.{StatedSchema}

@@ -1,5 +1,5 @@
--- Defines the theorems that the parsing functions of messages agree with the relations on bytes, and that bytes have
--- exactly one outcome.
+-- Defines the theorems that parsing a message gives what its bytes describe, or the error with which they are rejected,
+-- and that bytes have exactly one outcome.
 use Rattle.std.specs.Prelude.{◌≡◌, ◌↔◌, ◌⊎◌, ℕ, List, Some, Ok, codes}
 use Rattle.serde_json.specs.Data.{Data}
 use Rattle.json_words.specs.Json.{json_of}
@@ -36,8 +36,8 @@ abbrev pub UpdatesHaveOneOutcome : Type 0
 UpdatesHaveOneOutcome = (label bytes : List ℕ)
     → HasOneOutcome (DescribesUpdates label bytes) (RefusesUpdates label bytes)
 
--- `UpdatesAreWritten`: if bytes of version 2 are parsed as updates, their JSON has exactly the keys and values with
--- which a state or a delta of these updates is written.
+-- `UpdatesAreWritten`: if bytes of version 2 are parsed as updates, the JSON of the bytes has exactly the keys and
+-- values with which a state or a delta of these updates is written.
 abbrev pub UpdatesAreWritten : Type 0
 UpdatesAreWritten = (label bytes : List ℕ) (d : Data) (us : List PlainUpdate) → json_of bytes ≡ Some d → HasVersion d 2
     → updates_stated label bytes ≡ Ok us
@@ -57,8 +57,8 @@ abbrev pub SummariesHaveOneOutcome : Type 0
 SummariesHaveOneOutcome = (label bytes : List ℕ)
     → HasOneOutcome (DescribesSummary label bytes) (RefusesSummary label bytes)
 
--- `SummariesAreWritten`: if bytes of version 2 are parsed as a summary, their JSON has exactly the keys and values with
--- which this summary is written.
+-- `SummariesAreWritten`: if bytes of version 2 are parsed as a summary, the JSON of the bytes has exactly the keys and
+-- values with which this summary is written.
 abbrev pub SummariesAreWritten : Type 0
 SummariesAreWritten = (label bytes : List ℕ) (d : Data) (m : Summary) → json_of bytes ≡ Some d → HasVersion d 2
     → summary_stated label bytes ≡ Ok m → d ≡ summary_json label m

@@ -1,5 +1,5 @@
--- Defines the updates of a state or delta under a schema, with their texts parsed, and the first error of bytes that
--- are neither.
+-- Defines the updates that bytes describe as a state or delta under a schema, with their texts parsed, and the first
+-- error of other bytes.
 -- Source: docs/formats.md, "Messages between sites".
 -- Rules of this product: a message is rejected as a whole: for its form and its label, then for the first entry whose
 -- count, name or body has an error.

@@ -1,4 +1,4 @@
-//! Theorems: the parsing of messages agrees with the relations on bytes. The functions are no-ops.
+//! Theorems: parsing a message gives what its bytes describe, or their error. The functions are no-ops.
 ghost use Rattle.sync_messages.specs.ParsingLaws.{UpdatesAreRead, UpdatesHaveOneOutcome, UpdatesAreWritten};
 ghost use Rattle.sync_messages.specs.ParsingLaws.{SummariesAreRead, SummariesHaveOneOutcome, SummariesAreWritten};
 ghost use Rattle.sync_messages.specs.ParsingLaws.{TextsAreRead, MessagesAreRead, MessagesHaveOneOutcome};
@@ -13,7 +13,7 @@ use validator::entities_are_read_as_stated;
 /// and texts of the updates are checked. No-op.
 ///
 /// Bytes describe exactly one list of updates or are rejected with exactly one error, never both. If bytes of version 2
-/// are parsed as updates, their JSON has exactly the keys and values with which these updates are written.
+/// are parsed as updates, the JSON of the bytes has exactly the keys and values with which these updates are written.
 pub fn updates_are_read_as_stated()
     ensures read { UpdatesAreRead }
     ensures one { UpdatesHaveOneOutcome }
@@ -28,7 +28,7 @@ pub fn updates_are_read_as_stated()
 /// Proves that parsing a summary gives the summary that bytes describe, or the first error. No-op.
 ///
 /// Bytes describe exactly one summary or are rejected with exactly one error, never both. If bytes of version 2 are
-/// parsed as a summary, their JSON has exactly the keys and values with which this summary is written.
+/// parsed as a summary, the JSON of the bytes has exactly the keys and values with which this summary is written.
 pub fn summaries_are_read_as_stated()
     ensures read { SummariesAreRead }
     ensures one { SummariesHaveOneOutcome }

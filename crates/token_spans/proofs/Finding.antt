@@ -1,6 +1,6 @@
--- The first token that starts at a byte.
-use Rattle.std.proofs.Common.{◌≡◌, ℕ, suc, ◌+◌, ◌<◌, ◌≤◌, ◌==◌, List, [], ◌∷◌, length, drop, get_or, true, false, Bool, cond, not, ltb, Option, Some, None, refl, sym, ap, ◌∙◌, arith}
-use Rattle.std.specs.List.{position, position_or_len, prefix_len, find, slice_get}
+-- The tokens from the first that starts at a byte.
+use Rattle.std.proofs.Common.{◌≡◌, ℕ, suc, ◌+◌, ◌<◌, ◌≤◌, ◌==◌, List, [], ◌∷◌, length, drop, get_or, true, false, Bool, cond, not, ltb, Some, None, refl, sym, ap, ◌∙◌, arith}
+use Rattle.std.specs.List.{position, position_or_len, prefix_len}
 use Rattle.std.specs.Option.{unwrap_or}
 use Rattle.std.proofs.lemmas.Bool.Decides.{nat_tests, Decides-eqb}
 use Rattle.std.proofs.lemmas.List.{drop-drop, drop_all}
@@ -44,16 +44,3 @@ found-later at ts i d below other =
 
 pub found-nowhere : (at : ℕ) (ts : List Token) (i : ℕ) → length ts ≤ i → drop i ts ≡ from_byte at (drop i ts)
 found-nowhere at ts i past = let none = drop_all i ts past in none ∙ ap (from_byte at) (sym none)
-
--- the first such token
-next : (b : Bool) (t : Token) (ts : List Token) (k : ℕ) (o : Option Token) → o ≡ slice_get (drop k ts) 0
-    → cond b (Some t) o ≡ slice_get (drop (cond (not b) (1 + k) 0) (t ∷ ts)) 0
-next true t ts k o h = refl
-next false t ts k o h = let e : suc k ≡ 1 + k = omega arith in h ∙ ap (λ n. slice_get (drop n (t ∷ ts)) 0) e
-
-first : (at : ℕ) (ts : List Token) → find (λ t. t.start == at) ts ≡ slice_get (drop (position_or_len (λ t. t.start == at) ts) ts) 0
-first at [] = refl
-first at (t ∷ ts) = next (t.start == at) t ts (position_or_len (λ u. u.start == at) ts) (find (λ u. u.start == at) ts) (first at ts)
-
-pub found-first : (at : ℕ) (ts : List Token) → find (λ t. t.start == at) ts ≡ slice_get (from_byte at ts) 0
-found-first at ts = first at ts ∙ ap (λ us. slice_get us 0) (sym (cut at ts))

@@ -18,7 +18,7 @@
 --   Opening            a form seen by its tree
 --   Peeling            parentheses round a form
 --   FormWalking        a step of a path
---   Finding            the first token that starts at a byte
+--   Finding            the tokens from the first that starts at a byte
 --   Turning            a `Turn` or a `NodePlace` that a function does not look for
 --   LanguageCounts     how many tokens derive a value, one rule a form of language
 --   ExpressionCounts   an expression's tree counts its tokens, one rule a production

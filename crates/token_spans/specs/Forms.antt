@@ -1,4 +1,4 @@
--- Defines the written form of a core node, by the path to the node from the core node of a form around it. A written
+-- Defines the written form of a core node, given the path to the node from the core node of a form around it. A written
 -- form is an expression of the syntax tree, or the front of a chain, such as `a + b` of `a + b + c`.
 -- Source: Cedar reference guide 4.0, "Grammar specification for Cedar policy syntax" and "Operators and functions".
 -- Rules of this product: the operands of a core node are numbered from 0 in the order in which they are written. A
@@ -130,9 +130,9 @@ access_at a accesses ts n i =
     (λ x. argument_at x (drop (total (map access_tree_count (take n accesses))) (drop (tree_count a) ts)) i)
     (slice_get accesses n)
 
--- `member_at f a accesses n i` is operand `i` of the node of the form `f` that the first `n` of the accesses to `a`
--- reach, at least one: operand 0 is the expression before the last of these accesses, and the other operands are the
--- arguments of that access.
+-- `member_at f a accesses n i` is operand `i` of the node of the form `f` that has the first operand `a` and the first
+-- `n` of `accesses`, at least one: operand 0 is the expression before the last of these accesses, and the other
+-- operands are the arguments of that access.
 abbrev pub member_at : Form → ExprTree → List (Access (List ExprTree)) → ℕ → ℕ → Option Form
 member_at f a accesses n i =
     if i == 0 then Some (left_at f a (n - 1)) else access_at a accesses f.tokens (n - 1) (i - 1)
@@ -232,8 +232,8 @@ operand_step (tree.If a b c) f i =
 abbrev pub operand : Form → ℕ → Option Form
 operand f i = operand_step (out-ExprTree f.tree) f i
 
--- `node_at f path` is the form of the core node that the path leads to from the core node of `f`, without parentheses
--- around it.
+-- `node_at f path` is the form of the core node that `path` leads to from the core node of `f`, where the form of each
+-- operand on the path is without the parentheses around it; `None` if there is no such node.
 abbrev pub node_at : Form → List ℕ → Option Form
 node_at f [] = Some f
 node_at f (i ∷ path) = option_and_then (λ g. node_at (unwrapped g) path) (operand f i)

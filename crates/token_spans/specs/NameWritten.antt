@@ -30,7 +30,7 @@ pub data OwnName : Type 0 where
   entity : EntityUid → OwnName
   tested_type : List ℕ → OwnName
 
--- `name_of_literal l` is the entity of the literal `l`, if it is one of an entity.
+-- `name_of_literal l` is the entity of the literal `l`, if the literal has one.
 abbrev pub name_of_literal : Literal → Option OwnName
 name_of_literal (literal.Entity u) = Some (entity u)
 name_of_literal l = None

@@ -24,8 +24,8 @@ use Rattle.token_spans.specs.Forms.{tokens_at, up_to}
 
 -- ## Turns
 
--- A `Turn` is the first step of a path at a core node with one or two operands: the path ends, or leads to or into the
--- first or the second operand, or to an operand that does not exist.
+-- A `Turn` is the first step of a path at a core node with one or two operands: the path ends, leads to the first or
+-- the second operand (and perhaps on from there), or leads to an operand that does not exist.
 pub data Turn : Type 0 where
   stop : Turn
   left : List ℕ → Turn
@@ -74,7 +74,7 @@ condition_count c = 2 + tree_count c.expression + 1
 
 -- A `NodePlace` is the place of a core node of a policy's expression.
 pub data NodePlace : Type 0 where
-  -- the node joins parts or conditions of the policy, whose tokens from its effect on are these
+  -- the node joins parts or conditions of the policy; the tokens are those of the policy from its effect on
   whole_policy : List Token → NodePlace
   -- the node is at a path of the scope's constraint on the principal or the resource, which the tokens begin with
   in_entity : PartTree → List Token → List ℕ → NodePlace

@@ -1,10 +1,9 @@
--- Defines spans of tokens, and the span of a core node, a name or a token of a text.
+-- Defines spans of tokens, and the span of a core node or a name of a policy.
 -- Source: docs/codes.md.
--- Rules of this product: a span is the offset of a first byte, and the offset after that of a last byte.
-use Rattle.std.specs.Prelude.{◌≡◌, ◌⊎◌, ℕ, ◌-◌, ◌==◌, List, length, slice_get}
-use Rattle.std.specs.Prelude.{Option, Some, None, find, option_and_then}
+-- Rules of this product: a span is the offset of its first byte, and the offset after its last byte.
+use Rattle.std.specs.Prelude.{◌≡◌, ◌⊎◌, ℕ, ◌-◌, List, length, slice_get, Option, Some, None, option_and_then}
 use Rattle.grammar_policies.specs.grammar_tokens.declared.token.Token.{Token}
-use Rattle.grammar_policies.specs.grammar_tokens.Lexing.{IsLexed, IsBadAt}
+use Rattle.grammar_policies.specs.grammar_tokens.Lexing.{IsLexed}
 use Rattle.grammar_policies.specs.grammar_tokens.Lang.{at_any}
 use Rattle.grammar_policies.specs.declared.tree.PolicyTree.{PolicyTree}
 use Rattle.grammar_policies.specs.Grammar as grammar
@@ -25,17 +24,6 @@ between None last = None
 -- `covering ts` is the span from the start of the first of the tokens `ts` to the end of the last.
 abbrev pub covering : List Token → Option Span
 covering ts = between (slice_get ts 0) (slice_get ts (length ts - 1))
-
--- `starting_at at ts` is the span of the first of the tokens `ts` that starts at the byte `at`.
-abbrev pub starting_at : ℕ → List Token → Option Span
-starting_at at ts = let token = find (λ t. t.start == at) ts in between token token
-
--- `IsTokenAt text at found` holds if `found` is the span of the text's token that starts at the byte `at`; `None` if no
--- token does, or the text does not consist of tokens.
-abbrev pub IsTokenAt : List ℕ → ℕ → Option Span → Type 0
-IsTokenAt text at found =
-    ((ts : List Token) × IsLexed text ts × (found ≡ starting_at at ts))
-    ⊎ ((bad : ℕ) × IsBadAt text bad × (found ≡ None))
 
 -- A `Written` is a way to choose some of the tokens of a policy, given all of them and its tree.
 abbrev pub Written : Type 0

@@ -70,7 +70,7 @@ pub(crate) fn tokens_after_operand<'t>(
     tokens_after_tree(operand, tokens)
 }
 
-/// Returns the tokens after an operand, which `tokens` begin with, and one further token, such as an operator.
+/// Returns the tokens after an operand and one further token, such as an operator; `tokens` begin with the operand.
 #[cycle(behind)]
 pub(crate) fn tokens_after_piece<'t>(operand: &Boxed<ExprTree>, tokens: &'t [Token]) -> &'t [Token]
     ensures { result.now ≡ drop 1 (drop (tree_count operand.now) tokens.entry.now) }

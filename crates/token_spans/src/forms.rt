@@ -270,7 +270,8 @@ fn two_operands<'a>(first: Form<'a>, second: Form<'a>, index: usize) -> Option<F
     None
 }
 
-/// Returns whether a node of a comparison's form is the negation of another comparison, as that of `>` is of `<=`.
+/// Returns whether a node of a comparison's form is the negation of another comparison, as the node of `>` is the
+/// negation of `<=`.
 fn is_negation(part: FormNode, operator: Comparison) -> bool
     ensures { result ≡ spec.both (spec.is_outer part) (spec.is_negated operator) }
 {
@@ -414,8 +415,8 @@ fn operand<'a>(form: &Form<'a>, index: usize) -> Option<Form<'a>>
     }
 }
 
-/// Returns the form of the core node to which a path leads from that of an expression, which `tokens` begin with, if it
-/// leads to one.
+/// Returns the form of the core node at a path of an expression, which `tokens` begin with; `None` if the core
+/// expression has no such node.
 pub(crate) fn node_at<'a>(
     tree: &'a ExprTree,
     tokens: &'a [Token],

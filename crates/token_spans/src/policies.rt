@@ -11,8 +11,8 @@ use crate::places::{NodePlace, place_at};
 use crate::scopes::{action_name, entity_name};
 use grammar_policies::{PolicyTree, Token};
 
-/// Returns the tokens of the least written form around the core node at a path of a policy's expression, from all
-/// tokens of its text; `None` if there is no such node.
+/// Returns the tokens of the smallest written form that contains the core node at `path` of the expression of the
+/// policy `tree`; `None` if there is no such node. `tokens` are all tokens of the policy's text.
 ///
 /// O(length of `tokens` and `path`). Does not allocate.
 pub fn written_at<'t>(
@@ -35,8 +35,8 @@ pub fn written_at<'t>(
     }
 }
 
-/// Returns the tokens of the name that the core node at a path of a policy's expression itself has: a uid, or the type
-/// after `is`; `None` if it has no name.
+/// Returns the tokens of the name of the core node at `path` of the expression of the policy `tree`: a uid, or the type
+/// after `is`. `None` if the node has no name, even if its operands have.
 ///
 /// O(length of `tokens` and `path`). Does not allocate.
 pub fn named_at<'t>(

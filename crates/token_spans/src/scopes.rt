@@ -35,8 +35,8 @@ fn second_uid<'t>(path: &[usize], uid: &UidTree, tokens: &'t [Token]) -> Option<
 
 /// Returns the tokens of the name at a path of `part`, the scope's constraint on the principal or the resource.
 ///
-/// `tokens` begin with the constraint. A uid or a type comes after two tokens, as `principal ==`; in `is T in uid`, the
-/// uid is one token (`in`) after the type. That test means `x is T && x in uid`.
+/// `tokens` begin with the constraint. A uid or a type comes after two tokens, as `principal ==`. The test
+/// `x is T in uid` means `x is T && x in uid`; one token, `in`, is between the type and the uid.
 pub(crate) fn entity_name<'t>(
     part: &PartTree,
     tokens: &'t [Token],

@@ -5,8 +5,6 @@ ghost use Rattle.token_spans.specs.Spans as spec;
 ghost use Rattle.token_spans.specs.Names as names;
 ghost use Rattle.token_spans.specs.Places as places;
 
-use crate::forms::front;
-use crate::places::from_byte;
 use crate::policies::{named_at, written_at};
 use grammar_policies::{LexFault, PolicyTree, Token, tokens};
 use plain::NoMemory;
@@ -14,7 +12,7 @@ use policy_grammar::{ReadFault, drop_tree, policy_tree};
 use std::alloc::Global;
 
 /// A span of a text, in bytes.
-#[derive(Clone, Copy, PartialEq, Eq)]
+#[derive(Clone, Copy)]
 pub struct Span {
     /// The offset of the first byte, counted from 0.
     pub start: usize,
@@ -41,33 +39,6 @@ fn covering(written: Option<&[Token]>) -> Option<Span>
                 None => None,
             }
         }
-    }
-}
-
-/// Returns the span of the token that starts at a byte, if one does.
-fn starting_at(tokens: &[Token], at: usize) -> Option<Span>
-    ensures { result ≡ spec.starting_at at tokens.now }
-{
-    covering(Some(front(from_byte(tokens, at), 1)))
-}
-
-/// Returns the span of the token of a text that starts at a byte, such as the place of a parse error; `None` if no
-/// token starts there, or the text does not consist of tokens.
-///
-/// O(length of `text`).
-///
-/// # Errors
-///
-/// - `NoMemory` (1): an allocation failed.
-pub fn token_at(alloc: Global, text: &str, at: usize) -> Result<Option<Span>, NoMemory>
-    ensures { IfOk result (spec.IsTokenAt text.now at) }
-{
-    match tokens(alloc, text) {
-        Ok(found) => Ok(starting_at(&found, at)),
-        Err(fault) => match fault {
-            LexFault::NoMemory => Err(NoMemory),
-            LexFault::BadToken(_) => Ok(None),
-        },
     }
 }
 
@@ -138,9 +109,9 @@ fn span_by(
 ///
 /// `path` has the indexes of the operands that lead to the node from the root
 /// `principal && (action && (resource && conditions))`. Operands are numbered from 0 in the order in which they are
-/// written. A path into a part of the scope gives the span of that part, and a path to a conjunction of parts or
-/// conditions that of the policy without its annotations. Parentheses around an expression do not belong to its span.
-/// If rewriting made the node, as `<=` of `a > b`, the span is that of the least expression around it.
+/// written. A path to or into a part of the scope gives the span of that part. A path to a conjunction of parts or
+/// conditions gives the span of the policy without its annotations. Parentheses around an expression do not belong to
+/// its span. If rewriting made the node, as `<=` of `a > b`, the span is that of the least expression around it.
 ///
 /// O(length of `text` and `path`).
 ///

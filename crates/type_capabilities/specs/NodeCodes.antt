@@ -159,7 +159,7 @@ every_value P (f ∷ fs) h = (h.0, every_value P fs h.1)
 
 -- ---- the codes of each kind of expression
 
--- `codes_set` and `codes_record`: the node codes of a set and of a record are those of its node.
+-- `codes_set` and `codes_record`: the node codes of a set or of a record are those of its node.
 pub codes_set : (xs : List Expr) → node_codes (form.Set xs) ≡ layer_codes (Expr-F.Set xs)
 codes_set xs = fold_set (List NodeCode) codes_step xs
     ∙ ap (λ n. (9, (0, (n, (pos 0, [])))) ∷ joined (map node_codes xs)) (same_length node_codes xs)

@@ -45,7 +45,7 @@ unary_rank (unary.Is n) = 3
 abbrev pub pattern_cmp : List (List ℕ) → List (List ℕ) → Ordering
 pattern_cmp p q = ordering_then (nat_cmp (length p) (length q)) (slice_cmp text_cmp p q)
 
--- `unary_cmp o p` compares the operators `o` and `p` with one operand: by rank, then by the pattern or the type.
+-- `unary_cmp o p` compares the unary operators `o` and `p`: by rank, then by the pattern or the type.
 abbrev pub unary_cmp : Unary → Unary → Ordering
 unary_cmp (unary.Like p) (unary.Like q) = pattern_cmp p q
 unary_cmp (unary.Is m) (unary.Is n) = text_cmp m n

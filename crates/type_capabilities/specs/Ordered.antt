@@ -93,13 +93,14 @@ abbrev IsByCodes : Expr → Type 0
 IsByCodes x = (y : Expr) (s t : List NodeCode)
     → ordering_then (expr_cmp x y) (codes_cmp s t) ≡ codes_cmp (node_codes x ++ s) (node_codes y ++ t)
 
--- `AreByCodes o xs ys` holds if the node codes of the operands `xs` and `ys` compare as `o`, with any codes after them.
+-- `AreByCodes o xs ys` holds if the node codes of the operands `xs` and `ys`, with any codes after them, compare as `o`
+-- and then as the codes after them.
 abbrev AreByCodes : Ordering → List Expr → List Expr → Type 0
 AreByCodes o xs ys = (s t : List NodeCode) → ordering_then o (codes_cmp s t)
     ≡ codes_cmp (joined (map node_codes xs) ++ s) (joined (map node_codes ys) ++ t)
 
--- `one_more`: one more operand on each side is compared before the others. The next lemmas apply this to no operand,
--- one, two, three, and equally many.
+-- `one_more`: one more operand on each side is compared before the others. The next lemmas compare no operand, one,
+-- two, three, and lists of equal length.
 one_more : (x y : Expr) (xs ys : List Expr) (o : Ordering) → IsByCodes x → AreByCodes o xs ys
     → AreByCodes (ordering_then (expr_cmp x y) o) (x ∷ xs) (y ∷ ys)
 one_more x y xs ys o h g s t =
@@ -138,15 +139,15 @@ as_many (x ∷ xs) [] h e = absurd (omega (arith, e))
 as_many (x ∷ xs) (y ∷ ys) h e =
     one_more x y xs ys (each_cmp (map expr_cmp xs) ys) h.0 (as_many xs ys h.1 (omega (arith, e)))
 
--- `headed`: let contents compare as `o`, and operands as `p`. If for equal contents `p` and then `t` compare as `r`,
--- then `o`, `p` and `t`, one after another, compare as `o` and then `r`.
+-- `headed`: let contents compare as `o`, and operands as `p`. If, for equal contents, `p` and then `t` give `r`, then
+-- `o`, `p` and `t`, one after another, give what `o` and then `r` give.
 headed : (o p : Ordering) (t r : Ordering) → (o ≡ Equal → ordering_then p t ≡ r)
     → ordering_then (ordering_then o p) t ≡ ordering_then o r
 headed Less p t r h = refl
 headed Equal p t r h = h refl
 headed Greater p t r h = refl
 
--- `headed_as`: the same with `k` and then `r` on the right, where the node codes of the contents compare as `k`, which
+-- `headed_as`: the same with `k` in place of `o` before `r`, where the node codes of the contents compare as `k`, which
 -- equals `o`.
 headed_as : (o k p t r : Ordering) → k ≡ o → (o ≡ Equal → ordering_then p t ≡ r)
     → ordering_then (ordering_then o p) t ≡ ordering_then k r

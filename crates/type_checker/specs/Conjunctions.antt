@@ -6,7 +6,7 @@ use Rattle.grammar_core.specs.declared.expr.Expr.{Expr}
 use Rattle.grammar_core.specs.declared.expr.Expr.TheVariants as form
 
 -- `joined ps x` is the conjunction of `ps` and then `x`, grouped to the right: `p && (q && x)` for the parts `p` and
--- `q`, and `x` without parts.
+-- `q`, and `x` if `ps` is empty.
 abbrev pub joined : List Expr → Expr → Expr
 joined [] x = x
 joined (p ∷ ps) x = form.And p (joined ps x)

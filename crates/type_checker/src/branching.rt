@@ -23,7 +23,7 @@ use plain::NoMemory;
 use std::alloc::Global;
 use type_capabilities::Capability;
 
-/// Returns the type of `&&`, given the types of its sides, if the left side may be true.
+/// Returns the type of `&&` whose left side may be true, given the types of its sides.
 pub(crate) fn and_truth(left: BooleanType, right: BooleanType) -> BooleanType
     ensures { boolean_view result ≡ and_type (boolean_view left) (boolean_view right) }
 {
@@ -194,8 +194,7 @@ fn with_both<'a>(
 }
 
 /// Returns the judgement on an `if` whose test has the type Bool. The argument `then` is the type of the branch `then`
-/// with the capabilities that the test gains and then those that this branch gains, and `other` is the judgement on
-/// `else`.
+/// with the capabilities that the test gains, followed by those of this branch; `other` is the judgement on `else`.
 pub(crate) fn branches<'a>(
     alloc: Global,
     then: Typed<'a>,

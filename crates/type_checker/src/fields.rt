@@ -94,7 +94,7 @@ fn record_has(is_known: bool, declared: Option<(Part<'_, '_>, bool)>) -> Boolean
 }
 
 /// Returns the type of `e has f` for an entity `e`, where `is_known` is whether there is a capability for `e.f`, and
-/// `declared` the declaration of `f`, if there is one. Without a capability it is not True even for a required
+/// `declared` the declaration of `f`, if there is one. Without a capability the type is not True even for a required
 /// attribute, since the entity may not be stored.
 fn entity_has(is_known: bool, declared: Option<(Part<'_, '_>, bool)>) -> BooleanType
     ensures { boolean_view result ≡ if is_known then true_type else entity_has (found_view declared.entry) }

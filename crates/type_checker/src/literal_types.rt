@@ -37,7 +37,7 @@ pub fn literal_type<'a>(literal: &'a Literal) -> StaticType<'a>
     }
 }
 
-/// Returns the common type of the common type so far, `joined`, and the type `ty`, or `None` if they have none.
+/// Returns the common type of `joined` (the common type so far) and the type `ty`, or `None` if they have none.
 fn joined_with<'a>(
     alloc: Global,
     joined: StaticType<'a>,

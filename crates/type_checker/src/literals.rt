@@ -1,5 +1,6 @@
-//! The operators whose result is decided by literals, before any operand is typed: `==` of two literals, and `in` of an
-//! action and entity literals. The variable `action` counts as the literal of the environment's action.
+//! The operators whose result is decided by literals, before any operand is typed: `==` between two literals, and `in`
+//! between an action's literal and entity literals. The variable `action` counts as the literal of the environment's
+//! action.
 ghost use Rattle.std.specs.Prelude.{◌≡◌, ◌↔◌, ◌⊎◌, List, IsTrue, MatchOption, Contains};
 ghost use Rattle.std.specs.Bool.{Decides};
 ghost use Rattle.grammar_core.specs.declared.leaf.Literal.{Literal};

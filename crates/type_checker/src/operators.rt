@@ -75,8 +75,8 @@ pub fn unary_type<'a>(
 
 /// Returns the type of a binary operator on operands of these types.
 ///
-/// Takes time linear in the nodes of the smaller type; for `in`, looks up the entity types in the schema. Does not
-/// allocate.
+/// Takes time linear in the nodes of the smaller type, and drops both types; for `in`, looks up the entity types in the
+/// schema. Does not allocate.
 ///
 /// # Errors
 ///
@@ -181,8 +181,8 @@ fn are_unequal(left: Option<&TypeName>, right: Option<&TypeName>) -> bool
     }
 }
 
-/// Returns whether an entity of the type `left` may be in one of the type `right`: one of these is an action type, or
-/// they are equal, or `right` is an ancestor type of `left`.
+/// Returns whether an entity of the type `left` may be in one of the type `right`: `left` or `right` is an action type,
+/// or both are the same type, or `right` is an ancestor type of `left`.
 fn may_be_in(env: TypingEnvironment<'_>, left: &TypeName, right: &TypeName) -> bool
     ensures { result ≡ may_be_in (typing_environment env.entry) left.now right.now }
 {

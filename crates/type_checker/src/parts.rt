@@ -77,7 +77,7 @@ impl<'r, 'a> Part<'r, 'a> {
     }
 }
 
-/// Returns the outermost layer of a type that an expression built or borrowed.
+/// Returns the outermost layer of a type that an expression built, or that is borrowed from the schema.
 fn kind_of<'r, 'a>(ty: &'r StaticType<'a>) -> TypeKind<'r, 'a>
     ensures { kind_view result ≡ static_view ty.now }
 {

@@ -69,9 +69,9 @@ fn repeats_tested_operand<'a>(
     same_expr(operand, again)
 }
 
-/// Returns the entity type that the left side of `&&` tests its operand for, if the operand need not be typed again:
-/// `left` is an `is` test that may be true, the right side is an operator whose first operand `again` equals the
-/// tested one, and literals do not decide this operator. Else returns `None`.
+/// Returns the entity type `T` if `left`, the left side of `&&`, is a test `a is T` and `a` need not be typed again:
+/// the test may be true, the right side is an operator whose first operand `again` equals `a`, and literals do not
+/// decide this operator. Else returns `None`.
 #[tactic(auto, using(crate::proofs::AskedLemmas::asks_again))]
 pub(crate) fn tested_operand_type<'a>(
     env: TypingEnvironment<'a>,

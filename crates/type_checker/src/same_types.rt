@@ -1,4 +1,4 @@
-//! A test of whether two declared types are the same, by a walk over both in step that builds nothing.
+//! A test of whether two declared types are the same, by a walk over both in step. The walk builds nothing.
 ghost use Rattle.std.specs.Prelude.{◌≡◌, ◌&&◌, Some, None, if◌then◌else◌};
 ghost use Rattle.std.specs.Str.{bytes_eq};
 ghost use Rattle.typing.specs.Types.{common, common_fields, same_requirement};

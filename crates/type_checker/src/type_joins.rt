@@ -1,4 +1,4 @@
-//! A test of whether two types have a common type, by a walk over their nodes that builds nothing.
+//! A test of whether two types have a common type, by a walk over their nodes. The walk builds nothing.
 ghost use Rattle.std.specs.Prelude.{◌≡◌, IfSome};
 ghost use Rattle.std.specs.Bool.{Decides};
 ghost use Rattle.typing.specs.Types.{common, common_fields};

@@ -1,4 +1,4 @@
-//! The type of an expression with the capabilities that it gains, and the steps that form it.
+//! The types of expressions with the gained capabilities, and the steps that form such types.
 ghost use Rattle.std.specs.Prelude.{◌≡◌, ◌↔◌, [], IsTrue, Ok, Err};
 ghost use Rattle.typing.specs.Types as types;
 ghost use Rattle.typing.specs.Rows.{MayBeTrue};
@@ -86,7 +86,7 @@ pub(crate) fn gained_too<'a>(
     Ok(Typed { kind, gains })
 }
 
-/// Returns the judgement on `then` as that of the only branch that is typed.
+/// Returns the type in `typed` as that of `then`, the only branch that is typed, or the error in `typed`.
 pub(crate) fn only<'a>(
     typed: Result<Typed<'a>, ExpressionFault>,
 ) -> Result<Then<'a>, ExpressionFault>
@@ -98,7 +98,7 @@ pub(crate) fn only<'a>(
     }
 }
 
-/// Returns the judgement on `then` as that of the first of two branches that are typed.
+/// Returns the type in `typed` as that of `then`, the first of two branches that are typed, or the error in `typed`.
 pub(crate) fn both<'a>(
     typed: Result<Typed<'a>, ExpressionFault>,
 ) -> Result<Then<'a>, ExpressionFault>

@@ -20,16 +20,16 @@ use type_capabilities::Capabilities;
 /// known capabilities. Without parts it is the type of `last`.
 ///
 /// Declared types are borrowed from the schema. Types each node at most once. Also looks up fields, attributes, entity
-/// types and capabilities, copies the capabilities that operands gain, and compares types that need a common type node
-/// by node. If an `e` is repeated as in `e is T && e in f`, or as the next member of a set, it is typed once, and its
-/// occurrences are compared node by node. Recursive: the stack grows with the height of the highest expression, not
+/// types and capabilities, copies the capabilities that operands gain, and compares node by node the types that need a
+/// common type. If an `e` is repeated as in `e is T && e in f`, or as the next member of a set, it is typed once, and
+/// its occurrences are compared node by node. Recursive: the stack grows with the height of the highest expression, not
 /// with the number of parts.
 ///
 /// # Errors
 ///
-/// - The first error of the conjunction. For each operand in turn this is its own error, or else `Unexpected` if it is
-///   not boolean and not the only operand. An operand of the type False ends the conjunction: those after it are not
-///   typed.
+/// - The first error of the conjunction: of each operand in turn, the operand's own error, else `Unexpected` if the
+///   operand is not boolean and not the only one. An operand of the type False ends the conjunction: those after it are
+///   not typed.
 /// - `NoMemory`: an allocation failed, or the count of references to a type would overflow; possible at any point.
 ///
 /// Source: Cedar reference guide, "Policy validation".

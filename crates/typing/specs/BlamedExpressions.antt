@@ -1,9 +1,9 @@
 -- Defines the expression that a typing error blames: the path to it, the form whose demand is not met, and the types
 -- that this demand is about.
 -- Source: the rules of Faults.antt, whose derivations say why an expression has no type.
--- Rules of this product: the first operand with an error is blamed, down to a form that has an error of its own. If
--- this form demands that one operand is boolean, that operand is blamed; if it is a unary operator or `has`, its
--- operand; else the form itself. Operands are numbered from 0, as they are written in the form.
+-- Rules of this product: the path enters the first operand with an error, and so on down to a form that has an error of
+-- its own. If this form demands that one operand is boolean, that operand is blamed; if it is a unary operator or
+-- `has`, its operand; else the form itself. Operands are numbered from 0, as they are written in the form.
 use Rattle.std.specs.Prelude.{ℕ, suc, List, [], ◌∷◌}
 use Rattle.grammar_core.specs.declared.expr.Expr.{Expr}
 use Rattle.grammar_core.specs.declared.expr.Expr.TheVariants as form
@@ -66,8 +66,8 @@ abbrev mutual
   blamed (fault_in_else a b c h i g) = under 2 (blamed g)
   blamed (branches_differ a b c {s} {t} h g i e) = at_itself (form.If a b c) (s ∷ t ∷ [])
 
-  -- `blamed_each i g` is what the derivation `g` of an error blames, in the first operand with an error. The first of
-  -- the operands has the index `i`.
+  -- `blamed_each i g` is what the derivation `g` of an error blames, in the first operand with an error; the operands
+  -- are numbered from `i`.
   pub blamed_each : {env : Environment} {K : CapabilityList} {xs : List Expr} {n : ExpressionFault} → ℕ
       → FaultsEach env K xs n
       → Blame

@@ -21,9 +21,9 @@ use Rattle.typing.specs.Environment.{Environment}
 use Rattle.typing.specs.Gained.{Capability, CapabilityList}
 
 -- `Conforms env W q` holds if the request `q` and the entity data `W` conform to the environment `env`. The request has
--- the action of `env` and its types of principal, resource and context. The attributes of each stored entity are of the
--- record type that `env` declares for its type. The ancestors of an action are those that `env` declares. The ancestors
--- of any other entity are of types that may be ancestor types of that entity's type.
+-- the action of `env` and the types of principal, resource and context of `env`. The attributes of each stored entity
+-- are of the record type that `env` declares for the entity's type. The ancestors of an action are those that `env`
+-- declares. The ancestors of any other entity are of types that may be ancestor types of that entity's type.
 pub record Conforms (env : Environment) (W : Entities) (q : Request) : Type 0 where
   pub principal : q.principal.type_name ≡ env.principal
   pub action : q.action ≡ env.action
@@ -56,8 +56,8 @@ IsPresent W q p = EvaluatesTo W q (form.Has p.0 p.1) (Ok (boolean true))
 pub record ArePresent (W : Entities) (q : Request) (K : CapabilityList) : Type 0 where
   pub each : (p : Capability) → Contains K p → IsPresent W q p
 
--- `IsSoundOutcome W q t L r` holds if `r` fits the type `t`. If `r` is true, the fields of the capabilities `L` must
--- also be present for the request `q` over the entity data `W`.
+-- `IsSoundOutcome W q t L r` holds if `r` fits the type `t` (`Fits`) and, if `r` is true, the fields of the
+-- capabilities `L` are present for the request `q` over the entity data `W`.
 pub record IsSoundOutcome (W : Entities) (q : Request) (t : StaticType) (L : CapabilityList) (r : EvaluationResult)
     : Type 0 where
   pub fits : Fits t r

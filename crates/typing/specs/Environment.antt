@@ -15,7 +15,7 @@ pub record Environment : Type 0 where
   pub resource : List ℕ
   -- the fields of the action's context
   pub context : FieldTypes
-  -- the attributes of the entities of a type; in the environments of a schema, an action type has none
+  -- the attributes of the entities of a type; in the environments of a schema, an action type has no attributes
   pub attributes : List ℕ → FieldTypes
   -- whether entities of the first type may have ancestors of the second
   pub may_have_ancestor : List ℕ → List ℕ → Bool

@@ -39,15 +39,15 @@ CapabilitiesAreASet = (env : Environment) (K M : CapabilityList) (x : Expr) → 
     × Types env M x t N)
     × ((n : ExpressionFault) → Faults env K x n → Faults env M x n)
 
--- `TypesAreOrdered`: if the keys of an environment's record types ascend, those of each expression's type do; so record
--- types with the same keys have them in the same order.
+-- `TypesAreOrdered`: if the keys of record types ascend in the types of an environment, they ascend in the type of each
+-- expression; so record types with the same keys have them in the same order.
 abbrev pub TypesAreOrdered : Type 0
 TypesAreOrdered = (env : Environment) → HasOrderedTypes env → (K L : CapabilityList) (x : Expr) (t : StaticType)
     → Types env K x t L → IsOrdered t
 
--- `AreSoundIn W` holds if typing is sound over the entity data `W`. Let a request and `W` conform, and the fields of
--- the known capabilities be present. Each outcome of an expression of type `t` is a value of `t` or a permitted error.
--- If the outcome is true, the fields of the gained capabilities are present.
+-- `AreSoundIn W` holds if typing is sound over the entity data `W`. Let a request and `W` conform to an environment,
+-- and the fields of the known capabilities be present. Each outcome of an expression of type `t` is a value of `t` or a
+-- permitted error. If the outcome is true, the fields of the gained capabilities are present.
 abbrev pub AreSoundIn : Entities → Type 0
 AreSoundIn W = (env : Environment) (q : Request) → Conforms env W q → (K L : CapabilityList) (x : Expr) (t : StaticType)
     → ArePresent W q K → Types env K x t L → (r : EvaluationResult) → EvaluatesTo W q x r → IsSoundOutcome W q t L r
@@ -89,7 +89,7 @@ abbrev pub IsTransitive : (List ℕ → List ℕ → Bool) → Type 0
 IsTransitive below = (l m n : List ℕ) → IsTrue (below l m) → IsTrue (below m n) → IsTrue (below l n)
 
 -- `ParentsAreAllowed env parents` holds if the environment `env` allows the parents `parents` of each entity that is
--- not an action. None of these parents is an action, and each one's type may be an ancestor type of the entity's type.
+-- not an action: no parent is an action, and the type of each may be an ancestor type of the entity's type.
 abbrev pub ParentsAreAllowed : Environment → Parents → Type 0
 ParentsAreAllowed env parents = (u p : EntityUid) → IsFalse (env.is_action_type u.type_name) → Contains (parents u) p
     → IsTrue (env.may_have_ancestor u.type_name p.type_name) × IsFalse (env.is_action_type p.type_name)

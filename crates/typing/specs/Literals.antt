@@ -1,4 +1,4 @@
--- Defines which results literals decide by themselves, before any type is checked.
+-- Defines when literals alone decide a result, before any type is checked.
 -- Source: Cedar reference guide 4.0, "Policy validation"; cedar-spec, cedar-lean/Cedar/Validation/Typechecker.lean
 -- (`typeOfEq`, `typeOfInₑ`).
 -- Rules of this product: an action `in` entity literals is True or False by the schema's actions; `ip` and `decimal`

@@ -31,8 +31,8 @@ mutual
     each_none : {t : StaticType} → EachOf no_values t
     each_more : {v : PlainValue} {vs : PlainValues} {t : StaticType} → Of v t → EachOf vs t → EachOf (value v vs) t
 
-  -- `FieldOf o declared` holds if the value in `o`, or its absence if `o` is `None`, fits the declaration `declared` of
-  -- its key.
+  -- `FieldOf o declared` holds if the declaration `declared` of a key allows the value in `o` or, if `o` is `None`,
+  -- allows the key to be absent.
   pub data FieldOf : Option PlainValue → Declared → Type 0 where
     absent : FieldOf None undeclared
     left_out : {t : StaticType} → FieldOf None (optional t)

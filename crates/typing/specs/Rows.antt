@@ -27,7 +27,7 @@ use Rattle.typing.specs.Types.{required, field_declared_at, truth_type, common, 
 use Rattle.typing.specs.Environment.{Environment, ExpressionFault, unexpected, no_common_type, attribute_may_be_missing}
 use Rattle.typing.specs.Environment.{empty_set}
 
--- A `Row` is the type of an expression, or its error, by the types of its operands.
+-- A `Row` is the type of an expression, or its error, given the types of its operands.
 abbrev pub Row : Type 0
 Row = Result StaticType ExpressionFault
 

@@ -53,8 +53,8 @@ put_required k t (field_type l s r ts) =
     match_ordering (text_cmp k l) (field_type k t true (field_type l s r ts)) (field_type l t true ts)
     (field_type l s r (put_required k t ts))
 
--- `put_each ks ts fields` are the fields `fields` with a required one at each name of `ks`, of the type at its index in
--- `ts`; of equal names the last counts.
+-- `put_each ks ts fields` are the fields `fields` with a required one at each name of `ks`, of the type at the same
+-- index in `ts`; of equal names the last counts.
 abbrev pub put_each : List (List ℕ) → List StaticType → FieldTypes → FieldTypes
 put_each (k ∷ ks) (t ∷ ts) fields = put_each ks ts (put_required k t fields)
 put_each ks ts fields = fields

@@ -2,8 +2,8 @@
 -- evaluates to true. Each constructor is one typing rule.
 -- Source: Cedar reference guide 4.0, "Policy validation"; cedar-spec, cedar-lean/Cedar/Validation/Typechecker.lean
 -- (`typeOf`).
--- Rules of this product: those at the head of Literals.antt and of Rows.antt; and if `b` alone has the type False,
--- `a && b` still gains the capabilities of both sides.
+-- Rules of this product: those at the head of Literals.antt and of Rows.antt; and `a && b` gains the capabilities of
+-- both sides even if `b`, but not `a`, has the type False.
 use Rattle.std.specs.Prelude.{◌≡◌, ℕ, List, [], ◌∷◌, ◌++◌, map, Contains, Bool, Some, Ok}
 use Rattle.std.specs.Bool.{Decides}
 use Rattle.evaluator.specs.grammar_core.declared.leaf.Literal.{Literal}

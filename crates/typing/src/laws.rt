@@ -26,10 +26,10 @@ pub fn types_are_ordered()
 /// Proves that typing is sound if a test decides the ancestor relation. No-op. There is such a test if finitely many
 /// entities have parents.
 ///
-/// Let a request and the entities conform, and let the fields of the known capabilities be present. Then a typed
-/// expression gives a value of its type, `EntityDoesNotExist` or `ArithBoundsError`. If it gives true, the fields of
-/// the capabilities that it gains are present. So a policy's expression of boolean type gives a boolean or one of these
-/// errors, and is never true if its type is False.
+/// Let a request and the entities conform to an environment, and let the fields of the known capabilities be present.
+/// Then a typed expression gives a value of its type, `EntityDoesNotExist` or `ArithBoundsError`. If it gives true, the
+/// fields of the capabilities that it gains are present. So a policy's expression of boolean type gives a boolean or
+/// one of these errors, and is never true if its type is False.
 pub fn typed_expressions_are_sound()
     ensures decided { TypedIsSound }
     ensures finite { TypedIsSoundInFiniteHierarchies }

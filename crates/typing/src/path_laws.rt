@@ -10,8 +10,8 @@ pub fn faults_blame_one_place()
     expressions_have_one_judgement();
 }
 
-/// Proves that an error blames a part of the expression. Its path leads from the whole expression to the form whose
-/// demand is not met, or to an operand of that form. No-op.
+/// Proves that an error blames a part of the expression. The path to this part leads from the whole expression to the
+/// form whose demand is not met, or to an operand of that form. No-op.
 pub fn blames_are_placed()
     ensures { BlamesArePlaced }
 {}

@@ -29,7 +29,7 @@ of_typing typing.attribute_may_be_missing = AttributeMayBeMissing
 of_typing typing.empty_set = EmptySet
 of_typing typing.bad_extension_literal = BadExtensionLiteral
 
--- `of_types f` is the validator's error for the error `f` of the type checker's code.
+-- `of_types f` is the validator's error for the error `f` that the type checker returns.
 abbrev pub of_types : ExpressionFault → TypeFault
 of_types found.NoMemory = NoMemory
 of_types found.Unexpected = Unexpected

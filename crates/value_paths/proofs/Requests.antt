@@ -28,7 +28,7 @@ use Rattle.value_paths.specs.EntityPaths.{to_key, first_unmet}
 use Rattle.value_paths.specs.RequestPaths.{FormFaultAt, context_type, IsContextType, IsInContext, IsRequestPathOf}
 use Rattle.value_paths.specs.RequestPaths as says
 use Rattle.value_paths.specs.inner.FoundPaths.{under, record_path, path_under}
-use Rattle.value_paths.specs.inner.FoundNames.{Names, AreNamed, IsNamed, request_demands, IsFormSearched, context_path, named_type, IsContextSearched, IsPartSearched}
+use Rattle.value_paths.specs.inner.FoundNames.{Names, AreNamed, request_demands, IsFormSearched, context_path, named_type, IsContextSearched, IsPartSearched}
 use Rattle.value_paths.proofs.Going.{made_so}
 use Rattle.value_paths.proofs.Agreeing.{Found, record_is_found}
 
@@ -76,6 +76,11 @@ names_read d a r ar dp da dr first principal others gp ga gr hp ha hr of_action 
 
 pub context_searched : (s : StatedSchema) (d : Data) (t : Option Cedar) (o : Option (List Step)) → IsContextType s d t → o ≡ path_under (codes "context") t d → IsContextSearched s d o
 context_searched s d t o is e asked asks = e ∙ ap (λ (x : Option Cedar). path_under (codes "context") x d) (is asked asks)
+
+-- `IsNamed o yes` holds if `yes` is true exactly if the value `o` is present and names an entity.
+abbrev IsNamed : Option Data → Bool → Type 0
+IsNamed o true = (uid : EntityUid) × Names o uid
+IsNamed o false = ((uid : EntityUid) × Names o uid) → ⊥
 
 named_by : (o : Option Data) (read : Option EntityUid) (given : Bool) → IsRead (Names o) read → given ≡ is_some read → IsNamed o given
 named_by o None given h e = subst (IsNamed o) (sym e) (λ n. h n.0 n.1)

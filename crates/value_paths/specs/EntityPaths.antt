@@ -1,8 +1,8 @@
 -- Defines the path to the part of an entity's JSON that is at fault under a schema.
 -- Source: Cedar reference guide 4.0, "Entities and context: JSON format".
--- Rules of this product: a uid is one part. An error of the form (30) leads to the first part without the form of an
--- entity; an error of the type (31, 32), to `uid`; of the tags (38), to `tags`; of the attributes (33, 34, 35), into
--- `attrs`; of the parents (36, 37), to the first parent that the entity may not have.
+-- Rules of this product: a uid is one part. An error of the form (30) leads to the first part of an entity that is
+-- missing or malformed; an error of the type (31, 32), to `uid`; of the tags (38), to `tags`; of the attributes (33,
+-- 34, 35), into `attrs`; of the parents (36, 37), to the first parent that the entity may not have.
 use Rattle.std.specs.Prelude.{◌≡◌, ℕ, ◌+◌, List, [], ◌∷◌, Bool, true}
 use Rattle.std.specs.Prelude.{false, is_some, Option, Some, None, Ok, Err, codes}
 use Rattle.std.specs.Prelude.{if◌then◌else◌, option_and_then}
@@ -107,8 +107,8 @@ pub data IsAtParent (s : StatedSchema) (d : Data) : List Step → Type 0 where
 
 -- ---- the path
 
--- `IsPathOf s d f path` holds if `path` leads to the part of `d` that `f` is about, an error of `d` as an entity under
--- the schema `s`.
+-- `IsPathOf s d f path` holds if `path` leads to the part of `d` that `f` is about, where `f` is an error of `d` as an
+-- entity under the schema `s`.
 abbrev pub IsPathOf : StatedSchema → Data → EntityFault → List Step → Type 0
 IsPathOf s d BadShape path = first_unmet (form_demands d) ≡ Some path
 IsPathOf s d UnknownType path = path ≡ to_key (codes "uid")
@@ -116,5 +116,5 @@ IsPathOf s d ActionEntity path = path ≡ to_key (codes "uid")
 IsPathOf s d TagsLeftOut path = path ≡ to_key (codes "tags")
 IsPathOf s d BadParent path = IsAtParent s d path
 IsPathOf s d SelfParent path = IsAtParent s d path
--- any other error is one of the attributes
+-- any other error is an error of the attributes
 IsPathOf s d _ path = IsInAttributes s d path

@@ -1,8 +1,8 @@
 -- Defines the path to the part of a request's JSON that is at fault under a schema.
 -- Source: Cedar reference guide 4.0, "Authorization request".
--- Rules of this product: the name of an entity is one part. An error of the form (30) leads to the first part without
--- the form; the error that the action does not apply (39), to `action`; an error of the context (33, 34, 35), into
--- `context`.
+-- Rules of this product: the name of an entity is one part. An error of the form (30) leads to the first part of a
+-- request that is missing or malformed; the error that the action does not apply (39), to `action`; an error of the
+-- context (33, 34, 35), into `context`.
 use Rattle.std.specs.Prelude.{◌≡◌, ℕ, List, [], ◌∷◌, true, false, is_some, Option, Some, codes}
 use Rattle.serde_json.specs.Data.{Data}
 use Rattle.serde_json.specs.Find.{get, as_object}
@@ -24,7 +24,7 @@ use Rattle.value_paths.specs.EntityPaths.{to_key}
 abbrev pub IsNamedAt : List ℕ → Data → Type 0
 IsNamedAt key d = (uid : EntityUid) × NamesAt key d uid
 
--- `FormFaultAt d path` holds if `path` leads to the first part of `d` that does not have the form of a request.
+-- `FormFaultAt d path` holds if `path` leads to the first part of a request that is missing or malformed in `d`.
 pub data FormFaultAt (d : Data) : List Step → Type 0 where
   no_object : is_some (as_object d) ≡ false → FormFaultAt d []
   no_principal : is_some (as_object d) ≡ true → (IsNamedAt (codes "principal") d → ⊥)
@@ -53,10 +53,10 @@ pub data IsInContext (s : StatedSchema) (d : Data) : List Step → Type 0 where
   in_context : (asked : Asked) (t : Cedar) (path : List Step) → Asks d asked → context_type s asked ≡ Some t
       → RecordFaultAt t (or_empty (get (codes "context") d)) path → IsInContext s d (Key (codes "context") ∷ path)
 
--- `IsRequestPathOf s d f path` holds if `path` leads to the part of `d` that `f` is about, an error of `d` as a request
--- under the schema `s`.
+-- `IsRequestPathOf s d f path` holds if `path` leads to the part of `d` that `f` is about, where `f` is an error of `d`
+-- as a request under the schema `s`.
 abbrev pub IsRequestPathOf : StatedSchema → Data → EntityFault → List Step → Type 0
 IsRequestPathOf s d BadShape path = FormFaultAt d path
 IsRequestPathOf s d NotApplicable path = path ≡ to_key (codes "action")
--- any other error is one of the context
+-- any other error is an error of the context
 IsRequestPathOf s d _ path = IsInContext s d path

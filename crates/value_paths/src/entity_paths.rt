@@ -42,7 +42,7 @@ pub(crate) fn shape_at<'s>(
     }
 }
 
-/// Returns the path to the part at fault in the member of `value` at `key`, whose type is `ty`, if there is one. An
+/// Returns the path to the part at fault, if there is one, in the member of `value` at `key`, whose type is `ty`. An
 /// absent member counts as an empty object. If `ty` is `None`, returns `None`.
 pub(crate) fn find_under(
     alloc: Global,
@@ -81,9 +81,9 @@ fn find_part(
 }
 
 /// Returns the error of a value as an entity under a schema, and the path to the part at fault; `None` if the value
-/// describes an entity. The only error is `NoMemory`.
+/// describes an entity. The call's only error is `NoMemory`.
 ///
-/// The path of `BadShape` leads to the first part without the form of an entity; that of `UnknownType` and
+/// The path of `BadShape` leads to the first part of an entity that is missing or malformed; that of `UnknownType` and
 /// `ActionEntity`, to the uid; that of `TagsLeftOut`, to the tags; that of `BadParent` and `SelfParent`, to the first
 /// parent that the entity may not have. The path of any other error leads to the innermost part of the attributes at
 /// fault: an item, a member, or a required key that is absent.

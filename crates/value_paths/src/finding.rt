@@ -112,7 +112,7 @@ fn find_in_members(
 }
 
 /// Returns the path to the part of a record that is at fault, if one is. An absent record counts as an empty object. A
-/// value that is not an object, or a type that is not a record, is at fault as a whole.
+/// value that is not an object, or whose type is not a record, is at fault as a whole.
 #[tactic(auto, unfolding(crate::specs::inner::FoundPaths::record_path, crate::specs::inner::FoundPaths::value_path))]
 pub(crate) fn find_in_record(
     alloc: Global,

@@ -85,7 +85,7 @@ pub(crate) fn or_unmet<'k>(met: bool, key: &'k str, later: Option<&'k str>) -> O
     if met { later } else { Some(key) }
 }
 
-/// Returns the path to the first part without the form of an entity, if there is one.
+/// Returns the path to the first part of an entity that is missing or malformed, if there is one.
 pub(crate) fn find_in_form(alloc: Global, value: &Value) -> Result<Option<Trail>, NoMemory>
     ensures { IfOk result (λ o. o ≡ first_unmet (form_demands (view value.now))) }
 {

@@ -25,7 +25,6 @@ pub use laws::{
 };
 pub use part_naming::{entity_part, request_part};
 pub use placed::PlacedFault;
-pub use pointers::pointer;
 pub use request_paths::request_fault;
 pub use steps::Step;
 pub use type_paths::type_at;

@@ -50,7 +50,7 @@ fn find_unfit(
     Ok(None)
 }
 
-/// Returns the path to the first parent in the array `found` that an entity may not have, if there is one.
+/// Returns the path that [`find_unfit`] finds in the array `found`; `None` if `found` is not an array.
 #[tactic(auto, unfolding(crate::specs::inner::FoundParts::unfit_path))]
 fn find_unfit_at(
     alloc: Global,
@@ -70,7 +70,8 @@ fn find_unfit_at(
     }
 }
 
-/// Returns the path to the first parent that the entity of a value may not have, if there is one.
+/// Returns the path to the first parent that the entity of a value may not have; `None` if there is no such parent, or
+/// if an earlier parent or the uid of the entity does not parse.
 #[tactic(auto, unfolding(crate::specs::inner::FoundParts::parents_path))]
 pub(crate) fn find_bad_parent(
     alloc: Global,

@@ -110,8 +110,8 @@ fn push_part(
     }
 }
 
-/// Returns the words that name the part that an error is about; none if a search found no error. The only error is
-/// `NoMemory`, also that of the search.
+/// Returns the words that name the part that an error is about; none if a search found no error. The call's only error
+/// is `NoMemory`, its own or that of the search.
 fn part_words(
     alloc: Global,
     found: Result<Option<PlacedFault>, NoMemory>,
@@ -185,12 +185,12 @@ fn item_of(value: Option<&Value>, index: Option<usize>) -> Option<&Value>
     }
 }
 
-/// Returns the words that name the part at fault of the item at an index of a JSON array, which a schema rejects as an
+/// Returns the words that name the part at fault when a schema rejects the item at an index of a JSON array as an
 /// entity.
 ///
-/// They are `at ` and the JSON pointer of the part, from that item on, with the type that is declared for a part of the
-/// attributes. They are empty if the whole item is at fault, if no item is at this index, or if the item is an entity
-/// when the other items are ignored.
+/// They are `at ` and the JSON pointer of the part relative to the item, with the type that is declared for a part of
+/// the attributes. They are empty if the whole item is at fault, if no item is at this index, or if the item is an
+/// entity when the other items are ignored.
 ///
 /// # Errors
 ///

@@ -15,7 +15,7 @@ pub struct PlacedFault {
     pub path: Items<Step>,
 }
 
-/// Returns the error that parsing gave, or `None` if it gave a value. The only error is `NoMemory`.
+/// Returns the error that parsing gave, or `None` if it gave a value. The call's only error is `NoMemory`.
 pub(crate) fn fault_of<T>(read: &Result<T, EntityFault>) -> Result<Option<EntityFault>, NoMemory>
     ensures { IfOk result (IsFaultOf read.now) }
 {
@@ -28,8 +28,8 @@ pub(crate) fn fault_of<T>(read: &Result<T, EntityFault>) -> Result<Option<Entity
     }
 }
 
-/// Returns an error with the path that a search gave, or `None` if the search found no path. The only error is that of
-/// the search.
+/// Returns an error with the path that a search gave, or `None` if the search found no path. The call's only error is
+/// that of the search.
 pub(crate) fn placed(
     fault: EntityFault,
     found: Result<Option<Trail>, NoMemory>,

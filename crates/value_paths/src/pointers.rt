@@ -1,10 +1,9 @@
 //! JSON pointers.
-ghost use Rattle.std.specs.Prelude.{◌≡◌, ◌++◌, ◌∷◌, IfOk, OnOk, string_bytes, encode_utf8_all};
+ghost use Rattle.std.specs.Prelude.{◌≡◌, ◌++◌, ◌∷◌, OnOk, string_bytes, encode_utf8_all};
 ghost use Rattle.value_paths.specs.Pointers.{escaped_char, escaped, token_of, pointer_of};
 
 use crate::steps::Step;
-use plain::{NoMemory, Text};
-use std::alloc::Global;
+use plain::NoMemory;
 
 /// Appends the escaped form of a character of a key.
 fn push_escaped(out: &mut String, c: char) -> Result<(), NoMemory>
@@ -43,7 +42,8 @@ fn push_step(out: &mut String, step: &Step) -> Result<(), NoMemory>
     }
 }
 
-/// Appends the JSON pointer of a path.
+/// Appends the JSON pointer of a path (RFC 6901), such as `/attrs/home/zip`; nothing for the empty path. In a key `~`
+/// is written `~0`, and `/` is written `~1`.
 pub(crate) fn push_steps(out: &mut String, path: &[Step]) -> Result<(), NoMemory>
     ensures { OnOk result (string_bytes out.new ≡ string_bytes out.old ++ pointer_of path.now) }
 {
@@ -54,18 +54,4 @@ pub(crate) fn push_steps(out: &mut String, path: &[Step]) -> Result<(), NoMemory
         }
     }
     Ok(())
-}
-
-/// Returns the JSON pointer of a path (RFC 6901), such as `/attrs/home/zip`; the empty string for the whole value. The
-/// only error is `NoMemory`.
-///
-/// In a key `~` is written `~0`, and `/` is written `~1`. O(n) in the size of the result.
-pub fn pointer(alloc: Global, path: &[Step]) -> Result<Text, NoMemory>
-    ensures { IfOk result (λ text. text ≡ pointer_of path.now) }
-{
-    let mut out = String::new(alloc);
-    match push_steps(&mut out, path) {
-        Ok(()) => Ok(Text::from_string(out)),
-        Err(fault) => Err(fault),
-    }
 }

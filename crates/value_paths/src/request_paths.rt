@@ -64,7 +64,7 @@ fn names_in(alloc: Global, value: &Value) -> Result<Named, NoMemory>
     }
 }
 
-/// Returns the path to the first part without the form of a request, if there is one.
+/// Returns the path to the first part of a request that is missing or malformed, if there is one.
 fn find_in_request_form(alloc: Global, value: &Value) -> Result<Option<Trail>, NoMemory>
     ensures { IfOk result (IsFormSearched (view value.now)) }
 {
@@ -180,11 +180,11 @@ fn find_part(
 }
 
 /// Returns the error of a value as a request under a schema, and the path to the part at fault; `None` if the value
-/// describes a request. The only error is `NoMemory`.
+/// describes a request. The call's only error is `NoMemory`.
 ///
-/// The path of `BadShape` leads to the first part without the form of a request, and that of `NotApplicable` to the
-/// action. The path of any other error leads to the innermost part of the context at fault, as in
-/// [`entity_fault`](crate::entity_fault).
+/// The path of `BadShape` leads to the first part of a request that is missing or malformed, and that of
+/// `NotApplicable` to the action. The path of any other error leads to the innermost part of the context at fault, as
+/// in [`entity_fault`](crate::entity_fault).
 pub fn request_fault(
     alloc: Global,
     schema: &Schema,

@@ -60,8 +60,8 @@ impl Trail {
     }
 }
 
-/// Returns the path that a search found, if it found one, with a key in front of it. The only error is `NoMemory`, also
-/// that of the search.
+/// Returns the path that a search found, if it found one, with a key in front of it. The call's only error is
+/// `NoMemory`, its own or that of the search.
 pub(crate) fn under_key(
     alloc: Global,
     key: &str,

@@ -5,7 +5,7 @@ use Rattle.values.specs.declared.value_ref.BorrowedKind.{BorrowedKind}
 use Rattle.values.specs.declared.value_ref.BorrowedKind.TheVariants.{Boolean, Long, Text, Entity, Set, Record, Decimal}
 use Rattle.values.specs.declared.value_ref.BorrowedKind.TheVariants.{IpAddr}
 
--- `of_borrowed v` is the abstract value of `v`, a kind of value with its content borrowed.
+-- `of_borrowed v` is the abstract value of a borrowed value with the kind and content `v`.
 abbrev pub of_borrowed : BorrowedKind → PlainValue
 of_borrowed (Boolean b) = boolean b
 of_borrowed (Long z) = long z

@@ -63,8 +63,8 @@ pub data Item : Type 0 where
   key : List ℕ → Item
   whole : PlainValue → Item
 
--- `members st` are the values that the items `st` begin with, and `fields st` the keys, each with the value after it,
--- that they begin with; `behind st` are the items after the first end in `st`.
+-- `members st` are the values that the items `st` begin with. `fields st` are the fields that the items `st` begin
+-- with: each a key, then its value. `behind st` are the items after the first end in `st`.
 abbrev pub members : List Item → PlainValues
 members [] = no_values
 members (end ∷ st) = no_values
@@ -98,7 +98,7 @@ read_one n z s t st =
     (cond (n == 7) (whole (decimal z) ∷ st)
     (cond (n == 8) (whole (ipaddr (list_network s)) ∷ st) (key s ∷ st)))))))))
 
--- `read ts` are the items of the tokens `ts`, read from the last to the first.
+-- `read ts` are the items of the tokens `ts`, in order. The tokens are read from the last to the first.
 abbrev pub read : List Token → List Item
 read [] = []
 read (t ∷ ts) = read_one t.0 t.1.0 t.1.1.0 t.1.1.1 (read ts)

@@ -32,8 +32,8 @@ kind_rank (record_of fs) = 6
 kind_rank (decimal z) = 7
 kind_rank (ipaddr n) = 8
 
--- `value_cmp v w` compares two values; `values_cmp vs ws` and `fields_cmp fs gs` compare lists of members and of fields
--- item by item, where a prefix comes first, and fields by the key, then by the value.
+-- `value_cmp v w` compares two values. `values_cmp vs ws` compares two lists of members, and `fields_cmp fs gs` two
+-- lists of fields, item by item, where a prefix comes first. Fields are compared by the key, then by the value.
 abbrev mutual
   pub value_cmp : PlainValue → PlainValue → Ordering
   value_cmp (boolean a) (boolean b) = bool_cmp a b
@@ -92,8 +92,8 @@ then_into o p q e = ap (ordering_then o) e
 then_same : (o p q : Ordering) → o ≡ p → ordering_then o q ≡ ordering_then p q
 then_same o p q e = ap (λ r. ordering_then r q) e
 
--- An end token comes before the first token of each value, so a prefix comes first; `end_last` compares the same two
--- lists the other way round.
+-- `end_first w s t`: an end token followed by `s` comes before the tokens of `w` followed by `t`, so a prefix comes
+-- first. `end_last w s t` compares the same two lists the other way round.
 end_first : (w : PlainValue) (s t : List Token) → tokens_cmp ((0, (pos 0, ([], []))) ∷ s) (tokens w ++ t) ≡ Less
 end_first (boolean b) s t = refl
 end_first (long z) s t = refl
@@ -129,8 +129,8 @@ network_by_numbers m n =
 
 mutual
   -- `value_by_tokens v w s t`: the tokens of `v` followed by `s` compare with the tokens of `w` followed by `t` as `v`
-  -- does with `w`, and, if these are equal, as `s` does with `t`. The next two lemmas state the same of members and of
-  -- fields.
+  -- does with `w`, and, if `v` and `w` compare as equal, as `s` does with `t`. The next two lemmas state the same of
+  -- members and of fields.
   value_by_tokens : (v w : PlainValue) (s t : List Token)
       → ordering_then (value_cmp v w) (tokens_cmp s t) ≡ tokens_cmp (tokens v ++ s) (tokens w ++ t)
   value_by_tokens (boolean b) (boolean b') s t = then_same _ _ _ (bool_by_number b b' ∙ sym (then_equal _))

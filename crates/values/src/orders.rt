@@ -33,7 +33,7 @@ pub fn entity_uids_are_ordered()
     ensures exact { IsAntisymmetric uid_cmp }
 {}
 
-/// Proves that names are compared with policies before entities: `cmp` is that order, which is total, and `cmp` is
+/// Proves that policies come before entities in the order of names: `cmp` is that order, which is total, and `cmp` is
 /// `Equal` only for equal names; `==` is true if and only if the names are equal. No-op.
 pub fn names_are_ordered()
     ensures by { (a b : Name) → ⟦<Name as Ord>⟧.cmp a b ≡ name_cmp a b }

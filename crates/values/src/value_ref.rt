@@ -38,8 +38,8 @@ pub enum BorrowedKind<'a> {
     IpAddr(IpNet),
 }
 
-/// A borrowed value: a whole `Value`, or data that is a value by itself, such as the string of a literal or the uid in
-/// a request. Nothing that owns memory is copied. Contracts see the value.
+/// A borrowed value: a whole `Value`, or data that need not be in a `Value`, such as the string of a literal or the uid
+/// in a request. Nothing that owns memory is copied. Contracts see the value.
 #[derive(Drop)]
 pub struct ValueRef<'a> {
     kind: BorrowedKind<'a>,
@@ -104,7 +104,7 @@ impl<'a> ValueRef<'a> {
         }
     }
 
-    /// Returns the value of the kind and content `kind`, borrowed.
+    /// Returns a borrowed value with the kind and content `kind`.
     pub(crate) fn of_kind(kind: &'a Kind) -> ValueRef<'a>
         ensures { result ≡ of_kind kind.now }
     {

@@ -1,6 +1,6 @@
 -- Defines an opened site, and why a site is not opened.
 -- Source: docs/formats.md, "Schemas"; docs/operating.md, NAME; docs/codes.md, "Schemas".
--- Rules of this product: the name is checked before the schema; a new site has nothing stored; the number of a name's
+-- Rules of this product: the name is checked before the schema; a new site has nothing stored; the code of a name's
 -- error is 2.
 use Rattle.std.specs.Prelude.{◌≡◌, ℕ, List, []}
 use Rattle.site_calls.specs.site_steps.SiteViews.{schema_of, store_in}

@@ -1,7 +1,8 @@
 -- Defines calls on a slot, which is the memory in which a C program keeps a site: the result of a call, the bytes that
 -- it writes, and the site that it leaves in the slot.
 -- Source: docs/embedding.md.
--- Rules of this product: a slot has at most one site; a call without a site does nothing and returns the status 0.
+-- Rules of this product: a slot has at most one site; without a site, a call with a reply does nothing and returns the
+-- status 0.
 use Rattle.std.specs.Prelude.{◌≡◌, ◌⊎◌, ◌<◌, ℕ, Bool, List, Option, Some, None, is_some, length}
 use Rattle.http.specs.declared.status.StatusCode.{StatusCode}
 use Rattle.site_calls.specs.Calls.{Call}

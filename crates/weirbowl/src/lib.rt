@@ -1,8 +1,8 @@
 //! A site of Weirbowl for programs in C, and in languages that call C.
 //!
 //! C keeps a slot for a site, zeroed before its first use, and passes the slot to each call that uses the site. C also
-//! provides the memory for the body of a reply. The contract of each export says what is in the slot, if there is one,
-//! before and after, what is returned, and what is written.
+//! provides the memory for the body of a reply. The contract of each export says what is returned and what is written;
+//! of an export with a slot, also what is in the slot before and after.
 #![tactic(auto)]
 
 mod call_result;

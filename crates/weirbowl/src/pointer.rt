@@ -1,4 +1,4 @@
-//! The pointer with which C keeps a site.
+//! The pointer of a slot, the memory in which C keeps a site.
 ghost use Rattle.std.specs.Prelude.{◌≡◌, Option, Some, None, is_some, true};
 ghost use Rattle.weirbowl.specs.declared.embedded.EmbeddedSite.{EmbeddedSite};
 ghost use Rattle.weirbowl.specs.Ownership.{site_at, site_coded};

@@ -1,6 +1,6 @@
--- Defines a breadth-first search from an entity to its children, their children and so on, and the least of the
--- shortest walks. An edge leads from an entity to each of its parents in the hierarchy (`parents` in each definition):
--- the search follows the edges backwards.
+-- Defines the least of the shortest paths from one entity to another, and a breadth-first search from an entity to its
+-- children, their children and so on. An edge leads from an entity to each of its parents in the hierarchy (`parents`
+-- in each definition): the search follows the edges backwards.
 use Rattle.std.specs.Prelude.{◌≡◌, ℕ, ◌+◌, ◌≤◌, Bool, false, cond, List, [], ◌∷◌, length, Option, Some, None, Contains}
 use Rattle.std.specs.Prelude.{IsSome, ◌⊎◌, ◌↔◌, Vec}
 use Rattle.std.specs.declared.alloc.Global.{Global}
@@ -55,7 +55,7 @@ pub record AreDistances (parents : Parents) (end : EntityUid) (dist : EntityUid 
   pub least : (x : EntityUid) (d : ℕ) → dist x ≡ Some d →
       (ds : List EntityUid) → Path parents x ds end → d ≤ length ds + 1
 
--- `AreKnownUpTo parents end dist k` holds if `dist` has the distance of each entity with a path of at most `k` edges to
+-- `AreKnownUpTo parents end dist k` holds if `dist` has a distance for each entity with a path of at most `k` edges to
 -- `end`.
 abbrev pub AreKnownUpTo : Parents → EntityUid → (EntityUid → Option ℕ) → ℕ → Type 0
 AreKnownUpTo parents end dist k = (x : EntityUid) (ds : List EntityUid) →

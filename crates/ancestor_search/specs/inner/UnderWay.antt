@@ -4,8 +4,8 @@ use Rattle.ancestor_search.specs.declared.walk.Bound.{Bound}
 use Rattle.ancestor_search.specs.declared.walk.Walk.{Walk}
 use Rattle.ancestor_search.specs.inner.Walking.{Edges, IsWalking, IsWalkingWithRemovedEdge, effort}
 
--- `IsUnderWay e w` holds if `w` is a search of the graph `e` along some path of groups (`IsWalking`), each of numbers
--- that reach one another.
+-- `IsUnderWay e w` holds if `w` is a search of the graph `e` along some path of groups (`IsWalking`). The numbers of
+-- each group reach one another.
 abbrev pub IsUnderWay : Edges → Walk → Type 0
 IsUnderWay e w = IsWalking e w.place.items w.found.items w.members.items w.pending.items w.bounds.items
 

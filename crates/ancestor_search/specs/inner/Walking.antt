@@ -1,5 +1,5 @@
 -- Defines graphs of numbers, and the invariants of a search for their cyclic numbers, which reach themselves. The
--- search follows a path of groups, each of numbers that reach one another.
+-- search follows a path of groups; the numbers of each group reach one another.
 use Rattle.std.specs.Prelude.{◌≡◌, ℕ, ◌+◌, ◌-◌, ◌*◌, ◌^◌, ◌<◌, ◌≤◌, Bool, false, List, [], ◌∷◌, ◌++◌, length}
 use Rattle.std.specs.Prelude.{Contains, IsTrue, ◌⊎◌, ◌↔◌, slice_index_or, Vec}
 use Prim.Native.Nat.{zero, suc}
@@ -133,8 +133,8 @@ unseen [] = 0
 unseen (m ∷ ms) = one_unseen m + unseen ms
 
 -- `effort place pending bounds` is the measure of the search with the marks `place`, the edges `pending` and the bounds
--- `bounds`: it decreases at each step. A number that is seen for the first time adds its edges and one group; the
--- factor 2^65 exceeds the number of both together.
+-- `bounds`: it decreases at each step. A number that is seen for the first time adds its edges and one group, together
+-- fewer than 2^65 items.
 abbrev pub effort : List ℕ → List ℕ → List Bound → ℕ
 effort place pending bounds = unseen place * 2 ^ 65 + length pending + length bounds
 
@@ -162,7 +162,7 @@ pub record IsWalkingWithRemovedEdge (e : Edges) (place : List ℕ) (found : List
 
 -- `JoinsDownTo at bounds last bounds' last'` holds if the invariant `HasRemovedEdge` is preserved when `bounds'` and
 -- `last'` replace `bounds` and `last`, where the edge to be visited leads to the member at index `at`, counted from 1.
--- It holds, for example, for the bounds of the path with its last groups merged, down to that member's group.
+-- For example, `bounds'` and `last'` are those of the path with its last groups merged, down to that member's group.
 abbrev pub JoinsDownTo : ℕ → List Bound → Bound → List Bound → Bound → Type 0
 JoinsDownTo at bounds last bounds' last' =
     (e : Edges) (place : List ℕ) (y : ℕ) (members pending : List ℕ) →
@@ -181,8 +181,8 @@ KeepsSeen place place' = (x : ℕ) → IsSeen place x → IsSeen place' x
 abbrev pub HasOpen : List ℕ → List ℕ → Type 0
 HasOpen ys place = (y : ℕ) × Contains ys y × (IsDone place y → ⊥)
 
--- `FindsOpen e place members found found'` holds if `found'` has the length of `found`, and marks what `found` marks
--- and those of `members` below this length from which an edge leads to a number that is not done.
+-- `FindsOpen e place members found found'` holds if `found'` has the length of `found`, and marks exactly the numbers
+-- that `found` marks, and each of `members` below this length from which an edge leads to a number that is not done.
 pub record FindsOpen (e : Edges) (place members : List ℕ) (found found' : List Bool) : Type 0 where
   pub len : length found' ≡ length found
   pub same : (x : ℕ) → IsTrue (slice_index_or found' x false)

@@ -1,4 +1,5 @@
--- Defines how the store that the code fills agrees with the entities of an array, and the lines of answers over it.
+-- Defines how the store that the code fills agrees with the entities of an array, and the lines of answers over entity
+-- data.
 use Rattle.std.specs.Prelude.{◌≡◌, ℕ, Bool, not, List, [], ◌∷◌, ◌++◌, Some, Result, Ok, Err}
 use Rattle.std.specs.List.{list_any}
 use Rattle.serde_json.specs.Data.{Data}
@@ -33,9 +34,9 @@ entity_data_stored r store = entity_data_in (with_actions r.actions (kept_in sto
 abbrev pub is_among : EntityUid → List Entity → Bool
 is_among uid es = list_any (λ e. is_same e.uid uid) es
 
--- `entity_after r es place d` is the entity that `d` describes in the setting `r` after the entities `es`, or an error;
--- `d` is the item of an array at the index `place`. The error is that of `d` itself, else 30 (bad shape) if one of `es`
--- has the same uid.
+-- `entity_after r es place d` is the entity that `d` describes in the setting `r`, or an error; `d` is the item of an
+-- array at the index `place`, after items that describe the entities `es`. The error is that of `d` itself, else 30
+-- (bad shape) if one of `es` has the same uid.
 unfoldable pub entity_after : Reading → List Entity → ℕ → Data → Result Entity Refusal
 entity_after r es place d = do
   entity ← placed place (r.entity d)
@@ -43,8 +44,8 @@ entity_after r es place d = do
   Ok entity
 
 -- `KeepsNext r es place d result store` holds if adding an entity to a store of the entities `es` may give `result` and
--- the new store `store`. The entity is that of `entity_after r es place d`; an error in `result` is its error, or
--- `NoMemory`.
+-- the new store `store`. The entity is that in `entity_after r es place d`; an error in `result` is the error in
+-- `entity_after r es place d`, or `NoMemory`.
 abbrev pub KeepsNext : {A : Type 0} → Reading → List Entity → ℕ → Data → Result A Refusal → Entries → Type 0
 KeepsNext r es place d (Ok x) store = (e : Entity) × (entity_after r es place d ≡ Ok e) × Holds store (es ++ e ∷ [])
 KeepsNext r es place d (Err refusal) store = Fails no_memory refusal (entity_after r es place d)

@@ -10,8 +10,8 @@ use Rattle.schema.specs.Schemas.{EnvironmentOf, place_cmp}
 use Rattle.schema_types.specs.Cedar.{Cedar}
 use Rattle.entities.specs.declared.requests.Asked.{Asked}
 
--- `context_if passes o` is the type of the context of the environment `o`, if there is one and `passes` accepts its
--- place.
+-- `context_if passes o` is the type of the context of the environment in `o` if `passes` accepts the environment's
+-- place; `None` if not, or if `o` is `None`.
 abbrev pub context_if : (EnvironmentKey → Bool) → Option EnvironmentOf → Option Cedar
 context_if passes None = None
 context_if passes (Some e) = if passes e.place then Some e.context else None

@@ -9,8 +9,8 @@ use Rattle.entity_data.specs.declared.data.EntityData.{EntityData}
 use Rattle.entity_data.specs.Entities.{EntityMap, AreListed, Actions, kept_parents}
 use Rattle.entity_data.specs.Listing.{kept_with_parents}
 
--- `parents_unless o e` are the parents in the entity data `e` of a uid; `[]` if `e` is `None`. They are also `[]` if
--- the uid is that of a declared action. Then `o` has this action's parents; else `o` is `None`.
+-- `parents_unless o e` are the parents in the entity data `e` of a uid; `[]` if `e` is `None`, or if `o` is not `None`.
+-- Here `o` has the parents of the declared action with this uid, or is `None` if no declared action has this uid.
 abbrev pub parents_unless : Option (List EntityUid) → Option EntityData → List EntityUid
 parents_unless (Some parents) other = []
 parents_unless None other = kept_parents other

@@ -63,12 +63,12 @@ abbrev pub and_then : {A B : Type 0} → Result A EvalFault → (A → Result B 
 and_then (Ok v) f = f v
 and_then (Err e) f = Err e
 
--- `demanded o` is the content in `o` of a value, or `TypeError` if the value is of another kind (`None`).
+-- `demanded o` is the content in `o`, or `TypeError` if `o` is `None` (for a value of another kind).
 abbrev pub demanded : {A : Type 0} → Option A → Result A EvalFault
 demanded None = Err TypeError
 demanded (Some a) = Ok a
 
--- `two_demanded a b` are the contents in `a` and `b` of two values, or `TypeError` if one is of another kind (`None`).
+-- `two_demanded a b` are the contents in `a` and `b`, or `TypeError` if `a` or `b` is `None`.
 abbrev pub two_demanded : {A B : Type 0} → Option A → Option B → Result (A × B) EvalFault
 two_demanded a b = and_then (demanded a) (λ x. and_then (demanded b) (λ y. Ok (x, y)))
 
@@ -166,7 +166,7 @@ has_field E name (entity u) = truth (has_attribute (E.stored u) name)
 has_field E name v = Err TypeError
 
 -- `decimal_read d` is the decimal that a string denotes, and `network_read d` the IP address, or `ExtensionError` if
--- the string denotes none; `d` decides whether it denotes one.
+-- the string denotes none; `d` decides whether the string denotes one.
 abbrev pub decimal_read : {t : List ℕ} → Decided ((z : ℤ) × IsDecimalText t z) → EvaluationResult
 decimal_read (inl h) = Ok (decimal h.0)
 decimal_read (inr n) = Err ExtensionError
@@ -216,7 +216,7 @@ abbrev pub each : List EvaluationResult → Result (List PlainValue) EvalFault
 each [] = Ok []
 each (r ∷ rs) = and_then r (λ v. and_then (each rs) (λ vs. Ok (v ∷ vs)))
 
--- `each_field fs done` are the fields `done`, with each name of `fs` set to its value in order, or the first error.
+-- `each_field fs done` are the fields `done`, with each name of `fs` set in order to its value, or the first error.
 abbrev pub each_field : List (Named EvaluationResult) → List Field → Result (List Field) EvalFault
 each_field [] done = Ok done
 each_field (f ∷ fs) done = and_then f.value (λ v. each_field fs (put f.name v done))

@@ -4,6 +4,6 @@ use Rattle.grammar_core.specs.declared.expr.Named.{Named}
 use Rattle.grammar_core.specs.Size.{node_count}
 use Rattle.std.specs.Prelude.{ℕ}
 
--- `named_count f` is the number of nodes of the value of the record field `f`, with the field's key.
+-- `named_count f` has the key of the record field `f`, and the number of nodes of the field's value.
 abbrev pub named_count : Named Expr → Named ℕ
 named_count f = record { name = f.name; value = node_count f.value }

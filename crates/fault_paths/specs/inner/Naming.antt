@@ -8,8 +8,8 @@ use Rattle.validator.specs.Unknown.{IsUnknown, IsKnown, FirstUnknown}
 use Rattle.fault_paths.specs.NamesAt.{names_at, name_view, FirstUnknownAt}
 use Rattle.fault_paths.specs.declared.names.NameFault.{NameFault}
 
--- `AreNames s ns o` holds if `o` is the only name in `ns`, which the schema `s` does not declare, with its error, or
--- `None` and `s` declares each name in `ns`.
+-- `AreNames s ns o` holds if `o` is a name with its error, and `ns` consists of this name alone, which the schema `s`
+-- does not declare; or if `o` is `None`, and `s` declares each name in `ns`.
 abbrev pub AreNames : StatedSchema → List Name → Option NameFault → Type 0
 AreNames s ns o = MatchOption o (All (IsKnown s) ns)
     (λ f. (ns ≡ name_view f.name ∷ []) × IsUnknown s (name_view f.name) f.fault)

@@ -55,9 +55,9 @@ last_of (Some i) = i ∷ []
 abbrev pub stopped : Expr → Option ℕ → List StaticType → Blame
 stopped x o ts = record { path = last_of o; form = x; types = map static_view ts }
 
--- `GoesDown env ps x qs i y` holds if `y` has a smaller height than `x`, and each derivation of an error of `x` under
--- the capabilities `ps` blames what a derivation of the same error of `y` under the capabilities `qs` blames, with the
--- index `i` in front of its path.
+-- `GoesDown env ps x qs i y` holds if `y` has a smaller height than `x`, and for each derivation of an error of `x`
+-- under the capabilities `ps` there is one of the same error of `y` under the capabilities `qs`, and the first blames
+-- what the second does, with the index `i` in front of the path.
 abbrev pub GoesDown : Environment → List Capability → Expr → List Capability → ℕ → Expr → Type 0
 GoesDown env ps x qs i y = (height y < height x)
     × ((n : ExpressionFault) (h : Faults env (capabilities ps) x n)
@@ -69,21 +69,21 @@ abbrev pub StopsAt : Environment → List Capability → Expr → Option ℕ →
 StopsAt env ps x o ts = (n : ExpressionFault) (h : Faults env (capabilities ps) x n) → blamed h ≡ stopped x o ts
 
 -- `IsStep env ps x qs ts o` holds if `o` is the step from the form `x` under the capabilities `ps`: to an operand that
--- has the error, under the capabilities `qs`; to an operand that `x` blames for a demand about the types `ts`; or
--- `None`, and `x` blames itself for such a demand.
+-- has the error, under the capabilities `qs`, or to an operand that `x` blames for a demand about the types `ts`; or if
+-- `o` is `None`, and `x` blames itself for such a demand.
 abbrev pub IsStep : Environment → List Capability → Expr → List Capability → List StaticType → Option Step → Type 0
 IsStep env ps x qs ts o = MatchOption o (StopsAt env ps x None ts)
     (λ s. MatchOption s.faulty (StopsAt env ps x (Some s.at) ts) (λ y. GoesDown env ps x qs s.at y.now))
 
--- `after_test t n m` is what follows the test of an `if`, of the boolean type `t`: `else` if `t` is False, else `then`.
--- The `n` capabilities before the `if` are kept for `else`, all `m` for `then`, and no type.
+-- `after_test t n m` is what follows the test of an `if`; the test has the boolean type `t`. If `t` is False, `else`
+-- follows, with the `n` capabilities before the `if`; otherwise `then` follows, with all `m`. No type is kept.
 abbrev pub after_test : BooleanType → ℕ → ℕ → Next
 after_test truth.False n m = next.Operand 2 n 0
 after_test t n m = next.Operand 1 m 0
 
--- `after_left i o n` is what follows the operand `i` of an `&&` or `||`, of the boolean type `o`, or of another type if
--- `o` is `None`: behind a boolean left operand the right one, with `n` capabilities and no type; else the operand is
--- blamed.
+-- `after_left i o n` is what follows the operand `i` of an `&&` or `||`; the operand has the boolean type `o`, or
+-- another type if `o` is `None`. After a boolean left operand the right one follows, with `n` capabilities and no type;
+-- any other operand is blamed.
 abbrev pub after_left : ℕ → Option BooleanType → ℕ → Next
 after_left i None n = next.Blamed
 after_left zero (Some t) n = next.Operand 1 n 0
@@ -105,8 +105,9 @@ after y i o n m l = next.Operand (i + 1) n l
 abbrev pub below : List ℕ → Blame → Blame
 below p b = record { path = p ++ b.path; form = b.form; types = b.types }
 
--- `Reaches env whole p ps x` holds if each derivation of an error of `whole`, without known capabilities, blames what a
--- derivation of the same error of `x`, under the capabilities `ps`, blames, with the path `p` in front of its path.
+-- `Reaches env whole p ps x` holds if for each derivation of an error of `whole` without known capabilities there is
+-- one of the same error of `x` under the capabilities `ps`, and the first blames what the second does, with `p` in
+-- front of the path.
 abbrev pub Reaches : Environment → Expr → List ℕ → List Capability → Expr → Type 0
 Reaches env whole p ps x = (n : ExpressionFault) (h : Faults env [] whole n)
     → (g : Faults env (capabilities ps) x n) × (blamed h ≡ below p (blamed g))

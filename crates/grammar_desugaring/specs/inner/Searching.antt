@@ -1,4 +1,4 @@
--- Defines the error of a repeated name at an offset, if there is one, and the keys in the code as names with offsets.
+-- Defines the error of a repeated name at an offset, if there is one, and the `NameAt` of a `Key`, a type of the code.
 use Rattle.std.specs.Prelude.{ℕ, Option, Some, None}
 use Rattle.grammar_desugaring.specs.declared.fault.DesugarFault.{DesugarFault}
 use Rattle.grammar_desugaring.specs.declared.fault.DesugarFault.TheVariants.{RepeatedKey}
@@ -10,6 +10,6 @@ abbrev pub repeat_fault : Option ℕ → Option DesugarFault
 repeat_fault None = None
 repeat_fault (Some at) = Some (RepeatedKey at)
 
--- `held key` is `key`, a key of a record in the code, as a name with its offset.
+-- `held key` is the `NameAt` with the name and the offset of `key`.
 abbrev pub held : Key → NameAt
 held key = record { name = key.name; at = key.at }

@@ -1,5 +1,5 @@
--- Defines how the tail of a Relation, which follows its first Sum, is parsed and then joined to that Sum. Relation and
--- Sum are productions of Expressions.antt.
+-- Defines how the tail of a Relation is parsed, and then joined to the Sum before the tail. Relation and Sum are
+-- productions of Expressions.antt.
 use Rattle.std.specs.Prelude.{Bool, Option, Some, None}
 use Rattle.grammar_trees.specs.grammar_tokens.declared.token.TokenKind.TheVariants as k
 use Rattle.grammar_trees.specs.declared.tree.ExprTree.{ExprTree}

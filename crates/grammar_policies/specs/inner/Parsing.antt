@@ -75,7 +75,7 @@ entity_constraint =
     (either (only k.In) (in_uid >>= (λ entity. pure (part.In entity)))
     (either (only k.Is) type_test (pure part.Any)))
 
--- `entity_part variable` parses the word `variable` and its constraint.
+-- `entity_part variable` parses a token of the kind `variable` and a constraint.
 unfoldable pub entity_part : TokenKind → Parser PartTree
 entity_part variable = token variable >> entity_constraint
 

@@ -41,7 +41,7 @@ abbrev pub first_found : Option ScannedToken → Option ScannedToken → Option 
 first_found None other = other
 first_found (Some f) other = Some f
 
--- `mark_of text` is the punctuation mark that `text` begins with: one of two bytes, else one of one byte, else `None`.
+-- `mark_of text` is the punctuation mark that `text` begins with: a mark of two bytes, else of one byte, else `None`.
 abbrev pub mark_of : List ℕ → Option ScannedToken
 mark_of [] = None
 mark_of (c ∷ []) = sized 1 (listed singles (c ∷ []))

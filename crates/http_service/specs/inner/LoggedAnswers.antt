@@ -16,9 +16,9 @@ unserved_status route.Unknown = Some 404
 unserved_status route.OtherMethod = Some 405
 unserved_status _ = None
 
--- `IsUndoneReply asking status before after` holds if `after` is `before` followed by the reply, with `status`, to a
--- request for the route `asking` if memory ran out before the site made a step (`IsUndone`). Any site may give this
--- reply, and is then unchanged.
+-- `IsUndoneReply asking status before after` holds if `after` is `before` followed by a reply. A request for the route
+-- `asking` gets this reply, with `status`, if memory ran out before the site made a step (`IsUndone`). Any site may
+-- give this reply, and is then unchanged.
 abbrev pub IsUndoneReply : Route → StatusCode → List ℕ → List ℕ → Type 0
 IsUndoneReply asking status before after =
     (reply : List ℕ) × (after ≡ before ++ reply) × IsUndone asking status reply

@@ -1,4 +1,5 @@
--- Defines the parsing of a message's entries one after another, each first by its ranges and then by its text.
+-- Defines the parsing of a message's entries one after another, where each entry passes the checks of ranges before its
+-- text is parsed.
 use Rattle.std.specs.Prelude.{◌≡◌, ◌⊎◌, ℕ, suc, List, [], ◌∷◌, Option, Ok}
 use Rattle.values.specs.declared.entity_uid.EntityUid.{EntityUid}
 use Rattle.stamped_store.specs.declared.entry.ReadText.{ReadText}
@@ -16,7 +17,8 @@ use Rattle.message_format.specs.Updates.{plain_update, stamped, IsUpdateRead, Is
 abbrev pub stated_update : ReadEntry → PlainUpdate
 stated_update s = (s.stamped.0, issued s.stamped.1 s.body)
 
--- `IsBodyReadAs Reads body t` holds if `t` is `body` together with a value of its text by `Reads`, or both are `None`.
+-- `IsBodyReadAs Reads body t` holds if `t` is `body` together with a value that `Reads` relates to its text, or both
+-- are `None`.
 pub record IsBodyReadAs {P : Type 0} (Reads : List ℕ → P → Type 0) (body : Option (List ℕ))
     (t : Option (ReadText P)) : Type 0 where
   pub shown : body_bytes t ≡ body
@@ -28,14 +30,14 @@ module _ {P E : Type 0} (Policies : List ℕ → List ℕ → P → Type 0) (Ent
     pub shown : plain_update r ≡ u
     pub is_read : IsUpdateRead Policies Entities r
 
-  -- `IsReadInRange place u r` holds if the update `u`, at the index `place`, is in its ranges, and `r` is `u` together
-  -- with a value of its text; a tombstone has no value.
+  -- `IsReadInRange place u r` holds if the update `u`, at the index `place`, passes the checks of ranges, and `r` is
+  -- `u` together with a value of its text; a tombstone has no value.
   pub record IsReadInRange (place : ℕ) (u : PlainUpdate) (r : Update P E) : Type 0 where
     pub passed : checked_stamp place (stamped u) ≡ Ok (stamped u)
     pub taken : IsReadAs u r
 
-  -- `AreReadInRange place us rs` holds if each of the updates `us` is in its ranges, and `rs` are these updates
-  -- together with values of the texts that they have. The first of `us` has the index `place`.
+  -- `AreReadInRange place us rs` holds if each of the updates `us` passes the checks of ranges, and `rs` are these
+  -- updates together with values of the texts that they have. The first of `us` has the index `place`.
   abbrev pub AreReadInRange : ℕ → List PlainUpdate → List (Update P E) → Type 0
   AreReadInRange place [] [] = Unit {0}
   AreReadInRange place [] (r ∷ rs) = ⊥

@@ -15,23 +15,24 @@ use Rattle.message_format.specs.Summaries.{ascend}
 use Rattle.entity_uids.specs.Tokens.{AppendsAll}
 use Rattle.message_format.specs.inner.Writing.{all_missing_json}
 
--- `IsFrom name known left` holds if the names of `left` ascend. For `name` and each greater name, `left` must have the
--- same stamp as `known`, or neither has one.
+-- `IsFrom name known left` holds if the names of `left` ascend, and `name` and each greater name has the same stamp in
+-- `left` as in `known`, or none in both.
 pub record IsFrom (name : Name) (known left : Summary) : Type 0 where
   pub ascending : ascend left ≡ true
   pub same : (q : Name) → is_le (name_cmp name q) ≡ true → value_at name_cmp left q ≡ value_at name_cmp known q
 
--- `IsAhead left known us` holds if the names of `left` ascend, and those of the updates `us` too. Each name of `us` has
--- the same stamp in `left` as in `known`, or none in both.
+-- `IsAhead left known us` holds if the names of `left` ascend, those of the updates `us` ascend too, and each name of
+-- `us` has the same stamp in `left` as in `known`, or none in both.
 pub record IsAhead (left known : Summary) (us : List Update) : Type 0 where
   pub ascending : ascend left ≡ true
   pub sorted : T (is_sorted name_cmp us)
   pub same : AllByRecursion (λ u. value_at name_cmp left u.0 ≡ value_at name_cmp known u.0) us
 
--- `IsWalked name known left before after all done rest` holds if two facts hold for all updates `next` that follow the
--- entries `all` in ascending order. First, writing those entries of `done` whose names `known` lacks or has with a
--- smaller stamp takes the writer from `before` to `after`. Second, `left` has the stamps of `known` for the names of
--- `rest` and of `next`. Here `name` gives the name that a key represents.
+-- `IsWalked name known left before after all done rest` holds if two facts hold for all updates `next` such that the
+-- names of `known` ascend, and those of the entries `all` and then of `next` too. First, `after` is `before` with the
+-- JSON of some entries appended (`AppendsAll`): those of `done` whose names `known` lacks or has with a smaller stamp.
+-- Second, `IsAhead` holds for `left`, `known`, and `rest` and then `next`. Here `name` gives the name that a key
+-- represents.
 abbrev pub IsWalked : {N P : Type 0} → (N → Name) → (known left : Summary) → (before after : Written)
     → (all done rest : List (N × Entry P)) → Type 0
 IsWalked name known left before after all done rest = (next : List Update)

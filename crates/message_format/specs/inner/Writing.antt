@@ -12,8 +12,8 @@ use Rattle.stamped_store.specs.Abstraction.{abstract_entries}
 use Rattle.stamped_store.specs.Store.{Update}
 use Rattle.message_format.specs.Messages.{entry_json}
 
--- `missing_json_by known u` is the list of the JSON of the update `u`, if `known`, the stamp of its name in a summary,
--- is absent or smaller; else it is empty.
+-- `missing_json_by known u` is the list of the JSON of the update `u`, if `known`, a summary's stamp for the name of
+-- `u`, is absent or smaller; else it is empty.
 abbrev pub missing_json_by : Option Stamp → Update → List Data
 missing_json_by known u = if is_unseen known (Some u.1) then entry_json u ∷ [] else []
 
@@ -21,8 +21,8 @@ missing_json_by known u = if is_unseen known (Some u.1) then entry_json u ∷ []
 abbrev pub is_new : Summary → Update → Bool
 is_new m u = is_unseen (value_at name_cmp m u.0) (Some u.1)
 
--- `missing_json m u` is the list of the JSON of the update `u`, if the summary `m` lacks its name or has it with a
--- smaller stamp; else it is empty.
+-- `missing_json m u` is the list of the JSON of the update `u`, if the summary `m` lacks the name of `u` or has it with
+-- a smaller stamp; else it is empty.
 abbrev pub missing_json : Summary → Update → List Data
 missing_json m u = if is_new m u then entry_json u ∷ [] else []
 

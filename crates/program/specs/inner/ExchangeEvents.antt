@@ -13,8 +13,8 @@ use Rattle.program.specs.Courses.{Course}
 use Rattle.state_exchanges.specs.Counts.{IsTakenLine}
 use Rattle.program.specs.Exchanging.{IsCalled}
 
--- `Never any` is the course that no run has. As the course with which a run goes on, it restricts a relation to runs
--- that end.
+-- `Never any` is the course that no run has. A relation with `Never` in place of `goes_on` holds only for runs that do
+-- not go on.
 abbrev pub Never : {A L : Type 0} → A → Course L
 Never any events end = ⊥
 

@@ -11,8 +11,8 @@ use Rattle.program.specs.Serving.{Serving, failing_line, pause_after, IsFailure,
 use Rattle.program.specs.Serving.{AreServed, AreCutShort}
 
 module _ {L : Type 0} where
-  -- `IsFailureNoted address n events` holds if `events` are what a run does after a failure to accept that directly
-  -- follows `n` others: a warning with `address` if `n` is 0, and a pause.
+  -- `IsFailureNoted address n events` holds if `events` are what a run does after `n` + 1 consecutive failures to
+  -- accept a connection: a warning with `address` if `n` is 0, and a pause.
   abbrev pub IsFailureNoted : List ℕ → ℕ → List (Event L) → Type 0
   IsFailureNoted address zero events = (done : Bool)
       × (events ≡ wrote Faults (ended (failing_line address)) done ∷ paused (pause_after zero) ∷ [])
@@ -31,8 +31,8 @@ module _ {L : Type 0} where
       × (events ≡ failures ++ accepted (Some link) ∷ [])
   IsAwaited address (Err failed) events = IsGivenUp address events
 
-  -- `IsWarned b line events` holds if `events` are the warning `line` if `b`, whether or not writing it fails; else
-  -- they are empty.
+  -- `IsWarned b line events` holds if `b`, and `events` are the warning `line`, whether or not the stream accepts it;
+  -- or if not `b`, and `events` are empty.
   abbrev pub IsWarned : Bool → List ℕ → List (Event L) → Type 0
   IsWarned false line events = events ≡ []
   IsWarned true line events = (done : Bool) × (events ≡ wrote Faults (ended line) done ∷ [])

@@ -10,8 +10,8 @@ abbrev pub ended : List (List ℕ) → List ℕ
 ended [] = []
 ended (l ∷ ls) = (l ++ line_end ∷ []) ++ ended ls
 
--- `AppendsEventLines answers before after` holds if `after` is `before` followed by the lines of `answers`, one for
--- each, with its line feed.
+-- `AppendsEventLines answers before after` holds if `after` is `before` followed by the lines of `answers`: one for
+-- each answer, each line with its line feed.
 abbrev pub AppendsEventLines : List EventReply → List ℕ → List ℕ → Type 0
 AppendsEventLines answers before after =
     (ls : List (List ℕ)) × AllZip IsEventLine answers ls × (after ≡ before ++ ended ls)

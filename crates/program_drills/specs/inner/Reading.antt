@@ -39,8 +39,8 @@ onto said (Ok more) = Ok (said ++ more)
 onto said (Err place) = Err place
 
 -- `IsReadUpTo n script made rest events` holds if `events` are those of the lines of `script` before `rest`, for `n`
--- sites. Parsing the whole script gives them, and then what `rest` gives after the counts `made`. Each of the two
--- counts is at most the number of events.
+-- sites. Parsing `script` gives these lines, then those of `rest`, parsed from the counts `made` on, or only the error
+-- of `rest`. Each of the two counts is at most the number of events.
 pub record IsReadUpTo (n : ℕ) (script : List ℕ) (made : MadeCounts) (rest : List ℕ) (events : List Event) : Type 0 where
   pub said : List ScriptLine
   pub is : script_of n script ≡ onto said (script_lines_from n made (length events) (lines rest))

@@ -12,8 +12,8 @@ abbrev pub line_fault_of : Error → LineFault
 line_fault_of error = if is_help (kind_of error) then Help error
     else if is_memory (kind_of error) then NoMemory else Words error
 
--- `IsWhyIncomplete named f` holds if `f` is why `named`, what clap found, is not a complete command: `Site` if it is a
--- command with an invalid site name, else `Incomplete`, also if it is `None`.
+-- `IsWhyIncomplete named f` holds if `f` is the error for the incomplete command `named`, as clap parsed it (`None`
+-- without a command): `Site` if its site name is invalid, else `Incomplete`.
 abbrev pub IsWhyIncomplete : Option (Text × List Row) → LineFault → Type 0
 IsWhyIncomplete named (Help error) = ⊥
 IsWhyIncomplete named (Words error) = ⊥

@@ -55,7 +55,7 @@ NotBothParsed = (bytes : List ℕ) (v : StatedSchema) (f : SchemaFault) → IsPa
 abbrev pub OneNotParsed : Type 0
 OneNotParsed = (bytes : List ℕ) (f g : SchemaFault) → IsNotParsed bytes f → IsNotParsed bytes g → f ≡ g
 
--- `ParsedSchemasAreWellFormed`: each schema that bytes are parsed as satisfies the invariants.
+-- `ParsedSchemasAreWellFormed`: if bytes are parsed as a schema, the schema satisfies the invariants.
 abbrev pub ParsedSchemasAreWellFormed : Type 0
 ParsedSchemasAreWellFormed = (bytes : List ℕ) (v : StatedSchema) → IsParsedAs bytes v → IsWellFormed v
 

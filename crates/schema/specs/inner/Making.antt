@@ -137,8 +137,8 @@ UseMust action u p = (action ≡ p.action) × Contains u.principals p.principal 
 abbrev pub UseMay : Declarations → EntityUid → ResolvedAppliesTo → EnvironmentKey → CedarType → Type 0
 UseMay commons action u p c = UseMust action u p × IsRecordOf commons u.context (cedar_view c)
 
--- `AddsUse commons action u old new` holds if `new` is `old` with the places of `action` and the types that `u` lists
--- added, and at each the context of `u`, expanded by `commons` within the limits.
+-- `AddsUse commons action u old new` holds if `new` is `old` with further places: those of `action` with types that `u`
+-- lists, and at each the context of `u`, expanded by `commons` within the limits.
 abbrev pub AddsUse : Declarations → EntityUid → ResolvedAppliesTo → Places → Places → Type 0
 AddsUse commons action u old new =
     AddsEntries (UseMay commons action u) (UseMust action u) (HasSmallExpansionAt commons u.context)

@@ -1,4 +1,4 @@
--- Defines the views of the code's named policies, of its validation results, and of the text that a line appends.
+-- Defines the views of the code's named policies and validation results, and how a line is appended to other lines.
 use Rattle.std.specs.Prelude.{List, map, String, string_bytes, ◌∷◌, ℕ, Bool, true, false, Result, Ok, Err}
 use Rattle.std.specs.Global.{Global}
 use Rattle.decision_texts.specs.policy_grammar.declared.policy.Policy.{Policy}

@@ -19,8 +19,8 @@ abbrev pub means_by : Option (List ℕ) → (List ℕ → Bool) → Bool → Boo
 means_by (Some q) known otherwise = known q
 means_by None known otherwise = otherwise
 
--- `is_known_non_record known s own r` tests whether the type `r`, written in the namespace `own` and resolved by `s`,
--- is not a record. `known` tests whether a name is that of a common type that is not a record.
+-- `is_known_non_record known s own r` tests whether the type `r`, written in the namespace `own`, is not a record by
+-- `known` and `s`. `known` tests whether a name is that of a common type that is known not to be a record.
 abbrev pub is_known_non_record : (List ℕ → Bool) → Scope → Option (List ℕ) → Raw → Bool
 is_known_non_record known s own r = means_by (common_meant s own r) known (is_no_record s own r)
 

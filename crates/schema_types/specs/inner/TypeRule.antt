@@ -1,4 +1,4 @@
--- Defines the type that JSON describes as the code computes it: from the values at the keys of the JSON.
+-- Defines how the code computes the type that JSON describes: from the values at the keys of the JSON.
 use Rattle.std.specs.Prelude.{Bool, false, codes, Result, option_map}
 use Rattle.serde_json.specs.Data.{Data}
 use Rattle.serde_json.specs.Find.{get}

@@ -67,7 +67,7 @@ KeepsSeen old new = (a : ℕ) → one_if_seen old a ≡ 1 → one_if_seen new a 
 
 -- ---- remaining effort
 
--- `unseen_effort g seen` is the number of nodes of the graph `g` that are not marked in `seen`, plus the number of
+-- `unseen_effort g seen` is the number of nodes of the graph `g` whose entry in `seen` is `false`, plus the number of
 -- their edges.
 abbrev pub unseen_effort : Graph → List Bool → ℕ
 unseen_effort [] ss = 0

@@ -34,8 +34,8 @@ Steps d old new = Stays d old new ⊎ AddsToTable d old new
 abbrev pub AreAmong : Declarations → Declarations → Type 0
 AreAmong ds commons = (q : List ℕ) (r : Qualified) → Declares ds q r → Declares commons q r
 
--- `KeepsTable ds old new` holds if the table `new` is right (`IsTable`) for all declarations that include `ds` and for
--- which the table `old` is right.
+-- `KeepsTable ds old new` holds if the table `new` is right (`IsTable`) for each list of declarations that includes
+-- `ds` and for which the table `old` is right.
 abbrev pub KeepsTable : Declarations → BTreeMap (String Global) CommonEntry → BTreeMap (String Global) CommonEntry
     → Type 0
 KeepsTable ds old new =

@@ -100,7 +100,7 @@ abbrev pub all_known : TypeTable → Declarations → Bool
 all_known known [] = true
 all_known known (d ∷ ds) = is_some (known d.0) && all_known known ds
 
--- `is_small_at o` tests whether the expansion of the entry `o`, if there is one, is not too large.
+-- `is_small_at o` tests whether the entry in `o` has a size within the limits; true if `o` is `None`.
 abbrev pub is_small_at : Option TableEntry → Bool
 is_small_at None = true
 is_small_at (Some k) = fits k.size

@@ -21,7 +21,7 @@ use Rattle.site_steps.specs.Admitted.{IsEntityUnder, IsAdmitted, entity_stated, 
 use Rattle.site_steps.specs.Steps.{Records, IsClockFull, most_count}
 
 -- `RecordsOr n s name body r t` holds if, at the site named `n`, storing `body` under `name` with the stamp `r` leads
--- from the store `s` to the store `t` (`Records`). It also holds if `t` is `s`, and `r` is `NoMemory`, or is
+-- from the store `s` to the store `t` (`Records`). It also holds if `t` is `s`, and either `r` is `NoMemory`, or `r` is
 -- `ClockFull` and no stamp is left.
 abbrev pub RecordsOr : List ℕ → Store → Name → Option (List ℕ) → Result Stamp SiteFault → Store → Type 0
 RecordsOr n s name body (Ok stamp) t = Records n s name body stamp t

@@ -52,7 +52,7 @@ fields_after zero ts = ts
 fields_after (suc n) no_field_types = no_field_types
 fields_after (suc n) (field_type k t r ts) = fields_after n ts
 
--- `before f ts` are the field `f` and then the fields `ts`; without a field `f` the list is empty.
+-- `before o ts` are the field in `o` and then the fields `ts`; no fields if `o` is `None`.
 abbrev pub before : Option FieldPart → FieldTypes → FieldTypes
 before None ts = no_field_types
 before (Some f) ts = field_type f.key.now (part_view f.part) f.required ts

@@ -103,7 +103,7 @@ walk_step s (Expr-F.BinaryCall called a b) = and_then a b
 abbrev pub walk : StatedSchema → Expr → WalkResult
 walk s = fold-Expr WalkResult (walk_step s)
 
--- `named_walk s f` is the result of checking the value of the record field `f` under `s`, with the field's key.
+-- `named_walk s f` is the record field `f` with the result of checking its value under `s` in place of the value.
 abbrev pub named_walk : StatedSchema → Named Expr → Named WalkResult
 named_walk s f = record { name = f.name; value = walk s f.value }
 

@@ -1,5 +1,5 @@
 -- Defines what the search for the part of a request that is at fault finds.
-use Rattle.std.specs.Prelude.{◌≡◌, List, [], ◌∷◌, Bool, true, false, is_some, Option, Some, None, MatchOption, codes}
+use Rattle.std.specs.Prelude.{◌≡◌, List, [], ◌∷◌, Bool, is_some, Option, Some, None, MatchOption, codes}
 use Rattle.serde_json.specs.Data.{Data}
 use Rattle.serde_json.specs.Find.{get, as_object}
 use Rattle.values.specs.declared.entity_uid.EntityUid.{EntityUid}
@@ -27,11 +27,6 @@ abbrev pub AreNamed : Data → Named → Type 0
 AreNamed d names = IsRead (Names (get (codes "principal") d)) names.principal
     × IsRead (Names (get (codes "action") d)) names.action × IsRead (Names (get (codes "resource") d)) names.resource
 
--- `IsNamed o yes` holds if `yes` is true exactly if the value `o` is present and names an entity.
-abbrev pub IsNamed : Option Data → Bool → Type 0
-IsNamed o true = (uid : EntityUid) × Names o uid
-IsNamed o false = ((uid : EntityUid) × Names o uid) → ⊥
-
 -- `request_demands d principal action resource` are the demands on the form of the request `d`, in order, where the
 -- three booleans say which of its entities are named.
 abbrev pub request_demands : Data → Bool → Bool → Bool → List Demand
@@ -42,8 +37,8 @@ request_demands d principal action resource =
     ∷ (resource, to_key (codes "resource"))
     ∷ (is_absent_or_object (get (codes "context") d), to_key (codes "context")) ∷ []
 
--- `IsFormSearched d o` holds if `o` is the path to the first part of `d` without the form of a request, or if `o` is
--- `None`, and `d` has the form.
+-- `IsFormSearched d o` holds if `o` is the path to the first part of a request that is missing or malformed in `d`, or
+-- if `o` is `None`, and `d` has the form.
 abbrev pub IsFormSearched : Data → Option (List Step) → Type 0
 IsFormSearched d o = MatchOption o ((asked : Asked) × Asks d asked) (FormFaultAt d)
 

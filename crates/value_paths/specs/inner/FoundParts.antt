@@ -29,7 +29,8 @@ unfit_path s uid i (item d ds) =
 unfoldable pub attributes_path : StatedSchema → Data → Option (List Step)
 attributes_path s d = path_under (codes "attrs") (shape_at s (get (codes "uid") d)) d
 
--- `parents_path s d` is the path to the first parent that the entity `d` may not have, if there is one.
+-- `parents_path s d` is the path to the first parent that the entity `d` may not have; `None` if there is no such
+-- parent, or if an earlier parent or the uid of `d` does not parse.
 unfoldable pub parents_path : StatedSchema → Data → Option (List Step)
 parents_path s d = with_or (uid_at (get (codes "uid") d))
     (λ uid. unfit_path s uid 0 (items_at (get (codes "parents") d))) None

@@ -27,8 +27,8 @@ abbrev pub under : Step → Option (List Step) → Option (List Step)
 under step (Some path) = Some (step ∷ path)
 under step None = None
 
--- `whole_path r` is the empty path, which leads to the value as a whole, if parsing the value gives an error `r`;
--- `None` if it gives a value.
+-- `whole_path r` is the empty path, which leads to the JSON value as a whole, if the parsing result `r` is an error;
+-- else `None`.
 abbrev pub whole_path : {A : Type 0} → Result A ValueFault → Option (List Step)
 whole_path (Ok v) = None
 whole_path (Err f) = Some []
