@@ -16,7 +16,7 @@
 - Lines of specs/ and src/ have at most 120 characters, except those of LONG.
 - docs/codes.md has a row for each number of an arm of a `fn code`, and for each number of a rejected body (`BodyFault::Refused`); of HTTP statuses only
   for those in place of a code. A reader must judge whether a row explains its number.
-- In these rows name, meaning and example of each code are those of the table that `cedar_site explain` prints from, crates/explanation_texts/src/table.rt; both
+- In these rows name, meaning and example of each code are those of the table that `cedar_site explain` prints from, crates/explanations/src/table.rt; both
   have the same codes.
 - If a program's stdout has lines of a case and its outcome, stdin has these lines without the outcomes.
 - Each name of docs/where.md exists (tools/where_it_stands.py).
@@ -50,7 +50,7 @@ ARROW = "  ->  "
 LONG = {
     "crates/decision_texts/src/request.rt": 1,
     "crates/entities/src/requests.rt": 1,
-    "crates/explanation_texts/src/table.rt": 12,
+    "crates/explanations/src/table.rt": 12,
     "crates/type_capabilities/src/compared.rt": 2,
 }
 
@@ -192,7 +192,7 @@ def told_codes():
     """Yields name, meaning and example of each code, as the table of the code has them."""
     text = r'"((?:[^"\\]|\\.)*)"'
     row = r"CodeWords \{\s*code: (\d+),\s*name: TEXT,\s*meaning: TEXT,\s*example: TEXT,".replace("TEXT", text)
-    for code, *texts in re.findall(row, text_of("crates/explanation_texts/src/table.rt")):
+    for code, *texts in re.findall(row, text_of("crates/explanations/src/table.rt")):
         yield int(code), [json.loads(f'"{it}"') for it in texts]
 
 
@@ -206,9 +206,9 @@ def about_code_table():
     for code in sorted(told.keys() | table.keys()):
         ours, theirs = told.get(code), table.get(code)
         if ours is None or theirs is None:
-            yield f"code {code}: expected it in docs/codes.md and in crates/explanation_texts/src/table.rt, got it in one of them"
+            yield f"code {code}: expected it in docs/codes.md and in crates/explanations/src/table.rt, got it in one of them"
         elif ours[:2] != theirs[:2] or theirs[2] not in (None, ours[2]):
-            yield f"docs/codes.md: code {code}: expected {ours} (crates/explanation_texts/src/table.rt), got {theirs}"
+            yield f"docs/codes.md: code {code}: expected {ours} (crates/explanations/src/table.rt), got {theirs}"
 
 
 def about_cases():

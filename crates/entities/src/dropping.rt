@@ -4,7 +4,7 @@
 use crate::fault::EntityFault;
 use entity_data::Entity;
 use serde_json::Value;
-use values::Request;
+use values::{EntityUid, Request};
 
 /// Drops the result of [`read_entity`](crate::read_entity).
 pub fn drop_entity(read: Result<Entity, EntityFault>) {
@@ -19,4 +19,9 @@ pub fn drop_request(read: Result<Request, EntityFault>) {
 /// Drops a JSON value, if there is one.
 pub fn drop_json(value: Option<Value>) {
     drop(value);
+}
+
+/// Drops a uid, if there is one.
+pub fn drop_uid(uid: Option<EntityUid>) {
+    drop(uid);
 }

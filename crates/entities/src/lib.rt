@@ -31,7 +31,7 @@ pub use as_stated::{
 pub use canonical::canonical_text;
 pub use canonical_laws::{canonical_texts_are_read, json_texts_are_utf8};
 pub use contexts::read_context;
-pub use dropping::{drop_entity, drop_json, drop_request};
+pub use dropping::{drop_entity, drop_json, drop_request, drop_uid};
 pub use entity_data::{ActionSource, Entities, Entity, EntitySource, EntityStore, NoActions};
 pub use entity_uids::{
     ActionScope, EntityScope, Policy, Scope, names_read_back, read_name, read_uid,

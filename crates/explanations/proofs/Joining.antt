@@ -20,10 +20,10 @@ use Rattle.schema_decisions.specs.validator.declared.fault.TypeFault.{TypeFault}
 use Rattle.schema_decisions.specs.validator.declared.fault.TypeFault.TheVariants as fault
 use Rattle.schema_decisions.specs.validator.Faults.{code_of}
 use Rattle.schema_decisions.specs.validator.Passing.{Passes, IsCheckRefused}
-use Rattle.fault_paths.specs.declared.explaining.PolicyFault.{PolicyFault}
-use Rattle.fault_paths.specs.ReportWording.{IsPolicyFault}
-use Rattle.token_spans.specs.declared.spans.Span.{Span}
-use Rattle.token_spans.specs.Spans.{IsSpanOf, IsNameSpanOf}
+use Rattle.fault_places.specs.declared.explaining.PolicyFault.{PolicyFault}
+use Rattle.fault_places.specs.ReportWording.{IsPolicyFault}
+use Rattle.fault_places.specs.declared.spans.Span.{Span}
+use Rattle.fault_places.specs.Spans.{IsSpanOf, IsNameSpanOf}
 use Rattle.explanations.specs.declared.pieces.Piece.{Piece}
 use Rattle.explanations.specs.Files.{File, Files}
 use Rattle.explanations.specs.Parts.{IsPartOf, IsNothing, IsSourceAt, IsWholeAt, entry_words, IsMessageExplained, AppendsSome}

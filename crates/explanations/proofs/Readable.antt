@@ -1,12 +1,12 @@
--- Explanations, which a terminal shows and does not obey, part by part.
+-- The explanations of files and of messages are readable, part by part.
 use Rattle.std.proofs.Common.{◌≡◌, inl, inr, ℕ, Bool, List, [], ◌∷◌, ◌++◌, Option, None, Some, sym, subst}
 use Rattle.grammar_desugaring.specs.grammar_tokens.declared.token.Token.{Token}
 use Rattle.policy_grammar.specs.declared.policy.Policy.{Policy}
 use Rattle.schema_decisions.specs.schema.Schemas.{StatedSchema}
 use Rattle.schema_decisions.specs.answer_lines.declared.refusal.Refusal.{Refusal}
-use Rattle.explanation_texts.specs.Readable.{IsReadable}
-use Rattle.explanation_texts.proofs.Readable.{both, nothing, source_is_readable, whole_is_readable}
-use Rattle.fault_paths.specs.declared.explaining.PolicyFault.{PolicyFault}
+use Rattle.explanations.specs.Readable.{IsReadable}
+use Rattle.explanations.proofs.ReadableErrors.{both, nothing, source_is_readable, whole_is_readable}
+use Rattle.fault_places.specs.declared.explaining.PolicyFault.{PolicyFault}
 use Rattle.explanations.specs.declared.pieces.Piece.{Piece}
 use Rattle.explanations.specs.Files.{File, Files}
 use Rattle.explanations.specs.Parts.{IsNothing, IsSourceAt, IsWholeAt, entry_words, IsMessageExplained}

@@ -1,8 +1,8 @@
--- Defines the theorem that explanations have no characters that control a terminal.
+-- Defines the theorem that the explanation of files, and that of a rejected message, are readable (Readable.antt).
 -- Rules of this product: an explanation contains no control character except tabs and the line feeds that end its
 -- lines, and none that changes the direction of writing.
 use Rattle.std.specs.Prelude.{ℕ, List}
-use Rattle.explanation_texts.specs.Readable.{IsReadable}
+use Rattle.explanations.specs.Readable.{IsReadable}
 use Rattle.schema_decisions.specs.answer_lines.declared.refusal.Refusal.{Refusal}
 use Rattle.explanations.specs.Files.{Files}
 use Rattle.explanations.specs.Parts.{IsMessageExplained}

@@ -1,3 +1,10 @@
+pub mod LineAndColumn
+pub mod Excerpt
+pub mod Codes
+pub mod CodeText
+pub mod Printable
+pub mod ExplanationText
+pub mod Readable
 pub mod Files
 pub mod Pieces
 pub mod Parts
@@ -7,5 +14,3 @@ pub mod EntitiesAndRequests
 pub mod FileExplanations
 pub mod Laws
 pub mod inner
--- Specifications of lower crates, re-exported.
-pub use Rattle.explanation_texts.specs as explanation_texts

@@ -4,10 +4,10 @@
 -- error of a message, with the file's name, and with the entry at fault and the inner error if they are known.
 use Rattle.std.specs.Prelude.{◌≡◌, ◌⊎◌, ℕ, List, [], ◌++◌, Option, None, Some, take, drop, codes, decimal}
 use Rattle.std.specs.Str.{IsCharBoundary}
-use Rattle.explanation_texts.specs.declared.finding.SourceFinding.{SourceFinding}
-use Rattle.explanation_texts.specs.declared.finding.WholeFinding.{WholeFinding}
-use Rattle.explanation_texts.specs.ExplanationText.{IsSourceText, IsWholeText}
-use Rattle.explanation_texts.specs.CodeText.{Texts, words_on}
+use Rattle.explanations.specs.declared.finding.SourceFinding.{SourceFinding}
+use Rattle.explanations.specs.declared.finding.WholeFinding.{WholeFinding}
+use Rattle.explanations.specs.ExplanationText.{IsSourceText, IsWholeText}
+use Rattle.explanations.specs.CodeText.{Texts, words_on}
 use Rattle.schema_decisions.specs.answer_lines.declared.refusal.Refusal.{Refusal}
 
 -- `IsPartOf text from to part` holds if `part` is the text between the bytes `from` and `to`, or empty if they are not

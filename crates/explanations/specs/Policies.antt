@@ -1,7 +1,7 @@
 -- Defines the explanation of the policies of a file that do not pass validation.
 -- Rules of this product: exactly the policies that `check` reports as rejected are explained, once each, in the order
 -- of the file, with the code that `check` reports. A policy of at most 10,000 bytes, whose condition has at most 10,000
--- nodes, is explained with the cause and the details that fault_paths gives, at the name or the expression at fault; a
+-- nodes, is explained with the cause and the details that fault_places gives, at the name or the expression at fault; a
 -- larger one without a cause, at the whole policy. A note says so if the whole policy is shown. Without a schema no
 -- policy is rejected.
 use Rattle.std.specs.Prelude.{◌≡◌, ℕ, ◌+◌, ◌-◌, min, nat_le, Bool, true, false, ◌&&◌, List, [], ◌∷◌, ◌++◌, length}
@@ -14,14 +14,14 @@ use Rattle.schema_decisions.specs.validator.declared.fault.TypeFault.{TypeFault}
 use Rattle.schema_decisions.specs.validator.declared.fault.TypeFault.TheVariants as fault
 use Rattle.schema_decisions.specs.validator.Faults.{code_of}
 use Rattle.schema_decisions.specs.validator.Passing.{Passes, IsCheckRefused}
-use Rattle.explanation_texts.specs.declared.finding.SourceFinding.{SourceFinding}
-use Rattle.explanation_texts.specs.ExplanationText.{IsSourceText}
-use Rattle.fault_paths.specs.declared.explaining.PolicyFault.{PolicyFault}
-use Rattle.fault_paths.specs.ReportWording.{IsPolicyFault}
+use Rattle.explanations.specs.declared.finding.SourceFinding.{SourceFinding}
+use Rattle.explanations.specs.ExplanationText.{IsSourceText}
+use Rattle.fault_places.specs.declared.explaining.PolicyFault.{PolicyFault}
+use Rattle.fault_places.specs.ReportWording.{IsPolicyFault}
 use Rattle.explanations.specs.declared.pieces.Piece.{Piece}
 use Rattle.explanations.specs.Pieces.{piece_at}
-use Rattle.token_spans.specs.declared.spans.Span.{Span}
-use Rattle.token_spans.specs.Spans.{IsSpanOf, IsNameSpanOf}
+use Rattle.fault_places.specs.declared.spans.Span.{Span}
+use Rattle.fault_places.specs.Spans.{IsSpanOf, IsNameSpanOf}
 use Rattle.explanations.specs.Parts.{IsNothing, IsPartOf, IsSourceAt}
 
 -- `is_searched place policy` tests whether `policy`, at `place`, is searched for the expression at fault: its text has

@@ -1,1 +1,2 @@
 pub mod NodeLimits
+pub mod Segments

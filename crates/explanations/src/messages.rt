@@ -1,38 +1,63 @@
 //! Explains that a message is rejected.
 ghost use Rattle.std.specs.Prelude.{◌≡◌, ◌++◌, IfOk, OnOk, string_bytes};
-ghost use Rattle.explanations.specs.Parts.{inner_words, entry_words, IsMessageExplained};
+ghost use Rattle.explanations.specs.CodeText.{words_on};
+ghost use Rattle.explanations.specs.Parts.{name_in, inner_words, entry_words, IsMessageExplained};
 
-use explanation_texts::{WholeFinding, push_whole, words_of};
+use crate::finding::WholeFinding;
+use crate::segments::{Segment, push_all};
+use crate::table::words_of;
+use crate::whole::push_whole;
 use plain::NoMemory;
 use schema_decisions::Refusal;
 use std::alloc::Global;
+
+/// Returns the name of an error code; empty if no error has this code.
+fn name_of(code: u8) -> &'static str
+    ensures { result.now ≡ name_in (words_on code) }
+{
+    match words_of(u16::from(code)) {
+        Some(words) => words.name,
+        None => "",
+    }
+}
 
 /// Appends the words on the inner error with this code: the code and its name, if it has one; nothing without a code.
 fn push_inner(out: &mut String, within: Option<u8>) -> Result<(), NoMemory>
     ensures { OnOk result (string_bytes out.new ≡ string_bytes out.old ++ inner_words within) }
 {
-    let Some(code) = within else {
-        return Ok(());
-    };
-    let name = match words_of(u16::from(code)) {
-        Some(words) => words.name,
-        None => "",
-    };
-    write!(out, ", error {code}: {name}")
+    match within {
+        Some(code) => push_all(
+            out,
+            &[
+                Segment::Text(", error "),
+                Segment::Number(usize::from(code)),
+                Segment::Text(": "),
+                Segment::Text(name_of(code)),
+            ],
+        ),
+        None => Ok(()),
+    }
 }
 
-/// Returns the words on the entry at fault of a rejected message: its index, and its own error if there is one; no
+/// Appends the words on the entry at fault of a rejected message: its index, and its own error if there is one; no
 /// words without an index.
-fn entry_words(alloc: Global, refusal: Refusal) -> Result<String, NoMemory>
-    ensures { IfOk result (λ words. string_bytes words ≡ entry_words refusal.place refusal.within) }
+fn push_entry(out: &mut String, refusal: Refusal) -> Result<(), NoMemory>
+    ensures { OnOk result (string_bytes out.new
+        ≡ string_bytes out.old ++ entry_words refusal.place refusal.within) }
 {
     match refusal.place {
         Some(index) => {
-            let mut words = format!(in alloc; "entry {index} (from 0)")?;
-            push_inner(&mut words, refusal.within)?;
-            Ok(words)
+            push_all(
+                out,
+                &[
+                    Segment::Text("entry "),
+                    Segment::Number(index),
+                    Segment::Text(" (from 0)"),
+                ],
+            )?;
+            push_inner(out, refusal.within)
         }
-        None => Ok(String::new(alloc)),
+        None => Ok(()),
     }
 }
 
@@ -45,7 +70,8 @@ fn entry_words(alloc: Global, refusal: Refusal) -> Result<String, NoMemory>
 pub fn explain_message(alloc: Global, name: &str, refusal: Refusal) -> Result<String, NoMemory>
     ensures { IfOk result (λ text. IsMessageExplained name.now refusal (string_bytes text)) }
 {
-    let words = entry_words(alloc, refusal)?;
+    let mut words = String::new(alloc);
+    push_entry(&mut words, refusal)?;
     let finding = WholeFinding {
         code: u16::from(refusal.code),
         index: None,

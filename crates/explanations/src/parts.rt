@@ -3,7 +3,8 @@ ghost use Rattle.std.specs.Prelude.{◌≡◌, OnOk, string_bytes};
 ghost use Rattle.schema_decisions.specs.answer_lines.Refusals.{no_memory};
 ghost use Rattle.explanations.specs.Parts.{IsPartOf, IsWholeAt, AppendsSome};
 
-use explanation_texts::{WholeFinding, push_whole};
+use crate::finding::WholeFinding;
+use crate::whole::push_whole;
 use plain::NoMemory;
 use schema_decisions::Refusal;
 

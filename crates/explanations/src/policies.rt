@@ -5,15 +5,15 @@ ghost use Rattle.explanations.specs.Parts.{AppendsSome};
 ghost use Rattle.explanations.specs.Policies.{is_searched, IsSpanFound, IsFaultText};
 ghost use Rattle.explanations.specs.Policies.{IsCheckExplained, IsPolicyExplained, ArePoliciesExplained};
 
+use crate::finding::SourceFinding;
 use crate::node_limits::has_at_most;
 use crate::parts::part_of;
 use crate::pieces::{Piece, piece_at};
-use explanation_texts::{SourceFinding, push_source};
-use fault_paths::{PolicyFault, TypeFault, check, explain_fault};
+use crate::source::push_source;
+use fault_places::{PolicyFault, Span, TypeFault, check, explain_fault, name_span, span_of};
 use plain::NoMemory;
 use schema_decisions::{Policy, Schema};
 use std::alloc::Global;
-use token_spans::{Span, name_span, span_of};
 
 // The greatest length in bytes of a policy that is searched for the expression at fault.
 const MOST_BYTES: usize = 10000;

@@ -5,10 +5,11 @@ ghost use Rattle.explanations.specs.Parts.{AppendsSome};
 ghost use Rattle.explanations.specs.UnparsedFiles.{IsPieceExplained, ArePiecesExplained, AppendsExplained};
 ghost use Rattle.explanations.specs.UnparsedFiles.{end_of_token, is_that, IsCauseAt, IsReadErrorText};
 
+use crate::finding::SourceFinding;
 use crate::parts::part_of;
 use crate::pieces::Piece;
 use crate::policies::explain_policies;
-use explanation_texts::{SourceFinding, push_source};
+use crate::source::push_source;
 use grammar_desugaring::Token;
 use plain::NoMemory;
 use policy_grammar::{ReadFault, parse_policies};

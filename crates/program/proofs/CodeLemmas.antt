@@ -1,8 +1,8 @@
 -- The words on the code that a word is.
 use Rattle.std.proofs.Common.{◌≡◌, ◌∙◌, ℕ, false, List, Option, None, Some, is_some, option_map, MatchOption, Bor, sym, subst}
-use Rattle.explanations.specs.explanation_texts.declared.table.CodeWords.{CodeWords}
-use Rattle.explanations.specs.explanation_texts.Codes.{is_code}
-use Rattle.explanations.specs.explanation_texts.CodeText.{texts_of, words_on}
+use Rattle.explanations.specs.declared.table.CodeWords.{CodeWords}
+use Rattle.explanations.specs.Codes.{is_code}
+use Rattle.explanations.specs.CodeText.{texts_of, words_on}
 use Rattle.program.specs.ExplainCommand.{IsSmallNumeral, IsSmallNumber, AreWordsOn, IsNoCode}
 
 pub no_numeral : (word : List ℕ) → (IsSmallNumeral word → ⊥) → IsNoCode word

@@ -6,8 +6,8 @@ use Rattle.std.specs.Prelude.{◌≡◌, ◌⊎◌, ◌<◌, ◌^◌, ◌==◌, 
 use Rattle.std.specs.Prelude.{length, Option, None, Some, option_map, codes}
 use Rattle.std.specs.List.{list_all}
 use Rattle.std.specs.Str.Parse.{IsNumeral, digits_value, without_leading_plus}
-use Rattle.explanations.specs.explanation_texts.CodeText.{Texts, code_text, words_on}
-use Rattle.explanations.specs.explanation_texts.Codes.{is_code}
+use Rattle.explanations.specs.CodeText.{Texts, code_text, words_on}
+use Rattle.explanations.specs.Codes.{is_code}
 use Rattle.explanations.specs.Files.{File, Files}
 use Rattle.explanations.specs.FileExplanations.{IsExplained}
 use Rattle.program_lines.specs.declared.line.ExplainOptions.{ExplainOptions}

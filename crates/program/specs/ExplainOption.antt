@@ -7,8 +7,8 @@
 -- changes nothing. If an explanation cannot be allocated, a line says so in its place.
 use Rattle.std.specs.Prelude.{◌≡◌, ◌⊎◌, ℕ, ◌==◌, if◌then◌else◌, Bool, true, false, List, [], ◌∷◌, ◌++◌, codes}
 use Rattle.std.specs.Prelude.{Option, None, Some, unwrap_or}
-use Rattle.explanations.specs.explanation_texts.CodeText.{Texts, code_text, words_on}
-use Rattle.explanations.specs.explanation_texts.Codes.{is_code}
+use Rattle.explanations.specs.CodeText.{Texts, code_text, words_on}
+use Rattle.explanations.specs.Codes.{is_code}
 use Rattle.explanations.specs.Files.{File, Files}
 use Rattle.explanations.specs.Parts.{IsMessageExplained}
 use Rattle.explanations.specs.FileExplanations.{IsExplained}

@@ -2,7 +2,7 @@
 ghost use Rattle.std.specs.Prelude.{◌≡◌, MatchOption, option_map};
 ghost use Rattle.std.specs.List.{list_all};
 ghost use Rattle.std.specs.Process.{exit_status};
-ghost use Rattle.explanations.specs.explanation_texts.CodeText.{texts_of};
+ghost use Rattle.explanations.specs.CodeText.{texts_of};
 ghost use Rattle.explanations.specs.Files.{file_of, files_of};
 ghost use Rattle.program.specs.Events.{Runs};
 ghost use Rattle.program.specs.ExplainCommand.{is_some_text, is_decimal, is_number, file_named, files_named};

@@ -2,7 +2,7 @@
 use crate::keeping::ended;
 use crate::pieces::Line;
 use crate::written::bad_row;
-use explanation_texts::{excerpt_at, place_of};
+use explanations::{excerpt_at, place_of};
 use plain::NoMemory;
 use std::alloc::Global;
 

@@ -1,8 +1,8 @@
 //! Test cases of spans in policies: the text of the core node at a path, or of its name.
 use crate::written::shown;
+use fault_places::{Span, name_span, span_of};
 use plain::NoMemory;
 use std::alloc::Global;
-use token_spans::{Span, name_span, span_of};
 
 /// Returns the path of these digits.
 fn path_of(alloc: Global, digits: &str) -> Result<Vec<usize>, NoMemory> {

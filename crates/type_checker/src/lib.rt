@@ -9,6 +9,7 @@
 mod branching;
 mod calls;
 mod common_types;
+mod dropping;
 mod environment;
 mod equal;
 mod fault;
@@ -31,6 +32,7 @@ mod under;
 mod whole;
 
 pub use common_types::common;
+pub use dropping::{drop_type, drop_types, truncate_types};
 pub use entities::{
     ActionScope, Entity, EntityFault, EntityScope, Environment, Policy, Schema, SchemaFault, Scope,
     action_type_test_is_exact, bytes_have_one_outcome, canonical_text, canonical_texts_are_read,

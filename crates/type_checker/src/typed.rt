@@ -1,5 +1,5 @@
 //! The types of expressions with the gained capabilities, and the steps that form such types.
-ghost use Rattle.std.specs.Prelude.{◌≡◌, ◌↔◌, [], IsTrue, Ok, Err};
+ghost use Rattle.std.specs.Prelude.{◌≡◌, ◌↔◌, ◌++◌, ◌∷◌, [], IsTrue, Ok, Err, OnOk};
 ghost use Rattle.typing.specs.Types as types;
 ghost use Rattle.typing.specs.Rows.{MayBeTrue};
 ghost use Rattle.type_checker.specs.Views.{boolean_view};
@@ -8,6 +8,7 @@ ghost use Rattle.type_checker.specs.inner.Judged.{IsRow, AddsGained, IsBranch};
 use crate::fault::ExpressionFault;
 use crate::known::gain_too;
 use crate::static_type::{BooleanType, StaticType};
+use plain::NoMemory;
 use std::alloc::Global;
 use type_capabilities::Capability;
 
@@ -18,6 +19,26 @@ pub struct Typed<'a> {
     pub kind: StaticType<'a>,
     /// The capabilities that are known if the expression is true.
     pub gains: Vec<Capability<'a>>,
+}
+
+impl<'a> Typed<'a> {
+    /// Appends the type to `types`, and the gained capabilities to `known`.
+    ///
+    /// # Errors
+    ///
+    /// - `NoMemory`: an allocation failed. The type may then be appended.
+    pub fn add_to(
+        self,
+        types: &mut Vec<StaticType<'a>>,
+        known: &mut Vec<Capability<'a>>,
+    ) -> Result<(), NoMemory>
+        ensures { OnOk result ((types.new.items ≡ types.old.items ++ self.entry.kind ∷ [])
+            × (known.new.items ≡ known.old.items ++ self.entry.gains.items)) }
+    {
+        let Typed { kind, gains } = self;
+        types.push(kind)?;
+        known.extend_from_slice(gains.as_slice())
+    }
 }
 
 /// The judgement on an `if` up to its `then`.

@@ -14,8 +14,7 @@ use Rattle.entities.specs.declared.value_fault.ValueFault.{ValueFault}
 use Rattle.entities.specs.declared.value_fault.ValueFault.TheVariants.{WrongType, Undeclared, Missing}
 use Rattle.entities.specs.Parts.{declared_at}
 use Rattle.entities.specs.Typing.{all_there, inside, with_or, typed_value, typed_items, typed_members, record_in}
-use Rattle.value_paths.specs.declared.steps.Step.{Step}
-use Rattle.value_paths.specs.declared.steps.Step.TheVariants.{Key, Index}
+use Rattle.value_paths.specs.Steps.{Step, Key, Index}
 use Rattle.value_paths.specs.Paths.{is_set, is_record, FirstAbsent, FaultAt, ItemFaultAt, MemberFaultAt, RecordFaultAt}
 use Rattle.value_paths.specs.Paths as says
 use Rattle.value_paths.specs.Laws.{HasPath, ValuesHavePaths, RecordsHavePaths}

@@ -14,7 +14,7 @@ use Rattle.entities.specs.declared.fault.EntityFault.{EntityFault}
 use Rattle.entities.specs.declared.fault.EntityFault.TheVariants.{BadShape}
 use Rattle.entities.specs.declared.stated.StatedEntity.{StatedEntity}
 use Rattle.entities.specs.EntityForms.{is_absent_or_object, stated_uid, uids_of, stated_parents, has_objects, stated_in}
-use Rattle.value_paths.specs.declared.steps.Step.{Step}
+use Rattle.value_paths.specs.Steps.{Step}
 use Rattle.value_paths.specs.EntityPaths.{to_key, first_unmet, is_uid, items_at, parent_demands, parents_demands, form_demands}
 
 -- a path where there is no form, and none where there is one

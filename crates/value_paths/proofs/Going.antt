@@ -10,8 +10,7 @@ use Rattle.serde_json.specs.declared.value.Value.TheVariants as value
 use Rattle.schema_types.specs.Cedar.{Cedar, CedarFields}
 use Rattle.entities.specs.Parts.{declared_at}
 use Rattle.entities.specs.Typing.{with_or, typed_value}
-use Rattle.value_paths.specs.declared.steps.Step.{Step}
-use Rattle.value_paths.specs.declared.steps.Step.TheVariants.{Key, Index}
+use Rattle.value_paths.specs.Steps.{Step, Key, Index}
 use Rattle.value_paths.specs.inner.FoundPaths.{or_else, under, whole_path, value_path, item_path, member_path}
 
 pub cut : {A : Type 0} (vs : List A) (i : ℕ) (v : A) → i < length vs → v ≡ get_or vs i v → drop i vs ≡ v ∷ drop (i + 1) vs

@@ -8,7 +8,7 @@ use Rattle.values.specs.declared.entity_uid.EntityUid.{EntityUid}
 use Rattle.entities.specs.entity_uids.Uids.{uid_in}
 use Rattle.entities.specs.Typing.{with_or}
 use Rattle.entities.specs.schema.Schemas.{StatedSchema}
-use Rattle.value_paths.specs.declared.steps.Step.{Step}
+use Rattle.value_paths.specs.Steps.{Step}
 use Rattle.value_paths.specs.EntityPaths.{to_parent, first_unmet, parent_demands}
 use Rattle.value_paths.specs.inner.FoundParts.{fits, unfit_path}
 use Rattle.value_paths.proofs.Going.{search_goes, search_stops}

@@ -12,7 +12,7 @@ use Rattle.entities.specs.Requests as request
 use Rattle.entities.specs.Laws.{NotBoth, OneRefusal}
 use Rattle.entities.specs.declared.fault.EntityFault.{EntityFault}
 use Rattle.value_paths.specs.declared.placed.PlacedFault.{PlacedFault}
-use Rattle.value_paths.specs.declared.steps.Step.{Step}
+use Rattle.value_paths.specs.Steps.{Step, path_in}
 use Rattle.value_paths.specs.EntityPaths.{shape_at, IsPathOf}
 use Rattle.value_paths.specs.RequestPaths.{IsContextType, IsRequestPathOf}
 use Rattle.value_paths.specs.Outcomes.{IsEntityFault, IsRequestFault}
@@ -51,8 +51,8 @@ module _ (law : EntitiesHavePaths) (s : StatedSchema) (d : Data) (whole : Option
   same_words None (Some y) a b = absurd (not_both (entity_stated_in s d) a.0 y.fault a.1 b.0)
   same_words (Some x) None a b = absurd (not_both (entity_stated_in s d) b.0 x.fault b.1 a.0)
   same_words (Some x) (Some y) a b =
-      ap (said x.fault whole) (same_path (entity_stated_in s d) (IsPathOf s d) x.fault y.fault x.path y.path (law s d) a.0 a.1 b.0 b.1)
-      ∙ ap (λ (f : EntityFault). said f whole y.path) (sym (one_fault (entity_stated_in s d) x.fault y.fault a.0 b.0))
+      ap (said x.fault whole) (same_path (entity_stated_in s d) (IsPathOf s d) x.fault y.fault (path_in x) (path_in y) (law s d) a.0 a.1 b.0 b.1)
+      ∙ ap (λ (f : EntityFault). said f whole (path_in y)) (sym (one_fault (entity_stated_in s d) x.fault y.fault a.0 b.0))
 
 pub told_once : EntitiesHavePaths → EntityPartsHaveOneText
 told_once law s None words others h g = h ∙ sym g
@@ -69,11 +69,11 @@ same_said s d t u path f (request.context asked g asks e) a b =
     ap (λ (whole : Option Cedar). said g whole path) (a asked asks ∙ sym (b asked asks))
 
 module _ (law : RequestsHavePaths) (either : NotBoth) (one : OneRefusal) (s : StatedSchema) (d : Data) where
-  same_place : (x y : PlacedFault) → RequestRefused s d x.fault × IsRequestPathOf s d x.fault x.path → RequestRefused s d y.fault × IsRequestPathOf s d y.fault y.path → x.path ≡ y.path
+  same_place : (x y : PlacedFault) → RequestRefused s d x.fault × IsRequestPathOf s d x.fault (path_in x) → RequestRefused s d y.fault × IsRequestPathOf s d y.fault (path_in y) → (path_in x) ≡ (path_in y)
   same_place x y a b =
       let found = law s d x.fault a.0 in
-      let moved = subst (λ (f : EntityFault). IsRequestPathOf s d f y.path) (one s d y.fault x.fault b.0 a.0) b.1 in
-      found.2 x.path a.1 ∙ sym (found.2 y.path moved)
+      let moved = subst (λ (f : EntityFault). IsRequestPathOf s d f (path_in y)) (one s d y.fault x.fault b.0 a.0) b.1 in
+      found.2 (path_in x) a.1 ∙ sym (found.2 (path_in y) moved)
 
   same_request_words : (o p : Option PlacedFault) (t u : Option Cedar) → IsRequestFault s d o → IsRequestFault s d p → IsContextType s d t → IsContextType s d u
       → part_words o t ≡ part_words p u
@@ -81,8 +81,8 @@ module _ (law : RequestsHavePaths) (either : NotBoth) (one : OneRefusal) (s : St
   same_request_words None (Some y) t u a b i j = absurd (either s d a.0 y.fault a.1 b.0)
   same_request_words (Some x) None t u a b i j = absurd (either s d b.0 x.fault b.1 a.0)
   same_request_words (Some x) (Some y) t u a b i j =
-      ap (said x.fault t) (same_place x y a b) ∙ same_said s d t u y.path x.fault a.0 i j
-      ∙ ap (λ (f : EntityFault). said f u y.path) (one s d x.fault y.fault a.0 b.0)
+      ap (said x.fault t) (same_place x y a b) ∙ same_said s d t u (path_in y) x.fault a.0 i j
+      ∙ ap (λ (f : EntityFault). said f u (path_in y)) (one s d x.fault y.fault a.0 b.0)
 
 pub requests_told_once : RequestsHavePaths → NotBoth → OneRefusal → RequestPartsHaveOneText
 requests_told_once law either one s None words others h g = h ∙ sym g

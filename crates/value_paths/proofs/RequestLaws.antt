@@ -18,8 +18,7 @@ use Rattle.entities.specs.declared.requests.Asked.{Asked}
 use Rattle.entities.specs.EntityForms.{is_absent_or_object, or_empty}
 use Rattle.entities.specs.Requests.{NamesAt, Asks, RequestRefused}
 use Rattle.entities.specs.Requests as request
-use Rattle.value_paths.specs.declared.steps.Step.{Step}
-use Rattle.value_paths.specs.declared.steps.Step.TheVariants.{Key}
+use Rattle.value_paths.specs.Steps.{Step, Key}
 use Rattle.value_paths.specs.EntityPaths.{to_key}
 use Rattle.value_paths.specs.RequestPaths.{IsNamedAt, FormFaultAt, context_type, IsInContext, IsRequestPathOf}
 use Rattle.value_paths.specs.RequestPaths as says

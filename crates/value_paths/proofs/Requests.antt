@@ -21,8 +21,7 @@ use Rattle.entities.specs.EntityForms.{is_absent_or_object, or_empty}
 use Rattle.entities.specs.Requests.{Asks, RequestRefused, context_asked}
 use Rattle.entities.specs.Requests as request
 use Rattle.value_paths.specs.declared.request_paths.Named.{Named}
-use Rattle.value_paths.specs.declared.steps.Step.{Step}
-use Rattle.value_paths.specs.declared.steps.Step.TheVariants.{Key}
+use Rattle.value_paths.specs.Steps.{Step, Key}
 use Rattle.value_paths.specs.Paths.{RecordFaultAt}
 use Rattle.value_paths.specs.EntityPaths.{to_key, first_unmet}
 use Rattle.value_paths.specs.RequestPaths.{FormFaultAt, context_type, IsContextType, IsInContext, IsRequestPathOf}

@@ -10,7 +10,7 @@ use Rattle.entities.specs.declared.fault.EntityFault.{EntityFault}
 use Rattle.entities.specs.declared.fault.EntityFault.TheVariants.{NoMemory}
 use Rattle.entities.specs.Entities.{entity_stated_in}
 use Rattle.entities.specs.Requests.{ParsesRequest, RequestRefused}
-use Rattle.value_paths.specs.declared.steps.Step.{Step}
+use Rattle.value_paths.specs.Steps.{Step, path_in}
 use Rattle.value_paths.specs.declared.placed.PlacedFault.{PlacedFault}
 use Rattle.value_paths.specs.EntityPaths.{IsPathOf}
 use Rattle.value_paths.specs.RequestPaths.{IsRequestPathOf}
@@ -28,14 +28,14 @@ failed f = Err f
 
 -- what was found is returned
 told : (P : EntityFault → List Step → Type 0) (f : EntityFault) (p : List Step) (found : Option (List Step)) (o : Option PlacedFault) → IsPlaced f found o → found ≡ Some p → P f p
-    → (x : PlacedFault) × (o ≡ Some x) × P x.fault x.path
+    → (x : PlacedFault) × (o ≡ Some x) × P x.fault (path_in x)
 told P f p None o h e is = absurd cc
 told P f p (Some q) None h e is = absurd h
 told P f p (Some q) (Some x) h e is =
-    (x, refl, subst (λ (g : EntityFault). P g x.path) (sym h.0) (subst (P f) (sym (some_is q p e) ∙ sym h.1) is))
+    (x, refl, subst (λ (g : EntityFault). P g (path_in x)) (sym h.0) (subst (P f) (sym (some_is q p e) ∙ sym h.1) is))
 
 told_in : {E : Type 0} (P : EntityFault → List Step → Type 0) (f : EntityFault) (found : Result (Option (List Step)) E) (o : Option PlacedFault) → MatchResult found (λ q. IsPlaced f q o) (λ _. ⊥)
-    → IfOk found (λ q. (p : List Step) × (q ≡ Some p) × P f p) → (x : PlacedFault) × (o ≡ Some x) × P x.fault x.path
+    → IfOk found (λ q. (p : List Step) × (q ≡ Some p) × P f p) → (x : PlacedFault) × (o ≡ Some x) × P x.fault (path_in x)
 told_in P f (Ok q) o h k = told P f k.0 q o h k.1 k.2
 told_in P f (Err e) o h k = absurd h
 

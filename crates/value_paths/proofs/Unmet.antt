@@ -4,7 +4,7 @@ use Rattle.std.specs.Prelude.{is_some}
 use Rattle.serde_json.specs.Data.{Data}
 use Rattle.serde_json.specs.Find.{get, as_object}
 use Rattle.entities.specs.EntityForms.{is_absent_or_object}
-use Rattle.value_paths.specs.declared.steps.Step.{Step}
+use Rattle.value_paths.specs.Steps.{Step}
 use Rattle.value_paths.specs.EntityPaths.{Demand, to_key, first_unmet, is_uid, parents_demands, form_demands}
 use Rattle.value_paths.specs.inner.FoundPaths.{or_unmet}
 use Rattle.value_paths.specs.inner.FoundNames.{request_demands}

@@ -19,8 +19,7 @@ use Rattle.entities.specs.declared.fault.EntityFault.TheVariants.{BadParent, Sel
 use Rattle.entities.specs.declared.stated.StatedEntity.{StatedEntity}
 use Rattle.entities.specs.EntityForms.{is_absent_or_object, or_empty, stated_in}
 use Rattle.entities.specs.Entities.{parent_fits}
-use Rattle.value_paths.specs.declared.steps.Step.{Step}
-use Rattle.value_paths.specs.declared.steps.Step.TheVariants.{Key, Index}
+use Rattle.value_paths.specs.Steps.{Step, Key, Index}
 use Rattle.value_paths.specs.Paths.{RecordFaultAt}
 
 -- `to_key key` is the path to the member at `key`; `to_parent i` is the path to the parent at the index `i`.

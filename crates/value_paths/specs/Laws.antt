@@ -8,7 +8,7 @@ use Rattle.entities.specs.Entities.{entity_stated_in}
 use Rattle.entities.specs.Requests.{RequestRefused}
 use Rattle.entities.specs.declared.fault.EntityFault.{EntityFault}
 use Rattle.entities.specs.Typing.{typed_value, record_in}
-use Rattle.value_paths.specs.declared.steps.Step.{Step}
+use Rattle.value_paths.specs.Steps.{Step}
 use Rattle.value_paths.specs.Paths.{FaultAt, RecordFaultAt}
 use Rattle.value_paths.specs.EntityPaths.{IsPathOf}
 use Rattle.value_paths.specs.RequestPaths.{IsRequestPathOf}

@@ -1,3 +1,4 @@
+pub mod Steps
 pub mod Outcomes
 pub mod Paths
 pub mod EntityPaths

@@ -9,6 +9,7 @@ use Rattle.entities.specs.schema.Schemas.{StatedSchema}
 use Rattle.entities.specs.Entities.{entity_stated_in}
 use Rattle.entities.specs.Requests.{ParsesRequest, RequestRefused}
 use Rattle.value_paths.specs.declared.placed.PlacedFault.{PlacedFault}
+use Rattle.value_paths.specs.Steps.{path_in}
 use Rattle.value_paths.specs.EntityPaths.{IsPathOf}
 use Rattle.value_paths.specs.RequestPaths.{IsRequestPathOf}
 
@@ -16,10 +17,10 @@ use Rattle.value_paths.specs.RequestPaths.{IsRequestPathOf}
 -- at fault; or if `o` is `None`, and `d` describes an entity.
 abbrev pub IsEntityFault : StatedSchema → Data → Option PlacedFault → Type 0
 IsEntityFault s d o = MatchOption o ((e : Entity) × (entity_stated_in s d ≡ Ok e))
-    (λ x. (entity_stated_in s d ≡ Err x.fault) × IsPathOf s d x.fault x.path)
+    (λ x. (entity_stated_in s d ≡ Err x.fault) × IsPathOf s d x.fault (path_in x))
 
 -- `IsRequestFault s d o` holds if `o` is the error of `d` as a request under the schema `s`, with the path to the part
 -- at fault; or if `o` is `None`, and `d` describes a request.
 abbrev pub IsRequestFault : StatedSchema → Data → Option PlacedFault → Type 0
 IsRequestFault s d o = MatchOption o ((q : Request) × ParsesRequest s d q)
-    (λ x. RequestRefused s d x.fault × IsRequestPathOf s d x.fault x.path)
+    (λ x. RequestRefused s d x.fault × IsRequestPathOf s d x.fault (path_in x))

@@ -15,7 +15,7 @@ use Rattle.entities.specs.schema.Schemas.{StatedSchema}
 use Rattle.entities.specs.declared.fault.EntityFault.{EntityFault}
 use Rattle.entities.specs.declared.fault.EntityFault.TheVariants.{Undeclared, Missing, WrongType}
 use Rattle.value_paths.specs.declared.placed.PlacedFault.{PlacedFault}
-use Rattle.value_paths.specs.declared.steps.Step.{Step}
+use Rattle.value_paths.specs.Steps.{Step, path_in}
 use Rattle.value_paths.specs.EntityPaths.{shape_at}
 use Rattle.value_paths.specs.RequestPaths.{IsContextType}
 use Rattle.value_paths.specs.Outcomes.{IsEntityFault, IsRequestFault}
@@ -57,7 +57,7 @@ type_after_first whole (step ∷ path) = type_at whole path
 -- `type_of_part x whole` is the type that is declared for the part that the error `x` is about, where `whole` is the
 -- type of the attributes or of the context.
 abbrev pub type_of_part : PlacedFault → Option Cedar → Option Cedar
-type_of_part x whole = if is_of_value x.fault then option_and_then (λ t. type_after_first t x.path) whole else None
+type_of_part x whole = if is_of_value x.fault then option_and_then (λ t. type_after_first t (path_in x)) whole else None
 
 -- ---- the words
 
@@ -71,7 +71,7 @@ pointer_words (c ∷ cs) = codes "at " ++ c ∷ cs
 -- declared for it; empty if there is no error. `whole` is the type of the attributes or of the context.
 abbrev pub part_words : Option PlacedFault → Option Cedar → List ℕ
 part_words None whole = []
-part_words (Some x) whole = pointer_words (pointer_of x.path) ++ declared_words (type_of_part x whole)
+part_words (Some x) whole = pointer_words (pointer_of (path_in x)) ++ declared_words (type_of_part x whole)
 
 -- `item_at text index` is the item at the index `index` of the JSON array `text`, if there is one.
 abbrev pub item_at : List ℕ → ℕ → Option Data

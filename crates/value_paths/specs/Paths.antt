@@ -16,8 +16,7 @@ use Rattle.schema_types.specs.Cedar.{Cedar, CedarFields}
 use Rattle.entities.specs.declared.value_fault.ValueFault.{ValueFault}
 use Rattle.entities.specs.Parts.{element_of, fields_in, declared_at}
 use Rattle.entities.specs.Typing.{typed_value, typed_members}
-use Rattle.value_paths.specs.declared.steps.Step.{Step}
-use Rattle.value_paths.specs.declared.steps.Step.TheVariants.{Key, Index}
+use Rattle.value_paths.specs.Steps.{Step, Key, Index}
 
 -- `is_set t d` tests whether `t` is a set type and `d` an array; `is_record t d` tests whether `t` is a record type and
 -- `d` an object. Other values have no parts.

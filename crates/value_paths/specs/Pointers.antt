@@ -3,8 +3,7 @@
 -- an index is decimal, without leading zeros.
 use Rattle.std.specs.Prelude.{ℕ, ◌==◌, List, [], ◌∷◌, codes, decimal, chars, encode_utf8_all, if◌then◌else◌}
 use Rattle.std.specs.List.{flat_map}
-use Rattle.value_paths.specs.declared.steps.Step.{Step}
-use Rattle.value_paths.specs.declared.steps.Step.TheVariants.{Key, Index}
+use Rattle.value_paths.specs.Steps.{Step, Key, Index}
 
 -- `escaped_char c` are the characters that represent the character `c` of a key (126 is `~`, 47 is `/`).
 abbrev pub escaped_char : ℕ → List ℕ

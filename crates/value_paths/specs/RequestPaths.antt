@@ -15,8 +15,7 @@ use Rattle.entities.specs.declared.requests.Asked.{Asked}
 use Rattle.entities.specs.EntityForms.{is_absent_or_object, or_empty}
 use Rattle.entities.specs.Contexts.{context_where, is_place}
 use Rattle.entities.specs.Requests.{NamesAt, Asks}
-use Rattle.value_paths.specs.declared.steps.Step.{Step}
-use Rattle.value_paths.specs.declared.steps.Step.TheVariants.{Key}
+use Rattle.value_paths.specs.Steps.{Step, Key}
 use Rattle.value_paths.specs.Paths.{RecordFaultAt}
 use Rattle.value_paths.specs.EntityPaths.{to_key}
 

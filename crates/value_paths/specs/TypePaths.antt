@@ -3,8 +3,7 @@
 use Rattle.std.specs.Prelude.{List, [], ◌∷◌, Option, Some, option_and_then}
 use Rattle.schema_types.specs.Cedar.{Cedar}
 use Rattle.entities.specs.Parts.{element_of, fields_in, declared_at}
-use Rattle.value_paths.specs.declared.steps.Step.{Step}
-use Rattle.value_paths.specs.declared.steps.Step.TheVariants.{Key, Index}
+use Rattle.value_paths.specs.Steps.{Step, Key, Index}
 
 -- `type_under t step` is the type that `t` declares for the part to which `step` leads from a value of the type `t`, if
 -- it declares one.

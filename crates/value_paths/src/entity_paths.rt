@@ -13,7 +13,7 @@ use crate::forms::{find_in_form, uid_at};
 use crate::parents::find_bad_parent;
 use crate::placed::{PlacedFault, fault_of, placed};
 use crate::steps::{Trail, at_key, under_key};
-use entities::{EntityFault, Schema, drop_entity, read_entity};
+use entities::{EntityFault, Schema, drop_entity, drop_uid, read_entity};
 use plain::NoMemory;
 use schema_types::CedarType;
 use serde_json::Value;
@@ -31,7 +31,7 @@ pub(crate) fn shape_at<'s>(
     match uid_at(alloc, found) {
         Ok(Some(uid)) => {
             let entity_type = schema.entity_type(&uid.type_name);
-            drop(uid);
+            drop_uid(Some(uid));
             match entity_type {
                 Some(entity_type) => Ok(Some(&entity_type.shape)),
                 None => Ok(None),
@@ -44,29 +44,29 @@ pub(crate) fn shape_at<'s>(
 
 /// Returns the path to the part at fault, if there is one, in the member of `value` at `key`, whose type is `ty`. An
 /// absent member counts as an empty object. If `ty` is `None`, returns `None`.
-pub(crate) fn find_under(
+pub(crate) fn find_under<'p>(
     alloc: Global,
-    value: &Value,
-    key: &str,
-    ty: Option<&CedarType>,
-) -> Result<Option<Trail>, NoMemory>
+    value: &'p Value,
+    key: &'p str,
+    ty: Option<&'p CedarType>,
+) -> Result<Option<Trail<'p>>, NoMemory>
     ensures { IfOk result
-        (λ o. o ≡ path_under key.now (option_map (λ t. cedar_view t.now) ty.entry) (view value.now)) }
+        (λ o. o ≡ path_under key.entry.now (option_map (λ t. cedar_view t.now) ty.entry) (view value.entry.now)) }
 {
     match ty {
-        Some(ty) => under_key(alloc, key, find_in_record(alloc, value.get(key), ty)),
+        Some(ty) => under_key(key, find_in_record(alloc, value.get(key), ty)),
         None => Ok(None),
     }
 }
 
 /// Returns the path to the part that an error is about.
-fn find_part(
+fn find_part<'p>(
     alloc: Global,
-    schema: &Schema,
-    value: &Value,
+    schema: &'p Schema,
+    value: &'p Value,
     fault: EntityFault,
-) -> Result<Option<Trail>, NoMemory>
-    ensures { IfOk result (λ o. o ≡ path_of (schema_view schema.now) (view value.now) fault) }
+) -> Result<Option<Trail<'p>>, NoMemory>
+    ensures { IfOk result (λ o. o ≡ path_of (schema_view schema.entry.now) (view value.entry.now) fault) }
 {
     match fault {
         EntityFault::BadShape => find_in_form(alloc, value),
@@ -81,7 +81,8 @@ fn find_part(
 }
 
 /// Returns the error of a value as an entity under a schema, and the path to the part at fault; `None` if the value
-/// describes an entity. The call's only error is `NoMemory`.
+/// describes an entity. The call's only error is `NoMemory`. The keys of the path are borrowed from `schema` and
+/// `value`, or are constants.
 ///
 /// The path of `BadShape` leads to the first part of an entity that is missing or malformed; that of `UnknownType` and
 /// `ActionEntity`, to the uid; that of `TagsLeftOut`, to the tags; that of `BadParent` and `SelfParent`, to the first
@@ -90,12 +91,12 @@ fn find_part(
 ///
 /// Parses `value` again. The search is then O(n f), where n is the number of members of objects and items of
 /// arrays in `value`, and f the greatest number of fields of a record type.
-pub fn entity_fault(
+pub fn entity_fault<'p>(
     alloc: Global,
-    schema: &Schema,
-    value: &Value,
-) -> Result<Option<PlacedFault>, NoMemory>
-    ensures { IfOk result (IsEntityFault (schema_view schema.now) (view value.now)) }
+    schema: &'p Schema,
+    value: &'p Value,
+) -> Result<Option<PlacedFault<'p>>, NoMemory>
+    ensures { IfOk result (IsEntityFault (schema_view schema.entry.now) (view value.entry.now)) }
 {
     let read = read_entity(alloc, schema, value);
     let fault = fault_of(&read);

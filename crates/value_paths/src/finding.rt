@@ -7,7 +7,7 @@ ghost use Rattle.entities.specs.EntityForms.{or_empty};
 ghost use Rattle.value_paths.specs.inner.FoundPaths.{or_else, absent_path, value_path, item_path, member_path};
 ghost use Rattle.value_paths.specs.inner.FoundPaths.{record_path};
 
-use crate::steps::{Step, Trail, at_key, under_key};
+use crate::steps::{Step, Trail, at_key};
 use crate::wholes::find_whole;
 use entities::{Field, declared_type, element_type, record_fields};
 use plain::NoMemory;
@@ -27,12 +27,12 @@ fn lacks(value: Option<&Value>, key: &str) -> bool
 
 /// Returns the path to the first required key of `fields` that `value` lacks, if there is one. An absent value counts
 /// as an empty object.
-fn find_absent(
+fn find_absent<'p>(
     alloc: Global,
-    fields: &[Field],
+    fields: &'p [Field],
     value: Option<&Value>,
-) -> Result<Option<Trail>, NoMemory>
-    ensures { IfOk result (λ o. o ≡ absent_path (cedar_fields_view fields.now)
+) -> Result<Option<Trail<'p>>, NoMemory>
+    ensures { IfOk result (λ o. o ≡ absent_path (cedar_fields_view fields.entry.now)
         (or_empty (option_map (λ v. view v.now) value.entry))) }
 {
     for field in fields {
@@ -46,8 +46,12 @@ fn find_absent(
 /// Returns the path to the part of `value` that is at fault under the type `ty`, if there is one.
 #[cycle(find)]
 #[tactic(auto, unfolding(crate::specs::inner::FoundPaths::value_path))]
-fn find(alloc: Global, value: &Value, ty: &CedarType) -> Result<Option<Trail>, NoMemory>
-    ensures { IfOk result (λ o. o ≡ value_path (cedar_view ty.now) (view value.now)) }
+fn find<'p>(
+    alloc: Global,
+    value: &'p Value,
+    ty: &'p CedarType,
+) -> Result<Option<Trail<'p>>, NoMemory>
+    ensures { IfOk result (λ o. o ≡ value_path (cedar_view ty.entry.now) (view value.entry.now)) }
 {
     match value {
         Value::Array(items) => match element_type(ty) {
@@ -64,8 +68,12 @@ fn find(alloc: Global, value: &Value, ty: &CedarType) -> Result<Option<Trail>, N
 
 /// Returns the path to the part at fault of the first rejected item of an array, if an item is rejected.
 #[cycle(find)]
-fn find_item(alloc: Global, items: &Vec<Value>, ty: &CedarType) -> Result<Option<Trail>, NoMemory>
-    ensures { IfOk result (λ o. o ≡ item_path (cedar_view ty.now) 0 (items_view items.now.items)) }
+fn find_item<'p>(
+    alloc: Global,
+    items: &'p Vec<Value>,
+    ty: &'p CedarType,
+) -> Result<Option<Trail<'p>>, NoMemory>
+    ensures { IfOk result (λ o. o ≡ item_path (cedar_view ty.entry.now) 0 (items_view items.entry.now.items)) }
 {
     for (index, item) in items.iter().enumerate() {
         match find(alloc, item, ty) {
@@ -84,15 +92,15 @@ fn find_item(alloc: Global, items: &Vec<Value>, ty: &CedarType) -> Result<Option
 /// `members` are the members of `value`. If no member is at fault, returns the path to the first required key that is
 /// absent, if one is.
 #[cycle(find)]
-fn find_in_members(
+fn find_in_members<'p>(
     alloc: Global,
-    members: &Map<String, Value>,
-    fields: &[Field],
+    members: &'p Map<String, Value>,
+    fields: &'p [Field],
     value: &Value,
-) -> Result<Option<Trail>, NoMemory>
+) -> Result<Option<Trail<'p>>, NoMemory>
     ensures { IfOk result
-        (λ o. o ≡ or_else (member_path (cedar_fields_view fields.now) (members_view members.now.entries))
-        (absent_path (cedar_fields_view fields.now) (view value.now))) }
+        (λ o. o ≡ or_else (member_path (cedar_fields_view fields.entry.now) (members_view members.entry.now.entries))
+        (absent_path (cedar_fields_view fields.entry.now) (view value.now))) }
 {
     for (key, member) in members.iter() {
         let name = key.as_str();
@@ -102,7 +110,7 @@ fn find_in_members(
         };
         match find(alloc, member, ty) {
             Ok(found) => match found {
-                Some(trail) => return under_key(alloc, name, Ok(Some(trail))),
+                Some(trail) => return trail.under(Step::Key(name)),
                 None => {}
             },
             Err(fault) => return Err(fault),
@@ -114,13 +122,13 @@ fn find_in_members(
 /// Returns the path to the part of a record that is at fault, if one is. An absent record counts as an empty object. A
 /// value that is not an object, or whose type is not a record, is at fault as a whole.
 #[tactic(auto, unfolding(crate::specs::inner::FoundPaths::record_path, crate::specs::inner::FoundPaths::value_path))]
-pub(crate) fn find_in_record(
+pub(crate) fn find_in_record<'p>(
     alloc: Global,
-    found: Option<&Value>,
-    ty: &CedarType,
-) -> Result<Option<Trail>, NoMemory>
+    found: Option<&'p Value>,
+    ty: &'p CedarType,
+) -> Result<Option<Trail<'p>>, NoMemory>
     ensures { IfOk result
-        (λ o. o ≡ record_path (cedar_view ty.now) (or_empty (option_map (λ v. view v.now) found.entry))) }
+        (λ o. o ≡ record_path (cedar_view ty.entry.now) (or_empty (option_map (λ v. view v.now) found.entry))) }
 {
     match record_fields(ty) {
         Some(fields) => match found {

@@ -6,21 +6,17 @@ ghost use Rattle.value_paths.specs.EntityPaths.{first_unmet, uid_at};
 ghost use Rattle.value_paths.specs.inner.FoundPaths.{or_unmet};
 
 use crate::steps::{Step, Trail, at_key, under_key};
-use entities::{is_absent_or_object, read_uid};
+use entities::{drop_uid, is_absent_or_object, read_uid};
 use plain::NoMemory;
 use serde_json::Value;
 use std::alloc::Global;
 use values::EntityUid;
 
 /// Returns the path to the parent at an index. Always `Some`.
-pub(crate) fn at_parent(alloc: Global, index: usize) -> Result<Option<Trail>, NoMemory>
+pub(crate) fn at_parent<'p>(alloc: Global, index: usize) -> Result<Option<Trail<'p>>, NoMemory>
     ensures { IfOk result (λ o. o ≡ Some (to_parent index)) }
 {
-    under_key(
-        alloc,
-        "parents",
-        Trail::here(alloc).under(Step::Index(index)),
-    )
+    under_key("parents", Trail::here(alloc).under(Step::Index(index)))
 }
 
 /// Returns the uid that a value describes, if it is present and describes one.
@@ -40,7 +36,7 @@ fn is_uid(alloc: Global, found: Option<&Value>) -> Result<bool, NoMemory>
     match uid_at(alloc, found) {
         Ok(uid) => {
             let is_uid = uid.is_some();
-            drop(uid);
+            drop_uid(uid);
             Ok(is_uid)
         }
         Err(fault) => Err(fault),
@@ -48,7 +44,7 @@ fn is_uid(alloc: Global, found: Option<&Value>) -> Result<bool, NoMemory>
 }
 
 /// Returns the path to the first of the parents that is not a uid, if there is one.
-fn find_nameless(alloc: Global, parents: &[Value]) -> Result<Option<Trail>, NoMemory>
+fn find_nameless<'p>(alloc: Global, parents: &[Value]) -> Result<Option<Trail<'p>>, NoMemory>
     ensures { IfOk result (λ o. o ≡ first_unmet (parent_demands 0 (items_view parents.now))) }
 {
     for (index, parent) in parents.iter().enumerate() {
@@ -65,7 +61,7 @@ fn find_nameless(alloc: Global, parents: &[Value]) -> Result<Option<Trail>, NoMe
 }
 
 /// Returns the path to the first part of the parents that does not have the form of parents, if there is one.
-fn find_in_parents(alloc: Global, found: Option<&Value>) -> Result<Option<Trail>, NoMemory>
+fn find_in_parents<'p>(alloc: Global, found: Option<&Value>) -> Result<Option<Trail<'p>>, NoMemory>
     ensures { IfOk result
         (λ o. o ≡ first_unmet (parents_demands (option_map (λ v. view v.now) found.entry))) }
 {
@@ -86,7 +82,7 @@ pub(crate) fn or_unmet<'k>(met: bool, key: &'k str, later: Option<&'k str>) -> O
 }
 
 /// Returns the path to the first part of an entity that is missing or malformed, if there is one.
-pub(crate) fn find_in_form(alloc: Global, value: &Value) -> Result<Option<Trail>, NoMemory>
+pub(crate) fn find_in_form<'p>(alloc: Global, value: &Value) -> Result<Option<Trail<'p>>, NoMemory>
     ensures { IfOk result (λ o. o ≡ first_unmet (form_demands (view value.now))) }
 {
     if !value.is_object() {

@@ -9,7 +9,7 @@ ghost use Rattle.value_paths.specs.inner.FoundParts.{fits, unfit_path, parents_p
 
 use crate::forms::{at_parent, uid_at};
 use crate::steps::Trail;
-use entities::{Schema, read_uid};
+use entities::{Schema, drop_uid, read_uid};
 use plain::NoMemory;
 use serde_json::Value;
 use std::alloc::Global;
@@ -24,12 +24,12 @@ fn fits(schema: &Schema, uid: &EntityUid, parent: &EntityUid) -> bool
 
 /// Returns the path to the first of these parents that an entity may not have; `None` if it may have
 /// all parents before the first item that is not a uid.
-fn find_unfit(
+fn find_unfit<'p>(
     alloc: Global,
     schema: &Schema,
     uid: &EntityUid,
     parents: &[Value],
-) -> Result<Option<Trail>, NoMemory>
+) -> Result<Option<Trail<'p>>, NoMemory>
     ensures { IfOk result
         (λ o. o ≡ unfit_path (schema_view schema.now) uid.now 0 (items_view parents.now)) }
 {
@@ -42,7 +42,7 @@ fn find_unfit(
             Err(fault) => return Err(fault),
         };
         let fit = fits(schema, uid, &parent);
-        drop(parent);
+        drop_uid(Some(parent));
         if !fit {
             return at_parent(alloc, index);
         }
@@ -52,12 +52,12 @@ fn find_unfit(
 
 /// Returns the path that [`find_unfit`] finds in the array `found`; `None` if `found` is not an array.
 #[tactic(auto, unfolding(crate::specs::inner::FoundParts::unfit_path))]
-fn find_unfit_at(
+fn find_unfit_at<'p>(
     alloc: Global,
     schema: &Schema,
     uid: &EntityUid,
     found: Option<&Value>,
-) -> Result<Option<Trail>, NoMemory>
+) -> Result<Option<Trail<'p>>, NoMemory>
     ensures { IfOk result (λ o. o ≡ unfit_path (schema_view schema.now) uid.now 0
         (items_at (option_map (λ v. view v.now) found.entry))) }
 {
@@ -73,17 +73,17 @@ fn find_unfit_at(
 /// Returns the path to the first parent that the entity of a value may not have; `None` if there is no such parent, or
 /// if an earlier parent or the uid of the entity does not parse.
 #[tactic(auto, unfolding(crate::specs::inner::FoundParts::parents_path))]
-pub(crate) fn find_bad_parent(
+pub(crate) fn find_bad_parent<'p>(
     alloc: Global,
     schema: &Schema,
     value: &Value,
-) -> Result<Option<Trail>, NoMemory>
+) -> Result<Option<Trail<'p>>, NoMemory>
     ensures { IfOk result (λ o. o ≡ parents_path (schema_view schema.now) (view value.now)) }
 {
     match uid_at(alloc, value.get("uid")) {
         Ok(Some(uid)) => {
             let found = find_unfit_at(alloc, schema, &uid, value.get("parents"));
-            drop(uid);
+            drop_uid(Some(uid));
             found
         }
         Ok(None) => Ok(None),

@@ -7,6 +7,7 @@ ghost use Rattle.entities.specs.schema.Views.{schema_view};
 ghost use Rattle.value_paths.specs.PartWords.{type_word, is_of_value, type_of_part, declared_words};
 ghost use Rattle.value_paths.specs.PartWords.{pointer_words, part_words, NamesPartOfEntity, NamesPartOfRequest};
 ghost use Rattle.value_paths.specs.PartWords.{NamesPartOfItem};
+ghost use Rattle.value_paths.specs.Steps.{steps_view};
 ghost use Rattle.value_paths.specs.Pointers.{pointer_of};
 ghost use Rattle.value_paths.specs.PartWords.{NamesPartOfRequestText};
 
@@ -51,7 +52,7 @@ fn is_of_value(fault: EntityFault) -> bool
 
 /// Returns the declared type of the part that an error is about. The first step of its path, `attrs` or `context`,
 /// leads to a value of the type `whole`, and the others from there to the part.
-fn type_of_part<'s>(found: &PlacedFault, whole: Option<&'s CedarType>) -> Option<&'s CedarType>
+fn type_of_part<'s>(found: &PlacedFault<'_>, whole: Option<&'s CedarType>) -> Option<&'s CedarType>
     ensures { option_map (λ t. cedar_view t.now) result
         ≡ type_of_part found.now (option_map (λ t. cedar_view t.now) whole.entry) }
 {
@@ -68,9 +69,9 @@ fn type_of_part<'s>(found: &PlacedFault, whole: Option<&'s CedarType>) -> Option
 }
 
 /// Appends `at ` and the pointer of a path; nothing for the empty path, which leads to the whole value.
-fn push_pointer(out: &mut String, path: &[Step]) -> Result<(), NoMemory>
+fn push_pointer(out: &mut String, path: &[Step<'_>]) -> Result<(), NoMemory>
     ensures { OnOk result (string_bytes out.new
-        ≡ string_bytes out.old ++ pointer_words (pointer_of path.now)) }
+        ≡ string_bytes out.old ++ pointer_words (pointer_of (steps_view path.now))) }
 {
     if path.is_empty() {
         return Ok(());
@@ -95,7 +96,7 @@ fn push_declared(out: &mut String, ty: Option<&CedarType>) -> Result<(), NoMemor
 /// Appends the words that name the part that an error is about, if there is an error.
 fn push_part(
     out: &mut String,
-    found: &Option<PlacedFault>,
+    found: &Option<PlacedFault<'_>>,
     whole: Option<&CedarType>,
 ) -> Result<(), NoMemory>
     ensures { OnOk result (string_bytes out.new ≡ string_bytes out.old
@@ -114,10 +115,10 @@ fn push_part(
 /// is `NoMemory`, its own or that of the search.
 fn part_words(
     alloc: Global,
-    found: Result<Option<PlacedFault>, NoMemory>,
+    found: Result<Option<PlacedFault<'_>>, NoMemory>,
     whole: Option<&CedarType>,
 ) -> Result<Text, NoMemory>
-    ensures { IfOk result (λ words. MatchResult found
+    ensures { IfOk result (λ words. MatchResult found.entry
         (λ o. words ≡ part_words o (option_map (λ t. cedar_view t.now) whole.entry)) (λ _. ⊥)) }
 {
     match found {

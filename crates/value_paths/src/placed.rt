@@ -4,15 +4,15 @@ ghost use Rattle.value_paths.specs.inner.Placing.{IsFaultOf, IsPlaced};
 
 use crate::steps::{Step, Trail};
 use entities::EntityFault;
-use plain::{Items, NoMemory};
+use plain::NoMemory;
 
 /// The error of a JSON value that is rejected as an entity or a request, and the path from it to the part at fault.
 #[derive(Drop)]
-pub struct PlacedFault {
+pub struct PlacedFault<'p> {
     /// The error of parsing the JSON.
     pub fault: EntityFault,
     /// The steps to the part; empty if the whole is at fault. If a required key is absent, that key is the last step.
-    pub path: Items<Step>,
+    pub path: Vec<Step<'p>>,
 }
 
 /// Returns the error that parsing gave, or `None` if it gave a value. The call's only error is `NoMemory`.
@@ -30,11 +30,11 @@ pub(crate) fn fault_of<T>(read: &Result<T, EntityFault>) -> Result<Option<Entity
 
 /// Returns an error with the path that a search gave, or `None` if the search found no path. The call's only error is
 /// that of the search.
-pub(crate) fn placed(
+pub(crate) fn placed<'p>(
     fault: EntityFault,
-    found: Result<Option<Trail>, NoMemory>,
-) -> Result<Option<PlacedFault>, NoMemory>
-    ensures { IfOk result (λ o. MatchResult found (λ path. IsPlaced fault path o) (λ _. ⊥)) }
+    found: Result<Option<Trail<'p>>, NoMemory>,
+) -> Result<Option<PlacedFault<'p>>, NoMemory>
+    ensures { IfOk result (λ o. MatchResult found.entry (λ path. IsPlaced fault path o) (λ _. ⊥)) }
 {
     match found {
         Ok(Some(trail)) => Ok(Some(PlacedFault {

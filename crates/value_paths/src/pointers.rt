@@ -1,5 +1,6 @@
 //! JSON pointers.
 ghost use Rattle.std.specs.Prelude.{◌≡◌, ◌++◌, ◌∷◌, OnOk, string_bytes, encode_utf8_all};
+ghost use Rattle.value_paths.specs.Steps.{step_view, steps_view};
 ghost use Rattle.value_paths.specs.Pointers.{escaped_char, escaped, token_of, pointer_of};
 
 use crate::steps::Step;
@@ -30,12 +31,12 @@ fn push_key(out: &mut String, key: &str) -> Result<(), NoMemory>
 }
 
 /// Appends a step: `/` and its reference token.
-fn push_step(out: &mut String, step: &Step) -> Result<(), NoMemory>
-    ensures { OnOk result (string_bytes out.new ≡ string_bytes out.old ++ (47 ∷ token_of step.now)) }
+fn push_step(out: &mut String, step: Step<'_>) -> Result<(), NoMemory>
+    ensures { OnOk result (string_bytes out.new ≡ string_bytes out.old ++ (47 ∷ token_of (step_view step.entry))) }
 {
     match out.push('/') {
         Ok(()) => match step {
-            Step::Key(key) => push_key(out, key.as_str()),
+            Step::Key(key) => push_key(out, key),
             Step::Index(index) => write!(out, "{index}"),
         },
         Err(fault) => Err(fault),
@@ -44,11 +45,11 @@ fn push_step(out: &mut String, step: &Step) -> Result<(), NoMemory>
 
 /// Appends the JSON pointer of a path (RFC 6901), such as `/attrs/home/zip`; nothing for the empty path. In a key `~`
 /// is written `~0`, and `/` is written `~1`.
-pub(crate) fn push_steps(out: &mut String, path: &[Step]) -> Result<(), NoMemory>
-    ensures { OnOk result (string_bytes out.new ≡ string_bytes out.old ++ pointer_of path.now) }
+pub(crate) fn push_steps(out: &mut String, path: &[Step<'_>]) -> Result<(), NoMemory>
+    ensures { OnOk result (string_bytes out.new ≡ string_bytes out.old ++ pointer_of (steps_view path.now)) }
 {
     for step in path {
-        match push_step(out, step) {
+        match push_step(out, *step) {
             Ok(()) => {}
             Err(fault) => return Err(fault),
         }

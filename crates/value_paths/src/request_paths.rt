@@ -15,7 +15,7 @@ use crate::forms::or_unmet;
 use crate::placed::{PlacedFault, fault_of, placed};
 use crate::steps::{Trail, at_key};
 use entities::{
-    EntityFault, Environment, Schema, drop_request, is_absent_or_object, names_read_back,
+    EntityFault, Environment, Schema, drop_request, drop_uid, is_absent_or_object, names_read_back,
     read_name, read_request,
 };
 use plain::{NoMemory, both, pair_with};
@@ -36,7 +36,6 @@ fn name_at(alloc: Global, found: Option<&Value>) -> Result<Option<EntityUid>, No
 
 /// The entities that a request names as its principal, action and resource; `None` for one that is absent or a value
 /// that names no entity.
-#[derive(Drop)]
 struct Named {
     principal: Option<EntityUid>,
     action: Option<EntityUid>,
@@ -64,8 +63,20 @@ fn names_in(alloc: Global, value: &Value) -> Result<Named, NoMemory>
     }
 }
 
+/// Drops the uids that a request names.
+fn drop_names(names: Named) {
+    let Named {
+        principal,
+        action,
+        resource,
+    } = names;
+    drop_uid(principal);
+    drop_uid(action);
+    drop_uid(resource);
+}
+
 /// Returns the path to the first part of a request that is missing or malformed, if there is one.
-fn find_in_request_form(alloc: Global, value: &Value) -> Result<Option<Trail>, NoMemory>
+fn find_in_request_form<'p>(alloc: Global, value: &Value) -> Result<Option<Trail<'p>>, NoMemory>
     ensures { IfOk result (IsFormSearched (view value.now)) }
 {
     if !value.is_object() {
@@ -77,7 +88,7 @@ fn find_in_request_form(alloc: Global, value: &Value) -> Result<Option<Trail>, N
             let from_resource = or_unmet(names.resource.is_some(), "resource", from_context);
             let from_action = or_unmet(names.action.is_some(), "action", from_resource);
             let unmet = or_unmet(names.principal.is_some(), "principal", from_action);
-            drop(names);
+            drop_names(names);
             match unmet {
                 Some(key) => at_key(alloc, key),
                 None => Ok(None),
@@ -153,7 +164,7 @@ pub(crate) fn asked_type<'s>(
     match names_in(alloc, value) {
         Ok(names) => {
             let ty = named_type(schema, &names);
-            drop(names);
+            drop_names(names);
             Ok(ty)
         }
         Err(fault) => Err(fault),
@@ -161,13 +172,13 @@ pub(crate) fn asked_type<'s>(
 }
 
 /// Returns the path to the part that an error is about.
-fn find_part(
+fn find_part<'p>(
     alloc: Global,
-    schema: &Schema,
-    value: &Value,
+    schema: &'p Schema,
+    value: &'p Value,
     fault: EntityFault,
-) -> Result<Option<Trail>, NoMemory>
-    ensures { IfOk result (IsPartSearched (schema_view schema.now) (view value.now) fault) }
+) -> Result<Option<Trail<'p>>, NoMemory>
+    ensures { IfOk result (IsPartSearched (schema_view schema.entry.now) (view value.entry.now) fault) }
 {
     match fault {
         EntityFault::BadShape => find_in_request_form(alloc, value),
@@ -180,17 +191,18 @@ fn find_part(
 }
 
 /// Returns the error of a value as a request under a schema, and the path to the part at fault; `None` if the value
-/// describes a request. The call's only error is `NoMemory`.
+/// describes a request. The call's only error is `NoMemory`. The keys of the path are borrowed from `schema` and
+/// `value`, or are constants.
 ///
 /// The path of `BadShape` leads to the first part of a request that is missing or malformed, and that of
 /// `NotApplicable` to the action. The path of any other error leads to the innermost part of the context at fault, as
 /// in [`entity_fault`](crate::entity_fault).
-pub fn request_fault(
+pub fn request_fault<'p>(
     alloc: Global,
-    schema: &Schema,
-    value: &Value,
-) -> Result<Option<PlacedFault>, NoMemory>
-    ensures { IfOk result (IsRequestFault (schema_view schema.now) (view value.now)) }
+    schema: &'p Schema,
+    value: &'p Value,
+) -> Result<Option<PlacedFault<'p>>, NoMemory>
+    ensures { IfOk result (IsRequestFault (schema_view schema.entry.now) (view value.entry.now)) }
 {
     let read = read_request(alloc, schema, value);
     let fault = fault_of(&read);

@@ -1,39 +1,39 @@
 //! Paths to the parts of a JSON value, and their steps.
 ghost use Rattle.std.specs.Prelude.{◌≡◌, [], ◌∷◌, IfOk, MatchResult, Some, reverse};
-ghost use Rattle.value_paths.specs.declared.steps.Step.TheVariants as step;
+ghost use Rattle.value_paths.specs.Steps as step;
+ghost use Rattle.value_paths.specs.Steps.{step_view, steps_view};
 ghost use Rattle.value_paths.specs.inner.FoundPaths.{under};
 
-use plain::{Items, NoMemory, Text};
+use plain::NoMemory;
 use std::alloc::Global;
 use std::marker::Model;
 
-/// A step from a JSON value to one of its parts.
-#[derive(Drop)]
-pub enum Step {
+/// A step from a JSON value to one of its parts. A key is borrowed from the JSON or the schema, or is a constant.
+#[derive(Clone, Copy)]
+pub enum Step<'p> {
     /// To the member of an object that has this key.
-    Key(Text),
+    Key(&'p str),
     /// To the item of an array at this index, counted from 0.
     Index(usize),
 }
 
 /// A path that grows at its beginning. Contracts see its steps, from the whole value on.
-#[derive(Drop)]
-pub(crate) struct Trail {
-    steps: Vec<Step>,
+pub(crate) struct Trail<'p> {
+    steps: Vec<Step<'p>>,
 }
 
-impl Model for Trail {
+impl<'p> Model for Trail<'p> {
     ghost use Rattle.std.specs.Prelude.{List, reverse};
-    ghost use Rattle.value_paths.specs.declared.steps.Step.{Step as PlainStep};
+    ghost use Rattle.value_paths.specs.Steps.{Step as PlainStep, steps_view};
 
     ghost Value = { List PlainStep };
 
-    ghost view = { λ t. reverse t.steps.items };
+    ghost view = { λ t. steps_view (reverse t.steps.items) };
 }
 
-impl Trail {
+impl<'p> Trail<'p> {
     /// Creates the path of a value to itself. Does not allocate.
-    pub(crate) fn here(alloc: Global) -> Trail
+    pub(crate) fn here(alloc: Global) -> Trail<'p>
         ensures { result ≡ [] }
     {
         Trail {
@@ -42,8 +42,8 @@ impl Trail {
     }
 
     /// Returns the path with a step in front of it. Always `Some`, since callers return optional paths.
-    pub(crate) fn under(self, step: Step) -> Result<Option<Trail>, NoMemory>
-        ensures { IfOk result (λ o. o ≡ Some (step ∷ self)) }
+    pub(crate) fn under(self, step: Step<'p>) -> Result<Option<Trail<'p>>, NoMemory>
+        ensures { IfOk result (λ o. o ≡ Some (step_view step.entry ∷ self.entry)) }
     {
         let Trail { mut steps } = self;
         steps.push(step)?;
@@ -51,37 +51,33 @@ impl Trail {
     }
 
     /// Returns the steps of the path, from the whole value on.
-    pub(crate) fn into_path(self) -> Items<Step>
-        ensures { result ≡ self }
+    pub(crate) fn into_path(self) -> Vec<Step<'p>>
+        ensures { steps_view result.items ≡ self.entry }
     {
         let Trail { mut steps } = self;
         steps.reverse();
-        Items::from_vec(steps)
+        steps
     }
 }
 
 /// Returns the path that a search found, if it found one, with a key in front of it. The call's only error is
 /// `NoMemory`, its own or that of the search.
-pub(crate) fn under_key(
-    alloc: Global,
-    key: &str,
-    found: Result<Option<Trail>, NoMemory>,
-) -> Result<Option<Trail>, NoMemory>
-    ensures { IfOk result (λ o. MatchResult found (λ path. o ≡ under (step.Key key.now) path) (λ _. ⊥)) }
+pub(crate) fn under_key<'p>(
+    key: &'p str,
+    found: Result<Option<Trail<'p>>, NoMemory>,
+) -> Result<Option<Trail<'p>>, NoMemory>
+    ensures { IfOk result (λ o. MatchResult found.entry (λ path. o ≡ under (step.Key key.entry.now) path) (λ _. ⊥)) }
 {
     match found {
-        Ok(Some(trail)) => match Text::from_str(alloc, key) {
-            Ok(key) => trail.under(Step::Key(key)),
-            Err(fault) => Err(fault),
-        },
+        Ok(Some(trail)) => trail.under(Step::Key(key)),
         Ok(None) => Ok(None),
         Err(fault) => Err(fault),
     }
 }
 
 /// Returns the path whose only step is this key. Always `Some`.
-pub(crate) fn at_key(alloc: Global, key: &str) -> Result<Option<Trail>, NoMemory>
-    ensures { IfOk result (λ o. o ≡ Some (step.Key key.now ∷ [])) }
+pub(crate) fn at_key<'p>(alloc: Global, key: &'p str) -> Result<Option<Trail<'p>>, NoMemory>
+    ensures { IfOk result (λ o. o ≡ Some (step.Key key.entry.now ∷ [])) }
 {
-    under_key(alloc, key, Ok(Some(Trail::here(alloc))))
+    Trail::here(alloc).under(Step::Key(key))
 }

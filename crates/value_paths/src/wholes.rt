@@ -13,11 +13,11 @@ use serde_json::Value;
 use std::alloc::Global;
 
 /// Returns the path of a value to itself if the type rejects the value, else `None`.
-pub(crate) fn find_whole(
+pub(crate) fn find_whole<'p>(
     alloc: Global,
     value: &Value,
     ty: &CedarType,
-) -> Result<Option<Trail>, NoMemory>
+) -> Result<Option<Trail<'p>>, NoMemory>
     ensures { IfOk result (λ o. o ≡ whole_path (typed_value (cedar_view ty.now) (view value.now))) }
 {
     match is_of_type(alloc, value, ty) {

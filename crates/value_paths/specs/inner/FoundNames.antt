@@ -12,7 +12,7 @@ use Rattle.entities.specs.declared.requests.Asked.{Asked}
 use Rattle.entities.specs.EntityForms.{is_absent_or_object}
 use Rattle.entities.specs.Requests.{Asks, RequestRefused}
 use Rattle.value_paths.specs.declared.request_paths.Named.{Named}
-use Rattle.value_paths.specs.declared.steps.Step.{Step}
+use Rattle.value_paths.specs.Steps.{Step}
 use Rattle.value_paths.specs.EntityPaths.{Demand, to_key}
 use Rattle.value_paths.specs.RequestPaths.{FormFaultAt, context_type, IsRequestPathOf}
 use Rattle.value_paths.specs.inner.FoundPaths.{path_under}

@@ -9,8 +9,7 @@ use Rattle.entities.specs.declared.value_fault.ValueFault.{ValueFault}
 use Rattle.entities.specs.Parts.{element_of, fields_in, declared_at}
 use Rattle.entities.specs.EntityForms.{or_empty}
 use Rattle.entities.specs.Typing.{typed_value, with_or}
-use Rattle.value_paths.specs.declared.steps.Step.{Step}
-use Rattle.value_paths.specs.declared.steps.Step.TheVariants.{Key, Index}
+use Rattle.value_paths.specs.Steps.{Step, Key, Index}
 
 -- `or_else o p` is `o`, or `p` if `o` is `None`.
 abbrev pub or_else : {A : Type 0} → Option A → Option A → Option A

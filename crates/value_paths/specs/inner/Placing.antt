@@ -3,14 +3,14 @@ use Rattle.std.specs.Prelude.{◌≡◌, ⊤, List, Option, Some, None, Result, 
 use Rattle.entities.specs.declared.fault.EntityFault.{EntityFault}
 use Rattle.entities.specs.declared.fault.EntityFault.TheVariants.{NoMemory}
 use Rattle.value_paths.specs.declared.placed.PlacedFault.{PlacedFault}
-use Rattle.value_paths.specs.declared.steps.Step.{Step}
+use Rattle.value_paths.specs.Steps.{Step, path_in}
 
 -- `IsPlaced f found o` holds if `o` is the error `f` with the path in `found`, or if `o` and `found` are `None`.
 abbrev pub IsPlaced : EntityFault → Option (List Step) → Option PlacedFault → Type 0
 IsPlaced f None None = ⊤
 IsPlaced f None (Some x) = ⊥
 IsPlaced f (Some path) None = ⊥
-IsPlaced f (Some path) (Some x) = (x.fault ≡ f) × (x.path ≡ path)
+IsPlaced f (Some path) (Some x) = (x.fault ≡ f) × (path_in x ≡ path)
 
 -- `IsFaultOf read o` holds if `o` is the error of the result `read`, which is not `NoMemory`, or if `o` is `None`, and
 -- `read` is a value.

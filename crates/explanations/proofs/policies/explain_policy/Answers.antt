@@ -1,7 +1,7 @@
 use Rattle.std.proofs.Common.{◌∙◌, sym, string_bytes}
 use Rattle.schema_decisions.specs.schema.Views.{schema_view}
 use Rattle.schema_decisions.specs.validator.Passing.{Passes}
-use Rattle.fault_paths.specs.ReportWording.{IsPolicyFault}
+use Rattle.fault_places.specs.ReportWording.{IsPolicyFault}
 use Rattle.explanations.proofs.Appending.{on_ok}
 use Rattle.explanations.proofs.Joining.{some_so, none_so, policy_passes, policy_rejected}
 use Rattle.explanations.proofs.policies.explain_policy.Goals as goal

@@ -1,6 +1,6 @@
 use Rattle.std.proofs.Common.{◌∙◌, ap, subst, Option, None, Some}
-use Rattle.explanation_texts.specs.declared.finding.SourceFinding.{SourceFinding}
-use Rattle.token_spans.specs.declared.spans.Span.{Span}
+use Rattle.explanations.specs.declared.finding.SourceFinding.{SourceFinding}
+use Rattle.fault_places.specs.declared.spans.Span.{Span}
 use Rattle.explanations.specs.Policies.{IsSpanFound}
 use Rattle.explanations.proofs.Appending.{on_ok}
 use Rattle.explanations.proofs.policies.push_fault.Goals as goal

@@ -73,7 +73,7 @@ module _ (T U : RattleType) (change : T.Denot → U.Denot) where
       (laid _ _ _ (rc_alike same), tt))
 
   -- `the_codes_placed recodes`: if each value of `T` has the same code, for ghost data, as its image under `change`,
-  -- then so has each `Shared` of `T`.
+  -- then each `Shared` of `T` has the same code as its image.
   pub the_codes_placed : Recodes T U change
       → Recodes (seen.the_row T) (seen.the_row U) ((the_former this).map T.Denot U.Denot change)
   the_codes_placed recodes value = recodes value

@@ -1,5 +1,5 @@
 use Rattle.std.proofs.Common.{inl, inr}
-use Rattle.explanations.specs.explanation_texts.CodeText.{texts_of}
+use Rattle.explanations.specs.CodeText.{texts_of}
 use Rattle.program.proofs.EventLemmas.{runs_as}
 use Rattle.program.proofs.explaining.explain_code.Goals as goal
 

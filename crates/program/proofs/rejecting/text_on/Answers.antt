@@ -1,5 +1,5 @@
 use Rattle.std.proofs.Common.{◌≡◌, ℕ, Some, inl, subst, sym, string_bytes}
-use Rattle.explanations.specs.explanation_texts.CodeText.{code_text, texts_of, words_on}
+use Rattle.explanations.specs.CodeText.{code_text, texts_of, words_on}
 use Rattle.program.specs.ExplainOption.{IsCodeText}
 use Rattle.program.proofs.ExplainedLemmas.{ok_as}
 use Rattle.program.proofs.rejecting.text_on.Goals as goal

@@ -7,7 +7,7 @@ use Rattle.entities.specs.schema.Schemas.{StatedSchema}
 use Rattle.entities.specs.declared.fault.EntityFault.{EntityFault}
 use Rattle.entities.specs.declared.fault.EntityFault.TheVariants.{BadShape, UnknownType, ActionEntity, TagsLeftOut, BadParent, SelfParent}
 use Rattle.serde_json.specs.Data.{Data}
-use Rattle.value_paths.specs.declared.steps.Step.{Step}
+use Rattle.value_paths.specs.Steps.{Step}
 use Rattle.value_paths.specs.EntityPaths.{shape_at}
 use Rattle.value_paths.specs.inner.FoundPaths.{path_under}
 use Rattle.value_paths.specs.inner.FoundParts.{attributes_path, path_of}

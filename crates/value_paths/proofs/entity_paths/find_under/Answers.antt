@@ -4,7 +4,7 @@ use Rattle.serde_json.specs.View.{view}
 use Rattle.schema_types.specs.CedarViews.{cedar_view}
 use Rattle.schema_types.specs.declared.cedar.CedarType.{CedarType}
 use Rattle.entities.specs.EntityForms.{or_empty}
-use Rattle.value_paths.specs.declared.steps.Step.TheVariants.{Key}
+use Rattle.value_paths.specs.Steps.{Key}
 use Rattle.value_paths.specs.inner.FoundPaths.{under, record_path, path_under}
 use Rattle.value_paths.proofs.Going.{under_found}
 use Rattle.value_paths.proofs.entity_paths.find_under.Goals as goal

@@ -8,8 +8,7 @@ use Rattle.schema_types.specs.Cedar.{Cedar, CedarFields}
 use Rattle.schema_types.specs.CedarViews.{cedar_view, cedar_fields_view}
 use Rattle.entities.specs.Parts.{element_of, fields_in, declared_at}
 use Rattle.entities.specs.Typing.{with_or, typed_value}
-use Rattle.value_paths.specs.declared.steps.Step.{Step}
-use Rattle.value_paths.specs.declared.steps.Step.TheVariants.{Key}
+use Rattle.value_paths.specs.Steps.{Step, Key}
 use Rattle.value_paths.specs.inner.FoundPaths.{or_else, absent_path, whole_path, value_path, item_path, member_path}
 use Rattle.value_paths.proofs.Going.{whole-other, item_goes, item_stops, items_done, member_unknown, member_goes, member_stops, members_done}
 use Rattle.value_paths.proofs.finding.+find.Goals as goal
@@ -103,12 +102,12 @@ pub find_in_members-returns-in-Some-found : goal.find_in_members-returns-in-Some
 find_in_members-returns-in-Some-found t c =
     let fs = cedar_fields_view c.args.fields.now in
     let here = c.loop-key.invariant ∙ ap (λ (es : Entries). member_path fs (members_view es)) c.in-Some.ensures.steps in
-    subst (λ (x : Option (List Step)). IfOk c.under_key.result (λ o. o ≡ x))
+    subst (λ (x : Option (List Step)). IfOk c.under.result (λ o. o ≡ x))
     (in_member fs (view c.args.value.now) (some_key c.as_str-name.result.now c.in-Some-found.trail) _
     (ap (λ (k : List ℕ). some_key k c.in-Some-found.trail) c.as_str-name.ensures.value
     ∙ member_stops fs c.in-Some.key.now c.in-Some.member.now c.next.new.self (cedar_view c.in-Some-declared_type.ty.now) c.in-Some-found.trail _
     (c.in-Some-declared_type.ensures ∙ ap (λ (k : List ℕ). declared_at k fs) c.as_str-name.ensures.value) (sym c.in-Some-found.is ∙ c.in-Ok.ensures) here))
-    c.under_key.ensures
+    c.under.ensures
 
 pub find_in_members-loop-key-preserved : goal.find_in_members-loop-key-preserved
 find_in_members-loop-key-preserved t c =

@@ -7,8 +7,7 @@ use Rattle.serde_json.specs.View.{view}
 use Rattle.schema_types.specs.CedarViews.{cedar_fields_view}
 use Rattle.schema_types.specs.declared.cedar.CedarType.{CedarType}
 use Rattle.entities.specs.EntityForms.{or_empty}
-use Rattle.value_paths.specs.declared.steps.Step.{Step}
-use Rattle.value_paths.specs.declared.steps.Step.TheVariants.{Key}
+use Rattle.value_paths.specs.Steps.{Step, Key}
 use Rattle.value_paths.specs.inner.FoundPaths.{absent_path}
 use Rattle.value_paths.proofs.Going.{rest_goes, rest_stops, rest_done}
 use Rattle.value_paths.proofs.finding.find_absent.Goals as goal

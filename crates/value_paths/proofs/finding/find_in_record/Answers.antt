@@ -8,7 +8,7 @@ use Rattle.schema_types.specs.CedarViews.{cedar_view, cedar_fields_view}
 use Rattle.entities.specs.EntityForms.{or_empty}
 use Rattle.entities.specs.Parts.{fields_in}
 use Rattle.entities.specs.Typing.{with_or}
-use Rattle.value_paths.specs.declared.steps.Step.{Step}
+use Rattle.value_paths.specs.Steps.{Step}
 use Rattle.value_paths.specs.inner.FoundPaths.{or_else, absent_path, value_path, member_path, record_path}
 use Rattle.value_paths.proofs.finding.find_in_record.Goals as goal
 

@@ -1,6 +1,5 @@
 use Rattle.std.proofs.Common.{◌≡◌, [], ◌∷◌, List, Some, IfOk, codes, subst}
-use Rattle.value_paths.specs.declared.steps.Step.{Step}
-use Rattle.value_paths.specs.declared.steps.Step.TheVariants.{Key, Index}
+use Rattle.value_paths.specs.Steps.{Step, Key, Index}
 use Rattle.value_paths.proofs.Going.{under_found}
 use Rattle.value_paths.proofs.forms.at_parent.Goals as goal
 

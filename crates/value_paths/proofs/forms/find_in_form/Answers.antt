@@ -4,7 +4,7 @@ use Rattle.serde_json.specs.Data.{Data}
 use Rattle.serde_json.specs.Find.{as_object}
 use Rattle.serde_json.specs.View.{view}
 use Rattle.entities.specs.EntityForms.{is_absent_or_object}
-use Rattle.value_paths.specs.declared.steps.Step.{Step}
+use Rattle.value_paths.specs.Steps.{Step}
 use Rattle.value_paths.specs.EntityPaths.{first_unmet, is_uid, parents_demands}
 use Rattle.value_paths.proofs.Unmet.{entity_unmet}
 use Rattle.value_paths.proofs.forms.find_in_form.Goals as goal

@@ -2,7 +2,7 @@ use Rattle.std.proofs.Common.{◌≡◌, ◌∙◌, List, Option, true, false, I
 use Rattle.std.specs.Prelude.{is_some}
 use Rattle.serde_json.specs.View.{view}
 use Rattle.entities.specs.entity_uids.Uids.{uid_in}
-use Rattle.value_paths.specs.declared.steps.Step.{Step}
+use Rattle.value_paths.specs.Steps.{Step}
 use Rattle.value_paths.proofs.Loops.{nameless_goes, nameless_stops, nameless_done}
 use Rattle.value_paths.proofs.forms.find_nameless.Goals as goal
 

@@ -1,6 +1,6 @@
 use Rattle.std.proofs.Common.{◌≡◌, ◌∙◌, List, Option, true, false, IfOk, sym, subst}
 use Rattle.entities.specs.schema.Views.{schema_view}
-use Rattle.value_paths.specs.declared.steps.Step.{Step}
+use Rattle.value_paths.specs.Steps.{Step}
 use Rattle.value_paths.specs.inner.FoundParts.{fits}
 use Rattle.value_paths.proofs.Loops.{unfit_goes, unfit_stops, unfit_nameless, unfit_done}
 use Rattle.value_paths.proofs.parents.find_unfit.Goals as goal

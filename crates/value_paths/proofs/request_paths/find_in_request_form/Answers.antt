@@ -3,7 +3,7 @@ use Rattle.std.specs.Prelude.{is_some}
 use Rattle.serde_json.specs.Find.{as_object}
 use Rattle.serde_json.specs.View.{view}
 use Rattle.entities.specs.EntityForms.{is_absent_or_object}
-use Rattle.value_paths.specs.declared.steps.Step.{Step}
+use Rattle.value_paths.specs.Steps.{Step}
 use Rattle.value_paths.specs.EntityPaths.{to_key}
 use Rattle.value_paths.specs.RequestPaths as says
 use Rattle.value_paths.specs.RequestPaths.{FormFaultAt}

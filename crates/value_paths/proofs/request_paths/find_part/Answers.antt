@@ -4,7 +4,7 @@ use Rattle.schema_types.specs.Cedar.{Cedar}
 use Rattle.schema_types.specs.CedarViews.{cedar_view}
 use Rattle.entities.specs.schema.Views.{schema_view}
 use Rattle.entities.specs.declared.fault.EntityFault.{EntityFault}
-use Rattle.value_paths.specs.declared.steps.Step.{Step}
+use Rattle.value_paths.specs.Steps.{Step}
 use Rattle.value_paths.specs.inner.FoundPaths.{path_under}
 use Rattle.value_paths.specs.inner.FoundNames.{IsFormSearched, IsPartSearched}
 use Rattle.value_paths.proofs.Going.{if_ok}

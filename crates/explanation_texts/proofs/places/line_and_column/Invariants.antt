@@ -1,6 +1,0 @@
-use Rattle.std.proofs.Common.{◌≡◌}
-use Rattle.explanation_texts.specs.LineAndColumn.{line_after, column_after}
-use Rattle.explanation_texts.proofs.places.line_and_column.Given as goal
-
-abbrev pub invariant-loop-c : goal.invariant-loop-c
-invariant-loop-c l = record { line : l.line ≡ line_after l.yielded; column : l.column ≡ column_after l.yielded }

@@ -1,4 +1,0 @@
-use Rattle.fault_paths.proofs.names.blame_name.Goals as goal
-
-pub returns-in-Ok-None : goal.returns-in-Ok-None
-returns-in-Ok-None c = (rw c.in-Ok-None.field-0-is at c.in-Ok-None.ensures).0

@@ -1,9 +1,0 @@
-pub mod FirstBlamed
-pub mod Laws
-pub mod NamesAt
-pub mod PolicyReports
-pub mod FirstTypingError
-pub mod Views
-pub mod Words
-pub mod ReportWording
-pub mod inner

@@ -1,0 +1,17 @@
+pub mod Spans
+pub mod NodeTokens
+pub mod NameWritten
+pub mod TokenCounts
+pub mod Counted
+pub mod Forms
+pub mod Names
+pub mod Places
+pub mod FirstBlamed
+pub mod Laws
+pub mod NamesAt
+pub mod PolicyReports
+pub mod FirstTypingError
+pub mod Views
+pub mod Words
+pub mod ReportWording
+pub mod inner

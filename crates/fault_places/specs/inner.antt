@@ -1,0 +1,4 @@
+pub mod Nodes
+pub mod Judging
+pub mod UnknownNames
+pub mod Steps

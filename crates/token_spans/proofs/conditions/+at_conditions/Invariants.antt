@@ -1,5 +1,0 @@
-use Rattle.std.proofs.Common.{length}
-use Rattle.token_spans.proofs.conditions.+at_conditions.Given as goal
-
-abbrev pub decreases-at_conditions : goal.decreases-at_conditions
-decreases-at_conditions l = length l.conditions.now

@@ -1,5 +1,0 @@
-use Rattle.token_spans.proofs.Opening.{kept-other}
-use Rattle.token_spans.proofs.forms.kept.Goals as goal
-
-pub returns-in_default : goal.returns-in_default
-returns-in_default c = kept-other c.args.part c.args.all c.in_default.not-First

@@ -1,7 +1,0 @@
-use Rattle.std.proofs.Common.{◌≡◌, drop}
-use Rattle.token_spans.specs.Places.{from_byte}
-use Rattle.token_spans.proofs.places.from_byte.Given as goal
-
-abbrev pub invariant-loop-token : goal.invariant-loop-token
-invariant-loop-token l =
-    (l.rest ≡ drop l.token-index l.tokens) × (from_byte l.at (drop l.token-index l.tokens) ≡ from_byte l.at l.tokens)

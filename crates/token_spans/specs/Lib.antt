@@ -1,9 +1,0 @@
-pub mod Spans
-pub mod NodeTokens
-pub mod NameWritten
-pub mod TokenCounts
-pub mod Counted
-pub mod Forms
-pub mod Names
-pub mod Places
-pub mod inner
